@@ -1,0 +1,6 @@
+//! The cache of pages that many blobs share.
+#![tactic(auto)]
+
+mod cache;
+
+pub use cache::CacheRef;

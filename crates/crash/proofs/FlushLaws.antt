@@ -1,0 +1,367 @@
+-- What keeps a writer sound: a flush, a sync, a longer tip, the durable slot taken over; and what makes one sound.
+use Rattle.std.proofs.Common.{◌≡◌, ℕ, zero, suc, ◌+◌, ◌-◌, ◌*◌, ◌^◌, ◌<◌, ◌≤◌, List, [], ◌∷◌, ◌++◌, length, take, drop, refl, sym, ◌∙◌, ap, subst, arith, append_assoc, length-append, length-drop, take-append-drop}
+use Rattle.std.specs.Prelude.{slice_get, Option, Some, None, Bool, true, false}
+use Rattle.std.specs.List.{flat_map}
+use Rattle.std.proofs.lemmas.List.{take-take, take_all, append-nil, take-append-le, length-take-le}
+use Rattle.std.proofs.lemmas.Option.{same_Some}
+use Rattle.std.proofs.lemmas.Grind.{flat_map-append}
+use Rattle.std.proofs.Math.Nat.{mul-le-mul_left}
+use Rattle.disk.specs.Disk.{Disk, Operation, Operated, applied, Request}
+use Rattle.disk.specs.Disk.Operation.{Write}
+use Rattle.page.specs.Slot.{other}
+use Rattle.page.specs.Page.{pages, slot_of, value_len, text, active}
+use Rattle.page.specs.declared.slot.ActiveChecksum.{ActiveChecksum}
+use Rattle.crash.specs.WriterState.{WriterState, SyncState}
+use Rattle.crash.specs.WriterState.SyncState.{Clean, Dirty}
+use Rattle.crash.specs.Full.{AreFull}
+use Rattle.crash.specs.Built.{kept_slot, kept_len, page_of, built_pages, built, durable_after, rest_written, after_write, written_pages}
+use Rattle.crash.specs.Sound.{latest, stored, content, HasPage, TipPage, StateFits, IsSound, CanWrite}
+use Rattle.crash.proofs.Lists.{take_past, drop_past, within_append, slice_get-append_right}
+use Rattle.crash.proofs.Pages.{length-stored, stored_within, length-place, length-rewritten, pages_of_rewritten, pages_at, fewer_fit, take-pages, length-pieces}
+use Rattle.crash.proofs.Texts.{AreFull-append, text_exact, text_of_part, AreBytes, active_is, active_slot}
+use Rattle.crash.proofs.BuiltLaws.{IsSmall, length-built, pieces-built, built_pages_at, take-built_pages, built_payloads, built_full, value_len_of, page_begins, slot_new}
+
+-- one operation more
+pub latest_more : (base : List ℕ) (os : List Operation) (o : Operation) → latest base (os ++ o ∷ []) ≡ applied o (latest base os)
+latest_more base [] o = refl
+latest_more base (a ∷ os) o = latest_more (applied a base) os o
+
+-- the blob ends with the pages below the tip, or with the tip's page
+pub tip_reach : (sum : List ℕ → ℕ) (P full : ℕ) (tip readable : List ℕ) (flushed : Option ActiveChecksum) → TipPage sum P full tip readable flushed
+    → (full * (P + 12) ≤ length readable) × (length readable ≤ (full + 1) * (P + 12))
+tip_reach sum P full tip readable None is = (omega arith, omega arith)
+tip_reach sum P full tip readable (Some f) is = (omega (arith, is.size), omega (arith, is.size))
+
+-- at least one page is written, and as many as were cut off the tip
+pub written_some : (P k : ℕ) (tip : List ℕ) (rest : Bool) → CanWrite P tip k rest → (0 < written_pages k rest) × (k ≤ written_pages k rest) × (k * P ≤ length tip)
+written_some P k tip false can = (can.0, omega arith, can.1)
+written_some P k tip true can = (omega arith, omega arith, omega (arith, can.0))
+
+module _ (sum : List ℕ → ℕ) (P q m : ℕ) (durable : Option ActiveChecksum) (tip old : List ℕ) (begins : q * (P + 12) ≤ length old) (ends : length old ≤ (q + m) * (P + 12)) where
+  abbrev bytes : List ℕ
+  bytes = built sum P durable m tip
+
+  abbrev written : List ℕ
+  written = applied (Write (q * (P + 12)) (built sum P durable m tip)) old
+
+  size : length bytes ≡ m * (P + 12)
+  size = length-built sum P durable m tip
+
+  reach : length old ≤ q * (P + 12) + length bytes
+  reach = omega (arith, size)
+
+  -- the length after a flush
+  pub length-written : length written ≡ (q + m) * (P + 12)
+  length-written = length-rewritten P q m bytes old size begins reach
+
+  -- the pages after a flush
+  pub pages_written : pages P written ≡ take q (pages P old) ++ built_pages sum P durable m tip
+  pages_written = pages_of_rewritten P q m bytes old size begins reach ∙ ap (λ (l : List (List ℕ)). take q (pages P old) ++ l) (pieces-built sum P durable m tip)
+
+  length_front : length (take q (pages P old)) ≡ q
+  length_front = ap length (take-pages P q old begins) ∙ length-pieces q (P + 12) old
+
+  -- the first pages after a flush
+  pub first_written : (k : ℕ) → k ≤ m → take (q + k) (pages P written) ≡ take q (pages P old) ++ built_pages sum P durable k tip
+  first_written k le =
+      let front = take q (pages P old) in
+      ap (λ (l : List (List ℕ)). take (q + k) l) pages_written
+      ∙ take_past (q + k) front (built_pages sum P durable m tip) (omega (arith, length_front))
+      ∙ ap (λ (n : ℕ). front ++ take n (built_pages sum P durable m tip)) (let e : q + k - length front ≡ k = omega (arith, length_front) in e)
+      ∙ ap (λ (l : List (List ℕ)). front ++ l) (take-built_pages sum P durable k m tip le)
+
+  -- a page that a flush wrote
+  pub page_written : (k : ℕ) → k < m → take (P + 12) (drop ((q + k) * (P + 12)) written) ≡ page_of sum P (durable_after durable k) (take P (drop (k * P) tip))
+  page_written k lt =
+      let front = take q (pages P old) in
+      let back = built_pages sum P durable m tip in
+      let fits : (q + k + 1) * (P + 12) ≤ length written = fewer_fit P (q + k + 1) (q + m) written (omega arith) (omega (arith, length-written)) in
+      same_Some _ _ (
+      sym (pages_at P (q + k) written fits)
+      ∙ ap (λ (l : List (List ℕ)). slice_get l (q + k)) pages_written
+      ∙ slice_get-append_right front back (q + k) (omega (arith, length_front))
+      ∙ ap (λ (n : ℕ). slice_get back n) (let e : q + k - length front ≡ k = omega (arith, length_front) in e)
+      ∙ built_pages_at sum P durable m k tip lt
+      )
+
+  -- the payloads after a flush of whole chunks
+  pub stored_written : (k : ℕ) → k ≤ m → k * P ≤ length tip → stored P (q + k) written ≡ stored P q old ++ take (k * P) tip
+  stored_written k le fits =
+      ap (λ (l : List (List ℕ)). flat_map (take P) l) (first_written k le)
+      ∙ flat_map-append (take P) (take q (pages P old)) (built_pages sum P durable k tip)
+      ∙ ap (λ (l : List ℕ). stored P q old ++ l) (built_payloads sum P durable k tip fits)
+
+-- once pages went out, the durable slot is of none of the tip's page
+pub kept_after : (P k : ℕ) (durable : Option ActiveChecksum) (tip : List ℕ) → kept_len durable ≤ P → kept_len durable ≤ length tip → (kept_len (durable_after durable k) ≤ P) × (kept_len (durable_after durable k) ≤ length (drop (k * P) tip))
+kept_after P zero durable tip a b = let e : 0 * P ≡ 0 = omega arith in rw e (a, b)
+kept_after P (suc k) durable tip a b = (omega arith, omega arith)
+
+-- the tip's page after a flush of whole pages alone, or of the rest too
+tip_after : (sum : List ℕ → ℕ) (w : WriterState) (old : List ℕ) (k : ℕ) (rest : Bool) → IsSmall sum → 0 < w.page_size → w.page_size < 2 ^ 16
+    → (kept_len w.durable ≤ w.page_size) × (kept_len w.durable ≤ length w.tip) → CanWrite w.page_size w.tip k rest
+    → w.full_pages * (w.page_size + 12) ≤ length old → length old ≤ (w.full_pages + written_pages k rest) * (w.page_size + 12)
+    → TipPage sum w.page_size (w.full_pages + k) (drop (k * w.page_size) w.tip) (applied (Write (w.full_pages * (w.page_size + 12)) (built sum w.page_size w.durable (written_pages k rest) w.tip)) old)
+    (rest_written sum (durable_after w.durable k) (drop (k * w.page_size) w.tip) rest)
+tip_after sum w old k false small some small_page carries can begins ends = length-written sum w.page_size w.full_pages k w.durable w.tip old begins ends
+tip_after sum w old k true small some small_page carries can begins ends =
+    let P = w.page_size in
+    let q = w.full_pages in
+    let chunk = drop (k * P) w.tip in
+    let d = durable_after w.durable k in
+    let new = applied (Write (q * (P + 12)) (built sum P w.durable (suc k) w.tip)) old in
+    let length_chunk : length chunk ≡ length w.tip - k * P = length-drop (k * P) w.tip in
+    let within : length chunk ≤ P = omega (arith, length_chunk, can.1) in
+    let starts : 0 < length chunk = omega (arith, length_chunk, can.0) in
+    let kept = kept_after P k w.durable w.tip carries.0 carries.1 in
+    let page : take (P + 12) (drop ((q + k) * (P + 12)) new) ≡ page_of sum P d chunk =
+    page_written sum P q (suc k) w.durable w.tip old begins ends k (omega arith) ∙ ap (λ (l : List ℕ). page_of sum P d l) (take_all P chunk within) in
+    record {
+      size = length-written sum P q (suc k) w.durable w.tip old begins ends ∙ (let e : (q + suc k) * (P + 12) ≡ (q + k + 1) * (P + 12) = omega arith in e);
+      some = starts;
+      there = omega arith;
+      part = omega (arith, length_chunk, can.1);
+      crc = ap sum (sym (take_all (length chunk) chunk (omega arith)));
+      value = ap (λ (l : List ℕ). value_len sum P l) page ∙ value_len_of sum P d chunk small small_page starts within kept.1;
+      begins = sym (take-take (length chunk) (P + 12) (drop ((q + k) * (P + 12)) new) (omega (arith, within)))
+          ∙ ap (λ (l : List ℕ). take (length chunk) l) page
+          ∙ page_begins sum P d chunk within
+          ∙ sym (take_all (length chunk) chunk (omega arith));
+      slot = ap (λ (l : List ℕ). slot_of P (other (kept_slot d)) l) page ∙ slot_new sum P d chunk within;
+    }
+
+module _ (sum : List ℕ → ℕ) (w : WriterState) (d e : Disk) (k : ℕ) (rest : Bool) (bytes : List ℕ) (small : IsSmall sum) (sound : IsSound sum w d) (can : CanWrite w.page_size w.tip k rest)
+    (is : bytes ≡ built sum w.page_size w.durable (written_pages k rest) w.tip)
+    (readable : e.readable ≡ applied (Write (w.full_pages * (w.page_size + 12)) bytes) d.readable) where
+  known : e.readable ≡ applied (Write (w.full_pages * (w.page_size + 12)) (built sum w.page_size w.durable (written_pages k rest) w.tip)) d.readable
+  known = readable ∙ ap (λ (l : List ℕ). applied (Write (w.full_pages * (w.page_size + 12)) l) d.readable) is
+
+  begins : w.full_pages * (w.page_size + 12) ≤ length d.readable
+  begins = (tip_reach sum w.page_size w.full_pages w.tip d.readable w.flushed sound.tip_page).0
+
+  ends : length d.readable ≤ (w.full_pages + written_pages k rest) * (w.page_size + 12)
+  ends =
+      let m = written_pages k rest in
+      let size = w.page_size + 12 in
+      let reach = tip_reach sum w.page_size w.full_pages w.tip d.readable w.flushed sound.tip_page in
+      let one = written_some w.page_size k w.tip rest can in
+      let more : size * (w.full_pages + 1) ≤ size * (w.full_pages + m) = mul-le-mul_left size (let le : w.full_pages + 1 ≤ w.full_pages + m = omega (arith, one.0) in le) in
+      omega (arith, more, reach.1)
+
+  -- a flush keeps the content
+  pub flush_content : content (after_write sum w k rest) e.readable ≡ content w d.readable
+  flush_content =
+      let P = w.page_size in
+      let one = written_some P k w.tip rest can in
+      ap (λ (l : List ℕ). stored P (w.full_pages + k) l ++ drop (k * P) w.tip) known
+      ∙ ap (λ (l : List ℕ). l ++ drop (k * P) w.tip) (stored_written sum P w.full_pages (written_pages k rest) w.durable w.tip d.readable begins ends k one.1 one.2)
+      ∙ append_assoc (stored P w.full_pages d.readable) (take (k * P) w.tip) (drop (k * P) w.tip)
+      ∙ ap (λ (l : List ℕ). stored P w.full_pages d.readable ++ l) (take-append-drop (k * P) w.tip)
+
+  -- a flush that is done keeps soundness
+  pub flush_sound : e.base ≡ d.base → e.since ≡ d.since ++ Write (w.full_pages * (w.page_size + 12)) bytes ∷ [] → IsSound sum (after_write sum w k rest) e
+  flush_sound base since =
+      let P = w.page_size in
+      let q = w.full_pages in
+      let one = written_some P k w.tip rest can in
+      let front = take q (pages P d.readable) in
+      let pages_front : take (q + k) (pages P e.readable) ≡ front ++ built_pages sum P w.durable k w.tip =
+      ap (λ (l : List ℕ). take (q + k) (pages P l)) known ∙ first_written sum P q (written_pages k rest) w.durable w.tip d.readable begins ends k one.1 in
+      record {
+        some = sound.some;
+        small = sound.small;
+        done = readable ∙ ap (λ (l : List ℕ). applied (Write (q * (P + 12)) bytes) l) sound.done
+            ∙ sym (latest_more d.base d.since (Write (q * (P + 12)) bytes))
+            ∙ sym (cc (base, since));
+        full = subst (λ (l : List (List ℕ)). AreFull sum P l) (sym pages_front)
+            (AreFull-append sum P front (built_pages sum P w.durable k w.tip) sound.full (built_full sum P w.durable k w.tip small sound.some sound.small sound.carries.0 one.2));
+        tip_page = subst (λ (l : List ℕ). TipPage sum P (q + k) (drop (k * P) w.tip) l (rest_written sum (durable_after w.durable k) (drop (k * P) w.tip) rest)) (sym known)
+            (tip_after sum w d.readable k rest small sound.some sound.small sound.carries can begins ends);
+        state = tt;
+        carries = kept_after P k w.durable w.tip sound.carries.0 sound.carries.1;
+      }
+
+  -- so does a write that the device did
+  pub operated_sound : (request : Request) → Operated (Write (w.full_pages * (w.page_size + 12)) bytes) request false d e → IsSound sum (after_write sum w k rest) e
+  operated_sound request done = flush_sound (ap (λ (x : Disk). x.base) done.rest) (ap (λ (x : Disk). x.since) done.rest)
+
+-- ---- the same bytes in another state
+
+-- a state that fits a disk fits one like it
+fits_alike : (d e : Disk) (s : SyncState) → e.readable ≡ d.readable → e.base ≡ d.base → e.since ≡ d.since → StateFits d s → StateFits e s
+fits_alike d e Clean same base since fits = (since ∙ fits.0, base ∙ fits.1 ∙ sym same)
+fits_alike d e Dirty same base since fits = tt
+
+-- each state fits a disk with nothing unsynced
+settled_fits : (d : Disk) (s : SyncState) → d.since ≡ [] → d.base ≡ d.readable → StateFits d s
+settled_fits d Clean since base = (since, base)
+settled_fits d Dirty since base = tt
+
+-- the tip's page is that of a longer tip
+longer_tip : (sum : List ℕ → ℕ) (P full : ℕ) (tip more readable : List ℕ) (flushed : Option ActiveChecksum) → TipPage sum P full tip readable flushed → TipPage sum P full (tip ++ more) readable flushed
+longer_tip sum P full tip more readable None is = is
+longer_tip sum P full tip more readable (Some f) is =
+    let same : take f.len tip ≡ take f.len (tip ++ more) = sym (take-append-le f.len tip more is.there) in
+    record {
+      size = is.size;
+      some = is.some;
+      there = omega (arith, length-append tip more, is.there);
+      part = is.part;
+      crc = is.crc ∙ ap sum same;
+      value = is.value;
+      begins = is.begins ∙ same;
+      slot = is.slot;
+    }
+
+-- what was flushed of the tip is of the tip
+pub flushed_fits : (sum : List ℕ → ℕ) (P full : ℕ) (tip readable : List ℕ) (flushed : Option ActiveChecksum) → TipPage sum P full tip readable flushed → (kept_len flushed ≤ P) × (kept_len flushed ≤ length tip)
+flushed_fits sum P full tip readable None is = (omega arith, omega arith)
+flushed_fits sum P full tip readable (Some f) is = (omega (arith, is.part), is.there)
+
+module _ (sum : List ℕ → ℕ) (w : WriterState) (d e : Disk) (sound : IsSound sum w d) (same : e.readable ≡ d.readable) where
+  -- what is sound depends on the bytes, and on what of them is durable
+  pub state_sound : (s : SyncState) → e.readable ≡ latest e.base e.since → StateFits e s → IsSound sum (record w { sync = s }) e
+  state_sound s done fits = record {
+    some = sound.some;
+    small = sound.small;
+    done = done;
+    full = subst (λ (l : List ℕ). AreFull sum w.page_size (take w.full_pages (pages w.page_size l))) (sym same) sound.full;
+    tip_page = subst (λ (l : List ℕ). TipPage sum w.page_size w.full_pages w.tip l w.flushed) (sym same) sound.tip_page;
+    state = fits;
+    carries = sound.carries;
+  }
+
+  -- a sync that is done keeps soundness, and leaves the writer clean
+  pub settle_sound : e.base ≡ d.readable → e.since ≡ [] → IsSound sum (record w { sync = Clean }) e
+  settle_sound base since = state_sound Clean (same ∙ sym base ∙ ap (λ (os : List Operation). latest e.base os) (sym since)) (since, base ∙ sym same)
+
+  -- a disk with the same bytes, base and operations, as after a read, is as sound
+  pub alike_sound : e.base ≡ d.base → e.since ≡ d.since → IsSound sum w e
+  alike_sound base since = state_sound w.sync (same ∙ sound.done ∙ sym (cc (base, since))) (fits_alike d e w.sync same base since sound.state)
+
+  -- and holds the same content
+  pub alike_content : content w e.readable ≡ content w d.readable
+  alike_content = ap (λ (l : List ℕ). content w l) same
+
+-- ---- a writer that knows more
+
+module _ (sum : List ℕ → ℕ) (w : WriterState) (d : Disk) (sound : IsSound sum w d) where
+  -- a longer tip keeps soundness
+  pub longer_sound : (more : List ℕ) → IsSound sum (record w { tip = w.tip ++ more }) d
+  longer_sound more = record {
+    some = sound.some;
+    small = sound.small;
+    done = sound.done;
+    full = sound.full;
+    tip_page = longer_tip sum w.page_size w.full_pages w.tip more d.readable w.flushed sound.tip_page;
+    state = sound.state;
+    carries = (sound.carries.0, omega (arith, length-append w.tip more, sound.carries.1));
+  }
+
+  -- and makes the content longer
+  pub longer_content : (more : List ℕ) → content (record w { tip = w.tip ++ more }) d.readable ≡ content w d.readable ++ more
+  longer_content more = sym (append_assoc (stored w.page_size w.full_pages d.readable) w.tip more)
+
+  -- a flush may repeat the slot that was flushed last
+  pub carry_sound : IsSound sum (record w { durable = w.flushed }) d
+  carry_sound = record {
+    some = sound.some;
+    small = sound.small;
+    done = sound.done;
+    full = sound.full;
+    tip_page = sound.tip_page;
+    state = sound.state;
+    carries = flushed_fits sum w.page_size w.full_pages w.tip d.readable w.flushed sound.tip_page;
+  }
+
+-- ---- from what is readable
+
+module _ (sum : List ℕ → ℕ) (w : WriterState) (d : Disk) (since : d.since ≡ []) (base : d.base ≡ d.readable) (some : 0 < w.page_size) (small : w.page_size < 2 ^ 16)
+    (full : AreFull sum w.page_size (take w.full_pages (pages w.page_size d.readable))) (carried : w.durable ≡ w.flushed) where
+  -- with nothing unsynced a writer is sound that knows the blob's pages
+  pub settled_sound : TipPage sum w.page_size w.full_pages w.tip d.readable w.flushed → IsSound sum w d
+  settled_sound tip_page = record {
+    some = some;
+    small = small;
+    done = sym base ∙ ap (λ (os : List Operation). latest d.base os) (sym since);
+    full = full;
+    tip_page = tip_page;
+    state = settled_fits d w.sync since base;
+    carries = rw carried (flushed_fits sum w.page_size w.full_pages w.tip d.readable w.flushed tip_page);
+  }
+
+  -- the blob ends with a full page, and the writer buffers nothing
+  pub exact_sound : w.flushed ≡ None → length d.readable ≡ w.full_pages * (w.page_size + 12) → IsSound sum w d
+  exact_sound none size = settled_sound (subst (λ (f : Option ActiveChecksum). TipPage sum w.page_size w.full_pages w.tip d.readable f) (sym none) size)
+
+  -- the blob ends with the tip's page
+  pub page_sound : (a : ActiveChecksum) → w.flushed ≡ Some a → HasPage sum w.page_size w.full_pages w.tip d.readable a → IsSound sum w d
+  page_sound a is has = settled_sound (subst (λ (f : Option ActiveChecksum). TipPage sum w.page_size w.full_pages w.tip d.readable f) (sym is) has)
+
+  -- the content is then the text
+  pub exact_content : w.tip ≡ [] → length d.readable ≡ w.full_pages * (w.page_size + 12) → content w d.readable ≡ text sum w.page_size d.readable
+  exact_content empty size =
+      ap (λ (l : List ℕ). stored w.page_size w.full_pages d.readable ++ l) empty
+      ∙ append-nil (stored w.page_size w.full_pages d.readable)
+      ∙ sym (text_exact sum w.page_size w.full_pages d.readable full size)
+
+-- the last page has a value that is not full: it is the tip's page
+pub has_page : (sum : List ℕ → ℕ) (P full : ℕ) (tip readable : List ℕ) (a : ActiveChecksum) → length readable ≡ (full + 1) * (P + 12)
+    → AreBytes (take (P + 12) (drop (full * (P + 12)) readable))
+    → active sum P (take (P + 12) (drop (full * (P + 12)) readable)) ≡ Some a → a.len < P
+    → tip ≡ take a.len (drop (full * (P + 12)) readable) → HasPage sum P full tip readable a
+has_page sum P full tip readable a size are is part tip_is =
+    let rest = drop (full * (P + 12)) readable in
+    let page = take (P + 12) rest in
+    let told = active_is sum P page a is in
+    let fits : (full + 1) * (P + 12) ≤ length readable = omega (arith, size) in
+    let long : length rest ≡ P + 12 = omega (arith, length-drop (full * (P + 12)) readable, size) in
+    let length_tip : length tip ≡ a.len = ap length tip_is ∙ length-take-le a.len rest (omega (arith, long)) in
+    let begins : take a.len tip ≡ tip = take_all a.len tip (omega (arith, length_tip)) in
+    let of_page : take a.len page ≡ take a.len rest = take-take a.len (P + 12) rest (omega arith) in
+    record {
+      size = size;
+      some = told.some;
+      there = omega (arith, length_tip);
+      part = part;
+      crc = told.crc ∙ ap sum (of_page ∙ sym tip_is ∙ sym begins);
+      value = sym told.len;
+      begins = sym tip_is ∙ sym begins;
+      slot = active_slot sum P page a (length-place P full readable fits) are is;
+    }
+
+-- the content is then the text
+pub page_content : (sum : List ℕ → ℕ) (w : WriterState) (readable : List ℕ) (a : ActiveChecksum) → AreFull sum w.page_size (take w.full_pages (pages w.page_size readable))
+    → (w.full_pages + 1) * (w.page_size + 12) ≤ length readable
+    → active sum w.page_size (take (w.page_size + 12) (drop (w.full_pages * (w.page_size + 12)) readable)) ≡ Some a → a.len < w.page_size
+    → w.tip ≡ take a.len (drop (w.full_pages * (w.page_size + 12)) readable) → content w readable ≡ text sum w.page_size readable
+page_content sum w readable a full fits is part tip_is =
+    let P = w.page_size in
+    let rest = drop (w.full_pages * (P + 12)) readable in
+    let page = take (P + 12) rest in
+    let told = active_is sum P page a is in
+    ap (λ (l : List ℕ). stored P w.full_pages readable ++ l) (tip_is ∙ sym (take-take a.len (P + 12) rest (omega arith)) ∙ ap (λ (n : ℕ). take n page) told.len)
+    ∙ sym (text_of_part sum P w.full_pages readable full fits (omega (arith, told.len)))
+
+-- ---- the content by its places
+
+module _ (w : WriterState) (readable : List ℕ) (reach : w.full_pages * (w.page_size + 12) ≤ length readable) where
+  -- the content is as long as the full pages' payloads and the tip
+  pub length-content : length (content w readable) ≡ w.full_pages * w.page_size + length w.tip
+  length-content = omega (arith, length-append (stored w.page_size w.full_pages readable) w.tip, length-stored w.page_size w.full_pages readable reach)
+
+  -- what stands in a full page
+  pub content_in_page : (p i n : ℕ) → p < w.full_pages → i + n ≤ w.page_size → take n (drop (p * w.page_size + i) (content w readable)) ≡ take n (drop (p * (w.page_size + 12) + i) readable)
+  content_in_page p i n lt fits =
+      let P = w.page_size in
+      let joined = stored P w.full_pages readable in
+      let more : P * (p + 1) ≤ P * w.full_pages = mul-le-mul_left P (let le : p + 1 ≤ w.full_pages = omega (arith, lt) in le) in
+      within_append n (p * P + i) joined w.tip (omega (arith, length-stored P w.full_pages readable reach, more))
+      ∙ stored_within P w.full_pages p i n readable reach lt fits
+
+  -- what stands in the tip
+  pub content_in_tip : (i : ℕ) → drop (w.full_pages * w.page_size + i) (content w readable) ≡ drop i w.tip
+  content_in_tip i =
+      let P = w.page_size in
+      let joined = stored P w.full_pages readable in
+      let size : length joined ≡ w.full_pages * P = length-stored P w.full_pages readable reach in
+      drop_past (w.full_pages * P + i) joined w.tip (omega (arith, size)) ∙ ap (λ (n : ℕ). drop n w.tip) (let e : w.full_pages * P + i - length joined ≡ i = omega (arith, size) in e)

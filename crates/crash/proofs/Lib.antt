@@ -1,0 +1,11 @@
+pub mod Lists
+pub mod Pages
+pub mod Texts
+pub mod BuiltLaws
+pub mod FlushLaws
+pub mod ListFacts
+pub mod Disks
+pub mod PageFacts
+pub mod Promise
+pub mod Moments
+pub mod Spared

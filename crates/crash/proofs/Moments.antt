@@ -1,0 +1,193 @@
+-- Promises at each moment of a life, and how they compose.
+use Rattle.std.proofs.Common.{◌≡◌, inl, inr, ℕ, ◌≤◌, List, [], ◌∷◌, ◌++◌, length, take, refl, sym, ap, ◌∙◌, subst, arith, append-nil, length-take}
+use Rattle.std.proofs.lemmas.List.{take-take}
+use Rattle.disk.specs.Disk.{Disk, Operation, Life, next, after}
+use Rattle.page.specs.Page.{text}
+use Rattle.crash.specs.Guard.{Guards, IsTruthful, IsChanceFree}
+use Rattle.crash.specs.Kept.{AllKeep, AllOnly, Each, Through}
+use Rattle.crash.specs.Sound.{latest}
+use Rattle.crash.specs.Stays.{Stays, StaysThrough}
+use Rattle.crash.proofs.Disks.{base_is_whole, base_is_image, image_alike, image_covered, whole_covered}
+use Rattle.crash.proofs.Promise.{guarded_is_kept, floor_is_durable, guards_less, only_content, whole_is_chance_free}
+
+-- moments joined are the first and then the others
+pub after-append : (life : Life) (ds es : List Disk) → after life (ds ++ es) ≡ after (after life ds) es
+after-append life [] es = refl
+after-append life (d ∷ ds) es = after-append (next life d) ds es
+
+-- what holds of each moment of two lists holds of each when they are joined
+pub each-append : (Q : Disk → Type 0) (ds es : List Disk) → Each Q ds → Each Q es → Each Q (ds ++ es)
+each-append Q [] es first second = second
+each-append Q (d ∷ ds) es first second = (first.0, each-append Q ds es first.1 second)
+
+-- what follows at each moment
+pub each_then : (Q R : Disk → Type 0) (ds : List Disk) → ((d : Disk) → Q d → R d) → Each Q ds → Each R ds
+each_then Q R [] then each = each
+each_then Q R (d ∷ ds) then each = (then d each.0, each_then Q R ds then each.1)
+
+-- what holds at the start and at each moment since holds at the end
+pub each_last : (Q : Disk → Type 0) (life : Life) (ds : List Disk) → Q life.present → Each Q ds → Q (after life ds).present
+each_last Q life [] start each = start
+each_last Q life (d ∷ ds) start each = each_last Q (next life d) ds each.0 each.1
+
+-- no moment has passed
+pub through_start : (Q : Disk → Type 0) (life : Life) → Q life.present → Through Q life life
+through_start Q life start = record { moments = []; goes = refl; start = start; each = tt }
+
+-- one moment more
+pub through_more : (Q : Disk → Type 0) (old new : Life) (d : Disk) → Through Q old new → Q d → Through Q old (next new d)
+through_more Q old new d through holds = record {
+  moments = through.moments ++ d ∷ [];
+  goes = ap (λ (life : Life). next life d) through.goes ∙ sym (after-append old through.moments (d ∷ []));
+  start = through.start;
+  each = each-append Q through.moments (d ∷ []) through.each (holds, tt);
+}
+
+-- one call after another
+pub through_joins : (Q : Disk → Type 0) (old mid new : Life) → Through Q old mid → Through Q mid new → Through Q old new
+through_joins Q old mid new first second = record {
+  moments = first.moments ++ second.moments;
+  goes = second.goes ∙ ap (λ (life : Life). after life second.moments) first.goes ∙ sym (after-append old first.moments second.moments);
+  start = first.start;
+  each = each-append Q first.moments second.moments first.each second.each;
+}
+
+-- what holds at each moment holds at the end
+pub through_end : (Q : Disk → Type 0) (old new : Life) → Through Q old new → Q new.present
+through_end Q old new through = subst (λ (life : Life). Q life.present) (sym through.goes) (each_last Q old through.moments through.start through.each)
+
+-- what follows from it holds at each moment too
+pub through_then : (Q R : Disk → Type 0) (old new : Life) → ((d : Disk) → Q d → R d) → Through Q old new → Through R old new
+through_then Q R old new then through = record {
+  moments = through.moments;
+  goes = through.goes;
+  start = then old.present through.start;
+  each = each_then Q R through.moments then through.each;
+}
+
+-- a truthful disk owes itself nothing
+pub stays_itself : (sum : List ℕ → ℕ) (P : ℕ) (content : List ℕ) (d : Disk) → IsTruthful sum P content d → Stays sum P content d d
+stays_itself sum P content d truthful = record {
+  kept = λ floor enough keeps. keeps;
+  only = λ image is_image free. only_content sum P content d image truthful free;
+}
+
+-- what is kept is kept where only what is readable, the started syncs or the log differ
+pub keeps_alike : (sum : List ℕ → ℕ) (P : ℕ) (content : List ℕ) (floor : ℕ) (d e : Disk) → e.base ≡ d.base → e.since ≡ d.since → AllKeep sum P content floor d → AllKeep sum P content floor e
+keeps_alike sum P content floor d e base since keeps = λ image is_image. keeps image (image_alike d e image base since is_image)
+
+-- a chance-free image is one there too
+pub chance_free_alike : (sum : List ℕ → ℕ) (P : ℕ) (d e : Disk) (image : List ℕ) → e.base ≡ d.base → e.since ≡ d.since → IsChanceFree sum P e image → IsChanceFree sum P d image
+chance_free_alike sum P d e image base since free =
+    λ p page is s some. let was = free p page is s some in (was.0, was.1, rw (base, since) at was.2, was.3, was.4, was.5)
+
+-- and nothing more is owed
+pub stays_alike : (sum : List ℕ → ℕ) (P : ℕ) (content : List ℕ) (c d e : Disk) → e.base ≡ d.base → e.since ≡ d.since → Stays sum P content c d → Stays sum P content c e
+stays_alike sum P content c d e base since stays = record {
+  kept = λ floor enough keeps. keeps_alike sum P content floor d e base since (stays.kept floor enough keeps);
+  only = λ image is_image free. stays.only image (image_alike d e image base since is_image) (chance_free_alike sum P d e image base since free);
+}
+
+-- what is kept is kept when the operations that a sync covers become durable
+pub keeps_covered : (sum : List ℕ → ℕ) (P : ℕ) (content : List ℕ) (floor : ℕ) (d e : Disk) (os ps : List Operation) → d.since ≡ os ++ ps → e.base ≡ latest d.base os → e.since ≡ ps → AllKeep sum P content floor d → AllKeep sum P content floor e
+keeps_covered sum P content floor d e os ps since base rest keeps = λ image is_image. keeps image (image_covered d e os ps since base rest image is_image)
+
+-- a chance-free image was one before
+pub chance_free_covered : (sum : List ℕ → ℕ) (P : ℕ) (d e : Disk) (os ps : List Operation) (image : List ℕ) → d.since ≡ os ++ ps → e.base ≡ latest d.base os → e.since ≡ ps → IsChanceFree sum P e image → IsChanceFree sum P d image
+chance_free_covered sum P d e os ps image since base rest free =
+    λ p page is s some. let was = free p page is s some in (was.0, was.1, whole_covered d e os ps since base rest was.0 was.2, was.3, was.4, was.5)
+
+-- and nothing more is owed
+pub stays_covered : (sum : List ℕ → ℕ) (P : ℕ) (content : List ℕ) (c d e : Disk) (os ps : List Operation) → d.since ≡ os ++ ps → e.base ≡ latest d.base os → e.since ≡ ps → Stays sum P content c d → Stays sum P content c e
+stays_covered sum P content c d e os ps since base rest stays = record {
+  kept = λ floor enough keeps. keeps_covered sum P content floor d e os ps since base rest (stays.kept floor enough keeps);
+  only = λ image is_image free. stays.only image (image_covered d e os ps since base rest image is_image) (chance_free_covered sum P d e os ps image since base rest free);
+}
+
+-- so for a sync of all that was done
+pub stays_settled : (sum : List ℕ → ℕ) (P : ℕ) (content : List ℕ) (c d e : Disk) → e.base ≡ latest d.base d.since → e.since ≡ [] → Stays sum P content c d → Stays sum P content c e
+stays_settled sum P content c d e base rest stays = stays_covered sum P content c d e d.since [] (sym (append-nil d.since)) base rest stays
+
+-- what guards as much as the base's text had, and is truthful, owes nothing
+pub stays_guarded : (sum : List ℕ → ℕ) (P : ℕ) (content : List ℕ) (floor : ℕ) (d e : Disk) → length (text sum P d.base) ≤ floor → Guards sum P content floor e → IsTruthful sum P content e → Stays sum P content d e
+stays_guarded sum P content floor d e durable guards truthful = record {
+  kept = λ less enough keeps. guarded_is_kept sum P content less e (guards_less sum P content floor less e (omega (arith, floor_is_durable sum P content less d keeps enough)) guards) enough;
+  only = λ image is_image free. only_content sum P content e image truthful free;
+}
+
+-- one moment after another
+pub stays_joins : (sum : List ℕ → ℕ) (P : ℕ) (content : List ℕ) (c d e : Disk) → Stays sum P content c d → Stays sum P content d e → Stays sum P content c e
+stays_joins sum P content c d e first second = record {
+  kept = λ floor enough keeps. second.kept floor enough (first.kept floor enough keeps);
+  only = second.only;
+}
+
+-- one call after another
+pub stays_through_joins : (sum : List ℕ → ℕ) (P : ℕ) (content : List ℕ) (old mid new : Life) → StaysThrough sum P content old mid → StaysThrough sum P content mid new → StaysThrough sum P content old new
+stays_through_joins sum P content old mid new first second =
+    let reached = through_end (Stays sum P content old.present) old mid first in
+    through_joins (Stays sum P content old.present) old mid new first
+    (through_then (Stays sum P content mid.present) (Stays sum P content old.present) mid new (λ d later. stays_joins sum P content old.present mid.present d reached later) second)
+
+-- one moment more
+pub stays_through_more : (sum : List ℕ → ℕ) (P : ℕ) (content : List ℕ) (old new : Life) (d : Disk) → StaysThrough sum P content old new → Stays sum P content new.present d → StaysThrough sum P content old (next new d)
+stays_through_more sum P content old new d through later =
+    let reached = through_end (Stays sum P content old.present) old new through in
+    through_more (Stays sum P content old.present) old new d through (stays_joins sum P content old.present new.present d reached later)
+
+-- no moment has passed
+pub stays_through_start : (sum : List ℕ → ℕ) (P : ℕ) (content : List ℕ) (life : Life) → IsTruthful sum P content life.present → StaysThrough sum P content life life
+stays_through_start sum P content life truthful = through_start (Stays sum P content life.present) life (stays_itself sum P content life.present truthful)
+
+-- so each floor that was kept is kept at each moment
+pub kept_through : (sum : List ℕ → ℕ) (P : ℕ) (content : List ℕ) (old new : Life) → StaysThrough sum P content old new → (floor : ℕ) → floor ≤ length content → AllKeep sum P content floor old.present → Through (AllKeep sum P content floor) old new
+kept_through sum P content old new through floor enough keeps =
+    through_then (Stays sum P content old.present) (AllKeep sum P content floor) old new (λ d stays. stays.kept floor enough keeps) through
+
+-- and chance aside there is only content
+pub only_through : (sum : List ℕ → ℕ) (P : ℕ) (content behind : List ℕ) (old new : Life) → StaysThrough sum P content old new → Through (AllOnly sum P content behind) old new
+only_through sum P content behind old new through =
+    through_then (Stays sum P content old.present) (AllOnly sum P content behind) old new (λ d stays. λ image is_image free. inl (stays.only image is_image free)) through
+
+-- also where the content is the one behind the call
+pub only_behind : (sum : List ℕ → ℕ) (P : ℕ) (before content : List ℕ) (old new : Life) → StaysThrough sum P content old new → Through (AllOnly sum P before content) old new
+only_behind sum P before content old new through =
+    through_then (Stays sum P content old.present) (AllOnly sum P before content) old new (λ d stays. λ image is_image free. inr (stays.only image is_image free)) through
+
+-- a content that grows keeps its beginning
+pub same_floor : (content longer : List ℕ) (floor : ℕ) → content ≡ take (length content) longer → floor ≤ length content → take floor content ≡ take floor longer
+same_floor content longer floor begins enough = ap (λ (l : List ℕ). take floor l) begins ∙ take-take floor (length content) longer enough
+
+-- so a floor of the content before is one of the longer content
+pub keeps_longer : (sum : List ℕ → ℕ) (P : ℕ) (content longer : List ℕ) (floor : ℕ) (d : Disk) → content ≡ take (length content) longer → floor ≤ length content → AllKeep sum P content floor d → AllKeep sum P longer floor d
+keeps_longer sum P content longer floor d begins enough keeps = λ image is_image. keeps image is_image ∙ same_floor content longer floor begins enough
+
+-- and the other way round
+pub keeps_shorter : (sum : List ℕ → ℕ) (P : ℕ) (content longer : List ℕ) (floor : ℕ) (d : Disk) → content ≡ take (length content) longer → floor ≤ length content → AllKeep sum P longer floor d → AllKeep sum P content floor d
+keeps_shorter sum P content longer floor d begins enough keeps = λ image is_image. keeps image is_image ∙ sym (same_floor content longer floor begins enough)
+
+-- what is owed for a content is owed for a longer one: where only the content is there, no more of it can have been kept
+pub stays_longer : (sum : List ℕ → ℕ) (P : ℕ) (content longer : List ℕ) (d e : Disk) → content ≡ take (length content) longer → Stays sum P content d d → Stays sum P content d e → Stays sum P longer d e
+stays_longer sum P content longer d e begins before stays = record {
+  kept = λ floor enough keeps.
+      let base_only = before.only d.base (base_is_image d) (whole_is_chance_free sum P d d.base (base_is_whole d.base d.since)) in
+      let durable = floor_is_durable sum P longer floor d keeps enough in
+      let few : floor ≤ length content = omega (arith, ap length base_only, length-take (length (text sum P d.base)) content) in
+      keeps_longer sum P content longer floor e begins few (stays.kept floor few (keeps_shorter sum P content longer floor d begins few keeps));
+  only = λ image is_image free.
+      let is = stays.only image is_image free in
+      let few : length (text sum P image) ≤ length content = omega (arith, ap length is, length-take (length (text sum P image)) content) in
+      is ∙ same_floor content longer (length (text sum P image)) begins few;
+}
+
+-- at each moment
+pub stays_through_longer : (sum : List ℕ → ℕ) (P : ℕ) (content longer : List ℕ) (old new : Life) → content ≡ take (length content) longer → StaysThrough sum P content old new → StaysThrough sum P longer old new
+stays_through_longer sum P content longer old new begins through =
+    through_then (Stays sum P content old.present) (Stays sum P longer old.present) old new (λ d stays. stays_longer sum P content longer old.present d begins through.start stays) through
+
+-- where the content grew within a call, each floor of the content before is kept
+pub kept_through_longer : (sum : List ℕ → ℕ) (P : ℕ) (before content : List ℕ) (old new : Life) → before ≡ take (length before) content → StaysThrough sum P content old new → (floor : ℕ) → floor ≤ length before → AllKeep sum P before floor old.present → Through (AllKeep sum P before floor) old new
+kept_through_longer sum P before content old new begins through floor enough keeps =
+    let more : length before ≤ length content = omega (arith, ap length begins, length-take (length before) content) in
+    through_then (AllKeep sum P content floor) (AllKeep sum P before floor) old new (λ d kept. keeps_shorter sum P before content floor d begins enough kept)
+    (kept_through sum P content old new through floor (omega arith) (keeps_longer sum P before content floor old.present begins enough keeps))

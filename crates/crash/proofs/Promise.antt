@@ -1,0 +1,310 @@
+-- The laws of the promise: what is guarded is kept, and a truthful disk says only the content.
+use Rattle.std.proofs.Common.{◌≡◌, inl, inr, ℕ, ◌+◌, ◌-◌, ◌*◌, ◌<◌, ◌≤◌, min, List, [], ◌∷◌, ◌++◌, length, take, drop, slice_get, Some, refl, sym, ap, ◌∙◌, subst, arith, length-take, length-take-le, length-drop, mul-le-mul_right, le_trans, sub-eq-zero_of_le, append-nil, replicate}
+use Rattle.std.proofs.lemmas.Bool.{cases_lt}
+use Rattle.disk.specs.Disk.{Disk, Operation, IsImage, IsWhole, applied}
+use Rattle.disk.specs.Disk.Operation.{Write, Resize}
+use Rattle.page.specs.Slot.{slot_offset}
+use Rattle.page.specs.Page.{slot_of, verified_len, value_len, pages, text}
+use Rattle.page.specs.declared.slot.Slot.{Slot}
+use Rattle.crash.specs.Guard.{Held, IsSlotFor, IsGuarded, Guards, IsTruthful, IsChanceFree}
+use Rattle.crash.specs.Kept.{AllKeep}
+use Rattle.crash.specs.Sound.{latest}
+use Rattle.crash.proofs.Disks.{fixed_length, fixed_in_image, fixed_stays, fixed_settles, fixed_at_rest, fixed_alike, Leaves, resize_leaves, write_behind_leaves, base_is_image, image_at_rest, one_more_whole, fixed_covered, whole_covered, length-applied_resize}
+use Rattle.crash.proofs.ListFacts.{part_of_taken}
+use Rattle.crash.proofs.PageFacts.{slot_offset_le, page_at, page_within, page_is, page_begins, page_length, slot_at, slot_from_verified, value_len_slot, value_len_le, verified_len_le, verified_len_held, verified_le_value, Says, text_begins, text_within, begins_less, has_part}
+
+-- where a page's end is fixed, each image has the page
+held_page : (sum : List ℕ → ℕ) (P : ℕ) (d : Disk) (p : ℕ) (s : Slot) (slot bytes image : List ℕ) → Held sum P d p s slot bytes → IsImage d image
+    → slice_get (pages P image) p ≡ Some (take (P + 12) (drop (p * (P + 12)) image))
+held_page sum P d p s slot bytes image held is_image = page_at P p image (omega (arith, fixed_length d ((p + 1) * (P + 12)) [] image held.end is_image))
+
+-- a page that is held begins with its bytes in each image
+pub held_begins : (sum : List ℕ → ℕ) (P : ℕ) (d : Disk) (p : ℕ) (s : Slot) (slot bytes image page : List ℕ) → Held sum P d p s slot bytes → IsImage d image → slice_get (pages P image) p ≡ Some page → take (length bytes) page ≡ bytes
+held_begins sum P d p s slot bytes image page held is_image is =
+    page_begins P p (length bytes) image page is (omega (arith, held.fits)) ∙ fixed_in_image d (p * (P + 12)) bytes image held.payload is_image
+
+-- and its slot verifies over them
+pub held_verifies : (sum : List ℕ → ℕ) (P : ℕ) (d : Disk) (p : ℕ) (s : Slot) (slot bytes image page : List ℕ) → Held sum P d p s slot bytes → IsImage d image → slice_get (pages P image) p ≡ Some page → verified_len sum P s page ≡ length bytes
+held_verifies sum P d p s slot bytes image page held is_image is =
+    let same : slot ≡ slot_of P s page =
+    sym (fixed_in_image d (p * (P + 12) + P + slot_offset s) slot image held.fixed_slot is_image)
+    ∙ ap (λ (n : ℕ). take n (drop (p * (P + 12) + P + slot_offset s) image)) held.is_slot.size ∙ sym (slot_at P p s image page is) in
+    verified_len_held sum P s page bytes (subst (λ (l : List ℕ). IsSlotFor sum bytes l) same held.is_slot) held.some held.fits (held_begins sum P d p s slot bytes image page held is_image is)
+
+-- a page that is guarded says the content, as far as the floor goes
+guarded_says : (sum : List ℕ → ℕ) (P : ℕ) (content : List ℕ) (floor : ℕ) (d : Disk) (p : ℕ) (image : List ℕ) → IsGuarded sum P content floor d p → IsImage d image → Says sum P content floor (pages P image) p
+guarded_says sum P content floor d p image g is_image =
+    let page = take (P + 12) (drop (p * (P + 12)) image) in
+    let bytes = take g.len (drop (p * P) content) in
+    let there = held_page sum P d p g.slot g.bytes bytes image g.held is_image in
+    let as_long : length bytes ≡ g.len = length-take-le g.len (drop (p * P) content) (omega (arith, g.there, length-drop (p * P) content)) in
+    let begins : take g.len page ≡ take g.len (drop (p * P) content) = ap (λ (n : ℕ). take n page) (sym as_long) ∙ held_begins sum P d p g.slot g.bytes bytes image page g.held is_image there in
+    record {
+      page = page;
+      there = there;
+      enough = omega (arith, g.enough, held_verifies sum P d p g.slot g.bytes bytes image page g.held is_image there, verified_le_value sum P g.slot page);
+      begins = begins_less (min P (floor - p * P)) g.len page (drop (p * P) content) g.enough begins;
+    }
+
+-- what is guarded is kept
+pub guarded_is_kept : (sum : List ℕ → ℕ) (P : ℕ) (content : List ℕ) (floor : ℕ) (d : Disk) → Guards sum P content floor d → floor ≤ length content → AllKeep sum P content floor d
+guarded_is_kept sum P content floor d guards enough =
+    λ image is_image. text_begins sum P (pages P image) content floor enough (λ p below. guarded_says sum P content floor d p image (guards p below) is_image)
+
+-- a floor that is kept is at most what is durable
+pub floor_is_durable : (sum : List ℕ → ℕ) (P : ℕ) (content : List ℕ) (floor : ℕ) (d : Disk) → AllKeep sum P content floor d → floor ≤ length content → floor ≤ length (text sum P d.base)
+floor_is_durable sum P content floor d keeps enough =
+    let same = ap length (keeps d.base (base_is_image d)) in
+    omega (arith, length-take floor (text sum P d.base), length-take floor content, same)
+
+-- an operation leaves a page that is held: its bytes, its slot and its end
+pub record LeavesPage (o : Operation) (P p : ℕ) (s : Slot) (slot bytes : List ℕ) : Type 0 where
+  pub payload : Leaves o (p * (P + 12)) bytes
+  pub fixed_slot : Leaves o (p * (P + 12) + P + slot_offset s) slot
+  pub end : Leaves o ((p + 1) * (P + 12)) []
+
+-- a page that is held stays so under an operation that leaves it
+pub held_stays : (sum : List ℕ → ℕ) (P : ℕ) (d e : Disk) (o : Operation) (p : ℕ) (s : Slot) (slot bytes : List ℕ) → e.base ≡ d.base → e.since ≡ d.since ++ o ∷ [] → LeavesPage o P p s slot bytes → Held sum P d p s slot bytes → Held sum P e p s slot bytes
+held_stays sum P d e o p s slot bytes base since leaves held = record {
+  some = held.some;
+  fits = held.fits;
+  payload = fixed_stays d e o (p * (P + 12)) bytes base since leaves.payload held.payload;
+  is_slot = held.is_slot;
+  fixed_slot = fixed_stays d e o (p * (P + 12) + P + slot_offset s) slot base since leaves.fixed_slot held.fixed_slot;
+  end = fixed_stays d e o ((p + 1) * (P + 12)) [] base since leaves.end held.end;
+}
+
+-- and when an image becomes the base
+pub held_settles : (sum : List ℕ → ℕ) (P : ℕ) (d e : Disk) (p : ℕ) (s : Slot) (slot bytes : List ℕ) → IsImage d e.base → e.since ≡ [] → Held sum P d p s slot bytes → Held sum P e p s slot bytes
+held_settles sum P d e p s slot bytes is_image at_rest held = record {
+  some = held.some;
+  fits = held.fits;
+  payload = fixed_settles d e (p * (P + 12)) bytes is_image at_rest held.payload;
+  is_slot = held.is_slot;
+  fixed_slot = fixed_settles d e (p * (P + 12) + P + slot_offset s) slot is_image at_rest held.fixed_slot;
+  end = fixed_settles d e ((p + 1) * (P + 12)) [] is_image at_rest held.end;
+}
+
+-- and where only what is readable, the started syncs or the log differ
+pub held_alike : (sum : List ℕ → ℕ) (P : ℕ) (d e : Disk) (p : ℕ) (s : Slot) (slot bytes : List ℕ) → e.base ≡ d.base → e.since ≡ d.since → Held sum P d p s slot bytes → Held sum P e p s slot bytes
+held_alike sum P d e p s slot bytes base since held = record {
+  some = held.some;
+  fits = held.fits;
+  payload = fixed_alike d e (p * (P + 12)) bytes base since held.payload;
+  is_slot = held.is_slot;
+  fixed_slot = fixed_alike d e (p * (P + 12) + P + slot_offset s) slot base since held.fixed_slot;
+  end = fixed_alike d e ((p + 1) * (P + 12)) [] base since held.end;
+}
+
+-- and when the operations that a sync covers become durable
+pub held_covered : (sum : List ℕ → ℕ) (P : ℕ) (d e : Disk) (os ps : List Operation) (p : ℕ) (s : Slot) (slot bytes : List ℕ) → d.since ≡ os ++ ps → e.base ≡ latest d.base os → e.since ≡ ps → Held sum P d p s slot bytes → Held sum P e p s slot bytes
+held_covered sum P d e os ps p s slot bytes since base rest held = record {
+  some = held.some;
+  fits = held.fits;
+  payload = fixed_covered d e os ps (p * (P + 12)) bytes since base rest held.payload;
+  is_slot = held.is_slot;
+  fixed_slot = fixed_covered d e os ps (p * (P + 12) + P + slot_offset s) slot since base rest held.fixed_slot;
+  end = fixed_covered d e os ps ((p + 1) * (P + 12)) [] since base rest held.end;
+}
+
+-- a guarded page, over to a disk on which it is held too
+guarded_on : (sum : List ℕ → ℕ) (P : ℕ) (content : List ℕ) (floor : ℕ) (d e : Disk) (p : ℕ) (g : IsGuarded sum P content floor d p) → Held sum P e p g.slot g.bytes (take g.len (drop (p * P) content)) → IsGuarded sum P content floor e p
+guarded_on sum P content floor d e p g held = record { slot = g.slot; bytes = g.bytes; len = g.len; enough = g.enough; there = g.there; held = held }
+
+-- guarded pages stay guarded under an operation that leaves them
+pub guards_stay : (sum : List ℕ → ℕ) (P : ℕ) (content : List ℕ) (floor : ℕ) (d e : Disk) (o : Operation) → e.base ≡ d.base → e.since ≡ d.since ++ o ∷ []
+    → ((p : ℕ) → p * P < floor → (g : IsGuarded sum P content floor d p) → LeavesPage o P p g.slot g.bytes (take g.len (drop (p * P) content)))
+    → Guards sum P content floor d → Guards sum P content floor e
+guards_stay sum P content floor d e o base since leaves guards =
+    λ p below. let g = guards p below in
+    guarded_on sum P content floor d e p g (held_stays sum P d e o p g.slot g.bytes (take g.len (drop (p * P) content)) base since (leaves p below g) g.held)
+
+-- and when an image becomes the base
+pub guards_settle : (sum : List ℕ → ℕ) (P : ℕ) (content : List ℕ) (floor : ℕ) (d e : Disk) → IsImage d e.base → e.since ≡ [] → Guards sum P content floor d → Guards sum P content floor e
+guards_settle sum P content floor d e is_image at_rest guards =
+    λ p below. let g = guards p below in
+    guarded_on sum P content floor d e p g (held_settles sum P d e p g.slot g.bytes (take g.len (drop (p * P) content)) is_image at_rest g.held)
+
+-- and when the operations that a sync covers become durable
+pub guards_covered : (sum : List ℕ → ℕ) (P : ℕ) (content : List ℕ) (floor : ℕ) (d e : Disk) (os ps : List Operation) → d.since ≡ os ++ ps → e.base ≡ latest d.base os → e.since ≡ ps → Guards sum P content floor d → Guards sum P content floor e
+guards_covered sum P content floor d e os ps since base rest guards =
+    λ p below. let g = guards p below in
+    guarded_on sum P content floor d e p g (held_covered sum P d e os ps p g.slot g.bytes (take g.len (drop (p * P) content)) since base rest g.held)
+
+-- and where only what is readable, the started syncs or the log differ
+pub guards_alike : (sum : List ℕ → ℕ) (P : ℕ) (content : List ℕ) (floor : ℕ) (d e : Disk) → e.base ≡ d.base → e.since ≡ d.since → Guards sum P content floor d → Guards sum P content floor e
+guards_alike sum P content floor d e base since guards =
+    λ p below. let g = guards p below in
+    guarded_on sum P content floor d e p g (held_alike sum P d e p g.slot g.bytes (take g.len (drop (p * P) content)) base since g.held)
+
+-- an operation leaves whatever ends at this place or before
+pub record LeavesBelow (o : Operation) (end : ℕ) : Type 0 where
+  pub leaves : (place : ℕ) (bytes : List ℕ) → place + length bytes ≤ end → Leaves o place bytes
+
+-- a write does up to where it begins
+pub write_leaves_below : (at : ℕ) (written : List ℕ) → LeavesBelow (Write at written) at
+write_leaves_below at written = record { leaves = λ place bytes within. write_behind_leaves at written place bytes within }
+
+-- a resize does up to the new end
+pub resize_leaves_below : (len : ℕ) → LeavesBelow (Resize len) len
+resize_leaves_below len = record { leaves = λ place bytes within. resize_leaves len place bytes within }
+
+-- such an operation leaves each page below that place
+pub leaves_page_below : (o : Operation) (P p end : ℕ) (s : Slot) (slot bytes : List ℕ) → LeavesBelow o end → (p + 1) * (P + 12) ≤ end → length slot ≡ 6 → length bytes ≤ P → LeavesPage o P p s slot bytes
+leaves_page_below o P p end s slot bytes below within size fits = record {
+  payload = below.leaves (p * (P + 12)) bytes (omega arith);
+  fixed_slot = below.leaves (p * (P + 12) + P + slot_offset s) slot (omega (arith, slot_offset_le s));
+  end = below.leaves ((p + 1) * (P + 12)) [] (omega arith);
+}
+
+-- so what is guarded up to there stays guarded
+pub guards_below : (sum : List ℕ → ℕ) (P full : ℕ) (content : List ℕ) (floor end : ℕ) (d e : Disk) (o : Operation) → e.base ≡ d.base → e.since ≡ d.since ++ o ∷ [] → LeavesBelow o end → full * (P + 12) ≤ end → floor ≤ full * P
+    → Guards sum P content floor d → Guards sum P content floor e
+guards_below sum P full content floor end d e o base since below within few guards =
+    guards_stay sum P content floor d e o base since (λ p in_floor g.
+    let among : p < full = page_among p full P (omega arith) in
+    leaves_page_below o P p end g.slot g.bytes (take g.len (drop (p * P) content)) below (le_trans (mul-le-mul_right (P + 12) (omega arith)) within) g.held.is_slot.size g.held.fits) guards
+  where
+    page_among : (p full P : ℕ) → p * P < full * P → p < full
+    page_among p full P less = elim (cases_lt p full) [
+      | inl below ↦ below
+      | inr past ↦ absurd (omega (arith, mul-le-mul_right P past))
+    ]
+
+-- less is guarded too
+pub guards_less : (sum : List ℕ → ℕ) (P : ℕ) (content : List ℕ) (floor less : ℕ) (d : Disk) → less ≤ floor → Guards sum P content floor d → Guards sum P content less d
+guards_less sum P content floor less d le guards =
+    λ p below. let g = guards p (omega arith) in
+    record { slot = g.slot; bytes = g.bytes; len = g.len; enough = omega (arith, g.enough); there = g.there; held = g.held }
+
+-- a part of a beginning's rest
+part_of_beginning : {X : Type 0} (n k : ℕ) (xs ys : List X) → xs ≡ take (length xs) ys → k + n ≤ length xs → take n (drop k xs) ≡ take n (drop k ys)
+part_of_beginning n k xs ys begins within = ap (λ (l : List _). take n (drop k l)) begins ∙ part_of_taken n k (length xs) ys within
+
+-- what is guarded stays so when the content grows
+pub guards_longer : (sum : List ℕ → ℕ) (P : ℕ) (content longer : List ℕ) (floor : ℕ) (d : Disk) → content ≡ take (length content) longer → Guards sum P content floor d → Guards sum P longer floor d
+guards_longer sum P content longer floor d begins guards =
+    λ p below. let g = guards p below in
+    let more : length content ≤ length longer = omega (arith, ap length begins, length-take (length content) longer) in
+    record {
+      slot = g.slot;
+      bytes = g.bytes;
+      len = g.len;
+      enough = g.enough;
+      there = omega (arith, g.there);
+      held = subst (λ (l : List ℕ). Held sum P d p g.slot g.bytes l) (part_of_beginning g.len (p * P) content longer begins g.there) g.held;
+    }
+
+-- with nothing unsynced the whole text of the base is guarded
+pub guards_at_rest : (sum : List ℕ → ℕ) (P : ℕ) (d : Disk) → 0 < P → d.since ≡ [] → Guards sum P (text sum P d.base) (length (text sum P d.base)) d
+guards_at_rest sum P d some at_rest =
+    λ p below.
+    let part = has_part sum P (pages P d.base) p some (λ q page is. omega (arith, page_length P q d.base page is)) below in
+    let chosen = value_len_slot sum P part.page in
+    let s = chosen.0 in
+    let len = value_len sum P part.page in
+    let within = page_within P p d.base part.page part.there in
+    let whole : P + 12 ≤ length part.page = omega (arith, page_length P p d.base part.page part.there) in
+    let fits : len ≤ P = value_len_le sum P part.page in
+    let as_long : length (take len part.page) ≡ len = length-take-le len part.page (omega arith) in
+    let slot_is = slot_at P p s d.base part.page part.there in
+    let is_slot : IsSlotFor sum (take len part.page) (slot_of P s part.page) =
+    subst (λ (n : ℕ). IsSlotFor sum (take n part.page) (slot_of P s part.page)) (sym chosen.1) (slot_from_verified sum P s part.page whole (omega (arith, part.some, chosen.1))) in
+    let held : Held sum P d p s (slot_of P s part.page) (take len part.page) = record {
+      some = omega (arith, part.some);
+      fits = omega arith;
+      payload = fixed_at_rest d (p * (P + 12)) (take len part.page) at_rest (omega arith) (ap (λ (n : ℕ). take n (drop (p * (P + 12)) d.base)) as_long ∙ sym (page_begins P p len d.base part.page part.there (omega arith)));
+      is_slot = is_slot;
+      fixed_slot = fixed_at_rest d (p * (P + 12) + P + slot_offset s) (slot_of P s part.page) at_rest (omega (arith, is_slot.size, slot_offset_le s)) (ap (λ (n : ℕ). take n (drop (p * (P + 12) + P + slot_offset s) d.base)) is_slot.size ∙ sym slot_is);
+      end = fixed_at_rest d ((p + 1) * (P + 12)) [] at_rest (omega arith) refl;
+    } in
+    record {
+      slot = s;
+      bytes = slot_of P s part.page;
+      len = len;
+      enough = part.enough;
+      there = part.inside;
+      held = subst (λ (l : List ℕ). Held sum P d p s (slot_of P s part.page) l) part.begins held;
+    }
+
+-- so every image has that text
+pub keeps_at_rest : (sum : List ℕ → ℕ) (P : ℕ) (d : Disk) → d.since ≡ [] → AllKeep sum P (text sum P d.base) (length (text sum P d.base)) d
+keeps_at_rest sum P d at_rest = λ image is_image. ap (λ (l : List ℕ). take (length (text sum P d.base)) (text sum P l)) (image_at_rest d image at_rest is_image)
+
+-- each slot of these bytes that verifies does so over bytes of the content
+abbrev pub SaysOnly : (List ℕ → ℕ) → ℕ → List ℕ → List ℕ → Type 0
+SaysOnly sum P content whole = (p : ℕ) (page : List ℕ) → slice_get (pages P whole) p ≡ Some page → (s : Slot) → take (verified_len sum P s page) page ≡ take (verified_len sum P s page) (drop (p * P) content)
+
+-- chance aside, an image of a truthful disk says only the content
+pub only_content : (sum : List ℕ → ℕ) (P : ℕ) (content : List ℕ) (d : Disk) (image : List ℕ) → IsTruthful sum P content d → IsChanceFree sum P d image → text sum P image ≡ take (length (text sum P image)) content
+only_content sum P content d image truthful free = text_within sum P (pages P image) content (λ p page is.
+    let chosen = value_len_slot sum P page in
+    let s = chosen.0 in
+    elim (cases_lt 0 (value_len sum P page)) [
+      | inl some ↦
+          let was = free p page is s (omega (arith, chosen.1)) in
+          let same : verified_len sum P s was.1 ≡ value_len sum P page = was.4 ∙ sym chosen.1 in
+          ap (λ (n : ℕ). take n page) chosen.1 ∙ sym was.5 ∙ ap (λ (n : ℕ). take n was.1) (sym was.4)
+          ∙ truthful was.0 was.2 p was.1 was.3 s ∙ ap (λ (n : ℕ). take n (drop (p * P) content)) same
+      | inr none ↦
+          let zero_len : value_len sum P page ≡ 0 = omega arith in
+          ap (λ (n : ℕ). take n page) zero_len ∙ ap (λ (n : ℕ). take n (drop (p * P) content)) (sym zero_len)
+    ])
+
+-- no chance is needed at a whole state
+pub whole_is_chance_free : (sum : List ℕ → ℕ) (P : ℕ) (d : Disk) (whole : List ℕ) → IsWhole d.base d.since whole → IsChanceFree sum P d whole
+whole_is_chance_free sum P d whole is_whole = λ p page is s some. (whole, page, is_whole, is, refl, refl)
+
+-- a truthful disk stays so under an operation after which the blob says only the content
+pub truthful_stays : (sum : List ℕ → ℕ) (P : ℕ) (content : List ℕ) (d e : Disk) (o : Operation) → e.base ≡ d.base → e.since ≡ d.since ++ o ∷ [] → SaysOnly sum P content (applied o (latest d.base d.since)) → IsTruthful sum P content d → IsTruthful sum P content e
+truthful_stays sum P content d e o base since says truthful =
+    λ whole is_whole. elim (one_more_whole d.base d.since o whole (rw (base, since) at is_whole)) [
+      | inl before ↦ truthful whole before
+      | inr is_new ↦ subst (λ (bytes : List ℕ). SaysOnly sum P content bytes) (sym is_new) says
+    ]
+
+-- a disk with nothing unsynced is truthful where its base says only the content
+pub truthful_at_rest : (sum : List ℕ → ℕ) (P : ℕ) (content : List ℕ) (d : Disk) → d.since ≡ [] → SaysOnly sum P content d.base → IsTruthful sum P content d
+truthful_at_rest sum P content d at_rest says =
+    λ whole is_whole. subst (λ (bytes : List ℕ). SaysOnly sum P content bytes) (sym (subst (λ (os : List Operation). IsWhole d.base os whole) at_rest is_whole)) says
+
+-- and stays so when a whole state becomes the base
+pub truthful_settles : (sum : List ℕ → ℕ) (P : ℕ) (content : List ℕ) (d e : Disk) → IsWhole d.base d.since e.base → e.since ≡ [] → IsTruthful sum P content d → IsTruthful sum P content e
+truthful_settles sum P content d e is_whole at_rest truthful = truthful_at_rest sum P content e at_rest (truthful e.base is_whole)
+
+-- and when the operations that a sync covers become durable
+pub truthful_covered : (sum : List ℕ → ℕ) (P : ℕ) (content : List ℕ) (d e : Disk) (os ps : List Operation) → d.since ≡ os ++ ps → e.base ≡ latest d.base os → e.since ≡ ps → IsTruthful sum P content d → IsTruthful sum P content e
+truthful_covered sum P content d e os ps since base rest truthful = λ whole is_whole. truthful whole (whole_covered d e os ps since base rest whole is_whole)
+
+-- and where only what is readable, the started syncs or the log differ
+pub truthful_alike : (sum : List ℕ → ℕ) (P : ℕ) (content : List ℕ) (d e : Disk) → e.base ≡ d.base → e.since ≡ d.since → IsTruthful sum P content d → IsTruthful sum P content e
+truthful_alike sum P content d e base since truthful = λ whole is_whole. truthful whole (rw (base, since) at is_whole)
+
+-- what says only the content says only a longer one
+pub says_only_longer : (sum : List ℕ → ℕ) (P : ℕ) (content longer whole : List ℕ) → content ≡ take (length content) longer → SaysOnly sum P content whole → SaysOnly sum P longer whole
+says_only_longer sum P content longer whole begins says = λ p page is s.
+    let n = verified_len sum P s page in
+    elim (cases_lt 0 n) [
+      | inl some ↦
+          let fits : n ≤ length page = omega (arith, verified_len_le sum P s page, page_length P p whole page is) in
+          let there : p * P + n ≤ length content = omega (arith, ap length (says p page is s), length-take n page, length-take n (drop (p * P) content), length-drop (p * P) content) in
+          says p page is s ∙ part_of_beginning n (p * P) content longer begins there
+      | inr none ↦
+          let zero_len : n ≡ 0 = omega arith in
+          ap (λ (k : ℕ). take k page) zero_len ∙ ap (λ (k : ℕ). take k (drop (p * P) longer)) (sym zero_len)
+    ]
+
+-- a truthful disk stays so when the content grows
+pub truthful_longer : (sum : List ℕ → ℕ) (P : ℕ) (content longer : List ℕ) (d : Disk) → content ≡ take (length content) longer → IsTruthful sum P content d → IsTruthful sum P longer d
+truthful_longer sum P content longer d begins truthful = λ whole is_whole. says_only_longer sum P content longer whole begins (truthful whole is_whole)
+
+-- what is cut says only the content too
+pub cut_says_only : (sum : List ℕ → ℕ) (P : ℕ) (content whole : List ℕ) (len : ℕ) → len ≤ length whole → SaysOnly sum P content whole → SaysOnly sum P content (applied (Resize len) whole)
+cut_says_only sum P content whole len shorter says = λ p page is s.
+    let within : (p + 1) * (P + 12) ≤ len = omega (arith, page_within P p (applied (Resize len) whole) page is, length-applied_resize len whole) in
+    let cut : applied (Resize len) whole ≡ take len whole =
+    ap (λ (n : ℕ). take len whole ++ replicate n 0) (sub-eq-zero_of_le shorter) ∙ append-nil (take len whole) in
+    let was : slice_get (pages P whole) p ≡ Some page =
+    page_at P p whole (omega arith)
+    ∙ ap (λ (l : List ℕ). Some l) (sym (part_of_taken (P + 12) (p * (P + 12)) len whole (omega arith)) ∙ ap (λ (l : List ℕ). take (P + 12) (drop (p * (P + 12)) l)) (sym cut) ∙ sym (page_is P p (applied (Resize len) whole) page is)) in
+    says p page was s

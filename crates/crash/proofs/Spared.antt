@@ -1,0 +1,228 @@
+-- What one flush spares: the pages below the tip, and in the tip's page the durable slot and what it covers.
+use Rattle.std.proofs.Common.{◌≡◌, ◌⊎◌, inl, inr, ℕ, zero, suc, ◌+◌, ◌-◌, ◌*◌, ◌^◌, ◌<◌, ◌≤◌, min, List, [], ◌∷◌, ◌++◌, length, take, drop, replicate, slice_get, Option, Some, None, refl, sym, ap, ◌∙◌, subst, arith, append_assoc, length-append, length-take, length-take-le, length-drop, mul-le-mul_right, le_refl}
+use Rattle.std.proofs.lemmas.Bool.{cases_order}
+use Rattle.std.proofs.lemmas.List.{take-take, drop-drop, take-append-le, length-replicate}
+use Rattle.std.proofs.Math.Seq.{drop-append-add}
+use Rattle.disk.specs.Disk.{Disk, applied}
+use Rattle.disk.specs.Disk.Operation.{Write}
+use Rattle.page.specs.Slot.{slot_offset}
+use Rattle.page.specs.Page.{slot_of, slot_bytes, slot_len, verified_len, pages, text}
+use Rattle.page.specs.declared.slot.Slot.{Slot}
+use Rattle.page.specs.declared.slot.Slot.TheVariants.{First, Second}
+use Rattle.page.specs.declared.slot.ActiveChecksum.{ActiveChecksum}
+use Rattle.crash.specs.Built.{kept_slot, kept_len, kept_bytes, footer, page_of, built_pages, built}
+use Rattle.crash.specs.Guard.{Held, IsGuarded, Guards, IsTruthful}
+use Rattle.crash.specs.Sound.{latest}
+use Rattle.crash.specs.Stays.{Stays}
+use Rattle.crash.proofs.Disks.{latest_is_whole, write_in_front_leaves, write_again_leaves}
+use Rattle.crash.proofs.Promise.{LeavesPage, held_stays, guards_below, write_leaves_below, SaysOnly, truthful_stays}
+use Rattle.crash.proofs.Moments.{stays_guarded}
+use Rattle.crash.proofs.ListFacts.{taken_element, joined_element}
+use Rattle.crash.proofs.PageFacts.{own_beginning, verified_cases}
+use Rattle.std.proofs.lemmas.Option.{same_Some}
+use Rattle.std.proofs.lemmas.Nat.{from_be_bytes-to_be_bytes_2}
+
+-- a payload that is padded fills the page
+length-padded : (P : ℕ) (chunk : List ℕ) → length chunk ≤ P → length (chunk ++ replicate (P - length chunk) 0) ≡ P
+length-padded P chunk fits = simp (length-append, length-replicate) (omega arith)
+
+-- the slot of a footer that is kept
+kept_in_footer : (s : Slot) (len crc n c : ℕ) (rest : List ℕ) → take 6 (drop (slot_offset s) (footer s (slot_bytes len crc) (slot_bytes n c) ++ rest)) ≡ slot_bytes len crc
+kept_in_footer First len crc n c rest = refl
+kept_in_footer Second len crc n c rest = refl
+
+-- what stands behind a padded payload
+behind_payload : (P k : ℕ) (chunk behind : List ℕ) → length chunk ≤ P → drop (P + k) (chunk ++ replicate (P - length chunk) 0 ++ behind) ≡ drop k behind
+behind_payload P k chunk behind fits =
+    let size : P ≡ length (chunk ++ replicate {A = ℕ} (P - length chunk) 0) = sym (length-padded P chunk fits) in
+    ap (λ (n : ℕ). drop (n + k) (chunk ++ replicate (P - length chunk) 0 ++ behind)) size ∙ drop-append-add (chunk ++ replicate (P - length chunk) 0) behind k
+
+-- a page that is built, before others, has the durable slot
+pub built_keeps_slot : (sum : List ℕ → ℕ) (P : ℕ) (w : ActiveChecksum) (m : ℕ) (tip : List ℕ) → take 6 (drop (P + slot_offset w.slot) (built sum P (Some w) (suc m) tip)) ≡ slot_bytes w.len w.crc
+built_keeps_slot sum P w m tip =
+    let chunk = take P tip in
+    let foot = footer w.slot (slot_bytes w.len w.crc) (slot_bytes (length chunk) (sum chunk)) in
+    let rest = built sum P None m (drop P tip) in
+    ap (λ (l : List ℕ). take 6 (drop (P + slot_offset w.slot) l)) (append_assoc (chunk ++ replicate (P - length chunk) 0) foot rest)
+    ∙ ap (λ (l : List ℕ). take 6 l) (behind_payload P (slot_offset w.slot) chunk (foot ++ rest) (omega (arith, length-take P tip)))
+    ∙ kept_in_footer w.slot w.len w.crc (length chunk) (sum chunk) rest
+
+-- and it begins with the tip
+pub built_begins : (sum : List ℕ → ℕ) (P : ℕ) (durable : Option ActiveChecksum) (m : ℕ) (tip : List ℕ) (n : ℕ) → n ≤ P → n ≤ length tip → take n (built sum P durable (suc m) tip) ≡ take n tip
+built_begins sum P durable m tip n fits there =
+    let chunk = take P tip in
+    let zeros : List ℕ = replicate (P - length chunk) 0 in
+    let foot = footer (kept_slot durable) (kept_bytes durable) (slot_bytes (length chunk) (sum chunk)) in
+    let rest = built sum P None m (drop P tip) in
+    let inside : n ≤ length chunk = omega (arith, length-take P tip) in
+    take-append-le n (chunk ++ zeros ++ foot) rest (omega (arith, length-append (chunk ++ zeros) foot, length-append chunk zeros))
+    ∙ take-append-le n (chunk ++ zeros) foot (omega (arith, length-append chunk zeros))
+    ∙ take-append-le n chunk zeros inside ∙ take-take n P tip fits
+
+-- a flush of the tip leaves in its page the durable slot and a beginning of the tip
+pub flush_leaves_tip : (sum : List ℕ → ℕ) (P full : ℕ) (w : ActiveChecksum) (m : ℕ) (tip bytes : List ℕ) → bytes ≡ take (length bytes) tip → length bytes ≤ P
+    → LeavesPage (Write (full * (P + 12)) (built sum P (Some w) m tip)) P full w.slot (slot_bytes w.len w.crc) bytes
+flush_leaves_tip sum P full w zero tip bytes begins fits = record {
+  payload = write_in_front_leaves (full * (P + 12)) [] (full * (P + 12)) bytes (omega arith);
+  fixed_slot = write_in_front_leaves (full * (P + 12)) [] (full * (P + 12) + P + slot_offset w.slot) (slot_bytes w.len w.crc) (omega arith);
+  end = write_in_front_leaves (full * (P + 12)) [] ((full + 1) * (P + 12)) [] (omega arith);
+}
+flush_leaves_tip sum P full w (suc m) tip bytes begins fits = record {
+  payload = write_again_leaves (full * (P + 12)) (built sum P (Some w) (suc m) tip) (full * (P + 12)) bytes 0 (omega arith)
+      (built_begins sum P (Some w) m tip (length bytes) fits (omega (arith, ap length begins, length-take (length bytes) tip)) ∙ sym begins);
+  fixed_slot = write_again_leaves (full * (P + 12)) (built sum P (Some w) (suc m) tip) (full * (P + 12) + P + slot_offset w.slot) (slot_bytes w.len w.crc) (P + slot_offset w.slot) (omega arith)
+      (built_keeps_slot sum P w m tip);
+  end = write_again_leaves (full * (P + 12)) (built sum P (Some w) (suc m) tip) ((full + 1) * (P + 12)) [] (P + 12) (omega arith) refl;
+}
+
+-- so what the durable slot holds stays held
+pub held_through_flush : (sum : List ℕ → ℕ) (P full : ℕ) (d e : Disk) (w : ActiveChecksum) (m : ℕ) (tip bytes : List ℕ) → e.base ≡ d.base → e.since ≡ d.since ++ Write (full * (P + 12)) (built sum P (Some w) m tip) ∷ []
+    → bytes ≡ take (length bytes) tip → Held sum P d full w.slot (slot_bytes w.len w.crc) bytes → Held sum P e full w.slot (slot_bytes w.len w.crc) bytes
+held_through_flush sum P full d e w m tip bytes base since begins held =
+    held_stays sum P d e (Write (full * (P + 12)) (built sum P (Some w) m tip)) full w.slot (slot_bytes w.len w.crc) bytes base since (flush_leaves_tip sum P full w m tip bytes begins held.fits) held
+
+-- full pages that are guarded and a page behind them that is held are guarded together
+pub guards_with_tip : (sum : List ℕ → ℕ) (P full : ℕ) (content : List ℕ) (len : ℕ) (d : Disk) (s : Slot) (slot : List ℕ) → full * P + len ≤ length content → Guards sum P content (full * P) d
+    → Held sum P d full s slot (take len (drop (full * P) content)) → Guards sum P content (full * P + len) d
+guards_with_tip sum P full content len d s slot there guards held =
+    let as_long : length (take len (drop (full * P) content)) ≡ len = length-take-le len (drop (full * P) content) (omega (arith, length-drop (full * P) content)) in
+    λ p below. elim (cases_order p full) [
+      | inl same ↦ subst (λ (q : ℕ). IsGuarded sum P content (full * P + len) d q) (sym same)
+          (record { slot = s; bytes = slot; len = len; enough = omega arith; there = there; held = held })
+      | inr (inl in_front) ↦
+          let more : suc p * P ≤ full * P = mul-le-mul_right P in_front in
+          let some : 0 < P = omega (arith, held.some, held.fits) in
+          let g = guards p (omega arith) in
+          record { slot = g.slot; bytes = g.bytes; len = g.len; enough = omega (arith, g.enough); there = g.there; held = g.held }
+      | inr (inr behind) ↦
+          let past : suc full * P ≤ p * P = mul-le-mul_right P behind in
+          absurd (omega (arith, held.fits))
+    ]
+
+-- a flush keeps the pages below the tip guarded
+pub flush_keeps_full : (sum : List ℕ → ℕ) (P full : ℕ) (content : List ℕ) (floor : ℕ) (d e : Disk) (written : List ℕ) → e.base ≡ d.base → e.since ≡ d.since ++ Write (full * (P + 12)) written ∷ [] → floor ≤ full * P
+    → Guards sum P content floor d → Guards sum P content floor e
+flush_keeps_full sum P full content floor d e written base since few guards =
+    guards_below sum P full content floor (full * (P + 12)) d e (Write (full * (P + 12)) written) base since (write_leaves_below (full * (P + 12)) written) (le_refl (full * (P + 12))) few guards
+
+-- and of the tip's page what the durable slot holds
+pub flush_keeps_tip : (sum : List ℕ → ℕ) (P full : ℕ) (content : List ℕ) (len : ℕ) (d e : Disk) (w : ActiveChecksum) (m : ℕ) (tip : List ℕ) → e.base ≡ d.base → e.since ≡ d.since ++ Write (full * (P + 12)) (built sum P (Some w) m tip) ∷ []
+    → drop (full * P) content ≡ tip → full * P + len ≤ length content → Guards sum P content (full * P) d → Held sum P d full w.slot (slot_bytes w.len w.crc) (take len (drop (full * P) content))
+    → Guards sum P content (full * P + len) e
+flush_keeps_tip sum P full content len d e w m tip base since behind there guards held =
+    let bytes = take len (drop (full * P) content) in
+    let begins : bytes ≡ take (length bytes) tip =
+    own_beginning len bytes tip (ap (λ (l : List ℕ). take len l) behind) in
+    guards_with_tip sum P full content len e w.slot (slot_bytes w.len w.crc) there
+    (flush_keeps_full sum P full content (full * P) d e (built sum P (Some w) m tip) base since (le_refl (full * P)) guards)
+    (held_through_flush sum P full d e w m tip bytes base since begins held)
+
+-- each slot of these pages that verifies does so over bytes of the content
+abbrev pub PagesSayOnly : (List ℕ → ℕ) → ℕ → List ℕ → List (List ℕ) → Type 0
+PagesSayOnly sum P content ps = (p : ℕ) (page : List ℕ) → slice_get ps p ≡ Some page → (s : Slot) → take (verified_len sum P s page) page ≡ take (verified_len sum P s page) (drop (p * P) content)
+
+-- so for the first pages of a blob, and for pages joined
+pub pages_say_taken : (sum : List ℕ → ℕ) (P : ℕ) (content : List ℕ) (ps : List (List ℕ)) (n : ℕ) → PagesSayOnly sum P content ps → PagesSayOnly sum P content (take n ps)
+pages_say_taken sum P content ps n says = λ p page is s. says p page (taken_element n ps p page is) s
+
+pub pages_say_joined : (sum : List ℕ → ℕ) (P : ℕ) (content : List ℕ) (ps qs : List (List ℕ)) → PagesSayOnly sum P content ps → PagesSayOnly sum P (drop (length ps * P) content) qs → PagesSayOnly sum P content (ps ++ qs)
+pages_say_joined sum P content ps qs first second = λ p page is s. elim (joined_element ps qs p page is) [
+  | inl in_first ↦ first p page in_first s
+  | inr in_second ↦
+      let further : length ps * P + in_second.0 * P ≡ p * P = omega (arith, ap (λ (n : ℕ). n * P) in_second.1) in
+      second in_second.0 page in_second.2 s
+      ∙ ap (λ (l : List ℕ). take (verified_len sum P s page) l) (drop-drop (in_second.0 * P) (length ps * P) content)
+      ∙ ap (λ (k : ℕ). take (verified_len sum P s page) (drop k content)) further
+]
+
+-- a slot says its length
+pub slot_says : (len crc : ℕ) → len < 2 ^ 16 → slot_len (slot_bytes len crc) ≡ len
+slot_says len crc small = from_be_bytes-to_be_bytes_2 len small
+
+-- a footer of the slot that is kept and the new one
+slots_of_footer : (s t : Slot) (len crc n c : ℕ) → let foot : List ℕ = footer s (slot_bytes len crc) (slot_bytes n c) in
+    (take 6 (drop (slot_offset t) foot) ≡ slot_bytes len crc) ⊎ (take 6 (drop (slot_offset t) foot) ≡ slot_bytes n c)
+slots_of_footer First First len crc n c = inl refl
+slots_of_footer First Second len crc n c = inr refl
+slots_of_footer Second First len crc n c = inr refl
+slots_of_footer Second Second len crc n c = inl refl
+
+-- no slot of a page that is built verifies over more than the page has
+built_at_most : (sum : List ℕ → ℕ) (P : ℕ) (s : Slot) (len crc c : ℕ) (chunk : List ℕ) (t : Slot) → P < 2 ^ 16 → length chunk ≤ P → len ≤ length chunk
+    → verified_len sum P t (chunk ++ replicate (P - length chunk) 0 ++ footer s (slot_bytes len crc) (slot_bytes (length chunk) c)) ≤ length chunk
+built_at_most sum P s len crc c chunk t small fits carries =
+    let foot = footer s (slot_bytes len crc) (slot_bytes (length chunk) c) in
+    let page = chunk ++ replicate (P - length chunk) 0 ++ foot in
+    let slot_is : slot_of P t page ≡ take 6 (drop (slot_offset t) foot) = ap (λ (l : List ℕ). take 6 l) (behind_payload P (slot_offset t) chunk foot fits) in
+    let says : slot_len (slot_of P t page) ≤ length chunk = elim (slots_of_footer s t len crc (length chunk) c) [
+      | inl kept ↦ omega (arith, ap slot_len (slot_is ∙ kept), slot_says len crc (omega arith))
+      | inr new ↦ omega (arith, ap slot_len (slot_is ∙ new), slot_says (length chunk) c (omega arith))
+    ] in
+    elim (verified_cases sum P t page) [
+      | inl none ↦ omega arith
+      | inr some ↦ omega (arith, some.0)
+    ]
+
+-- whatever the page keeps
+built_within : (sum : List ℕ → ℕ) (P : ℕ) (durable : Option ActiveChecksum) (chunk : List ℕ) (t : Slot) → P < 2 ^ 16 → length chunk ≤ P → kept_len durable ≤ length chunk → verified_len sum P t (page_of sum P durable chunk) ≤ length chunk
+built_within sum P None chunk t small fits carries = built_at_most sum P Second 0 0 (sum chunk) chunk t small fits carries
+built_within sum P (Some w) chunk t small fits carries = built_at_most sum P w.slot w.len w.crc (sum chunk) chunk t small fits carries
+
+-- a page begins with what was put into it
+built_page_begins : (sum : List ℕ → ℕ) (P : ℕ) (durable : Option ActiveChecksum) (chunk : List ℕ) (n : ℕ) → n ≤ length chunk → take n (page_of sum P durable chunk) ≡ take n chunk
+built_page_begins sum P durable chunk n inside =
+    let zeros : List ℕ = replicate (P - length chunk) 0 in
+    let foot = footer (kept_slot durable) (kept_bytes durable) (slot_bytes (length chunk) (sum chunk)) in
+    take-append-le n (chunk ++ zeros) foot (omega (arith, length-append chunk zeros)) ∙ take-append-le n chunk zeros inside
+
+-- each slot of the pages that are built says only the bytes that they were built of
+pub built_say_only : (sum : List ℕ → ℕ) (P : ℕ) (durable : Option ActiveChecksum) (m : ℕ) (tip : List ℕ) → P < 2 ^ 16 → kept_len durable ≤ P → kept_len durable ≤ length tip → PagesSayOnly sum P tip (built_pages sum P durable m tip)
+built_say_only sum P durable zero tip small fits there p page is s = absurd (cc is)
+built_say_only sum P durable (suc m) tip small fits there zero page is s =
+    let start : 0 ≡ 0 * P = omega arith in
+    let chunk = take P tip in
+    let size : length chunk ≡ min P (length tip) = length-take P tip in
+    let n = verified_len sum P s (page_of sum P durable chunk) in
+    let within : n ≤ length chunk = built_within sum P durable chunk s small (omega arith) (omega arith) in
+    let says : take n (page_of sum P durable chunk) ≡ take n (drop (0 * P) tip) =
+    built_page_begins sum P durable chunk n within ∙ take-take n P tip (omega arith) ∙ ap (λ (k : ℕ). take n (drop k tip)) start in
+    subst (λ (l : List ℕ). take (verified_len sum P s l) l ≡ take (verified_len sum P s l) (drop (0 * P) tip)) (same_Some (page_of sum P durable chunk) page is) says
+built_say_only sum P durable (suc m) tip small fits there (suc p) page is s =
+    let further : P + p * P ≡ suc p * P = omega arith in
+    built_say_only sum P None m (drop P tip) small (omega arith) (omega arith) p page is s
+    ∙ ap (λ (l : List ℕ). take (verified_len sum P s page) l) (drop-drop (p * P) P tip)
+    ∙ ap (λ (k : ℕ). take (verified_len sum P s page) (drop k tip)) further
+
+-- a flush says only the content: the pages below the tip are as they were, and the others are built of the tip
+pub flush_says_only : (sum : List ℕ → ℕ) (P full : ℕ) (content old new : List ℕ) (durable : Option ActiveChecksum) (m : ℕ) (tip : List ℕ) → P < 2 ^ 16 → kept_len durable ≤ P → kept_len durable ≤ length tip
+    → drop (full * P) content ≡ tip → full ≤ length (pages P old) → pages P new ≡ take full (pages P old) ++ built_pages sum P durable m tip → SaysOnly sum P content old → SaysOnly sum P content new
+flush_says_only sum P full content old new durable m tip small fits there behind enough new_pages says =
+    let size : length (take full (pages P old)) ≡ full = length-take-le full (pages P old) enough in
+    let rest : tip ≡ drop (length (take full (pages P old)) * P) content = sym behind ∙ ap (λ (n : ℕ). drop (n * P) content) (sym size) in
+    subst (λ (ps : List (List ℕ)). PagesSayOnly sum P content ps) (sym new_pages)
+    (pages_say_joined sum P content (take full (pages P old)) (built_pages sum P durable m tip) (pages_say_taken sum P content (pages P old) full says)
+    (subst (λ (l : List ℕ). PagesSayOnly sum P l (built_pages sum P durable m tip)) rest (built_say_only sum P durable m tip small fits there)))
+
+-- so a truthful disk stays so through a flush
+pub truthful_through_flush : (sum : List ℕ → ℕ) (P full : ℕ) (content : List ℕ) (d e : Disk) (durable : Option ActiveChecksum) (m : ℕ) (tip written : List ℕ) → P < 2 ^ 16 → kept_len durable ≤ P → kept_len durable ≤ length tip
+    → e.base ≡ d.base → e.since ≡ d.since ++ Write (full * (P + 12)) written ∷ []
+    → drop (full * P) content ≡ tip → full ≤ length (pages P (latest d.base d.since))
+    → pages P (applied (Write (full * (P + 12)) written) (latest d.base d.since)) ≡ take full (pages P (latest d.base d.since)) ++ built_pages sum P durable m tip
+    → IsTruthful sum P content d → IsTruthful sum P content e
+truthful_through_flush sum P full content d e durable m tip written small fits there base since behind enough new_pages truthful =
+    truthful_stays sum P content d e (Write (full * (P + 12)) written) base since
+    (flush_says_only sum P full content (latest d.base d.since) (applied (Write (full * (P + 12)) written) (latest d.base d.since)) durable m tip small fits there behind enough new_pages (truthful (latest d.base d.since) (latest_is_whole d.base d.since)))
+    truthful
+
+-- a flush owes nothing, done or failed, where what was durable lies below the tip
+pub flush_stays_full : (sum : List ℕ → ℕ) (P full : ℕ) (content : List ℕ) (floor : ℕ) (d e : Disk) (written : List ℕ) → e.base ≡ d.base → e.since ≡ d.since ++ Write (full * (P + 12)) written ∷ [] → floor ≤ full * P → length (text sum P d.base) ≤ floor
+    → Guards sum P content floor d → IsTruthful sum P content e → Stays sum P content d e
+flush_stays_full sum P full content floor d e written base since few durable guards truthful =
+    stays_guarded sum P content floor d e durable (flush_keeps_full sum P full content floor d e written base since few guards) truthful
+
+-- or reaches into the tip's page, as far as the durable slot
+pub flush_stays_tip : (sum : List ℕ → ℕ) (P full : ℕ) (content : List ℕ) (len : ℕ) (d e : Disk) (w : ActiveChecksum) (m : ℕ) (tip : List ℕ) → e.base ≡ d.base → e.since ≡ d.since ++ Write (full * (P + 12)) (built sum P (Some w) m tip) ∷ []
+    → drop (full * P) content ≡ tip → full * P + len ≤ length content → length (text sum P d.base) ≤ full * P + len
+    → Guards sum P content (full * P) d → Held sum P d full w.slot (slot_bytes w.len w.crc) (take len (drop (full * P) content)) → IsTruthful sum P content e → Stays sum P content d e
+flush_stays_tip sum P full content len d e w m tip base since behind there durable guards held truthful =
+    stays_guarded sum P content (full * P + len) d e durable (flush_keeps_tip sum P full content len d e w m tip base since behind there guards held) truthful

@@ -1,0 +1,64 @@
+// The device.
+ghost use Rattle.std.specs.Prelude.{◌≡◌, [], true};
+ghost use Rattle.std.specs.List.{concat};
+ghost use Rattle.disk.specs.Disk.{Life, IsImage, Write, Resize, ReadGoes, WriteGoes, ResizeGoes, SyncGoes};
+
+use crate::{Error, IoBuf, IoBufs};
+use std::alloc::Global;
+
+/// How a read is to be done.
+#[derive(Clone, Copy, Debug, Default, PartialEq, Eq)]
+pub struct ReadOptions {
+    /// What is read need not be kept in a cache of the device. It changes no answer.
+    pub dont_cache: bool,
+}
+
+/// How a write is to be done.
+#[derive(Clone, Copy, Debug, Default, PartialEq, Eq)]
+pub struct WriteOptions {
+    /// The write is durable when it answers `Ok`.
+    pub sync: bool,
+    /// What is written need not be kept in a cache of the device. It changes no answer.
+    pub dont_cache: bool,
+}
+
+/// A run of bytes on a device, read and written at places in bytes.
+///
+/// Each call has one clause, by cases on its answer: what it did to the blob's life, and why an error came.
+/// A call that answers `BlobInsufficientLength`, `OffsetOverflow` or `OutOfMemory` asked no device: it changed
+/// nothing and stands in no log.
+pub trait Blob {
+    /// The blob's present disk and the past ones.
+    ghost life: { Self → Life };
+
+    /// The `len` bytes at `offset`. `ReadFailed` where the device failed, `BlobInsufficientLength` where the range
+    /// passes the end, `OutOfMemory`; an error leaves the bytes as they were.
+    fn read_at(
+        &mut self,
+        alloc: Global,
+        offset: u64,
+        len: usize,
+        options: ReadOptions,
+    ) -> Result<IoBuf, Error>
+        ensures goes { ReadGoes offset len (life self.old) (life self.new) result };
+
+    /// Sets the bytes at `offset`; a gap behind the end is filled with zeros. With `sync` they are durable at `Ok`,
+    /// and nothing may be unsynced before. `WriteFailed` where the device failed: then each byte of the range is
+    /// the old one or the new one. `OffsetOverflow` where the range passes the greatest place, `OutOfMemory`.
+    fn write_at(&mut self, offset: u64, bufs: &IoBufs, options: WriteOptions) -> Result<(), Error>
+        requires settled { options.sync ≡ true → (life self.old).present.since ≡ [] }
+        ensures goes { WriteGoes offset (concat bufs.now) options.sync (life self.old) (life self.new) result };
+
+    /// Cuts the blob to `len` bytes, or fills it with zeros up to there. `ResizeFailed` where the device failed:
+    /// then the length lies between. `OutOfMemory`.
+    fn resize(&mut self, len: u64) -> Result<(), Error>
+        ensures goes { ResizeGoes len (life self.old) (life self.new) result };
+
+    /// Makes all that is readable durable. `SyncFailed` where the device failed: then what was durable is.
+    /// `OutOfMemory`.
+    fn sync(&mut self) -> Result<(), Error>
+        ensures goes { SyncGoes (life self.old) (life self.new) result };
+
+    /// What is readable is one of the things that a crash may leave.
+    ghost readable_is_image: { (b : Self) → IsImage (life b).present (life b).present.readable };
+}

@@ -1,0 +1,163 @@
+// Byte buffers that are shared and cut with no copy.
+ghost use Rattle.std.specs.Prelude.{◌≡◌, ◌==◌, ◌≤◌, ◌++◌, [], length, slice_range, IfOk, IsOkUnless, OnOk, OnErr};
+ghost use Rattle.std.specs.List.{concat};
+ghost use Rattle.std.specs.Slice.Iter.{iter_rest};
+ghost use Rattle.disk.specs.Bufs.{with_buf};
+
+use crate::Error;
+use bytes::Bytes;
+use std::alloc::Global;
+use std::marker::Model;
+use std::slice::Iter;
+
+/// Some bytes that are shared and cut with no copy.
+#[derive(Drop)]
+pub struct IoBuf {
+    bytes: Bytes,
+}
+
+impl Model for IoBuf {
+    ghost use Rattle.std.specs.Prelude.{List, ℕ};
+
+    ghost Value = { List ℕ };
+
+    ghost view = { λ b. b.bytes };
+}
+
+impl From<Bytes> for IoBuf {
+    ghost from_gives = { λ bytes b. b ≡ bytes };
+
+    fn from(bytes: Bytes) -> Self {
+        IoBuf { bytes }
+    }
+}
+
+impl IoBuf {
+    /// A buffer with a copy of these bytes. It answers `OutOfMemory` alone.
+    pub fn copy_from_slice(alloc: Global, bytes: &[u8]) -> Result<Self, Error>
+        ensures ok { IfOk result (λ b. b ≡ bytes.now) }
+        ensures err { IsOkUnless result Error.OutOfMemory }
+    {
+        let bytes = Bytes::copy_from_slice(alloc, bytes)?;
+        Ok(IoBuf { bytes })
+    }
+
+    /// The bytes from `start` to before `end`, shared with this buffer. It answers `OutOfMemory` alone.
+    pub fn slice(&self, start: usize, end: usize) -> Result<Self, Error>
+        requires order { start ≤ end }
+        requires bound { end ≤ length self.now }
+        ensures ok { IfOk result (λ b. b ≡ slice_range self.now start end) }
+        ensures err { IsOkUnless result Error.OutOfMemory }
+    {
+        let bytes = self.bytes.slice(start..end)?;
+        Ok(IoBuf { bytes })
+    }
+
+    /// The number of bytes.
+    pub fn len(&self) -> usize
+        ensures { result ≡ length self.now }
+    {
+        self.bytes.len()
+    }
+
+    /// Whether there is no byte.
+    pub fn is_empty(&self) -> bool
+        ensures { result ≡ (length self.now == 0) }
+    {
+        self.bytes.is_empty()
+    }
+
+    /// The bytes themselves.
+    pub fn as_ref(&self) -> &[u8]
+        ensures { result.now ≡ self.now }
+    {
+        &self.bytes
+    }
+}
+
+/// A list of buffers, none of them empty, that is read or written as one run of bytes.
+#[derive(Drop)]
+pub struct IoBufs {
+    alloc: Global,
+    bufs: Vec<IoBuf>,
+    len: usize,
+}
+
+impl Model for IoBufs {
+    ghost use Rattle.std.specs.Prelude.{◌≡◌, List, ℕ, length};
+    ghost use Rattle.std.specs.List.{concat};
+
+    ghost Value = { List (List ℕ) };
+
+    ghost view = { λ b. b.bufs.items };
+
+    ghost invariant = { λ b. b.len ≡ length (concat b.bufs.items) };
+}
+
+impl IoBufs {
+    /// A list with no buffer.
+    pub fn new(alloc: Global) -> Self
+        ensures { result ≡ [] }
+    {
+        IoBufs {
+            alloc,
+            bufs: Vec::new(alloc),
+            len: 0,
+        }
+    }
+
+    /// The number of bytes in all the buffers.
+    pub fn len(&self) -> usize
+        ensures { result ≡ length (concat self.now) }
+    {
+        self.len
+    }
+
+    /// Whether there is no byte.
+    pub fn is_empty(&self) -> bool
+        ensures { result ≡ (length (concat self.now) == 0) }
+    {
+        self.len == 0
+    }
+
+    /// Adds a buffer at the end; an empty one is dropped. It answers `OutOfMemory` alone, also where all the
+    /// bytes together would pass `usize`, and then the list is as it was.
+    pub fn append(&mut self, buf: IoBuf) -> Result<(), Error>
+        ensures bufs { OnOk result (self.new ≡ with_buf self.old buf) }
+        ensures bytes { OnOk result (concat self.new ≡ concat self.old ++ buf) }
+        ensures same { OnErr result (self.new ≡ self.old) }
+        ensures err { IsOkUnless result Error.OutOfMemory }
+    {
+        if buf.is_empty() {
+            return Ok(());
+        }
+        let Some(len) = self.len.checked_add(buf.len()) else {
+            return Err(Error::OutOfMemory);
+        };
+        self.bufs.push(buf)?;
+        self.len = len;
+        Ok(())
+    }
+
+    /// The buffers in order.
+    pub fn iter(&self) -> Iter<'_, IoBuf>
+        ensures { iter_rest result ≡ self.now }
+    {
+        self.bufs.iter()
+    }
+
+    #[tactic(auto, using(crate::proofs::Bufs::concat_more))]
+    /// All bytes in one buffer, copied. It answers `OutOfMemory` alone.
+    pub fn coalesce(&self) -> Result<IoBuf, Error>
+        ensures ok { IfOk result (λ b. b ≡ concat self.now) }
+        ensures err { IsOkUnless result Error.OutOfMemory }
+    {
+        let mut all = Vec::with_capacity(self.alloc, self.len)?;
+        for buf in &self.bufs {
+            all.extend_from_slice(buf.as_ref())?;
+        }
+        Ok(IoBuf {
+            bytes: Bytes::from_vec(all)?,
+        })
+    }
+}

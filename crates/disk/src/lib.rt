@@ -1,0 +1,11 @@
+//! The storage device of the paged blob layer: its errors, the buffers that pass through it, the trait
+//! [`Blob`] with what each call does and what a crash may leave, and [`MemBlob`], a blob in memory.
+#![tactic(auto)]
+
+mod blob;
+mod buf;
+mod error;
+
+pub use blob::{Blob, ReadOptions, WriteOptions};
+pub use buf::{IoBuf, IoBufs};
+pub use error::Error;

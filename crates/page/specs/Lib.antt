@@ -1,0 +1,5 @@
+pub mod Slot
+pub mod Sums
+pub mod Page
+pub mod Footer
+pub mod Geometry

@@ -1,0 +1,69 @@
+-- What a physical page and a list of physical pages stand for. P is the logical page size, sum the checksum function.
+use Rattle.std.specs.Prelude.{◌&&◌, ◌==◌, ℕ, zero, suc, ◌+◌, ◌/◌, ◌++◌, List, [], ◌∷◌, length, take, drop, Bool, Option, Some, None, if◌then◌else◌, nat_le, nat_lt, max}
+use Rattle.std.specs.Int.{w16, w32, to_be_bytes, from_be_bytes}
+use Rattle.page.specs.Slot.{slot_offset}
+use Rattle.page.specs.declared.slot.Slot.{Slot}
+use Rattle.page.specs.declared.slot.Slot.TheVariants.{First, Second}
+use Rattle.page.specs.declared.slot.ActiveChecksum.{ActiveChecksum}
+
+-- the six bytes that say a length and a checksum
+abbrev pub slot_bytes : ℕ → ℕ → List ℕ
+slot_bytes len crc = to_be_bytes w16 len ++ to_be_bytes w32 crc
+
+-- the bytes of one slot of a page
+abbrev pub slot_of : ℕ → Slot → List ℕ → List ℕ
+slot_of P s page = take 6 (drop (P + slot_offset s) page)
+
+-- the length that a slot says
+abbrev pub slot_len : List ℕ → ℕ
+slot_len slot = from_be_bytes w16 (take 2 slot)
+
+-- the checksum that a slot says
+abbrev pub slot_crc : List ℕ → ℕ
+slot_crc slot = from_be_bytes w32 (drop 2 slot)
+
+-- whether a slot verifies over the page's bytes: its length is from 1 to P, and its checksum is that of the page's
+-- first bytes of that length
+abbrev pub slot_verifies : (List ℕ → ℕ) → ℕ → List ℕ → List ℕ → Bool
+slot_verifies sum P slot page = nat_le 1 (slot_len slot) && nat_le (slot_len slot) P && (sum (take (slot_len slot) page) == slot_crc slot)
+
+abbrev pub verifies : (List ℕ → ℕ) → ℕ → Slot → List ℕ → Bool
+verifies sum P s page = slot_verifies sum P (slot_of P s page) page
+
+-- the length over which a slot verifies, 0 where it doesn't
+abbrev pub verified_len : (List ℕ → ℕ) → ℕ → Slot → List ℕ → ℕ
+verified_len sum P s page = if verifies sum P s page then slot_len (slot_of P s page) else 0
+
+-- the greatest length over which a slot verifies, 0 where none does
+abbrev pub value_len : (List ℕ → ℕ) → ℕ → List ℕ → ℕ
+value_len sum P page = max (verified_len sum P First page) (verified_len sum P Second page)
+
+-- a page's value; it is empty where no slot verifies, and never else
+abbrev pub value : (List ℕ → ℕ) → ℕ → List ℕ → List ℕ
+value sum P page = take (value_len sum P page) page
+
+-- the slot of the value: the one that verifies over the greatest length, the first if both do
+abbrev pub value_slot : (List ℕ → ℕ) → ℕ → List ℕ → Slot
+value_slot sum P page = if nat_lt (verified_len sum P First page) (verified_len sum P Second page) then Second else First
+
+-- the slot, length and checksum of a page's value; none where no slot verifies
+abbrev pub active : (List ℕ → ℕ) → ℕ → List ℕ → Option ActiveChecksum
+active sum P page = if value_len sum P page == 0 then None else Some (record { slot = value_slot sum P page; len = value_len sum P page; crc = slot_crc (slot_of P (value_slot sum P page) page) })
+
+-- consecutive pieces of one size
+abbrev pub pieces : ℕ → ℕ → List ℕ → List (List ℕ)
+pieces zero size bytes = []
+pieces (suc n) size bytes = take size bytes ∷ pieces n size (drop size bytes)
+
+-- the physical pages of a blob's bytes; a shorter rest is no page
+abbrev pub pages : ℕ → List ℕ → List (List ℕ)
+pages P bytes = pieces (length bytes / (P + 12)) (P + 12) bytes
+
+-- the values of the pages joined while each is full, and the next page's value if it is partial
+abbrev pub text_of_pages : (List ℕ → ℕ) → ℕ → List (List ℕ) → List ℕ
+text_of_pages sum P [] = []
+text_of_pages sum P (page ∷ rest) = value sum P page ++ (if value_len sum P page == P then text_of_pages sum P rest else [])
+
+-- what a blob's bytes say, to a reader that goes forward from the first page
+abbrev pub text : (List ℕ → ℕ) → ℕ → List ℕ → List ℕ
+text sum P bytes = text_of_pages sum P (pages P bytes)

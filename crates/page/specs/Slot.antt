@@ -1,0 +1,14 @@
+-- The two slots of a footer.
+use Rattle.std.specs.Prelude.{ℕ}
+use Rattle.page.specs.declared.slot.Slot.{Slot}
+use Rattle.page.specs.declared.slot.Slot.TheVariants.{First, Second}
+
+-- where the slot stands in a footer
+abbrev pub slot_offset : Slot → ℕ
+slot_offset First = 0
+slot_offset Second = 6
+
+-- the other one
+abbrev pub other : Slot → Slot
+other First = Second
+other Second = First

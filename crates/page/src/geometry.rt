@@ -1,0 +1,162 @@
+// Where pages stand in a blob.
+ghost use Rattle.std.specs.Prelude.{◌≡◌, ◌+◌, ◌*◌, ◌-◌, ◌%◌, ◌<◌, ◌≤◌, ◌^◌, IsOkUnless, IfOk, false, sum_by};
+ghost use Rattle.std.specs.Int.{IsPowerOfTwo, next_multiple_of};
+ghost use Rattle.std.specs.Int.NonZero.{non_zero_u16_get};
+ghost use Rattle.std.specs.Result.{OkIff};
+ghost use Rattle.page.specs.Geometry.{adjusted, fill, is_too_big, AreInOrder, RangeGoes, RangesGo};
+
+use disk::Error;
+use std::num::NonZeroU16;
+
+/// The bytes of a footer.
+pub const CHECKSUM_SIZE: u64 = 12;
+
+/// The logical page size, in bytes, of physical pages of `n` bytes.
+pub fn page_size(n: u32) -> NonZeroU16
+    requires power { IsPowerOfTwo n }
+    requires low { 12 < n }
+    requires high { n ≤ 65536 }
+    ensures { non_zero_u16_get result ≡ n - 12 }
+{
+    NonZeroU16::new((n - 12) as u16).unwrap()
+}
+
+/// The place of a physical page, in bytes, and how many bytes it has. `OffsetOverflow` exactly where the page's
+/// end passes the greatest place.
+pub fn physical_page(page: u64, page_size: u64) -> Result<(u64, usize), Error>
+    ensures place { OkIff result ((page + 1) * (page_size + 12) < 2 ^ 64) (page * (page_size + 12), page_size + 12) }
+    ensures err { IsOkUnless result Error.OffsetOverflow }
+{
+    let size = page_size
+        .checked_add(CHECKSUM_SIZE)
+        .ok_or(Error::OffsetOverflow)?;
+    let place = page.checked_mul(size).ok_or(Error::OffsetOverflow)?;
+    if place.checked_add(size).is_none() {
+        return Err(Error::OffsetOverflow);
+    }
+    Ok((place, size as usize))
+}
+
+/// The capacity of a buffer, in bytes, that holds `capacity` bytes in whole pages, and at least two pages.
+/// `OffsetOverflow` exactly where that passes the greatest length.
+pub fn adjusted_capacity(capacity: usize, page_size: u64) -> Result<usize, Error>
+    requires { 0 < page_size }
+    ensures capacity { OkIff result (adjusted capacity page_size < 2 ^ 64) (adjusted capacity page_size) }
+    ensures err { IsOkUnless result Error.OffsetOverflow }
+{
+    let page_size = page_size as usize;
+    let two_pages = page_size.checked_mul(2).ok_or(Error::OffsetOverflow)?;
+    let whole_pages = capacity
+        .checked_next_multiple_of(page_size)
+        .ok_or(Error::OffsetOverflow)?;
+    Ok(whole_pages.max(two_pages))
+}
+
+/// Whether `n` bytes are too many to go through a buffer of `len` bytes: they pass its capacity, and would leave a
+/// whole page behind the one that they fill. `OffsetOverflow` exactly where a sum that this takes passes the
+/// greatest length: the bytes together, those of the pages that hold `len` bytes, or the fewest that are too many.
+pub fn too_big_for_buffer(
+    len: usize,
+    capacity: usize,
+    n: usize,
+    page_size: usize,
+) -> Result<bool, Error>
+    requires { 0 < page_size }
+    ensures answer { OkIff result ((len + n < 2 ^ 64) × (next_multiple_of len page_size < 2 ^ 64) × (fill len page_size + page_size < 2 ^ 64)) (is_too_big len capacity n page_size) }
+    ensures err { IsOkUnless result Error.OffsetOverflow }
+    ensures room { IfOk result (λ big. big ≡ false → capacity % page_size ≡ 0 → len ≤ capacity → len + n < capacity + page_size) }
+{
+    let total = len.checked_add(n).ok_or(Error::OffsetOverflow)?;
+    let whole_pages = len
+        .checked_next_multiple_of(page_size)
+        .ok_or(Error::OffsetOverflow)?;
+    let too_many = (whole_pages - len)
+        .checked_add(page_size)
+        .ok_or(Error::OffsetOverflow)?;
+    Ok(total > capacity && n >= too_many)
+}
+
+/// Checks that ranges, each a place and a length in bytes, lie within a blob of `size` bytes. The caller sees to it
+/// that they are in order, without overlaps, and fill a buffer of `buf_len` bytes together. The first that can't be
+/// read decides: `OffsetOverflow` where its end passes the greatest place, and else `BlobInsufficientLength` where
+/// that passes the size.
+pub fn validate_read_ranges(buf_len: usize, ranges: &[(u64, usize)], size: u64) -> Result<(), Error>
+    requires in_order { AreInOrder ranges.now }
+    requires filled { buf_len ≡ sum_by (λ range. range.1) ranges.now }
+    ensures { RangesGo size ranges.now result }
+{
+    for &(place, len) in ranges {
+        validate_range(place, len, size)?;
+    }
+    Ok(())
+}
+
+fn validate_range(place: u64, len: usize, size: u64) -> Result<(), Error>
+    ensures { RangeGoes size (place, len) result }
+{
+    let end = place.checked_add(len as u64).ok_or(Error::OffsetOverflow)?;
+    if end > size {
+        return Err(Error::BlobInsufficientLength);
+    }
+    Ok(())
+}
+
+#[cfg(test)]
+mod tests {
+    use super::*;
+
+    #[test]
+    fn page_sizes(rt: HostRuntime) {
+        assert_eq!(rt; page_size(16).get(), 4);
+        assert_eq!(rt; page_size(4096).get(), 4084);
+        assert_eq!(rt; page_size(65536).get(), 65524);
+    }
+
+    #[test]
+    fn physical_pages(rt: HostRuntime) {
+        assert_eq!(rt; physical_page(2, 4), Ok((32, 16)));
+        assert_eq!(rt; physical_page((1 << 60) - 2, 4), Ok((u64::MAX - 31, 16)));
+        assert_eq!(rt; physical_page((1 << 60) - 1, 4), Err(Error::OffsetOverflow));
+    }
+
+    #[test]
+    fn capacities(rt: HostRuntime) {
+        assert_eq!(rt; adjusted_capacity(10, 64), Ok(128));
+        assert_eq!(rt; adjusted_capacity(200, 64), Ok(256));
+        assert_eq!(rt;
+            adjusted_capacity(usize::MAX, 64),
+            Err(Error::OffsetOverflow)
+        );
+    }
+
+    #[test]
+    fn bytes_that_pass_a_buffer(rt: HostRuntime) {
+        assert_eq!(rt; too_big_for_buffer(3, 8, 5, 4), Ok(false));
+        assert_eq!(rt; too_big_for_buffer(3, 8, 6, 4), Ok(true));
+        assert_eq!(rt; too_big_for_buffer(7, 8, 4, 4), Ok(false));
+        assert_eq!(rt;
+            too_big_for_buffer(1, 8, usize::MAX, 4),
+            Err(Error::OffsetOverflow)
+        );
+    }
+
+    #[test]
+    fn ranges(rt: HostRuntime) {
+        assert_eq!(rt; validate_read_ranges(12, &[(0, 4), (4, 8)], 16), Ok(()));
+        assert_eq!(rt; validate_read_ranges(4, &[(12, 4)], 16), Ok(()));
+        assert_eq!(rt; validate_read_ranges(4, &[(0, 0), (0, 4)], 16), Ok(()));
+        assert_eq!(rt; validate_read_ranges(0, &[], 0), Ok(()));
+        assert_eq!(rt;
+            validate_read_ranges(4, &[(u64::MAX, 4)], 16),
+            Err(Error::OffsetOverflow)
+        );
+        assert_eq!(rt;
+            validate_read_ranges(4, &[(14, 4)], 16),
+            Err(Error::BlobInsufficientLength)
+        );
+        assert_eq!(rt;
+            validate_read_ranges(8, &[(14, 4), (u64::MAX, 4)], 16),
+            Err(Error::BlobInsufficientLength)
+        );
+    }
+}

@@ -1,0 +1,61 @@
+// Checksum functions.
+ghost use Rattle.std.specs.Prelude.{◌≡◌, ◌<◌, ◌^◌, ◌%◌, ℕ, List, sum};
+
+/// A checksum of bytes. Nothing is asked of it but that it is one function of the bytes.
+pub trait Sum {
+    /// The function.
+    ghost sum_of: { List ℕ → ℕ };
+
+    /// The checksum of these bytes.
+    fn sum(bytes: &[u8]) -> u32
+        ensures { result ≡ sum_of bytes.now };
+
+    /// A checksum fits 32 bits.
+    ghost small: { (bytes : List ℕ) → sum_of bytes < 2 ^ 32 };
+}
+
+/// The sum of the bytes, modulo 2 to the 32.
+pub struct AddSum;
+
+impl Sum for AddSum {
+    ghost use Rattle.page.specs.Sums.{add_sum, small_add_sum};
+
+    ghost sum_of = { add_sum };
+
+    ghost small = { small_add_sum };
+
+    fn sum(bytes: &[u8]) -> u32 {
+        let mut total = 0u32;
+        for byte in bytes {
+            total = total.wrapping_add(u32::from(*byte));
+        }
+        total
+    }
+}
+
+/// Always 0: the weakest checksum that there is.
+pub struct ConstSum;
+
+impl Sum for ConstSum {
+    ghost use Rattle.page.specs.Sums.{const_sum, small_const_sum};
+
+    ghost sum_of = { const_sum };
+
+    ghost small = { small_const_sum };
+
+    fn sum(_bytes: &[u8]) -> u32 {
+        0
+    }
+}
+
+#[cfg(test)]
+mod tests {
+    use super::*;
+
+    #[test]
+    fn sums(rt: HostRuntime) {
+        assert_eq!(rt; AddSum::sum(b"fallback data"), 0x4EA);
+        assert_eq!(rt; AddSum::sum(b""), 0);
+        assert_eq!(rt; ConstSum::sum(b"fallback data"), 0);
+    }
+}

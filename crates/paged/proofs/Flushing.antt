@@ -1,0 +1,96 @@
+-- What a flush writes, and that places still fit.
+use Rattle.std.proofs.Common.{◌≡◌, ℕ, suc, zero, ◌+◌, ◌*◌, ◌-◌, ◌/◌, ◌%◌, ◌<◌, ◌≤◌, ◌^◌, List, [], ◌∷◌, ◌++◌, length, take, drop, refl, sym, ap, ◌∙◌, subst, arith, append_assoc, append-nil, length-drop, Bool, true, false, min}
+use Rattle.std.proofs.Math.Nat.{mod-lt, div-add-mod', mod-eq_of_lt, div-eq_of_lt, mul-div_cancel, mul-le-mul_right, add-mul}
+use Rattle.std.proofs.lemmas.List.{take_all, length-take-le}
+use Rattle.std.specs.Prelude.{Option, not, ◌==◌}
+use Rattle.std.specs.Int.{div_ceil}
+use Rattle.page.specs.declared.slot.ActiveChecksum.{ActiveChecksum}
+use Rattle.crash.specs.WriterState.{WriterState}
+use Rattle.crash.specs.Built.{built, page_of, durable_after, written_pages}
+use Rattle.paged.specs.Writer.{physical_size, FitsBlob}
+use Rattle.crash.specs.Sound.{CanWrite}
+use Rattle.crash.proofs.BuiltLaws.{length-built}
+use Rattle.paged.specs.Flush.{full_in, rest_of, rest_bytes, has_work, flush_bytes, place_of}
+use Rattle.std.proofs.lemmas.Bool.Decides.{nat_tests}
+use Rattle.std.proofs.lemmas.Nat.{le-div}
+use Rattle.paged.proofs.Building.{built-take, built-suc}
+
+-- what is left of a tip behind its full pages is less than a page
+pub length-rest : (w : WriterState) → length (rest_of w) ≡ length w.tip % w.page_size
+length-rest w = rw length-drop (omega (arith, div-add-mod' (length w.tip) w.page_size))
+
+-- the full pages, and the rest
+pub flush_bytes-by_rest : (sum : List ℕ → ℕ) (w : WriterState) (rest : Bool) → 0 < w.page_size
+    → built sum w.page_size w.durable (full_in w) w.tip ++ rest_bytes sum w rest ≡ flush_bytes sum w rest
+flush_bytes-by_rest sum w false some = append-nil (built sum w.page_size w.durable (full_in w) w.tip)
+flush_bytes-by_rest sum w true some =
+    let short : length (rest_of w) ≤ w.page_size = omega (arith, length-rest w, mod-lt (length w.tip) some) in
+    sym (built-suc sum w.page_size w.durable (full_in w) w.tip
+        ∙ ap (λ rest. built sum w.page_size w.durable (full_in w) w.tip ++ page_of sum w.page_size (durable_after w.durable (full_in w)) rest) (take_all w.page_size (rest_of w) short))
+
+-- a tip's full pages have whole pages
+pub length-full : (w : WriterState) → length (take (full_in w * w.page_size) w.tip) ≡ full_in w * w.page_size
+length-full w = length-take-le (full_in w * w.page_size) w.tip (omega (arith, div-add-mod' (length w.tip) w.page_size))
+
+-- the same, as a program builds it
+pub flush_bytes-built : (sum : List ℕ → ℕ) (w : WriterState) (rest : Bool) (P : ℕ) (durable : Option ActiveChecksum) (full : List ℕ) → 0 < w.page_size → P ≡ w.page_size → durable ≡ w.durable
+    → full ≡ take (length w.tip / P * P) w.tip → built sum P durable (length full / P) full ++ rest_bytes sum w rest ≡ flush_bytes sum w rest
+flush_bytes-built sum w rest P durable full some size slot is =
+    let same : full ≡ take (full_in w * w.page_size) w.tip = is ∙ ap (λ n. take (length w.tip / n * n) w.tip) size in
+    let count : length full / w.page_size ≡ full_in w = ap (λ bytes. length bytes / w.page_size) same ∙ ap (λ n. n / w.page_size) (length-full w) ∙ mul-div_cancel (full_in w) some in
+    ap (λ s. built sum P s (length full / P) full ++ rest_bytes sum w rest) slot
+    ∙ ap (λ n. built sum n w.durable (length full / n) full ++ rest_bytes sum w rest) size
+    ∙ ap (λ n. built sum w.page_size w.durable n full ++ rest_bytes sum w rest) count
+    ∙ ap (λ bytes. built sum w.page_size w.durable (full_in w) bytes ++ rest_bytes sum w rest) same
+    ∙ ap (λ bytes. bytes ++ rest_bytes sum w rest) (built-take sum w.page_size w.durable (full_in w) w.tip)
+    ∙ flush_bytes-by_rest sum w rest some
+
+-- pages that are taken off the front of some bytes are counted off
+pub div_ceil-rest : (n r P : ℕ) → 0 < P → r ≡ n - n / P * P → n / P + div_ceil r P ≡ div_ceil n P
+div_ceil-rest n r P some is =
+    let small : r < P = omega (arith, div-add-mod' n P, mod-lt n some) in
+    let same : r ≡ n % P = omega (arith, div-add-mod' n P) in
+    omega (arith, div-eq_of_lt small, mod-eq_of_lt small, ap (λ x. min 1 x) same)
+
+-- the same as places
+pub fits-rest : (P full n r : ℕ) → 0 < P → r ≡ n - n / P * P → physical_size P (full + n / P) r ≡ physical_size P full n
+fits-rest P full n r some is = ap (λ pages. pages * (P + 12)) (omega (arith, div_ceil-rest n r P some is))
+
+-- the same, with the numbers that a program has
+pub fits-advanced : (P full n x y r : ℕ) → 0 < P → y ≡ P → x ≡ n → r ≡ n - x / y * y → FitsBlob P full n → FitsBlob P (full + x / y) r
+fits-advanced P full n x y r some size len is fits =
+    let quotient : x / y ≡ n / P = ap (λ a. a / y) len ∙ ap (λ b. n / b) size in
+    let part : r ≡ n - n / P * P = is ∙ ap (λ q. n - q * y) quotient ∙ ap (λ b. n - n / P * b) size in
+    let same : physical_size P (full + x / y) r ≡ physical_size P full n = ap (λ q. physical_size P (full + q) r) quotient ∙ fits-rest P full n r some part in
+    omega (arith, same, fits)
+
+-- a flush writes no more pages than the tip has
+pages_at_most : (w : WriterState) (rest : Bool) → 0 < w.page_size → CanWrite w.page_size w.tip (full_in w) rest → written_pages (full_in w) rest ≤ div_ceil (length w.tip) w.page_size
+pages_at_most w false some can = omega arith
+pages_at_most w true some can = omega (arith, div-add-mod' (length w.tip) w.page_size, mod-lt (length w.tip) some)
+
+-- the places of a flush are numbers of 64 bits
+pub flush_fits : (sum : List ℕ → ℕ) (w : WriterState) (rest : Bool) → 0 < w.page_size → CanWrite w.page_size w.tip (full_in w) rest → FitsBlob w.page_size w.full_pages (length w.tip)
+    → place_of w + length (flush_bytes sum w rest) < 2 ^ 64
+flush_fits sum w rest some can fits =
+    let n = written_pages (full_in w) rest in
+    let pages : w.full_pages + n ≤ w.full_pages + div_ceil (length w.tip) w.page_size = omega (arith, pages_at_most w rest some can) in
+    let bytes : (w.full_pages + n) * (w.page_size + 12) ≤ physical_size w.page_size w.full_pages (length w.tip) = mul-le-mul_right (w.page_size + 12) pages in
+    omega (arith, length-built sum w.page_size w.durable n w.tip, add-mul w.full_pages n (w.page_size + 12), bytes, fits)
+
+-- a full page can be written
+pub can_flush : (w : WriterState) → 0 < w.page_size → has_work w false ≡ true → CanWrite w.page_size w.tip (full_in w) false
+can_flush w some work =
+    let enough : w.page_size ≤ length w.tip = grind (arith, nat_tests, work) in
+    let one : 1 ≤ full_in w = le-div 1 (length w.tip) w.page_size some (omega arith) in
+    (omega arith, omega (arith, div-add-mod' (length w.tip) w.page_size))
+
+-- what a sync has to write can be written
+pub can_sync : (w : WriterState) (rest : Bool) → 0 < w.page_size → has_work w true ≡ true → rest ≡ not (length w.tip % w.page_size == 0) → CanWrite w.page_size w.tip (full_in w) rest
+can_sync w false some work is =
+    let enough : w.page_size ≤ length w.tip = grind (arith, nat_tests, work, is) in
+    let one : 1 ≤ full_in w = le-div 1 (length w.tip) w.page_size some (omega arith) in
+    (omega arith, omega (arith, div-add-mod' (length w.tip) w.page_size))
+can_sync w true some work is =
+    let left : 0 < length w.tip % w.page_size = grind (arith, nat_tests, is) in
+    (omega (arith, div-add-mod' (length w.tip) w.page_size), omega (arith, div-add-mod' (length w.tip) w.page_size, mod-lt (length w.tip) some))

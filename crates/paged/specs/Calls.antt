@@ -1,0 +1,64 @@
+-- What each public call of a writer does, by cases on its answer.
+use Rattle.std.specs.Prelude.{◌≡◌, ◌<◌, ◌≤◌, ◌+◌, ◌*◌, ◌^◌, ◌++◌, ℕ, List, [], length, Result, Ok, Err}
+use Rattle.disk.specs.Disk.{Life, failures}
+use Rattle.disk.specs.declared.error.Error.{Error}
+use Rattle.disk.specs.declared.error.Error.TheVariants.{ReadFailed, WriteFailed, ResizeFailed, SyncFailed, InvalidChecksum, BlobInsufficientLength, OffsetOverflow, OutOfMemory, IdsExhausted}
+use Rattle.crash.specs.WriterState.{WriterState}
+use Rattle.crash.specs.WriterState.SyncState.{Clean}
+use Rattle.crash.specs.Sound.{IsSound, content}
+use Rattle.crash.specs.Built.{kept_len}
+use Rattle.paged.specs.Writer.{physical_size}
+use Rattle.paged.specs.Flush.{synced}
+
+-- why a call that asked the device may answer this error: the device failed in the call, or memory was refused
+abbrev pub HasCause : Life → Life → Error → Type 0
+HasCause old new ReadFailed = failures old.present.log < failures new.present.log
+HasCause old new WriteFailed = failures old.present.log < failures new.present.log
+HasCause old new ResizeFailed = failures old.present.log < failures new.present.log
+HasCause old new SyncFailed = failures old.present.log < failures new.present.log
+HasCause old new OutOfMemory = Unit {0}
+HasCause old new _ = ⊥
+
+-- the log loses nothing
+abbrev pub LogGrows : Life → Life → Type 0
+LogGrows old new = failures old.present.log ≤ failures new.present.log
+
+-- the writer is the same but for its pages and what it buffers
+pub record IsSameWriter (old new : WriterState) : Type 0 where
+  pub page_size : new.page_size ≡ old.page_size
+  pub id : new.id ≡ old.id
+  pub capacity : new.capacity ≡ old.capacity
+
+-- a writer goes on over its blob: it is sound, and stands for the content before and these bytes
+pub record GoesOn (sum : List ℕ → ℕ) (w : WriterState) (old : Life) (more : List ℕ) (now : WriterState) (new : Life) : Type 0 where
+  pub sound : IsSound sum now new.present
+  pub content : content now new.present.readable ≡ content w old.present.readable ++ more
+  pub same : IsSameWriter w now
+  pub log : LogGrows old new
+
+-- a flush
+abbrev pub Flushes : (List ℕ → ℕ) → WriterState → Life → Life → Result WriterState Error → Type 0
+Flushes sum w old new (Ok now) = GoesOn sum w old [] now new
+Flushes sum w old new (Err e) = HasCause old new e
+
+-- what is written is made durable, and the writer stays
+abbrev pub Settles : (List ℕ → ℕ) → WriterState → Life → Life → Result WriterState Error → Type 0
+Settles sum w old new (Ok now) = GoesOn sum w old [] now new × (now ≡ synced w)
+Settles sum w old new (Err e) = HasCause old new e
+
+-- all that the writer stands for is written and durable
+pub record IsSettled (w : WriterState) : Type 0 where
+  pub clean : w.sync ≡ Clean
+  pub short : length w.tip < w.page_size
+  pub flushed : kept_len w.flushed ≡ length w.tip
+
+-- a sync
+abbrev pub Syncs : (List ℕ → ℕ) → WriterState → Life → Life → Result WriterState Error → Type 0
+Syncs sum w old new (Ok now) = GoesOn sum w old [] now new × IsSettled now
+Syncs sum w old new (Err e) = HasCause old new e
+
+-- an append: it answers the size until now
+abbrev pub Appends : (List ℕ → ℕ) → WriterState → List ℕ → Life → Life → Result (WriterState × ℕ) Error → Type 0
+Appends sum w bytes old new (Ok r) = (r.1 ≡ length (content w old.present.readable)) × GoesOn sum w old bytes r.0 new
+Appends sum w bytes old new (Err OffsetOverflow) = (new ≡ old) × (2 ^ 64 ≤ physical_size w.page_size w.full_pages (length w.tip + length bytes))
+Appends sum w bytes old new (Err e) = HasCause old new e

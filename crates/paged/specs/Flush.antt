@@ -1,0 +1,60 @@
+-- What a flush writes, and what the writer is after it.
+use Rattle.std.specs.Prelude.{ℕ, ◌+◌, ◌*◌, ◌/◌, ◌%◌, ◌==◌, ◌&&◌, ◌||◌, Bool, not, nat_le, true, false, List, [], length, drop, Option, Result, Ok, Err}
+use Rattle.disk.specs.declared.error.Error.{Error}
+use Rattle.page.specs.declared.slot.ActiveChecksum.{ActiveChecksum}
+use Rattle.crash.specs.WriterState.{WriterState, SyncState}
+use Rattle.crash.specs.WriterState.SyncState.{Clean, Dirty}
+use Rattle.crash.specs.Built.{kept_len, durable_after, page_of, built, written_pages}
+
+-- how many full pages the tip has
+abbrev pub full_in : WriterState → ℕ
+full_in w = length w.tip / w.page_size
+
+-- the bytes behind them
+abbrev pub rest_of : WriterState → List ℕ
+rest_of w = drop (full_in w * w.page_size) w.tip
+
+-- whether a flush writes: a full page, or, with the rest, a partial page that isn't written at its present length
+abbrev pub has_work : WriterState → Bool → Bool
+has_work w rest = nat_le w.page_size (length w.tip) || (rest && (not (length w.tip % w.page_size == 0) && not (length w.tip % w.page_size == kept_len w.flushed)))
+
+-- the slot of the tip's page that is durable now
+abbrev pub guard_slot : SyncState → Option ActiveChecksum → Option ActiveChecksum → Option ActiveChecksum
+guard_slot Clean flushed durable = flushed
+guard_slot Dirty flushed durable = durable
+
+-- the writer with its durable slot brought up to date
+abbrev pub carried : WriterState → WriterState
+carried w = record w { durable = guard_slot w.sync w.flushed w.durable }
+
+-- the writer once the tip's full pages are written, and this slot of the rest
+abbrev pub advanced : WriterState → Option ActiveChecksum → SyncState → WriterState
+advanced w flushed sync = record w {
+  full_pages = w.full_pages + full_in w;
+  tip = rest_of w;
+  flushed = flushed;
+  durable = durable_after w.durable (full_in w);
+  sync = sync;
+}
+
+-- the writer once nothing is unsynced
+abbrev pub synced : WriterState → WriterState
+synced w = record w { sync = Clean }
+
+-- where a flush writes
+abbrev pub place_of : WriterState → ℕ
+place_of w = w.full_pages * (w.page_size + 12)
+
+-- the physical pages that it writes
+abbrev pub flush_bytes : (List ℕ → ℕ) → WriterState → Bool → List ℕ
+flush_bytes sum w rest = built sum w.page_size w.durable (written_pages (full_in w) rest) w.tip
+
+-- the page of the rest, where it is written
+abbrev pub rest_bytes : (List ℕ → ℕ) → WriterState → Bool → List ℕ
+rest_bytes sum w false = []
+rest_bytes sum w true = page_of sum w.page_size (durable_after w.durable (full_in w)) (rest_of w)
+
+-- an answer without its value
+abbrev pub outcome : {A : Type 0} → Result A Error → Result (Unit {0}) Error
+outcome (Ok a) = Ok tt
+outcome (Err e) = Err e

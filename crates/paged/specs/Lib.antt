@@ -1,0 +1,4 @@
+pub mod Writer
+pub mod Flush
+pub mod Calls
+pub mod Reads

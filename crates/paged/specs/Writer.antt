@@ -1,0 +1,19 @@
+-- A writer's fields as contracts see them.
+use Rattle.std.specs.Prelude.{ℕ, ◌+◌, ◌*◌, ◌<◌, ◌^◌}
+use Rattle.std.specs.Int.{div_ceil}
+use Rattle.crash.specs.WriterState.{SyncState}
+use Rattle.crash.specs.WriterState.SyncState.{Clean, Dirty}
+use Rattle.paged.specs.declared.writer.SyncState.TheVariants.{Clean as IsClean, Dirty as IsDirty}
+use Rattle.paged.specs.declared.writer.SyncState.{SyncState as State}
+
+abbrev pub state_of : State → SyncState
+state_of IsClean = Clean
+state_of IsDirty = Dirty
+
+-- the bytes of a blob whose first pages are full, and that has pages for so many bytes more
+abbrev pub physical_size : ℕ → ℕ → ℕ → ℕ
+physical_size P full_pages more = (full_pages + div_ceil more P) * (P + 12)
+
+-- all places in it are numbers of 64 bits
+abbrev pub FitsBlob : ℕ → ℕ → ℕ → Type 0
+FitsBlob P full_pages more = physical_size P full_pages more < 2 ^ 64

@@ -1,0 +1,73 @@
+// Appending.
+ghost use Rattle.std.specs.Prelude.{◌≡◌, ◌⊎◌, ◌↔◌, ◌+◌, ◌^◌, ◌≤◌, ◌++◌, length, IsTrue, IfOk, IfErr, Err};
+ghost use Rattle.crash.specs.Sound.{IsSound};
+ghost use Rattle.paged.specs.Writer.{physical_size, FitsBlob};
+ghost use Rattle.paged.specs.Calls.{Appends, Flushes};
+
+use crate::Writer;
+use cache::CacheRef;
+use disk::{Blob, Error};
+use page::{CHECKSUM_SIZE, Sum};
+
+impl<B, H, Phase> Writer<B, H, Phase> {
+    /// Whether the blob has places for so many bytes more.
+    fn fits(&self, more: usize) -> bool
+        ensures { IsTrue result ↔ FitsBlob self.now.page_size self.now.full_pages (length self.now.tip + more) }
+    {
+        let page_size = u64::from(self.page_size.get());
+        let Some(len) = (self.tip.len() as u64).checked_add(more as u64) else {
+            return false;
+        };
+        let Some(pages) = self.full_pages.checked_add(len.div_ceil(page_size)) else {
+            return false;
+        };
+        pages.checked_mul(page_size + CHECKSUM_SIZE).is_some()
+    }
+
+    /// Adds bytes to the tip.
+    fn buffer(mut self, bytes: &[u8]) -> Result<Self, Error>
+        ensures ok { IfOk result (λ w. w ≡ record self { tip = self.tip ++ bytes.now }) }
+        ensures overflow { 2 ^ 64 ≤ physical_size self.page_size self.full_pages (length self.tip + length bytes.now) → result ≡ Err Error.OffsetOverflow }
+        ensures err { IfErr result (λ e. ((e ≡ Error.OffsetOverflow) × (2 ^ 64 ≤ physical_size self.page_size self.full_pages (length self.tip + length bytes.now))) ⊎ (e ≡ Error.OutOfMemory)) }
+    {
+        if !self.fits(bytes.len()) {
+            return Err(Error::OffsetOverflow);
+        }
+        self.tip.extend_from_slice(bytes)?;
+        Ok(self)
+    }
+}
+
+impl<B: Blob, H: Sum, Phase> Writer<B, H, Phase> {
+    /// Appends bytes, and answers the logical place of the first: the size until now. They are buffered; where the
+    /// buffer then holds more than its capacity, its full pages are written, without a sync.
+    ///
+    /// `OffsetOverflow`, before anything else, where the new size or the physical size that it needs passes the
+    /// greatest `u64`; `WriteFailed` where the device failed, `OutOfMemory`. The writer is gone then.
+    pub fn append(
+        self,
+        blob: &mut B,
+        _cache: &mut CacheRef,
+        bytes: &[u8],
+    ) -> Result<(Self, u64), Error>
+        requires sound { IsSound H.sum_of self (B.life blob.old).present }
+        ensures appends { Appends H.sum_of self bytes.now (B.life blob.old) (B.life blob.new) result }
+        ensures overflow { 2 ^ 64 ≤ physical_size self.page_size self.full_pages (length self.tip + length bytes.now) → result ≡ Err Error.OffsetOverflow }
+    {
+        let at = self.size();
+        let writer = self.buffer(bytes)?;
+        let writer = writer.write_full_pages(blob)?;
+        Ok((writer, at))
+    }
+
+    /// Writes the full pages out where the buffer holds more than its capacity.
+    fn write_full_pages(self, blob: &mut B) -> Result<Self, Error>
+        requires sound { IsSound H.sum_of self (B.life blob.old).present }
+        ensures flushes { Flushes H.sum_of self (B.life blob.old) (B.life blob.new) result }
+    {
+        if self.tip.len() <= self.capacity {
+            return Ok(self);
+        }
+        self.flush(blob)
+    }
+}

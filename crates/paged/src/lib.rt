@@ -1,0 +1,11 @@
+//! A blob of pages with one writer: appends are buffered and reach the blob in whole pages, a sync makes them
+//! durable, and a recovery takes over what a crash left.
+#![tactic(auto)]
+
+mod append;
+mod build;
+mod flush;
+mod read;
+mod writer;
+
+pub use writer::{Append, Recovering, Recovery, Writer};

@@ -1,0 +1,120 @@
+// Reading.
+ghost use Rattle.std.specs.Prelude.{◌≡◌, ◌+◌, ◌*◌, ◌-◌, ◌<◌, ◌≤◌, ◌^◌, ◌++◌, length, take, drop, OnOk, IfErr, IsTrue, ◌↔◌, IsOkUnless};
+ghost use Rattle.std.specs.Int.NonZero.{non_zero_u16_get};
+ghost use Rattle.disk.specs.Disk.{ReadGoes};
+ghost use Rattle.page.specs.Page.{value_len};
+ghost use Rattle.std.specs.List.{concat};
+ghost use Rattle.crash.specs.Looks.{Looked};
+ghost use Rattle.crash.specs.Sound.{content};
+ghost use Rattle.paged.specs.Reads.{ReadsPage, ReadFault, HasPages, Reads, size_of};
+
+use crate::Writer;
+use cache::CacheRef;
+use disk::{Blob, Error, IoBuf, IoBufs, ReadOptions};
+use page::{Checksum, Sum};
+use std::num::NonZeroU16;
+
+/// Whether a physical page is full.
+fn is_full<H: Sum>(page_size: NonZeroU16, page: &[u8]) -> bool
+    requires { length page.now ≡ non_zero_u16_get page_size + 12 }
+    ensures { IsTrue result ↔ (value_len H.sum_of (non_zero_u16_get page_size) page.now ≡ non_zero_u16_get page_size) }
+{
+    let full = page_size.get();
+    match Checksum::validate_page::<H>(page) {
+        None => false,
+        Some(slot) => slot.len == full,
+    }
+}
+
+impl<B, H, Phase> Writer<B, H, Phase> {
+    /// Adds the buffered bytes from one logical place to before another, if there are any. `OutOfMemory` alone.
+    fn read_tip(&self, bufs: &mut IoBufs, at: u64, end: u64) -> Result<(), Error>
+        requires buffered { at < end → self.now.full_pages * self.now.page_size ≤ at }
+        requires within { at < end → end ≤ size_of self.now }
+        ensures ok { OnOk result (concat bufs.new ≡ concat bufs.old ++ take (end - at) (drop (at - self.now.full_pages * self.now.page_size) self.now.tip)) }
+        ensures err { IsOkUnless result Error.OutOfMemory }
+    {
+        if end <= at {
+            return Ok(());
+        }
+        let below = self.full_pages * u64::from(self.page_size.get());
+        let bytes = &self.tip[(at - below) as usize..(end - below) as usize];
+        bufs.append(IoBuf::copy_from_slice(self.alloc, bytes)?)
+    }
+}
+
+impl<B: Blob, H: Sum, Phase> Writer<B, H, Phase> {
+    /// The bytes of a physical page below the tip.
+    fn read_physical(&self, blob: &mut B, page: u64) -> Result<IoBuf, Error>
+        requires { page < self.now.full_pages }
+        ensures { ReadGoes (page * (self.now.page_size + 12)) (self.now.page_size + 12) (B.life blob.old) (B.life blob.new) result }
+    {
+        let size = self.physical_page_size();
+        blob.read_at(self.alloc, page * size, size as usize, ReadOptions::default())
+    }
+
+    /// The `len` bytes from byte `skip` on of a page below the tip. `InvalidChecksum` where the page isn't full.
+    fn read_page(&self, blob: &mut B, page: u64, skip: usize, len: usize) -> Result<IoBuf, Error>
+        requires below { page < self.now.full_pages }
+        requires within { skip + len ≤ self.now.page_size }
+        requires there { HasPages self.now (B.life blob.old) }
+        ensures reads { ReadsPage H.sum_of self.now.page_size page skip len (B.life blob.old) (B.life blob.new) result }
+        ensures looked { Looked (B.life blob.old) (B.life blob.new) }
+    {
+        let bytes = self.read_physical(blob, page)?;
+        if is_full::<H>(self.page_size, bytes.as_ref()) {
+            bytes.slice(skip, skip + len)
+        } else {
+            Err(Error::InvalidChecksum)
+        }
+    }
+
+    /// Adds the bytes below the tip from one logical place to before another, page by page.
+    fn read_below(&self, blob: &mut B, bufs: &mut IoBufs, mut at: u64, end: u64) -> Result<(), Error>
+        requires below { end ≤ self.now.full_pages * self.now.page_size }
+        requires there { HasPages self.now (B.life blob.old) }
+        ensures ok { OnOk result (concat bufs.new ≡ concat bufs.old ++ take (end - at) (drop at (content self.now (B.life blob.old).present.readable))) }
+        ensures err { IfErr result (ReadFault H.sum_of self.now (B.life blob.old) (B.life blob.new)) }
+        ensures looked { Looked (B.life blob.old) (B.life blob.new) }
+    {
+        let page_size = u64::from(self.page_size.get());
+        while at < end {
+            let skip = at % page_size;
+            let len = (page_size - skip).min(end - at);
+            let bytes = self.read_page(blob, at / page_size, skip as usize, len as usize)?;
+            bufs.append(bytes)?;
+            at += len;
+        }
+        Ok(())
+    }
+
+    /// The `len` logical bytes at `offset`: those below the tip from the blob, page by page, each page in one read,
+    /// and then those that are buffered.
+    ///
+    /// `OffsetOverflow` where the range passes the greatest `u64`, else `BlobInsufficientLength` where it passes the
+    /// size: both before anything is asked for. `ReadFailed` where the device failed, `InvalidChecksum` where a page
+    /// below the tip isn't full, which it always is in a sound blob, `OutOfMemory`. An error leaves all as it was.
+    pub fn read_at(
+        &self,
+        blob: &mut B,
+        _cache: &mut CacheRef,
+        offset: u64,
+        len: usize,
+    ) -> Result<IoBufs, Error>
+        requires there { HasPages self.now (B.life blob.old) }
+        ensures reads { Reads H.sum_of self.now offset len (B.life blob.old) (B.life blob.new) result }
+        ensures looked { Looked (B.life blob.old) (B.life blob.new) }
+    {
+        let end = offset
+            .checked_add(len as u64)
+            .ok_or(Error::OffsetOverflow)?;
+        if end > self.size() {
+            return Err(Error::BlobInsufficientLength);
+        }
+        let below = self.full_pages * u64::from(self.page_size.get());
+        let mut bufs = IoBufs::new(self.alloc);
+        self.read_below(blob, &mut bufs, offset, end.min(below))?;
+        self.read_tip(&mut bufs, offset.max(below), end)?;
+        Ok(bufs)
+    }
+}

@@ -1,0 +1,104 @@
+// The writer.
+ghost use Rattle.std.specs.Prelude.{◌≡◌, ◌+◌, ◌*◌, length};
+
+use page::ActiveChecksum;
+use std::alloc::Global;
+use std::marker::{Model, PhantomData};
+use std::num::NonZeroU16;
+
+/// The phase in which a blob is appended to.
+pub struct Append;
+
+/// The phase in which what a blob keeps is still being chosen.
+pub struct Recovering;
+
+/// Whether a write or a resize of the writer isn't durable yet.
+#[derive(Clone, Copy, Debug, PartialEq, Eq)]
+pub(crate) enum SyncState {
+    Clean,
+    Dirty,
+}
+
+/// The one writer of a blob of the type `B`, with pages under the checksum function `H`.
+///
+/// Appended bytes are buffered behind the full pages that the blob has. The blob and the cache are lent to each call:
+/// always the ones with which the writer was opened, and nobody else writes that blob meanwhile. A call that takes the
+/// writer gives it back only on success; after an error the writer is gone, and what the blob holds is to be recovered.
+#[derive(Drop)]
+pub struct Writer<B, H, Phase = Append> {
+    pub(crate) alloc: Global,
+    pub(crate) id: u64,
+    pub(crate) page_size: NonZeroU16,
+    pub(crate) capacity: usize,
+    pub(crate) full_pages: u64,
+    pub(crate) tip: Vec<u8>,
+    /// Of the page in which the tip begins: the slot that was written last.
+    pub(crate) flushed: Option<ActiveChecksum>,
+    /// Of the same page: the slot that was durable when it was last written. A rewrite repeats it.
+    pub(crate) durable: Option<ActiveChecksum>,
+    pub(crate) sync_state: SyncState,
+    pub(crate) of: PhantomData<(B, H, Phase)>,
+}
+
+impl<B, H, Phase> Model for Writer<B, H, Phase> {
+    ghost use Rattle.std.specs.Prelude.{length};
+    ghost use Rattle.std.specs.Int.NonZero.{non_zero_u16_get};
+    ghost use Rattle.crash.specs.WriterState.{WriterState};
+    ghost use Rattle.paged.specs.Writer.{state_of, FitsBlob};
+
+    ghost Value = { WriterState };
+
+    ghost view = { λ w. record { page_size = non_zero_u16_get w.page_size; id = w.id; capacity = w.capacity; full_pages = w.full_pages; tip = w.tip.items; flushed = w.flushed; durable = w.durable; sync = state_of w.sync_state } };
+
+    ghost invariant = { λ w. FitsBlob (non_zero_u16_get w.page_size) w.full_pages (length w.tip.items) };
+}
+
+/// A writer whose blob is still being recovered.
+pub type Recovery<B, H> = Writer<B, H, Recovering>;
+
+impl<B, H> From<Recovery<B, H>> for Writer<B, H> {
+    ghost from_gives = { λ recovery writer. writer ≡ recovery };
+
+    /// Ends the recovery. It makes no device call.
+    fn from(recovery: Recovery<B, H>) -> Self {
+        recovery.in_phase()
+    }
+}
+
+impl<B, H, Phase> Writer<B, H, Phase> {
+    fn in_phase<Q>(self) -> Writer<B, H, Q>
+        ensures { result ≡ self }
+    {
+        let Writer {
+            alloc,
+            id,
+            page_size,
+            capacity,
+            full_pages,
+            tip,
+            flushed,
+            durable,
+            sync_state,
+            of: _,
+        } = self;
+        Writer {
+            alloc,
+            id,
+            page_size,
+            capacity,
+            full_pages,
+            tip,
+            flushed,
+            durable,
+            sync_state,
+            of: PhantomData,
+        }
+    }
+
+    /// The logical bytes of the blob with what is buffered.
+    pub fn size(&self) -> u64
+        ensures { result ≡ self.now.full_pages * self.now.page_size + length self.now.tip }
+    {
+        self.full_pages * u64::from(self.page_size.get()) + self.tip.len() as u64
+    }
+}
