@@ -31,11 +31,7 @@ impl Model for CacheRef {
 impl CacheRef {
     /// A cache of at most `capacity` pages of `page_size` logical bytes, which has given no id. It answers
     /// `OutOfMemory` alone.
-    pub fn new(
-        alloc: Global,
-        page_size: NonZeroU16,
-        capacity: NonZeroUsize,
-    ) -> Result<Self, Error>
+    pub fn new(alloc: Global, page_size: NonZeroU16, capacity: NonZeroUsize) -> Result<Self, Error>
         ensures made { IfOk result (λ c. c ≡ record { page_size = non_zero_u16_get page_size; capacity = non_zero_usize_get capacity; ids_given = 0 }) }
         ensures err { IsOkUnless result Error.OutOfMemory }
     {
@@ -73,5 +69,40 @@ impl CacheRef {
         let id = self.next.ok_or(Error::IdsExhausted)?;
         self.next = id.checked_add(1);
         Ok(id)
+    }
+}
+
+#[cfg(test)]
+mod tests {
+    use super::*;
+
+    fn cache_of(rt: &HostRuntime, page_size: u16) -> Result<CacheRef, Error> {
+        let page_size = NonZeroU16::new(page_size).unwrap_or(NonZeroU16::MIN);
+        let capacity = NonZeroUsize::new(4).unwrap_or(NonZeroUsize::MIN);
+        CacheRef::new(rt.alloc(), page_size, capacity)
+    }
+
+    #[test]
+    fn places_are_told_by_page(rt: HostRuntime) -> Result<(), Error> {
+        let cache = cache_of(&rt, 103)?;
+        assert_eq!(rt; cache.page_size().get(), 103);
+        for (offset, want) in [(0, (0, 0)), (102, (0, 102)), (103, (1, 0)), (318, (3, 9))] {
+            assert_eq!(rt; cache.offset_to_page(offset), want, "at {offset}");
+        }
+        assert_eq!(rt; cache.offset_to_page(u64::MAX), (179094602657374287, 54));
+        Ok(())
+    }
+
+    #[test]
+    fn ids_rise_to_the_greatest(rt: HostRuntime) -> Result<(), Error> {
+        let mut cache = cache_of(&rt, 4)?;
+        for want in 0..3u64 {
+            assert_eq!(rt; cache.next_id(), Ok(want));
+        }
+        cache.next = Some(u64::MAX);
+        assert_eq!(rt; cache.next_id(), Ok(u64::MAX));
+        assert_eq!(rt; cache.next_id(), Err(Error::IdsExhausted));
+        assert_eq!(rt; cache.next_id(), Err(Error::IdsExhausted));
+        Ok(())
     }
 }
