@@ -7,7 +7,7 @@ use Rattle.disk.specs.Disk.{Disk, Operation, Request, Operated, IsImage, IsWhole
 use Rattle.disk.specs.Disk.Operation.{Write, Resize}
 use Rattle.crash.specs.Guard.{Fixed}
 use Rattle.crash.specs.Sound.{latest}
-use Rattle.crash.proofs.ListFacts.{element_within, slice_get-take, slice_get-drop, slice_get-replicate, same_elements, joined_element, taken_element}
+use Rattle.crash.proofs.Lists.{element_within, slice_get-take, slice_get-drop, slice_get-replicate, same_elements, joined_element, taken_element}
 
 -- how long a blob is after a write
 pub length-applied_write : (place : ℕ) (bytes old : List ℕ) → length (applied (Write place bytes) old) ≡ max (length old) (place + length bytes)

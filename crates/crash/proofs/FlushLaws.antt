@@ -1,5 +1,6 @@
--- What keeps a writer sound: a flush, a sync, a longer tip, the durable slot taken over; and what makes one sound.
-use Rattle.std.proofs.Common.{◌≡◌, ℕ, zero, suc, ◌+◌, ◌-◌, ◌*◌, ◌^◌, ◌<◌, ◌≤◌, List, [], ◌∷◌, ◌++◌, length, take, drop, refl, sym, ◌∙◌, ap, subst, arith, append_assoc, length-append, length-drop, take-append-drop}
+-- What keeps a writer standing for what is readable: a flush, a sync, a longer tip, the durable slot taken over; and
+-- what makes one stand for it.
+use Rattle.std.proofs.Common.{◌≡◌, ℕ, zero, suc, ◌+◌, ◌-◌, ◌*◌, ◌^◌, ◌<◌, ◌≤◌, List, [], ◌∷◌, ◌++◌, length, take, drop, sym, ◌∙◌, ap, subst, arith, append_assoc, length-append, length-drop, take-append-drop}
 use Rattle.std.specs.Prelude.{slice_get, Option, Some, None, Bool, true, false}
 use Rattle.std.specs.List.{flat_map}
 use Rattle.std.proofs.lemmas.List.{take-take, take_all, append-nil, take-append-le, length-take-le}
@@ -15,16 +16,12 @@ use Rattle.crash.specs.WriterState.{WriterState, SyncState}
 use Rattle.crash.specs.WriterState.SyncState.{Clean, Dirty}
 use Rattle.crash.specs.Full.{AreFull}
 use Rattle.crash.specs.Built.{kept_slot, kept_len, page_of, built_pages, built, durable_after, rest_written, after_write, written_pages}
-use Rattle.crash.specs.Sound.{latest, stored, content, HasPage, TipPage, StateFits, IsSound, CanWrite}
+use Rattle.crash.specs.Sound.{latest, stored, content, HasPage, TipPage, StateFits, Stands, CanWrite}
+use Rattle.crash.proofs.Disks.{latest-append}
 use Rattle.crash.proofs.Lists.{take_past, drop_past, within_append, slice_get-append_right}
 use Rattle.crash.proofs.Pages.{length-stored, stored_within, length-place, length-rewritten, pages_of_rewritten, pages_at, fewer_fit, take-pages, length-pieces}
 use Rattle.crash.proofs.Texts.{AreFull-append, text_exact, text_of_part, AreBytes, active_is, active_slot}
 use Rattle.crash.proofs.BuiltLaws.{IsSmall, length-built, pieces-built, built_pages_at, take-built_pages, built_payloads, built_full, value_len_of, page_begins, slot_new}
-
--- one operation more
-pub latest_more : (base : List ℕ) (os : List Operation) (o : Operation) → latest base (os ++ o ∷ []) ≡ applied o (latest base os)
-latest_more base [] o = refl
-latest_more base (a ∷ os) o = latest_more (applied a base) os o
 
 -- the blob ends with the pages below the tip, or with the tip's page
 pub tip_reach : (sum : List ℕ → ℕ) (P full : ℕ) (tip readable : List ℕ) (flushed : Option ActiveChecksum) → TipPage sum P full tip readable flushed
@@ -36,6 +33,16 @@ tip_reach sum P full tip readable (Some f) is = (omega (arith, is.size), omega (
 pub written_some : (P k : ℕ) (tip : List ℕ) (rest : Bool) → CanWrite P tip k rest → (0 < written_pages k rest) × (k ≤ written_pages k rest) × (k * P ≤ length tip)
 written_some P k tip false can = (can.0, omega arith, can.1)
 written_some P k tip true can = (omega arith, omega arith, omega (arith, can.0))
+
+-- a flush begins within the blob, and ends at its end or behind
+pub flush_reach : (sum : List ℕ → ℕ) (P full k : ℕ) (tip readable : List ℕ) (flushed : Option ActiveChecksum) (rest : Bool) → TipPage sum P full tip readable flushed → CanWrite P tip k rest
+    → (full * (P + 12) ≤ length readable) × (length readable ≤ (full + written_pages k rest) * (P + 12))
+flush_reach sum P full k tip readable flushed rest is can =
+    let m = written_pages k rest in
+    let reach = tip_reach sum P full tip readable flushed is in
+    let one = written_some P k tip rest can in
+    let more : (P + 12) * (full + 1) ≤ (P + 12) * (full + m) = mul-le-mul_left (P + 12) (let le : full + 1 ≤ full + m = omega (arith, one.0) in le) in
+    (reach.0, omega (arith, more, reach.1))
 
 module _ (sum : List ℕ → ℕ) (P q m : ℕ) (durable : Option ActiveChecksum) (tip old : List ℕ) (begins : q * (P + 12) ≤ length old) (ends : length old ≤ (q + m) * (P + 12)) where
   abbrev bytes : List ℕ
@@ -129,23 +136,17 @@ tip_after sum w old k true small some small_page carries can begins ends =
       slot = ap (λ (l : List ℕ). slot_of P (other (kept_slot d)) l) page ∙ slot_new sum P d chunk within;
     }
 
-module _ (sum : List ℕ → ℕ) (w : WriterState) (d e : Disk) (k : ℕ) (rest : Bool) (bytes : List ℕ) (small : IsSmall sum) (sound : IsSound sum w d) (can : CanWrite w.page_size w.tip k rest)
+module _ (sum : List ℕ → ℕ) (w : WriterState) (d e : Disk) (k : ℕ) (rest : Bool) (bytes : List ℕ) (small : IsSmall sum) (stands : Stands sum w d) (can : CanWrite w.page_size w.tip k rest)
     (is : bytes ≡ built sum w.page_size w.durable (written_pages k rest) w.tip)
     (readable : e.readable ≡ applied (Write (w.full_pages * (w.page_size + 12)) bytes) d.readable) where
   known : e.readable ≡ applied (Write (w.full_pages * (w.page_size + 12)) (built sum w.page_size w.durable (written_pages k rest) w.tip)) d.readable
   known = readable ∙ ap (λ (l : List ℕ). applied (Write (w.full_pages * (w.page_size + 12)) l) d.readable) is
 
   begins : w.full_pages * (w.page_size + 12) ≤ length d.readable
-  begins = (tip_reach sum w.page_size w.full_pages w.tip d.readable w.flushed sound.tip_page).0
+  begins = (flush_reach sum w.page_size w.full_pages k w.tip d.readable w.flushed rest stands.tip_page can).0
 
   ends : length d.readable ≤ (w.full_pages + written_pages k rest) * (w.page_size + 12)
-  ends =
-      let m = written_pages k rest in
-      let size = w.page_size + 12 in
-      let reach = tip_reach sum w.page_size w.full_pages w.tip d.readable w.flushed sound.tip_page in
-      let one = written_some w.page_size k w.tip rest can in
-      let more : size * (w.full_pages + 1) ≤ size * (w.full_pages + m) = mul-le-mul_left size (let le : w.full_pages + 1 ≤ w.full_pages + m = omega (arith, one.0) in le) in
-      omega (arith, more, reach.1)
+  ends = (flush_reach sum w.page_size w.full_pages k w.tip d.readable w.flushed rest stands.tip_page can).1
 
   -- a flush keeps the content
   pub flush_content : content (after_write sum w k rest) e.readable ≡ content w d.readable
@@ -157,9 +158,9 @@ module _ (sum : List ℕ → ℕ) (w : WriterState) (d e : Disk) (k : ℕ) (rest
       ∙ append_assoc (stored P w.full_pages d.readable) (take (k * P) w.tip) (drop (k * P) w.tip)
       ∙ ap (λ (l : List ℕ). stored P w.full_pages d.readable ++ l) (take-append-drop (k * P) w.tip)
 
-  -- a flush that is done keeps soundness
-  pub flush_sound : e.base ≡ d.base → e.since ≡ d.since ++ Write (w.full_pages * (w.page_size + 12)) bytes ∷ [] → IsSound sum (after_write sum w k rest) e
-  flush_sound base since =
+  -- after a flush that is done the writer stands for what is readable then
+  pub flush_stands : e.base ≡ d.base → e.since ≡ d.since ++ Write (w.full_pages * (w.page_size + 12)) bytes ∷ [] → Stands sum (after_write sum w k rest) e
+  flush_stands base since =
       let P = w.page_size in
       let q = w.full_pages in
       let one = written_some P k w.tip rest can in
@@ -167,22 +168,22 @@ module _ (sum : List ℕ → ℕ) (w : WriterState) (d e : Disk) (k : ℕ) (rest
       let pages_front : take (q + k) (pages P e.readable) ≡ front ++ built_pages sum P w.durable k w.tip =
       ap (λ (l : List ℕ). take (q + k) (pages P l)) known ∙ first_written sum P q (written_pages k rest) w.durable w.tip d.readable begins ends k one.1 in
       record {
-        some = sound.some;
-        small = sound.small;
-        done = readable ∙ ap (λ (l : List ℕ). applied (Write (q * (P + 12)) bytes) l) sound.done
-            ∙ sym (latest_more d.base d.since (Write (q * (P + 12)) bytes))
+        some = stands.some;
+        small = stands.small;
+        done = readable ∙ ap (λ (l : List ℕ). applied (Write (q * (P + 12)) bytes) l) stands.done
+            ∙ sym (latest-append d.base d.since (Write (q * (P + 12)) bytes ∷ []))
             ∙ sym (cc (base, since));
         full = subst (λ (l : List (List ℕ)). AreFull sum P l) (sym pages_front)
-            (AreFull-append sum P front (built_pages sum P w.durable k w.tip) sound.full (built_full sum P w.durable k w.tip small sound.some sound.small sound.carries.0 one.2));
+            (AreFull-append sum P front (built_pages sum P w.durable k w.tip) stands.full (built_full sum P w.durable k w.tip small stands.some stands.small stands.carries.0 one.2));
         tip_page = subst (λ (l : List ℕ). TipPage sum P (q + k) (drop (k * P) w.tip) l (rest_written sum (durable_after w.durable k) (drop (k * P) w.tip) rest)) (sym known)
-            (tip_after sum w d.readable k rest small sound.some sound.small sound.carries can begins ends);
+            (tip_after sum w d.readable k rest small stands.some stands.small stands.carries can begins ends);
         state = tt;
-        carries = kept_after P k w.durable w.tip sound.carries.0 sound.carries.1;
+        carries = kept_after P k w.durable w.tip stands.carries.0 stands.carries.1;
       }
 
   -- so does a write that the device did
-  pub operated_sound : (request : Request) → Operated (Write (w.full_pages * (w.page_size + 12)) bytes) request false d e → IsSound sum (after_write sum w k rest) e
-  operated_sound request done = flush_sound (ap (λ (x : Disk). x.base) done.rest) (ap (λ (x : Disk). x.since) done.rest)
+  pub operated_stands : (request : Request) → Operated (Write (w.full_pages * (w.page_size + 12)) bytes) request false d e → Stands sum (after_write sum w k rest) e
+  operated_stands request done = flush_stands (ap (λ (x : Disk). x.base) done.rest) (ap (λ (x : Disk). x.since) done.rest)
 
 -- ---- the same bytes in another state
 
@@ -217,26 +218,26 @@ pub flushed_fits : (sum : List ℕ → ℕ) (P full : ℕ) (tip readable : List 
 flushed_fits sum P full tip readable None is = (omega arith, omega arith)
 flushed_fits sum P full tip readable (Some f) is = (omega (arith, is.part), is.there)
 
-module _ (sum : List ℕ → ℕ) (w : WriterState) (d e : Disk) (sound : IsSound sum w d) (same : e.readable ≡ d.readable) where
-  -- what is sound depends on the bytes, and on what of them is durable
-  pub state_sound : (s : SyncState) → e.readable ≡ latest e.base e.since → StateFits e s → IsSound sum (record w { sync = s }) e
-  state_sound s done fits = record {
-    some = sound.some;
-    small = sound.small;
+module _ (sum : List ℕ → ℕ) (w : WriterState) (d e : Disk) (stands : Stands sum w d) (same : e.readable ≡ d.readable) where
+  -- what a writer stands for depends on the bytes, and on what of them is durable
+  pub state_stands : (s : SyncState) → e.readable ≡ latest e.base e.since → StateFits e s → Stands sum (record w { sync = s }) e
+  state_stands s done fits = record {
+    some = stands.some;
+    small = stands.small;
     done = done;
-    full = subst (λ (l : List ℕ). AreFull sum w.page_size (take w.full_pages (pages w.page_size l))) (sym same) sound.full;
-    tip_page = subst (λ (l : List ℕ). TipPage sum w.page_size w.full_pages w.tip l w.flushed) (sym same) sound.tip_page;
+    full = subst (λ (l : List ℕ). AreFull sum w.page_size (take w.full_pages (pages w.page_size l))) (sym same) stands.full;
+    tip_page = subst (λ (l : List ℕ). TipPage sum w.page_size w.full_pages w.tip l w.flushed) (sym same) stands.tip_page;
     state = fits;
-    carries = sound.carries;
+    carries = stands.carries;
   }
 
-  -- a sync that is done keeps soundness, and leaves the writer clean
-  pub settle_sound : e.base ≡ d.readable → e.since ≡ [] → IsSound sum (record w { sync = Clean }) e
-  settle_sound base since = state_sound Clean (same ∙ sym base ∙ ap (λ (os : List Operation). latest e.base os) (sym since)) (since, base ∙ sym same)
+  -- after a sync that is done it is clean
+  pub settle_stands : e.base ≡ d.readable → e.since ≡ [] → Stands sum (record w { sync = Clean }) e
+  settle_stands base since = state_stands Clean (same ∙ sym base ∙ ap (λ (os : List Operation). latest e.base os) (sym since)) (since, base ∙ sym same)
 
-  -- a disk with the same bytes, base and operations, as after a read, is as sound
-  pub alike_sound : e.base ≡ d.base → e.since ≡ d.since → IsSound sum w e
-  alike_sound base since = state_sound w.sync (same ∙ sound.done ∙ sym (cc (base, since))) (fits_alike d e w.sync same base since sound.state)
+  -- a disk with the same bytes, base and operations, as after a read, serves as well
+  pub alike_stands : e.base ≡ d.base → e.since ≡ d.since → Stands sum w e
+  alike_stands base since = state_stands w.sync (same ∙ stands.done ∙ sym (cc (base, since))) (fits_alike d e w.sync same base since stands.state)
 
   -- and holds the same content
   pub alike_content : content w e.readable ≡ content w d.readable
@@ -244,17 +245,17 @@ module _ (sum : List ℕ → ℕ) (w : WriterState) (d e : Disk) (sound : IsSoun
 
 -- ---- a writer that knows more
 
-module _ (sum : List ℕ → ℕ) (w : WriterState) (d : Disk) (sound : IsSound sum w d) where
-  -- a longer tip keeps soundness
-  pub longer_sound : (more : List ℕ) → IsSound sum (record w { tip = w.tip ++ more }) d
-  longer_sound more = record {
-    some = sound.some;
-    small = sound.small;
-    done = sound.done;
-    full = sound.full;
-    tip_page = longer_tip sum w.page_size w.full_pages w.tip more d.readable w.flushed sound.tip_page;
-    state = sound.state;
-    carries = (sound.carries.0, omega (arith, length-append w.tip more, sound.carries.1));
+module _ (sum : List ℕ → ℕ) (w : WriterState) (d : Disk) (stands : Stands sum w d) where
+  -- the tip may grow
+  pub longer_stands : (more : List ℕ) → Stands sum (record w { tip = w.tip ++ more }) d
+  longer_stands more = record {
+    some = stands.some;
+    small = stands.small;
+    done = stands.done;
+    full = stands.full;
+    tip_page = longer_tip sum w.page_size w.full_pages w.tip more d.readable w.flushed stands.tip_page;
+    state = stands.state;
+    carries = (stands.carries.0, omega (arith, length-append w.tip more, stands.carries.1));
   }
 
   -- and makes the content longer
@@ -262,24 +263,24 @@ module _ (sum : List ℕ → ℕ) (w : WriterState) (d : Disk) (sound : IsSound 
   longer_content more = sym (append_assoc (stored w.page_size w.full_pages d.readable) w.tip more)
 
   -- a flush may repeat the slot that was flushed last
-  pub carry_sound : IsSound sum (record w { durable = w.flushed }) d
-  carry_sound = record {
-    some = sound.some;
-    small = sound.small;
-    done = sound.done;
-    full = sound.full;
-    tip_page = sound.tip_page;
-    state = sound.state;
-    carries = flushed_fits sum w.page_size w.full_pages w.tip d.readable w.flushed sound.tip_page;
+  pub carry_stands : Stands sum (record w { durable = w.flushed }) d
+  carry_stands = record {
+    some = stands.some;
+    small = stands.small;
+    done = stands.done;
+    full = stands.full;
+    tip_page = stands.tip_page;
+    state = stands.state;
+    carries = flushed_fits sum w.page_size w.full_pages w.tip d.readable w.flushed stands.tip_page;
   }
 
 -- ---- from what is readable
 
 module _ (sum : List ℕ → ℕ) (w : WriterState) (d : Disk) (since : d.since ≡ []) (base : d.base ≡ d.readable) (some : 0 < w.page_size) (small : w.page_size < 2 ^ 16)
     (full : AreFull sum w.page_size (take w.full_pages (pages w.page_size d.readable))) (carried : w.durable ≡ w.flushed) where
-  -- with nothing unsynced a writer is sound that knows the blob's pages
-  pub settled_sound : TipPage sum w.page_size w.full_pages w.tip d.readable w.flushed → IsSound sum w d
-  settled_sound tip_page = record {
+  -- with nothing unsynced a writer stands for a blob whose pages it knows
+  pub settled_stands : TipPage sum w.page_size w.full_pages w.tip d.readable w.flushed → Stands sum w d
+  settled_stands tip_page = record {
     some = some;
     small = small;
     done = sym base ∙ ap (λ (os : List Operation). latest d.base os) (sym since);
@@ -290,12 +291,12 @@ module _ (sum : List ℕ → ℕ) (w : WriterState) (d : Disk) (since : d.since 
   }
 
   -- the blob ends with a full page, and the writer buffers nothing
-  pub exact_sound : w.flushed ≡ None → length d.readable ≡ w.full_pages * (w.page_size + 12) → IsSound sum w d
-  exact_sound none size = settled_sound (subst (λ (f : Option ActiveChecksum). TipPage sum w.page_size w.full_pages w.tip d.readable f) (sym none) size)
+  pub exact_stands : w.flushed ≡ None → length d.readable ≡ w.full_pages * (w.page_size + 12) → Stands sum w d
+  exact_stands none size = settled_stands (subst (λ (f : Option ActiveChecksum). TipPage sum w.page_size w.full_pages w.tip d.readable f) (sym none) size)
 
   -- the blob ends with the tip's page
-  pub page_sound : (a : ActiveChecksum) → w.flushed ≡ Some a → HasPage sum w.page_size w.full_pages w.tip d.readable a → IsSound sum w d
-  page_sound a is has = settled_sound (subst (λ (f : Option ActiveChecksum). TipPage sum w.page_size w.full_pages w.tip d.readable f) (sym is) has)
+  pub page_stands : (a : ActiveChecksum) → w.flushed ≡ Some a → HasPage sum w.page_size w.full_pages w.tip d.readable a → Stands sum w d
+  page_stands a is has = settled_stands (subst (λ (f : Option ActiveChecksum). TipPage sum w.page_size w.full_pages w.tip d.readable f) (sym is) has)
 
   -- the content is then the text
   pub exact_content : w.tip ≡ [] → length d.readable ≡ w.full_pages * (w.page_size + 12) → content w d.readable ≡ text sum w.page_size d.readable

@@ -3,9 +3,11 @@ pub mod Pages
 pub mod Texts
 pub mod BuiltLaws
 pub mod FlushLaws
-pub mod ListFacts
 pub mod Disks
 pub mod PageFacts
 pub mod Promise
 pub mod Moments
 pub mod Spared
+pub mod Soundness
+pub mod CallLaws
+pub mod CutLaws

@@ -1,6 +1,7 @@
 -- Plain facts on lists: their beginnings, their rests, and what stands between.
-use Rattle.std.proofs.Common.{◌≡◌, ℕ, zero, suc, ◌+◌, ◌-◌, ◌<◌, ◌≤◌, List, [], ◌∷◌, ◌++◌, length, take, drop, refl, sym, ◌∙◌, ap, arith, length-take}
-use Rattle.std.specs.Prelude.{slice_get}
+use Rattle.std.proofs.Common.{◌≡◌, ◌⊎◌, inl, inr, ℕ, zero, suc, ◌+◌, ◌-◌, ◌<◌, ◌≤◌, List, [], ◌∷◌, ◌++◌, length, take, drop, refl, sym, ◌∙◌, ap, ap₂, arith, length-take, replicate}
+use Rattle.std.specs.Prelude.{slice_get, Some}
+use Rattle.std.proofs.lemmas.Option.{same_Some}
 use Rattle.std.proofs.lemmas.List.{take-take, take_at, drop-drop, drop-take}
 use Rattle.std.proofs.Math.Seq.{take-append-add, drop-append-add}
 
@@ -63,3 +64,38 @@ module _ {X : Type 0} where
   -- a list is as long as another of which it has the beginning
   pub same_reach : (m : ℕ) (xs ys : List X) → take m xs ≡ take m ys → m ≤ length xs → m ≤ length ys
   same_reach m xs ys same le = omega (arith, ap length same, length-take m xs, length-take m ys)
+
+-- the list has an element at each place below its length
+pub element_within : {X : Type 0} (xs : List X) (i : ℕ) → i < length xs → (x : X) × (slice_get xs i ≡ Some x)
+element_within [] i below = absurd (omega arith)
+element_within (x ∷ xs) zero below = (x, refl)
+element_within (x ∷ xs) (suc i) below = element_within xs i (omega arith)
+
+-- an element of a list of equal ones
+pub slice_get-replicate : {X : Type 0} (n : ℕ) (a x : X) (i : ℕ) → slice_get (replicate n a) i ≡ Some x → x ≡ a
+slice_get-replicate zero a x i is = absurd (cc is)
+slice_get-replicate (suc n) a x zero is = sym (same_Some a x is)
+slice_get-replicate (suc n) a x (suc i) is = slice_get-replicate n a x i is
+
+-- two lists as long as each other are equal where the second has each element of the first
+pub same_elements : {X : Type 0} (xs ys : List X) → length xs ≡ length ys → ((i : ℕ) (x : X) → slice_get xs i ≡ Some x → slice_get ys i ≡ Some x) → xs ≡ ys
+same_elements [] [] same each = refl
+same_elements [] (y ∷ ys) same each = absurd (omega arith)
+same_elements (x ∷ xs) [] same each = absurd (omega arith)
+same_elements (x ∷ xs) (y ∷ ys) same each = ap₂ (λ z zs. z ∷ zs) (sym (same_Some y x (each zero x refl))) (same_elements xs ys (omega arith) (λ i z is. each (suc i) z is))
+
+-- an element of a joined list is one of the first part or of the second
+pub joined_element : {X : Type 0} (xs ys : List X) (i : ℕ) (x : X) → slice_get (xs ++ ys) i ≡ Some x → (slice_get xs i ≡ Some x) ⊎ ((j : ℕ) × (i ≡ length xs + j) × (slice_get ys j ≡ Some x))
+joined_element [] ys i x is = inr (i, omega arith, is)
+joined_element (y ∷ xs) ys zero x is = inl is
+joined_element (y ∷ xs) ys (suc i) x is = elim (joined_element xs ys i x is) [
+  | inl first ↦ inl first
+  | inr second ↦ inr (second.0, omega (arith, second.1), second.2)
+]
+
+-- an element of a list's beginning is one of the list
+pub taken_element : {X : Type 0} (n : ℕ) (xs : List X) (i : ℕ) (x : X) → slice_get (take n xs) i ≡ Some x → slice_get xs i ≡ Some x
+taken_element zero xs i x is = absurd (cc is)
+taken_element (suc n) [] i x is = is
+taken_element (suc n) (y ∷ xs) zero x is = is
+taken_element (suc n) (y ∷ xs) (suc i) x is = taken_element n xs i x is

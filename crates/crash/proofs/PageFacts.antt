@@ -1,50 +1,19 @@
 -- What the laws of the promise need of pages: where a page stands in the blob's bytes, when a slot verifies, and how
 -- the text begins.
-use Rattle.std.proofs.Common.{◌≡◌, ◌⊎◌, inl, inr, ℕ, zero, suc, ◌+◌, ◌-◌, ◌*◌, ◌/◌, ◌<◌, ◌≤◌, min, ◌==◌, if◌then◌else◌, cond, ◌&&◌, leb, eqb, List, [], ◌∷◌, ◌++◌, length, take, drop, slice_get, Some, refl, sym, ap, ap₂, ◌∙◌, arith, length-append, length-take, length-take-le, length-drop, le_trans, mul-le-mul_right, div-mul-le_self}
+use Rattle.std.proofs.Common.{◌≡◌, ◌⊎◌, inl, inr, ℕ, zero, suc, ◌+◌, ◌-◌, ◌*◌, ◌<◌, ◌≤◌, min, ◌==◌, if◌then◌else◌, cond, ◌&&◌, leb, eqb, List, [], ◌∷◌, ◌++◌, length, take, drop, slice_get, Some, refl, sym, ap, ap₂, ◌∙◌, arith, length-append, length-take, length-take-le, length-drop}
 use Rattle.std.proofs.lemmas.Bool.{cases_lt, cases_eq, cond-true, cond-false, eq-eqb, ne_eqb}
 use Rattle.std.proofs.lemmas.Bool.Decides.{nat_tests}
-use Rattle.std.proofs.lemmas.Nat.{le-div}
-use Rattle.std.proofs.lemmas.Option.{slice_get_within, same_Some}
+use Rattle.std.proofs.lemmas.Option.{same_Some}
 use Rattle.std.proofs.lemmas.List.{drop-drop, take-take, take_min, drop_min, take_at, take-append-le, append-nil}
 use Rattle.std.proofs.Math.Seq.{take-add, take-append-add, drop-append-add}
 use Rattle.page.specs.Slot.{slot_offset}
-use Rattle.page.specs.Page.{slot_of, slot_len, slot_crc, verified_len, value_len, value, pieces, pages, text_of_pages}
+use Rattle.page.specs.Page.{slot_of, slot_len, slot_crc, verified_len, value_len, value, pages, text_of_pages}
 use Rattle.page.specs.declared.slot.Slot.{Slot}
 use Rattle.page.specs.declared.slot.Slot.TheVariants.{First, Second}
 use Rattle.crash.specs.Guard.{IsSlotFor}
-use Rattle.crash.proofs.ListFacts.{part_of_taken}
-
--- a piece by its place
-pub piece_at : (n size : ℕ) (bytes : List ℕ) (p : ℕ) → p < n → slice_get (pieces n size bytes) p ≡ Some (take size (drop (p * size) bytes))
-piece_at zero size bytes p below = absurd (omega arith)
-piece_at (suc n) size bytes zero below = let same : 0 ≡ 0 * size = omega arith in ap (λ (k : ℕ). Some (take size (drop k bytes))) same
-piece_at (suc n) size bytes (suc p) below =
-    let same : size + p * size ≡ suc p * size = omega arith in
-    piece_at n size (drop size bytes) p (omega arith) ∙ ap (λ (l : List ℕ). Some (take size l)) (drop-drop (p * size) size bytes) ∙ ap (λ (k : ℕ). Some (take size (drop k bytes))) same
-
--- how many pieces
-pub length-pieces : (n size : ℕ) (bytes : List ℕ) → length (pieces n size bytes) ≡ n
-length-pieces zero size bytes = refl
-length-pieces (suc n) size bytes = ap suc (length-pieces n size (drop size bytes))
-
--- a page by its place
-pub page_at : (P p : ℕ) (bytes : List ℕ) → (p + 1) * (P + 12) ≤ length bytes → slice_get (pages P bytes) p ≡ Some (take (P + 12) (drop (p * (P + 12)) bytes))
-page_at P p bytes inside = piece_at (length bytes / (P + 12)) (P + 12) bytes p (omega (arith, le-div (p + 1) (length bytes) (P + 12) (omega arith) inside))
-
--- a page ends where the blob does or before
-pub page_within : (P p : ℕ) (bytes page : List ℕ) → slice_get (pages P bytes) p ≡ Some page → (p + 1) * (P + 12) ≤ length bytes
-page_within P p bytes page is =
-    let below : p < length (pages P bytes) = slice_get_within (pages P bytes) p page is in
-    let among : p + 1 ≤ length bytes / (P + 12) = omega (arith, length-pieces (length bytes / (P + 12)) (P + 12) bytes) in
-    le_trans (mul-le-mul_right (P + 12) among) (div-mul-le_self (length bytes) (P + 12))
-
--- and it is the bytes at its place
-pub page_is : (P p : ℕ) (bytes page : List ℕ) → slice_get (pages P bytes) p ≡ Some page → page ≡ take (P + 12) (drop (p * (P + 12)) bytes)
-page_is P p bytes page is = same_Some page (take (P + 12) (drop (p * (P + 12)) bytes)) (sym is ∙ page_at P p bytes (page_within P p bytes page is))
-
--- a page has a payload and a footer
-pub page_length : (P p : ℕ) (bytes page : List ℕ) → slice_get (pages P bytes) p ≡ Some page → length page ≡ P + 12
-page_length P p bytes page is = ap length (page_is P p bytes page is) ∙ simp (length-take, length-drop) (omega (arith, page_within P p bytes page is))
+use Rattle.crash.proofs.Lists.{within_take}
+use Rattle.crash.proofs.Pages.{page_is}
+use Rattle.crash.proofs.Texts.{verified_len_le, value_len_le}
 
 -- what a test of a slot tells
 tested : (len P found said : ℕ) → (cond (leb 1 len && leb len P && eqb found said) len 0 ≡ 0) ⊎ ((cond (leb 1 len && leb len P && eqb found said) len 0 ≡ len) × (0 < len) × (len ≤ P) × (found ≡ said))
@@ -54,13 +23,6 @@ tested len P found said = grind (arith, nat_tests)
 pub verified_cases : (sum : List ℕ → ℕ) (P : ℕ) (s : Slot) (page : List ℕ) → (verified_len sum P s page ≡ 0)
     ⊎ ((verified_len sum P s page ≡ slot_len (slot_of P s page)) × (0 < slot_len (slot_of P s page)) × (slot_len (slot_of P s page) ≤ P) × (sum (take (slot_len (slot_of P s page)) page) ≡ slot_crc (slot_of P s page)))
 verified_cases sum P s page = tested (slot_len (slot_of P s page)) P (sum (take (slot_len (slot_of P s page)) page)) (slot_crc (slot_of P s page))
-
--- a slot verifies over at most the payload
-pub verified_len_le : (sum : List ℕ → ℕ) (P : ℕ) (s : Slot) (page : List ℕ) → verified_len sum P s page ≤ P
-verified_len_le sum P s page = elim (verified_cases sum P s page) [
-  | inl none ↦ omega arith
-  | inr some ↦ omega (arith, some.0, some.2)
-]
 
 -- where a slot says the length and the checksum of the page's first bytes, it verifies over those
 pub verified_len_held : (sum : List ℕ → ℕ) (P : ℕ) (s : Slot) (page bytes : List ℕ) → IsSlotFor sum bytes (slot_of P s page) → 0 < length bytes → length bytes ≤ P → take (length bytes) page ≡ bytes → verified_len sum P s page ≡ length bytes
@@ -94,15 +56,6 @@ value_len_slot sum P page = elim (cases_lt (verified_len sum P First page) (veri
   | inr first ↦ (First, omega arith)
 ]
 
--- and the greatest such length
-pub verified_le_value : (sum : List ℕ → ℕ) (P : ℕ) (s : Slot) (page : List ℕ) → verified_len sum P s page ≤ value_len sum P page
-verified_le_value sum P First page = omega arith
-verified_le_value sum P Second page = omega arith
-
--- a value is at most the payload
-pub value_len_le : (sum : List ℕ → ℕ) (P : ℕ) (page : List ℕ) → value_len sum P page ≤ P
-value_len_le sum P page = omega (arith, verified_len_le sum P First page, verified_len_le sum P Second page)
-
 -- a slot stands at one of two places of the footer
 pub slot_offset_le : (s : Slot) → slot_offset s ≤ 6
 slot_offset_le First = omega arith
@@ -113,7 +66,7 @@ pub slot_at : (P p : ℕ) (s : Slot) (bytes page : List ℕ) → slice_get (page
 slot_at P p s bytes page is =
     let same : p * (P + 12) + (P + slot_offset s) ≡ p * (P + 12) + P + slot_offset s = omega arith in
     ap (slot_of P s) (page_is P p bytes page is)
-    ∙ part_of_taken 6 (P + slot_offset s) (P + 12) (drop (p * (P + 12)) bytes) (omega (arith, slot_offset_le s))
+    ∙ within_take 6 (P + slot_offset s) (P + 12) (drop (p * (P + 12)) bytes) (omega (arith, slot_offset_le s))
     ∙ ap (λ (l : List ℕ). take 6 l) (drop-drop (P + slot_offset s) (p * (P + 12)) bytes)
     ∙ ap (λ (k : ℕ). take 6 (drop k bytes)) same
 
@@ -139,10 +92,6 @@ says_behind sum P content floor page ps p says =
       enough = omega (arith, says.enough);
       begins = ap (λ (n : ℕ). take n says.page) fewer ∙ says.begins ∙ ap₂ (λ (n k : ℕ). take n (drop k content)) (sym fewer) (sym further) ∙ ap (λ (l : List ℕ). take (min P (floor - P - p * P)) l) (sym (drop-drop (p * P) P content));
     }
-
--- a list that begins as another does so as far as any smaller number
-pub begins_less : {X : Type 0} (n m : ℕ) (xs ys : List X) → n ≤ m → take m xs ≡ take m ys → take n xs ≡ take n ys
-begins_less n m xs ys le begins = sym (take-take n m xs le) ∙ ap (λ (l : List _). take n l) begins ∙ take-take n m ys le
 
 -- the floor ends within the first page
 floor_here : (sum : List ℕ → ℕ) (P : ℕ) (content : List ℕ) (floor : ℕ) (page rest : List ℕ) → floor ≤ length content → floor ≤ value_len sum P page → take floor page ≡ take floor content

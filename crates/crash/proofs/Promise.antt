@@ -1,5 +1,5 @@
 -- The laws of the promise: what is guarded is kept, and a truthful disk says only the content.
-use Rattle.std.proofs.Common.{◌≡◌, inl, inr, ℕ, ◌+◌, ◌-◌, ◌*◌, ◌<◌, ◌≤◌, min, List, [], ◌∷◌, ◌++◌, length, take, drop, slice_get, Some, refl, sym, ap, ◌∙◌, subst, arith, length-take, length-take-le, length-drop, mul-le-mul_right, le_trans, sub-eq-zero_of_le, append-nil, replicate}
+use Rattle.std.proofs.Common.{◌≡◌, inl, inr, ℕ, ◌+◌, ◌-◌, ◌*◌, ◌<◌, ◌≤◌, min, List, [], ◌∷◌, ◌++◌, length, take, drop, slice_get, Some, refl, sym, ap, ◌∙◌, subst, arith, length-take, length-take-le, length-drop, mul-le-mul_right, le_trans}
 use Rattle.std.proofs.lemmas.Bool.{cases_lt}
 use Rattle.disk.specs.Disk.{Disk, Operation, IsImage, IsWhole, applied}
 use Rattle.disk.specs.Disk.Operation.{Write, Resize}
@@ -10,13 +10,15 @@ use Rattle.crash.specs.Guard.{Held, IsSlotFor, IsGuarded, Guards, IsTruthful, Is
 use Rattle.crash.specs.Kept.{AllKeep}
 use Rattle.crash.specs.Sound.{latest}
 use Rattle.crash.proofs.Disks.{fixed_length, fixed_in_image, fixed_stays, fixed_settles, fixed_at_rest, fixed_alike, Leaves, resize_leaves, write_behind_leaves, base_is_image, image_at_rest, one_more_whole, fixed_covered, whole_covered, length-applied_resize}
-use Rattle.crash.proofs.ListFacts.{part_of_taken}
-use Rattle.crash.proofs.PageFacts.{slot_offset_le, page_at, page_within, page_is, page_begins, page_length, slot_at, slot_from_verified, value_len_slot, value_len_le, verified_len_le, verified_len_held, verified_le_value, Says, text_begins, text_within, begins_less, has_part}
+use Rattle.crash.proofs.Lists.{take_same, within_take}
+use Rattle.crash.proofs.Pages.{pages_at, page_fits, page_is, length-page, cut_is}
+use Rattle.crash.proofs.Texts.{verified_len_le, verified_le_value, value_len_le}
+use Rattle.crash.proofs.PageFacts.{slot_offset_le, page_begins, slot_at, slot_from_verified, value_len_slot, verified_len_held, Says, text_begins, text_within, has_part}
 
 -- where a page's end is fixed, each image has the page
 held_page : (sum : List ℕ → ℕ) (P : ℕ) (d : Disk) (p : ℕ) (s : Slot) (slot bytes image : List ℕ) → Held sum P d p s slot bytes → IsImage d image
     → slice_get (pages P image) p ≡ Some (take (P + 12) (drop (p * (P + 12)) image))
-held_page sum P d p s slot bytes image held is_image = page_at P p image (omega (arith, fixed_length d ((p + 1) * (P + 12)) [] image held.end is_image))
+held_page sum P d p s slot bytes image held is_image = pages_at P p image (omega (arith, fixed_length d ((p + 1) * (P + 12)) [] image held.end is_image))
 
 -- a page that is held begins with its bytes in each image
 pub held_begins : (sum : List ℕ → ℕ) (P : ℕ) (d : Disk) (p : ℕ) (s : Slot) (slot bytes image page : List ℕ) → Held sum P d p s slot bytes → IsImage d image → slice_get (pages P image) p ≡ Some page → take (length bytes) page ≡ bytes
@@ -43,7 +45,7 @@ guarded_says sum P content floor d p image g is_image =
       page = page;
       there = there;
       enough = omega (arith, g.enough, held_verifies sum P d p g.slot g.bytes bytes image page g.held is_image there, verified_le_value sum P g.slot page);
-      begins = begins_less (min P (floor - p * P)) g.len page (drop (p * P) content) g.enough begins;
+      begins = take_same (min P (floor - p * P)) g.len page (drop (p * P) content) g.enough begins;
     }
 
 -- what is guarded is kept
@@ -178,8 +180,8 @@ guards_less sum P content floor less d le guards =
     record { slot = g.slot; bytes = g.bytes; len = g.len; enough = omega (arith, g.enough); there = g.there; held = g.held }
 
 -- a part of a beginning's rest
-part_of_beginning : {X : Type 0} (n k : ℕ) (xs ys : List X) → xs ≡ take (length xs) ys → k + n ≤ length xs → take n (drop k xs) ≡ take n (drop k ys)
-part_of_beginning n k xs ys begins within = ap (λ (l : List _). take n (drop k l)) begins ∙ part_of_taken n k (length xs) ys within
+pub part_of_beginning : {X : Type 0} (n k : ℕ) (xs ys : List X) → xs ≡ take (length xs) ys → k + n ≤ length xs → take n (drop k xs) ≡ take n (drop k ys)
+part_of_beginning n k xs ys begins within = ap (λ (l : List _). take n (drop k l)) begins ∙ within_take n k (length xs) ys within
 
 -- what is guarded stays so when the content grows
 pub guards_longer : (sum : List ℕ → ℕ) (P : ℕ) (content longer : List ℕ) (floor : ℕ) (d : Disk) → content ≡ take (length content) longer → Guards sum P content floor d → Guards sum P longer floor d
@@ -199,12 +201,12 @@ guards_longer sum P content longer floor d begins guards =
 pub guards_at_rest : (sum : List ℕ → ℕ) (P : ℕ) (d : Disk) → 0 < P → d.since ≡ [] → Guards sum P (text sum P d.base) (length (text sum P d.base)) d
 guards_at_rest sum P d some at_rest =
     λ p below.
-    let part = has_part sum P (pages P d.base) p some (λ q page is. omega (arith, page_length P q d.base page is)) below in
+    let part = has_part sum P (pages P d.base) p some (λ q page is. omega (arith, length-page P q d.base page is)) below in
     let chosen = value_len_slot sum P part.page in
     let s = chosen.0 in
     let len = value_len sum P part.page in
-    let within = page_within P p d.base part.page part.there in
-    let whole : P + 12 ≤ length part.page = omega (arith, page_length P p d.base part.page part.there) in
+    let within = page_fits P p d.base part.page part.there in
+    let whole : P + 12 ≤ length part.page = omega (arith, length-page P p d.base part.page part.there) in
     let fits : len ≤ P = value_len_le sum P part.page in
     let as_long : length (take len part.page) ≡ len = length-take-le len part.page (omega arith) in
     let slot_is = slot_at P p s d.base part.page part.there in
@@ -286,7 +288,7 @@ says_only_longer sum P content longer whole begins says = λ p page is s.
     let n = verified_len sum P s page in
     elim (cases_lt 0 n) [
       | inl some ↦
-          let fits : n ≤ length page = omega (arith, verified_len_le sum P s page, page_length P p whole page is) in
+          let fits : n ≤ length page = omega (arith, verified_len_le sum P s page, length-page P p whole page is) in
           let there : p * P + n ≤ length content = omega (arith, ap length (says p page is s), length-take n page, length-take n (drop (p * P) content), length-drop (p * P) content) in
           says p page is s ∙ part_of_beginning n (p * P) content longer begins there
       | inr none ↦
@@ -301,10 +303,9 @@ truthful_longer sum P content longer d begins truthful = λ whole is_whole. says
 -- what is cut says only the content too
 pub cut_says_only : (sum : List ℕ → ℕ) (P : ℕ) (content whole : List ℕ) (len : ℕ) → len ≤ length whole → SaysOnly sum P content whole → SaysOnly sum P content (applied (Resize len) whole)
 cut_says_only sum P content whole len shorter says = λ p page is s.
-    let within : (p + 1) * (P + 12) ≤ len = omega (arith, page_within P p (applied (Resize len) whole) page is, length-applied_resize len whole) in
-    let cut : applied (Resize len) whole ≡ take len whole =
-    ap (λ (n : ℕ). take len whole ++ replicate n 0) (sub-eq-zero_of_le shorter) ∙ append-nil (take len whole) in
+    let within : (p + 1) * (P + 12) ≤ len = omega (arith, page_fits P p (applied (Resize len) whole) page is, length-applied_resize len whole) in
+    let cut : applied (Resize len) whole ≡ take len whole = cut_is len whole shorter in
     let was : slice_get (pages P whole) p ≡ Some page =
-    page_at P p whole (omega arith)
-    ∙ ap (λ (l : List ℕ). Some l) (sym (part_of_taken (P + 12) (p * (P + 12)) len whole (omega arith)) ∙ ap (λ (l : List ℕ). take (P + 12) (drop (p * (P + 12)) l)) (sym cut) ∙ sym (page_is P p (applied (Resize len) whole) page is)) in
+    pages_at P p whole (omega arith)
+    ∙ ap (λ (l : List ℕ). Some l) (sym (within_take (P + 12) (p * (P + 12)) len whole (omega arith)) ∙ ap (λ (l : List ℕ). take (P + 12) (drop (p * (P + 12)) l)) (sym cut) ∙ sym (page_is P p (applied (Resize len) whole) page is)) in
     says p page was s

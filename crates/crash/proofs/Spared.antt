@@ -1,63 +1,41 @@
 -- What one flush spares: the pages below the tip, and in the tip's page the durable slot and what it covers.
-use Rattle.std.proofs.Common.{◌≡◌, ◌⊎◌, inl, inr, ℕ, zero, suc, ◌+◌, ◌-◌, ◌*◌, ◌^◌, ◌<◌, ◌≤◌, min, List, [], ◌∷◌, ◌++◌, length, take, drop, replicate, slice_get, Option, Some, None, refl, sym, ap, ◌∙◌, subst, arith, append_assoc, length-append, length-take, length-take-le, length-drop, mul-le-mul_right, le_refl}
+use Rattle.std.proofs.Common.{◌≡◌, ◌⊎◌, inl, inr, ℕ, zero, suc, ◌+◌, ◌*◌, ◌^◌, ◌<◌, ◌≤◌, min, List, [], ◌∷◌, ◌++◌, length, take, drop, slice_get, Option, Some, None, refl, sym, ap, ◌∙◌, subst, arith, length-take, length-take-le, length-drop, mul-le-mul_right, le_refl}
 use Rattle.std.proofs.lemmas.Bool.{cases_order}
-use Rattle.std.proofs.lemmas.List.{take-take, drop-drop, take-append-le, length-replicate}
-use Rattle.std.proofs.Math.Seq.{drop-append-add}
+use Rattle.std.proofs.lemmas.List.{take-take, drop-drop, take-append-le}
 use Rattle.disk.specs.Disk.{Disk, applied}
 use Rattle.disk.specs.Disk.Operation.{Write}
-use Rattle.page.specs.Slot.{slot_offset}
+use Rattle.page.specs.Slot.{slot_offset, other}
 use Rattle.page.specs.Page.{slot_of, slot_bytes, slot_len, verified_len, pages, text}
 use Rattle.page.specs.declared.slot.Slot.{Slot}
 use Rattle.page.specs.declared.slot.Slot.TheVariants.{First, Second}
 use Rattle.page.specs.declared.slot.ActiveChecksum.{ActiveChecksum}
-use Rattle.crash.specs.Built.{kept_slot, kept_len, kept_bytes, footer, page_of, built_pages, built}
+use Rattle.crash.specs.Built.{kept_slot, kept_len, page_of, built_pages, built}
 use Rattle.crash.specs.Guard.{Held, IsGuarded, Guards, IsTruthful}
 use Rattle.crash.specs.Sound.{latest}
 use Rattle.crash.specs.Stays.{Stays}
 use Rattle.crash.proofs.Disks.{latest_is_whole, write_in_front_leaves, write_again_leaves}
 use Rattle.crash.proofs.Promise.{LeavesPage, held_stays, guards_below, write_leaves_below, SaysOnly, truthful_stays}
 use Rattle.crash.proofs.Moments.{stays_guarded}
-use Rattle.crash.proofs.ListFacts.{taken_element, joined_element}
-use Rattle.crash.proofs.PageFacts.{own_beginning, verified_cases}
+use Rattle.crash.proofs.Lists.{within_append, taken_element, joined_element}
+use Rattle.crash.proofs.BuiltLaws.{length-page_of, page_begins_less, slot_kept, slot_new, slot_len_of, slot_len_kept, verified_le_slot}
+use Rattle.crash.proofs.PageFacts.{own_beginning, slot_offset_le}
 use Rattle.std.proofs.lemmas.Option.{same_Some}
-use Rattle.std.proofs.lemmas.Nat.{from_be_bytes-to_be_bytes_2}
-
--- a payload that is padded fills the page
-length-padded : (P : ℕ) (chunk : List ℕ) → length chunk ≤ P → length (chunk ++ replicate (P - length chunk) 0) ≡ P
-length-padded P chunk fits = simp (length-append, length-replicate) (omega arith)
-
--- the slot of a footer that is kept
-kept_in_footer : (s : Slot) (len crc n c : ℕ) (rest : List ℕ) → take 6 (drop (slot_offset s) (footer s (slot_bytes len crc) (slot_bytes n c) ++ rest)) ≡ slot_bytes len crc
-kept_in_footer First len crc n c rest = refl
-kept_in_footer Second len crc n c rest = refl
-
--- what stands behind a padded payload
-behind_payload : (P k : ℕ) (chunk behind : List ℕ) → length chunk ≤ P → drop (P + k) (chunk ++ replicate (P - length chunk) 0 ++ behind) ≡ drop k behind
-behind_payload P k chunk behind fits =
-    let size : P ≡ length (chunk ++ replicate {A = ℕ} (P - length chunk) 0) = sym (length-padded P chunk fits) in
-    ap (λ (n : ℕ). drop (n + k) (chunk ++ replicate (P - length chunk) 0 ++ behind)) size ∙ drop-append-add (chunk ++ replicate (P - length chunk) 0) behind k
 
 -- a page that is built, before others, has the durable slot
 pub built_keeps_slot : (sum : List ℕ → ℕ) (P : ℕ) (w : ActiveChecksum) (m : ℕ) (tip : List ℕ) → take 6 (drop (P + slot_offset w.slot) (built sum P (Some w) (suc m) tip)) ≡ slot_bytes w.len w.crc
 built_keeps_slot sum P w m tip =
     let chunk = take P tip in
-    let foot = footer w.slot (slot_bytes w.len w.crc) (slot_bytes (length chunk) (sum chunk)) in
-    let rest = built sum P None m (drop P tip) in
-    ap (λ (l : List ℕ). take 6 (drop (P + slot_offset w.slot) l)) (append_assoc (chunk ++ replicate (P - length chunk) 0) foot rest)
-    ∙ ap (λ (l : List ℕ). take 6 l) (behind_payload P (slot_offset w.slot) chunk (foot ++ rest) (omega (arith, length-take P tip)))
-    ∙ kept_in_footer w.slot w.len w.crc (length chunk) (sum chunk) rest
+    let fits : length chunk ≤ P = omega (arith, length-take P tip) in
+    within_append 6 (P + slot_offset w.slot) (page_of sum P (Some w) chunk) (built sum P None m (drop P tip)) (omega (arith, length-page_of sum P (Some w) chunk fits, slot_offset_le w.slot))
+    ∙ slot_kept sum P (Some w) chunk fits
 
 -- and it begins with the tip
 pub built_begins : (sum : List ℕ → ℕ) (P : ℕ) (durable : Option ActiveChecksum) (m : ℕ) (tip : List ℕ) (n : ℕ) → n ≤ P → n ≤ length tip → take n (built sum P durable (suc m) tip) ≡ take n tip
 built_begins sum P durable m tip n fits there =
     let chunk = take P tip in
-    let zeros : List ℕ = replicate (P - length chunk) 0 in
-    let foot = footer (kept_slot durable) (kept_bytes durable) (slot_bytes (length chunk) (sum chunk)) in
-    let rest = built sum P None m (drop P tip) in
-    let inside : n ≤ length chunk = omega (arith, length-take P tip) in
-    take-append-le n (chunk ++ zeros ++ foot) rest (omega (arith, length-append (chunk ++ zeros) foot, length-append chunk zeros))
-    ∙ take-append-le n (chunk ++ zeros) foot (omega (arith, length-append chunk zeros))
-    ∙ take-append-le n chunk zeros inside ∙ take-take n P tip fits
+    let small : length chunk ≤ P = omega (arith, length-take P tip) in
+    take-append-le n (page_of sum P durable chunk) (built sum P None m (drop P tip)) (omega (arith, length-page_of sum P durable chunk small))
+    ∙ page_begins_less sum P durable chunk small n (omega (arith, length-take P tip)) ∙ take-take n P tip fits
 
 -- a flush of the tip leaves in its page the durable slot and a beginning of the tip
 pub flush_leaves_tip : (sum : List ℕ → ℕ) (P full : ℕ) (w : ActiveChecksum) (m : ℕ) (tip bytes : List ℕ) → bytes ≡ take (length bytes) tip → length bytes ≤ P
@@ -135,45 +113,24 @@ pages_say_joined sum P content ps qs first second = λ p page is s. elim (joined
       ∙ ap (λ (k : ℕ). take (verified_len sum P s page) (drop k content)) further
 ]
 
--- a slot says its length
-pub slot_says : (len crc : ℕ) → len < 2 ^ 16 → slot_len (slot_bytes len crc) ≡ len
-slot_says len crc small = from_be_bytes-to_be_bytes_2 len small
-
--- a footer of the slot that is kept and the new one
-slots_of_footer : (s t : Slot) (len crc n c : ℕ) → let foot : List ℕ = footer s (slot_bytes len crc) (slot_bytes n c) in
-    (take 6 (drop (slot_offset t) foot) ≡ slot_bytes len crc) ⊎ (take 6 (drop (slot_offset t) foot) ≡ slot_bytes n c)
-slots_of_footer First First len crc n c = inl refl
-slots_of_footer First Second len crc n c = inr refl
-slots_of_footer Second First len crc n c = inr refl
-slots_of_footer Second Second len crc n c = inl refl
+-- a slot is this one or the other
+slot_cases : (s t : Slot) → (t ≡ s) ⊎ (t ≡ other s)
+slot_cases First First = inl refl
+slot_cases First Second = inr refl
+slot_cases Second First = inr refl
+slot_cases Second Second = inl refl
 
 -- no slot of a page that is built verifies over more than the page has
-built_at_most : (sum : List ℕ → ℕ) (P : ℕ) (s : Slot) (len crc c : ℕ) (chunk : List ℕ) (t : Slot) → P < 2 ^ 16 → length chunk ≤ P → len ≤ length chunk
-    → verified_len sum P t (chunk ++ replicate (P - length chunk) 0 ++ footer s (slot_bytes len crc) (slot_bytes (length chunk) c)) ≤ length chunk
-built_at_most sum P s len crc c chunk t small fits carries =
-    let foot = footer s (slot_bytes len crc) (slot_bytes (length chunk) c) in
-    let page = chunk ++ replicate (P - length chunk) 0 ++ foot in
-    let slot_is : slot_of P t page ≡ take 6 (drop (slot_offset t) foot) = ap (λ (l : List ℕ). take 6 l) (behind_payload P (slot_offset t) chunk foot fits) in
-    let says : slot_len (slot_of P t page) ≤ length chunk = elim (slots_of_footer s t len crc (length chunk) c) [
-      | inl kept ↦ omega (arith, ap slot_len (slot_is ∙ kept), slot_says len crc (omega arith))
-      | inr new ↦ omega (arith, ap slot_len (slot_is ∙ new), slot_says (length chunk) c (omega arith))
-    ] in
-    elim (verified_cases sum P t page) [
-      | inl none ↦ omega arith
-      | inr some ↦ omega (arith, some.0)
-    ]
-
--- whatever the page keeps
 built_within : (sum : List ℕ → ℕ) (P : ℕ) (durable : Option ActiveChecksum) (chunk : List ℕ) (t : Slot) → P < 2 ^ 16 → length chunk ≤ P → kept_len durable ≤ length chunk → verified_len sum P t (page_of sum P durable chunk) ≤ length chunk
-built_within sum P None chunk t small fits carries = built_at_most sum P Second 0 0 (sum chunk) chunk t small fits carries
-built_within sum P (Some w) chunk t small fits carries = built_at_most sum P w.slot w.len w.crc (sum chunk) chunk t small fits carries
-
--- a page begins with what was put into it
-built_page_begins : (sum : List ℕ → ℕ) (P : ℕ) (durable : Option ActiveChecksum) (chunk : List ℕ) (n : ℕ) → n ≤ length chunk → take n (page_of sum P durable chunk) ≡ take n chunk
-built_page_begins sum P durable chunk n inside =
-    let zeros : List ℕ = replicate (P - length chunk) 0 in
-    let foot = footer (kept_slot durable) (kept_bytes durable) (slot_bytes (length chunk) (sum chunk)) in
-    take-append-le n (chunk ++ zeros) foot (omega (arith, length-append chunk zeros)) ∙ take-append-le n chunk zeros inside
+built_within sum P durable chunk t small fits carries =
+    let page = page_of sum P durable chunk in
+    let says : slot_len (slot_of P t page) ≤ length chunk = elim (slot_cases (kept_slot durable) t) [
+      | inl kept ↦
+          omega (arith, ap slot_len (ap (λ (s : Slot). slot_of P s page) kept ∙ slot_kept sum P durable chunk fits), slot_len_kept durable (omega arith))
+      | inr new ↦
+          omega (arith, ap slot_len (ap (λ (s : Slot). slot_of P s page) new ∙ slot_new sum P durable chunk fits), slot_len_of (length chunk) (sum chunk) (omega arith))
+    ] in
+    omega (arith, verified_le_slot sum P t page, says)
 
 -- each slot of the pages that are built says only the bytes that they were built of
 pub built_say_only : (sum : List ℕ → ℕ) (P : ℕ) (durable : Option ActiveChecksum) (m : ℕ) (tip : List ℕ) → P < 2 ^ 16 → kept_len durable ≤ P → kept_len durable ≤ length tip → PagesSayOnly sum P tip (built_pages sum P durable m tip)
@@ -185,7 +142,7 @@ built_say_only sum P durable (suc m) tip small fits there zero page is s =
     let n = verified_len sum P s (page_of sum P durable chunk) in
     let within : n ≤ length chunk = built_within sum P durable chunk s small (omega arith) (omega arith) in
     let says : take n (page_of sum P durable chunk) ≡ take n (drop (0 * P) tip) =
-    built_page_begins sum P durable chunk n within ∙ take-take n P tip (omega arith) ∙ ap (λ (k : ℕ). take n (drop k tip)) start in
+    page_begins_less sum P durable chunk (omega arith) n within ∙ take-take n P tip (omega arith) ∙ ap (λ (k : ℕ). take n (drop k tip)) start in
     subst (λ (l : List ℕ). take (verified_len sum P s l) l ≡ take (verified_len sum P s l) (drop (0 * P) tip)) (same_Some (page_of sum P durable chunk) page is) says
 built_say_only sum P durable (suc m) tip small fits there (suc p) page is s =
     let further : P + p * P ≡ suc p * P = omega arith in

@@ -1,5 +1,5 @@
 -- Calls that change nothing but the log.
-use Rattle.std.specs.Prelude.{◌≡◌, ◌≤◌, ℕ}
+use Rattle.std.specs.Prelude.{◌≡◌, ◌≤◌}
 use Rattle.disk.specs.Disk.{Disk, Life, failures}
 use Rattle.crash.specs.Kept.{Through}
 

@@ -44,8 +44,8 @@ abbrev pub StateFits : Disk → SyncState → Type 0
 StateFits d Clean = (d.since ≡ []) × (d.base ≡ d.readable)
 StateFits d Dirty = Unit {0}
 
--- the writer of a blob, between two calls
-pub record IsSound (sum : List ℕ → ℕ) (w : WriterState) (d : Disk) : Type 0 where
+-- the writer stands for what is readable
+pub record Stands (sum : List ℕ → ℕ) (w : WriterState) (d : Disk) : Type 0 where
   pub some : 0 < w.page_size
   pub small : w.page_size < 2 ^ 16
   -- each operation was done
@@ -56,6 +56,40 @@ pub record IsSound (sum : List ℕ → ℕ) (w : WriterState) (d : Disk) : Type 
   pub state : StateFits d w.sync
   -- what a flush repeats of the tip's page is of the tip
   pub carries : (kept_len w.durable ≤ w.page_size) × (kept_len w.durable ≤ length w.tip)
+
+-- the slot of the tip's page that is durable now
+abbrev pub guard_slot : SyncState → Option ActiveChecksum → Option ActiveChecksum → Option ActiveChecksum
+guard_slot Clean flushed durable = flushed
+guard_slot Dirty flushed durable = durable
+
+-- this slot of page full stays whatever a crash does, and the bytes under it
+pub record SlotGuard (sum : List ℕ → ℕ) (P : ℕ) (content : List ℕ) (d : Disk) (full : ℕ) (f : ActiveChecksum) : Type 0 where
+  pub there : full * P + f.len ≤ length content
+  pub held : Held sum P d full f.slot (slot_bytes f.len f.crc) (take f.len (drop (full * P) content))
+
+-- so does this one, if there is one
+abbrev pub TipGuard : (List ℕ → ℕ) → ℕ → List ℕ → Disk → ℕ → Option ActiveChecksum → Type 0
+TipGuard sum P content d full None = Unit {0}
+TipGuard sum P content d full (Some f) = SlotGuard sum P content d full f
+
+-- how far the content is durable: so many full pages, and a slot of the next
+pub record IsSafe (sum : List ℕ → ℕ) (w : WriterState) (content : List ℕ) (d : Disk) : Type 0 where
+  pub full : ℕ
+  pub tip : Option ActiveChecksum
+  pub there : full * w.page_size ≤ length content
+  pub pages : Guards sum w.page_size content (full * w.page_size) d
+  pub guard : TipGuard sum w.page_size content d full tip
+  -- the base's text goes no further
+  pub base : length (text sum w.page_size d.base) ≤ full * w.page_size + kept_len tip
+  -- that page lies below the writer's tip, or it is the tip's page, and the slot the one that a flush is to repeat
+  pub place : (full < w.full_pages) ⊎ ((full ≡ w.full_pages) × (tip ≡ guard_slot w.sync w.flushed w.durable))
+
+-- the writer of a blob, between two calls: it stands for what is readable, a crash keeps what was synced, and no whole
+-- state says anything but the content
+pub record IsSound (sum : List ℕ → ℕ) (w : WriterState) (d : Disk) : Type 0 where
+  pub stands : Stands sum w d
+  pub safe : IsSafe sum w (content w d.readable) d
+  pub truthful : IsTruthful sum w.page_size (content w d.readable) d
 
 -- a flush of k full pages, and of the rest where asked, is one write
 abbrev pub CanWrite : ℕ → List ℕ → ℕ → Bool → Type 0

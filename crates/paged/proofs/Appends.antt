@@ -1,23 +1,63 @@
 -- What an append owes.
-use Rattle.std.proofs.Common.{◌≡◌, ℕ, ◌+◌, ◌*◌, ◌≤◌, List, [], ◌++◌, length, refl, sym, ap, ◌∙◌, subst, append-nil}
+use Rattle.std.proofs.Common.{◌≡◌, ℕ, ◌+◌, ◌*◌, ◌≤◌, List, [], ◌++◌, length, refl, sym, ap, ◌∙◌, ◌^◌, subst, append-nil, inl, inr, Err, ◌⊎◌}
 use Rattle.disk.specs.Disk.{Life}
+use Rattle.disk.specs.declared.error.Error.{Error}
+use Rattle.disk.specs.declared.error.Error.TheVariants.{ReadFailed, WriteFailed, ResizeFailed, SyncFailed, InvalidChecksum, BlobInsufficientLength, OffsetOverflow, OutOfMemory, IdsExhausted}
 use Rattle.crash.specs.WriterState.{WriterState}
 use Rattle.crash.specs.Sound.{IsSound, content}
-use Rattle.crash.proofs.FlushLaws.{tip_reach, length-content, longer_sound, longer_content}
-use Rattle.paged.specs.Calls.{GoesOn, IsSameWriter}
+use Rattle.crash.specs.Stays.{StaysThrough}
+use Rattle.crash.proofs.FlushLaws.{tip_reach, length-content, longer_content}
+use Rattle.crash.proofs.Soundness.{longer_sound}
+use Rattle.crash.proofs.Moments.{stays_through_start, stays_through_longer}
+use Rattle.paged.proofs.Flushes.{begins}
+use Rattle.paged.specs.Writer.{physical_size}
+use Rattle.paged.specs.Calls.{GoesOn, Refuses, IsSameWriter, Appends}
 
 -- the size of a sound writer is the length of its content
 pub size_is_length : (sum : List ℕ → ℕ) (w : WriterState) (life : Life) → IsSound sum w life.present → w.full_pages * w.page_size + length w.tip ≡ length (content w life.present.readable)
-size_is_length sum w life sound = sym (length-content w life.present.readable ((tip_reach sum w.page_size w.full_pages w.tip life.present.readable w.flushed sound.tip_page).0))
+size_is_length sum w life sound = sym (length-content w life.present.readable ((tip_reach sum w.page_size w.full_pages w.tip life.present.readable w.flushed sound.stands.tip_page).0))
 
 -- bytes are buffered, and what is written then leaves the content
 pub append_goes : (sum : List ℕ → ℕ) (w v now : WriterState) (old new : Life) (bytes : List ℕ) → IsSound sum w old.present → v ≡ record w { tip = w.tip ++ bytes }
     → GoesOn sum v old [] now new → GoesOn sum w old bytes now new
 append_goes sum w v now old new bytes sound is goes =
     let h : GoesOn sum (record w { tip = w.tip ++ bytes }) old [] now new = subst (λ v. GoesOn sum v old [] now new) is goes in
+    let longer = append-nil (content (record w { tip = w.tip ++ bytes }) old.present.readable) ∙ longer_content sum w old.present sound.stands bytes in
     record {
       sound = h.sound;
-      content = h.content ∙ append-nil (content (record w { tip = w.tip ++ bytes }) old.present.readable) ∙ longer_content sum w old.present sound bytes;
+      content = h.content ∙ longer;
       same = record { page_size = h.same.page_size; id = h.same.id; capacity = h.same.capacity };
       log = h.log;
+      stays = subst (λ c. StaysThrough sum w.page_size c old new) longer h.stays;
     }
+
+-- or is refused
+pub append_refused : (sum : List ℕ → ℕ) (w v : WriterState) (old new : Life) (bytes : List ℕ) (e : Error) → IsSound sum w old.present → v ≡ record w { tip = w.tip ++ bytes }
+    → Refuses sum v.page_size (content v old.present.readable) old new e → Refuses sum w.page_size (content w old.present.readable ++ bytes) old new e
+append_refused sum w v old new bytes e sound is refused =
+    let h : Refuses sum w.page_size (content (record w { tip = w.tip ++ bytes }) old.present.readable) old new e = subst (λ (v : WriterState). Refuses sum v.page_size (content v old.present.readable) old new e) is refused in
+    record { cause = h.cause; stays = subst (λ c. StaysThrough sum w.page_size c old new) (longer_content sum w old.present sound.stands bytes) h.stays }
+
+-- memory is refused before the device is asked
+pub append_unasked : (sum : List ℕ → ℕ) (w : WriterState) (life : Life) (bytes : List ℕ) → IsSound sum w life.present → StaysThrough sum w.page_size (content w life.present.readable ++ bytes) life life
+append_unasked sum w life bytes sound =
+    stays_through_longer sum w.page_size (content w life.present.readable) (content w life.present.readable ++ bytes) life life (begins (content w life.present.readable) bytes)
+      (stays_through_start sum w.page_size (content w life.present.readable) life sound.truthful)
+
+-- bytes that weren't buffered
+pub append_unbuffered : (sum : List ℕ → ℕ) (w : WriterState) (life : Life) (bytes : List ℕ) (e : Error) → IsSound sum w life.present
+    → ((e ≡ OffsetOverflow) × (2 ^ 64 ≤ physical_size w.page_size w.full_pages (length w.tip + length bytes))) ⊎ (e ≡ OutOfMemory) → Appends sum w bytes life life (Err e)
+append_unbuffered sum w life bytes e sound (inl (is, passes)) = subst (λ e. Appends sum w bytes life life (Err e)) (sym is) (refl, passes)
+append_unbuffered sum w life bytes e sound (inr is) = subst (λ e. Appends sum w bytes life life (Err e)) (sym is) (record { cause = tt; stays = append_unasked sum w life bytes sound })
+
+-- an append whose flush is refused
+pub append_fails : (sum : List ℕ → ℕ) (w : WriterState) (bytes : List ℕ) (old new : Life) (e : Error) → Refuses sum w.page_size (content w old.present.readable ++ bytes) old new e → Appends sum w bytes old new (Err e)
+append_fails sum w bytes old new ReadFailed refused = refused
+append_fails sum w bytes old new WriteFailed refused = refused
+append_fails sum w bytes old new ResizeFailed refused = refused
+append_fails sum w bytes old new SyncFailed refused = refused
+append_fails sum w bytes old new InvalidChecksum refused = refused
+append_fails sum w bytes old new BlobInsufficientLength refused = refused
+append_fails sum w bytes old new OffsetOverflow refused = absurd refused.cause
+append_fails sum w bytes old new OutOfMemory refused = refused
+append_fails sum w bytes old new IdsExhausted refused = refused

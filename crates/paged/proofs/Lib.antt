@@ -5,3 +5,4 @@ pub mod Flushes
 pub mod Appends
 pub mod Looks
 pub mod Reading
+pub mod Halves

@@ -6,6 +6,7 @@ use Rattle.disk.specs.declared.error.Error.TheVariants.{ReadFailed, WriteFailed,
 use Rattle.crash.specs.WriterState.{WriterState}
 use Rattle.crash.specs.WriterState.SyncState.{Clean}
 use Rattle.crash.specs.Sound.{IsSound, content}
+use Rattle.crash.specs.Stays.{StaysThrough}
 use Rattle.crash.specs.Built.{kept_len}
 use Rattle.paged.specs.Writer.{physical_size}
 use Rattle.paged.specs.Flush.{synced}
@@ -29,22 +30,29 @@ pub record IsSameWriter (old new : WriterState) : Type 0 where
   pub id : new.id ≡ old.id
   pub capacity : new.capacity ≡ old.capacity
 
--- a writer goes on over its blob: it is sound, and stands for the content before and these bytes
+-- a writer goes on over its blob: it is sound, and stands for the content before and these bytes; and what each moment
+-- of the call owes to the one at which it began
 pub record GoesOn (sum : List ℕ → ℕ) (w : WriterState) (old : Life) (more : List ℕ) (now : WriterState) (new : Life) : Type 0 where
   pub sound : IsSound sum now new.present
+  pub stays : StaysThrough sum w.page_size (content w old.present.readable ++ more) old new
   pub content : content now new.present.readable ≡ content w old.present.readable ++ more
   pub same : IsSameWriter w now
   pub log : LogGrows old new
 
+-- a call is refused: why, and what each of its moments owes
+pub record Refuses (sum : List ℕ → ℕ) (P : ℕ) (content : List ℕ) (old new : Life) (e : Error) : Type 0 where
+  pub cause : HasCause old new e
+  pub stays : StaysThrough sum P content old new
+
 -- a flush
 abbrev pub Flushes : (List ℕ → ℕ) → WriterState → Life → Life → Result WriterState Error → Type 0
 Flushes sum w old new (Ok now) = GoesOn sum w old [] now new
-Flushes sum w old new (Err e) = HasCause old new e
+Flushes sum w old new (Err e) = Refuses sum w.page_size (content w old.present.readable) old new e
 
 -- what is written is made durable, and the writer stays
 abbrev pub Settles : (List ℕ → ℕ) → WriterState → Life → Life → Result WriterState Error → Type 0
 Settles sum w old new (Ok now) = GoesOn sum w old [] now new × (now ≡ synced w)
-Settles sum w old new (Err e) = HasCause old new e
+Settles sum w old new (Err e) = Refuses sum w.page_size (content w old.present.readable) old new e
 
 -- all that the writer stands for is written and durable
 pub record IsSettled (w : WriterState) : Type 0 where
@@ -55,10 +63,10 @@ pub record IsSettled (w : WriterState) : Type 0 where
 -- a sync
 abbrev pub Syncs : (List ℕ → ℕ) → WriterState → Life → Life → Result WriterState Error → Type 0
 Syncs sum w old new (Ok now) = GoesOn sum w old [] now new × IsSettled now
-Syncs sum w old new (Err e) = HasCause old new e
+Syncs sum w old new (Err e) = Refuses sum w.page_size (content w old.present.readable) old new e
 
 -- an append: it answers the size until now
 abbrev pub Appends : (List ℕ → ℕ) → WriterState → List ℕ → Life → Life → Result (WriterState × ℕ) Error → Type 0
 Appends sum w bytes old new (Ok r) = (r.1 ≡ length (content w old.present.readable)) × GoesOn sum w old bytes r.0 new
 Appends sum w bytes old new (Err OffsetOverflow) = (new ≡ old) × (2 ^ 64 ≤ physical_size w.page_size w.full_pages (length w.tip + length bytes))
-Appends sum w bytes old new (Err e) = HasCause old new e
+Appends sum w bytes old new (Err e) = Refuses sum w.page_size (content w old.present.readable ++ bytes) old new e

@@ -4,6 +4,7 @@ use Rattle.disk.specs.declared.error.Error.{Error}
 use Rattle.page.specs.declared.slot.ActiveChecksum.{ActiveChecksum}
 use Rattle.crash.specs.WriterState.{WriterState, SyncState}
 use Rattle.crash.specs.WriterState.SyncState.{Clean, Dirty}
+use Rattle.crash.specs.Sound.{guard_slot}
 use Rattle.crash.specs.Built.{kept_len, durable_after, page_of, built, written_pages}
 
 -- how many full pages the tip has
@@ -17,11 +18,6 @@ rest_of w = drop (full_in w * w.page_size) w.tip
 -- whether a flush writes: a full page, or, with the rest, a partial page that isn't written at its present length
 abbrev pub has_work : WriterState → Bool → Bool
 has_work w rest = nat_le w.page_size (length w.tip) || (rest && (not (length w.tip % w.page_size == 0) && not (length w.tip % w.page_size == kept_len w.flushed)))
-
--- the slot of the tip's page that is durable now
-abbrev pub guard_slot : SyncState → Option ActiveChecksum → Option ActiveChecksum → Option ActiveChecksum
-guard_slot Clean flushed durable = flushed
-guard_slot Dirty flushed durable = durable
 
 -- the writer with its durable slot brought up to date
 abbrev pub carried : WriterState → WriterState

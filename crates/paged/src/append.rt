@@ -1,6 +1,7 @@
 // Appending.
 ghost use Rattle.std.specs.Prelude.{◌≡◌, ◌⊎◌, ◌↔◌, ◌+◌, ◌^◌, ◌≤◌, ◌++◌, length, IsTrue, IfOk, IfErr, Err};
-ghost use Rattle.crash.specs.Sound.{IsSound};
+ghost use Rattle.crash.specs.Sound.{IsSound, content};
+ghost use Rattle.crash.specs.Stays.{KeepsFloors, LeavesOnly};
 ghost use Rattle.paged.specs.Writer.{physical_size, FitsBlob};
 ghost use Rattle.paged.specs.Calls.{Appends, Flushes};
 
@@ -50,6 +51,19 @@ impl<B: Blob, H: Sum, Phase> Writer<B, H, Phase> {
         _cache: &mut CacheRef,
         bytes: &[u8],
     ) -> Result<(Self, u64), Error>
+        requires sound { IsSound H.sum_of self (B.life blob.old).present }
+        ensures appends { Appends H.sum_of self bytes.now (B.life blob.old) (B.life blob.new) result }
+        ensures overflow { 2 ^ 64 ≤ physical_size self.page_size self.full_pages (length self.tip + length bytes.now) → result ≡ Err Error.OffsetOverflow }
+
+        // At each moment since the call began, and at every answer.
+        ensures kept { KeepsFloors H.sum_of self.page_size (content self (B.life blob.old).present.readable) (B.life blob.old) (B.life blob.new) }
+        ensures only { LeavesOnly H.sum_of self.page_size (content self (B.life blob.old).present.readable) (content self (B.life blob.old).present.readable ++ bytes.now) (B.life blob.old) (B.life blob.new) }
+    {
+        self.append_bytes(blob, bytes)
+    }
+
+    /// The same, but for the cache.
+    fn append_bytes(self, blob: &mut B, bytes: &[u8]) -> Result<(Self, u64), Error>
         requires sound { IsSound H.sum_of self (B.life blob.old).present }
         ensures appends { Appends H.sum_of self bytes.now (B.life blob.old) (B.life blob.new) result }
         ensures overflow { 2 ^ 64 ≤ physical_size self.page_size self.full_pages (length self.tip + length bytes.now) → result ≡ Err Error.OffsetOverflow }

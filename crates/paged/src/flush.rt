@@ -4,7 +4,8 @@ ghost use Rattle.std.specs.List.{concat};
 ghost use Rattle.disk.specs.Disk.{WriteGoes, SyncGoes};
 ghost use Rattle.crash.specs.WriterState.SyncState.{Clean, Dirty};
 ghost use Rattle.crash.specs.Built.{after_write, durable_after, rest_written};
-ghost use Rattle.crash.specs.Sound.{CanWrite, IsSound};
+ghost use Rattle.crash.specs.Sound.{CanWrite, IsSound, content};
+ghost use Rattle.crash.specs.Stays.{KeepsAll, KeepsFloors, LeavesOnly};
 ghost use Rattle.paged.specs.Calls.{Flushes, Settles, Syncs};
 ghost use Rattle.paged.specs.Writer.{state_of};
 ghost use Rattle.paged.specs.Flush.{full_in, rest_of, rest_bytes, has_work, carried, advanced, place_of, flush_bytes, synced, outcome};
@@ -180,6 +181,21 @@ impl<B: Blob, H: Sum, Phase> Writer<B, H, Phase> {
     ///
     /// `WriteFailed` and `SyncFailed` where the device failed, `OutOfMemory`; the writer is gone then.
     pub fn sync(self, blob: &mut B, _cache: &mut CacheRef) -> Result<Self, Error>
+        requires sound { IsSound H.sum_of self (B.life blob.old).present }
+        ensures syncs { Syncs H.sum_of self (B.life blob.old) (B.life blob.new) result }
+
+        // From then on every image keeps the whole content.
+        ensures durable { OnOk result (KeepsAll H.sum_of self.page_size (content self (B.life blob.old).present.readable) (B.life blob.new)) }
+
+        // At each moment since the call began, and at every answer.
+        ensures kept { KeepsFloors H.sum_of self.page_size (content self (B.life blob.old).present.readable) (B.life blob.old) (B.life blob.new) }
+        ensures only { LeavesOnly H.sum_of self.page_size (content self (B.life blob.old).present.readable) (content self (B.life blob.old).present.readable) (B.life blob.old) (B.life blob.new) }
+    {
+        self.sync_all(blob)
+    }
+
+    /// The same, but for the cache.
+    fn sync_all(self, blob: &mut B) -> Result<Self, Error>
         requires sound { IsSound H.sum_of self (B.life blob.old).present }
         ensures syncs { Syncs H.sum_of self (B.life blob.old) (B.life blob.new) result }
     {

@@ -1,9 +1,13 @@
-use Rattle.std.proofs.Common.{◌≡◌, ◌∙◌}
-use Rattle.paged.proofs.Appends.{size_is_length, append_goes}
+use Rattle.crash.specs.Sound.{content}
+use Rattle.paged.proofs.Halves.{appends_stay, keeps_floors_before, leaves_only_behind}
 use Rattle.paged.proofs.writer.Writer.append.Goals as goal
 
-pub returns-clause-appends : goal.returns-clause-appends
-returns-clause-appends g c =
-    let old = g.B.Blob.life c.args.blob.now in
-    (c.size-at.ensures ∙ size_is_length g.H.Sum.sum_of c.args.self old c.requires.sound,
-     append_goes g.H.Sum.sum_of c.args.self c.in_ok-writer.writer c.in_ok-writer-2.writer old (g.B.Blob.life c.write_full_pages.new.blob) c.args.bytes.now c.requires.sound c.in_ok-writer.ensures.ok c.in_ok-writer-2.ensures.flushes)
+pub returns-clause-kept : goal.returns-clause-kept
+returns-clause-kept g c =
+    keeps_floors_before g.H.Sum.sum_of c.args.self.page_size (content c.args.self (g.B.Blob.life c.args.blob.now).present.readable) c.args.bytes.now (g.B.Blob.life c.args.blob.now) (g.B.Blob.life c.append_bytes.new.blob)
+      (appends_stay g.H.Sum.sum_of c.args.self c.args.bytes.now (g.B.Blob.life c.args.blob.now) (g.B.Blob.life c.append_bytes.new.blob) c.append_bytes.result c.requires.sound c.append_bytes.ensures.appends)
+
+pub returns-clause-only : goal.returns-clause-only
+returns-clause-only g c =
+    leaves_only_behind g.H.Sum.sum_of c.args.self.page_size (content c.args.self (g.B.Blob.life c.args.blob.now).present.readable) c.args.bytes.now (g.B.Blob.life c.args.blob.now) (g.B.Blob.life c.append_bytes.new.blob)
+      (appends_stay g.H.Sum.sum_of c.args.self c.args.bytes.now (g.B.Blob.life c.args.blob.now) (g.B.Blob.life c.append_bytes.new.blob) c.append_bytes.result c.requires.sound c.append_bytes.ensures.appends)

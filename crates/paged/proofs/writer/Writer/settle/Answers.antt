@@ -1,7 +1,14 @@
-use Rattle.paged.proofs.Flushes.{settle_goes}
+use Rattle.std.proofs.Common.{◌≡◌, ◌∙◌, sym, ap}
+use Rattle.paged.specs.Writer.{state_of}
+use Rattle.paged.proofs.Flushes.{settle_goes, settled_already}
 use Rattle.paged.proofs.writer.Writer.settle.Goals as goal
 
 pub returns-in-Dirty : goal.returns-in-Dirty
 returns-in-Dirty g c = record {
-  settles = settle_goes g.H.Sum.sum_of c.args.self (g.B.Blob.life c.args.blob.now) (g.B.Blob.life c.sync_blob.new.blob) c.sync_blob.result c.requires.sound c.sync_blob.ensures.goes c.sync_blob.ensures.state;
+  settles = settle_goes g.H.Sum.sum_of c.args.self (g.B.Blob.life c.args.blob.now) (g.B.Blob.life c.sync_blob.new.blob) c.sync_blob.result g.met.H.Sum.small c.requires.sound c.sync_blob.ensures.goes c.sync_blob.ensures.state;
+}
+
+pub returns-in-Clean : goal.returns-in-Clean
+returns-in-Clean g c = record {
+  settles = settled_already g.H.Sum.sum_of c.args.self (g.B.Blob.life c.args.blob.now) c.requires.sound (sym (ap (λ s. s.sync) c.self.view_is) ∙ ap state_of c.in-Clean.is);
 }

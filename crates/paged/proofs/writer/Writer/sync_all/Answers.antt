@@ -1,0 +1,8 @@
+use Rattle.std.proofs.Common.{◌≡◌, sym, ◌∙◌}
+use Rattle.paged.proofs.Flushes.{sync_settles}
+use Rattle.paged.proofs.writer.Writer.sync_all.Goals as goal
+
+pub returns-else-has_flush_work : goal.returns-else-has_flush_work
+returns-else-has_flush_work g c = record {
+  syncs = sync_settles g.H.Sum.sum_of c.args.self (g.B.Blob.life c.args.blob.now) (g.B.Blob.life c.settle.new.blob) c.settle.result c.requires.sound (sym c.has_flush_work.ensures ∙ c.if-has_flush_work.false) c.settle.ensures.settles;
+}
