@@ -1,1 +1,5 @@
 pub mod Bufs
+pub mod Writes
+pub mod Torn
+pub mod Histories
+pub mod Device

@@ -1,7 +1,7 @@
 -- A disk: what a read gives, what is durable, what isn't synced yet, and what a crash may leave.
-use Rattle.std.specs.Prelude.{◌≡◌, ◌⊎◌, ◌&&◌, ◌^◌, ℕ, suc, ◌+◌, ◌-◌, ◌*◌, ◌<◌, ◌≤◌, List, [], ◌∷◌, ◌++◌, length, take, drop, replicate, Bool, true, false, slice_get, Option, Some, None, Result, Ok, Err, map, IsErrOf, All, if◌then◌else◌, nat_lt}
+use Rattle.std.specs.Prelude.{◌≡◌, ◌⊎◌, ◌^◌, ℕ, ◌+◌, ◌-◌, ◌<◌, ◌≤◌, List, [], ◌∷◌, ◌++◌, length, take, drop, replicate, Bool, true, false, slice_get, Some, None, Result, Ok, Err, map, All, if◌then◌else◌, nat_lt}
 use Rattle.disk.specs.declared.error.Error.{Error}
-use Rattle.disk.specs.declared.error.Error.TheVariants.{ReadFailed, WriteFailed, ResizeFailed, SyncFailed, InvalidChecksum, BlobInsufficientLength, OffsetOverflow, OutOfMemory, IdsExhausted}
+use Rattle.disk.specs.declared.error.Error.TheVariants.{ReadFailed, WriteFailed, ResizeFailed, SyncFailed, BlobInsufficientLength, OffsetOverflow, OutOfMemory}
 
 -- a write or a resize
 pub data Operation : Type 0 where

@@ -2,10 +2,14 @@
 //! [`Blob`] with what each call does and what a crash may leave, and [`MemBlob`], a blob in memory.
 #![tactic(auto)]
 
+mod action;
 mod blob;
 mod buf;
 mod error;
+mod memory;
 
+pub use action::Call;
 pub use blob::{Blob, ReadOptions, WriteOptions};
 pub use buf::{IoBuf, IoBufs};
 pub use error::Error;
+pub use memory::MemBlob;

@@ -6,3 +6,10 @@ pub mod Appends
 pub mod Looks
 pub mod Reading
 pub mod Halves
+pub mod Prefixes
+pub mod Looking
+pub mod Recoveries
+pub mod Firsts
+pub mod Standing
+pub mod Recovered
+pub mod Trims

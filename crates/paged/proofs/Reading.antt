@@ -19,7 +19,8 @@ use Rattle.crash.proofs.Lists.{within_take}
 use Rattle.std.proofs.lemmas.Nat.{div_below}
 use Rattle.std.specs.Prelude.{slice_range, IfOk, IsOkUnless}
 use Rattle.page.specs.declared.slot.ActiveChecksum.{ActiveChecksum}
-use Rattle.paged.specs.Reads.{page_at, ReadsPage, ReadFault, HasPages}
+use Rattle.paged.specs.Prefix.{page_at}
+use Rattle.paged.specs.Reads.{ReadsPage, ReadFault, HasPages}
 use Rattle.paged.proofs.Causes.{log_marked}
 
 -- a page that is there can be read

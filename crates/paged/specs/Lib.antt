@@ -1,4 +1,6 @@
 pub mod Writer
 pub mod Flush
 pub mod Calls
+pub mod Prefix
+pub mod Recovery
 pub mod Reads

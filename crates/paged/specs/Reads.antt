@@ -8,10 +8,7 @@ use Rattle.page.specs.Page.{pages, value_len}
 use Rattle.crash.specs.Full.{AreFull}
 use Rattle.crash.specs.WriterState.{WriterState}
 use Rattle.crash.specs.Sound.{content}
-
--- a physical page by its place
-abbrev pub page_at : ℕ → ℕ → List ℕ → List ℕ
-page_at P p bytes = take (P + 12) (drop (p * (P + 12)) bytes)
+use Rattle.paged.specs.Prefix.{page_at}
 
 -- a read of bytes within one full page
 abbrev pub ReadsPage : (List ℕ → ℕ) → (P page skip len : ℕ) → Life → Life → Result (List ℕ) Error → Type 0

@@ -5,7 +5,11 @@
 mod append;
 mod build;
 mod flush;
+mod prefix;
 mod read;
+mod recovery;
+mod search;
 mod writer;
 
+pub use recovery::recover;
 pub use writer::{Append, Recovering, Recovery, Writer};

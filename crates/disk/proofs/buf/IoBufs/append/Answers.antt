@@ -1,4 +1,4 @@
-use Rattle.std.proofs.Common.{arith, rules, length-append, append-nil, refl}
+use Rattle.std.proofs.Common.{arith, length-append, append-nil, refl}
 use Rattle.std.proofs.lemmas.List.Folds.{concat-append}
 use Rattle.disk.proofs.buf.IoBufs.append.Goals as goal
 

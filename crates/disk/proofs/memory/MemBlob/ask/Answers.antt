@@ -1,0 +1,28 @@
+use Rattle.std.proofs.Common.{arith, ◌≡◌, ◌≤◌, ◌+◌, ◌==◌, ◌++◌, ◌∷◌, [], length, ap, ◌∙◌}
+use Rattle.disk.specs.History.{redone}
+use Rattle.disk.specs.Memory.{settled_after}
+use Rattle.disk.proofs.Histories.{kept_next, faults_le, one_at_most}
+use Rattle.disk.proofs.memory.MemBlob.ask.Goals as goal
+
+pub overflow_add-self : goal.overflow_add-self
+overflow_add-self c =
+    let inside = c.self.inside in
+    let calls = inside.calls in
+    let few = faults_le _ _ _ _ _ _ _ c.self.invariant in
+    let one : c.faults.result ≤ 1 = rw c.faults.ensures (one_at_most (inside.failing == 1)) in
+    omega (arith, few, calls.ok, calls.small)
+
+pub invariant_of-self-2 : goal.invariant_of-self-2
+invariant_of-self-2 c =
+    let inside = c.self.inside in
+    let room = c.in_ok-make_room.ensures in
+    let events = c.make_room.new.events in
+    let count : c.len.result ≡ length inside.events.items = c.len.ensures ∙ events.ok.0 ∙ ap length room.events in
+    kept_next inside.first.items inside.readable.items c.redo.new.bytes.items inside.calls.items c.push_reserved.new.self.items inside.failed.items c.push_reserved-2.new.self.items inside.events.items c.push_reserved-3.new.self.items inside.earlier inside.settled c.settled_after-self-inside.result inside.failures (inside.failures + c.faults.result) inside.failing c.saturating_sub-self-inside.result c.args.action c.call.result c.self.invariant c.call.ensures
+    (c.push_reserved.ensures.items ∙ ap (λ v. v ++ c.call.result ∷ []) room.calls)
+    (c.push_reserved-2.ensures.items ∙ ap (λ v. v ++ (inside.failing == 1) ∷ []) room.failed)
+    (c.push_reserved-3.ensures.items ∙ ap (λ v. v ++ record { action = c.args.action; failed = inside.failing == 1 } ∷ []) room.events)
+    (c.in_ok-redo.ensures.ok ∙ ap (redone (record { action = c.args.action; failed = inside.failing == 1 })) c.reserve.ensures)
+    c.saturating_sub-self-inside.ensures
+    (ap (λ n. inside.failures + n) c.faults.ensures)
+    (c.settled_after-self-inside.ensures ∙ ap (settled_after (record { action = c.args.action; failed = inside.failing == 1 }) inside.settled) count)

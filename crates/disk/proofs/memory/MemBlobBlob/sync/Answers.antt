@@ -1,0 +1,12 @@
+use Rattle.std.proofs.Common.{true, false, sym, ◌∙◌}
+use Rattle.disk.specs.declared.action.Action.TheVariants as actions
+use Rattle.disk.proofs.Device.{life_after}
+use Rattle.disk.proofs.memory.MemBlobBlob.sync.Goals as goal
+
+pub returns-then-branch-clause-goes : goal.returns-then-branch-clause-goes
+returns-then-branch-clause-goes c =
+    life_after actions.Sync true c.args.self.now c.ask.new.self (sym c.if-branch.true ∙ c.in_ok-ask.ensures.failed) c.in_ok-ask.ensures.told
+
+pub returns-clause-goes : goal.returns-clause-goes
+returns-clause-goes c =
+    life_after actions.Sync false c.args.self.now c.ask.new.self (sym c.if-branch.false ∙ c.in_ok-ask.ensures.failed) c.in_ok-ask.ensures.told

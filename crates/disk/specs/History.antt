@@ -1,0 +1,104 @@
+-- A blob's life, told by what its device was asked for.
+use Rattle.std.specs.Prelude.{◌≡◌, ℕ, ◌-◌, ◌==◌, List, [], ◌∷◌, ◌++◌, length, Bool, true, false, if◌then◌else◌}
+use Rattle.disk.specs.Disk.{Operation, Write, Resize, applied, Disk, Life, Entry, Request, ReadAt, WriteAt, ResizeTo, SyncAll, next, logged, settle}
+use Rattle.disk.specs.Torn.{torn}
+use Rattle.disk.specs.declared.action.Action.{Action}
+use Rattle.disk.specs.declared.action.Action.TheVariants as actions
+use Rattle.disk.specs.declared.action.Event.{Event}
+use Rattle.disk.specs.declared.action.Call.{Call}
+use Rattle.disk.specs.declared.action.Call.TheVariants as calls
+
+-- what stands in the log for a call
+abbrev pub request_of : Call → Request
+request_of (calls.ReadAt place len) = ReadAt place len
+request_of (calls.WriteAt place len sync) = WriteAt place len sync
+request_of (calls.Resize len) = ResizeTo len
+request_of calls.Sync = SyncAll
+
+-- what stands in the log for an action
+abbrev pub asked : Action → Request
+asked (actions.Read place len) = ReadAt place len
+asked (actions.Write place bytes sync) = WriteAt place (length bytes) sync
+asked (actions.Resize len) = ResizeTo len
+asked actions.Sync = SyncAll
+
+-- the bytes after an action that is done
+abbrev pub done : Action → List ℕ → List ℕ
+done (actions.Read place len) bytes = bytes
+done (actions.Write place new sync) bytes = applied (Write place new) bytes
+done (actions.Resize len) bytes = applied (Resize len) bytes
+done actions.Sync bytes = bytes
+
+-- an action that makes all durable when it is done
+abbrev pub settles : Action → Bool
+settles (actions.Read place len) = false
+settles (actions.Write place bytes sync) = sync
+settles (actions.Resize len) = false
+settles actions.Sync = true
+
+-- the write or resize of an action
+abbrev pub operation_of : Action → List Operation
+operation_of (actions.Read place len) = []
+operation_of (actions.Write place bytes sync) = Write place bytes ∷ []
+operation_of (actions.Resize len) = Resize len ∷ []
+operation_of actions.Sync = []
+
+-- the disk after a write or a resize that is done, or that failed and left all readable bytes as they were
+abbrev pub operated : Operation → Request → Bool → Disk → Disk
+operated o request failed d = record d { readable = if failed then d.readable else applied o d.readable; since = d.since ++ o ∷ []; log = d.log ++ record { request = request; failed = failed } ∷ [] }
+
+-- the bytes after an event
+abbrev pub redone : Event → List ℕ → List ℕ
+redone e bytes = if e.failed then bytes else done e.action bytes
+
+-- the bytes after these events
+abbrev pub replayed : List Event → List ℕ → List ℕ
+replayed [] bytes = bytes
+replayed (e ∷ es) bytes = replayed es (redone e bytes)
+
+-- the writes and resizes of these events
+abbrev pub operations_of : List Event → List Operation
+operations_of [] = []
+operations_of (e ∷ es) = operation_of e.action ++ operations_of es
+
+-- a life goes on by one action, done or failed
+abbrev pub lives : Action → Bool → Life → Life
+lives (actions.Read place len) failed life = next life (logged (ReadAt place len) failed life.present)
+lives (actions.Write place bytes false) failed life = next life (operated (Write place bytes) (WriteAt place (length bytes) false) failed life.present)
+lives (actions.Write place bytes true) true life = next life (operated (Write place bytes) (WriteAt place (length bytes) true) true life.present)
+lives (actions.Write place bytes true) false life = let d = operated (Write place bytes) (WriteAt place (length bytes) true) false life.present in next (next life d) (settle d)
+lives (actions.Resize len) failed life = next life (operated (Resize len) (ResizeTo len) failed life.present)
+lives actions.Sync true life = next life (logged SyncAll true life.present)
+lives actions.Sync false life = next life (settle (logged SyncAll false life.present))
+
+-- a life goes on by these events
+abbrev pub goes_on : Life → List Event → Life
+goes_on life [] = life
+goes_on life (e ∷ es) = goes_on (lives e.action e.failed life) es
+
+-- a life that begins with these bytes, all durable, and the log of the lives before
+abbrev pub begun : List ℕ → List Entry → Life
+begun bytes log = record { present = record { readable = bytes; base = bytes; since = []; settled = 0; started = []; log = log }; past = [] }
+
+-- what a blob in memory is
+pub record History : Type 0 where
+  -- what it held when its life began
+  pub first : List ℕ
+  -- the log of the lives before
+  pub earlier : List Entry
+  -- what its device was asked for in this life
+  pub events : List Event
+  -- the device call that is to fail, counted from now on; 0 for none
+  pub failing : ℕ
+
+-- its life
+abbrev pub life_of : History → Life
+life_of h = goes_on (begun h.first h.earlier) h.events
+
+-- one action more, which fails if it is the one that is to fail
+abbrev pub told : Action → History → History
+told action h = record h { events = h.events ++ record { action = action; failed = h.failing == 1 } ∷ []; failing = h.failing - 1 }
+
+-- what these flags leave of an action that isn't durable, and the flags behind them
+abbrev pub TornBy : Action → List Bool → List Bool → List ℕ → List ℕ → Type 0
+TornBy action keep rest old new = (os : List Operation) → torn keep (operation_of action ++ os) old ≡ torn rest os new

@@ -1,0 +1,20 @@
+-- What a crash leaves where flags say which bytes were done.
+use Rattle.std.specs.Prelude.{ℕ, ◌+◌, List, [], ◌∷◌, length, drop, Bool, if◌then◌else◌}
+use Rattle.disk.specs.Disk.{Operation, Write, Resize, applied}
+
+-- the bytes of a write for which there is a true flag, each at its place; a missing flag is false
+abbrev pub torn_write : List Bool → ℕ → List ℕ → List ℕ → List ℕ
+torn_write [] place bytes image = image
+torn_write (flag ∷ keep) place [] image = image
+torn_write (flag ∷ keep) place (byte ∷ bytes) image = torn_write keep (place + 1) bytes (if flag then applied (Write place (byte ∷ [])) image else image)
+
+-- a resize where its flag is true
+abbrev pub torn_resize : List Bool → ℕ → List ℕ → List ℕ
+torn_resize [] len image = image
+torn_resize (flag ∷ keep) len image = if flag then applied (Resize len) image else image
+
+-- operations in order, each with its flags: one for each byte of a write, one for a resize
+abbrev pub torn : List Bool → List Operation → List ℕ → List ℕ
+torn keep [] image = image
+torn keep (Write place bytes ∷ os) image = torn (drop (length bytes) keep) os (torn_write keep place bytes image)
+torn keep (Resize len ∷ os) image = torn (drop 1 keep) os (torn_resize keep len image)

@@ -1,0 +1,232 @@
+// What a device is asked for.
+ghost use Rattle.std.specs.Prelude.{[], ◌∷◌, if◌then◌else◌, ◌≡◌, ◌≤◌, ◌+◌, ◌-◌, ◌<◌, ◌^◌, ◌++◌, length, take, drop, replicate, OnOk, OnErr, IfOk};
+ghost use Rattle.disk.specs.Disk.{applied, Write};
+ghost use Rattle.disk.specs.History.{request_of, asked, done, settles, redone, replayed, operations_of, TornBy};
+ghost use Rattle.disk.specs.Memory.{settled_after};
+ghost use Rattle.disk.specs.Torn.{torn, torn_write};
+
+use crate::IoBuf;
+use std::alloc::{AllocError, Global};
+
+/// A device call, as it stands in the log.
+#[derive(Clone, Copy, Debug, PartialEq, Eq)]
+pub enum Call {
+    /// A read: the place and the number of bytes.
+    ReadAt(u64, usize),
+    /// A write: the place, the number of bytes, and whether it was to be durable.
+    WriteAt(u64, usize, bool),
+    /// A resize: the new length in bytes.
+    Resize(u64),
+    /// A sync.
+    Sync,
+}
+
+/// What a device is asked for, with all that it takes to do it.
+#[derive(Drop)]
+pub enum Action {
+    Read(u64, usize),
+    Write(u64, IoBuf, bool),
+    Resize(u64),
+    Sync,
+}
+
+/// What a device was asked for, and whether it failed.
+#[derive(Drop)]
+pub struct Event {
+    pub action: Action,
+    pub failed: bool,
+}
+
+impl Action {
+    /// The call as it stands in the log.
+    pub fn call(&self) -> Call
+        ensures { request_of result ≡ asked self.now }
+    {
+        match self {
+            Action::Read(place, len) => Call::ReadAt(*place, *len),
+            Action::Write(place, bytes, sync) => Call::WriteAt(*place, bytes.len(), *sync),
+            Action::Resize(len) => Call::Resize(*len),
+            Action::Sync => Call::Sync,
+        }
+    }
+
+    /// Whether all is durable once it is done.
+    pub fn settles(&self) -> bool
+        ensures { result ≡ settles self.now }
+    {
+        match self {
+            Action::Write(_, _, sync) => *sync,
+            Action::Sync => true,
+            Action::Read(_, _) | Action::Resize(_) => false,
+        }
+    }
+
+    /// The bytes that a crash leaves where these flags say which bytes of a write, or whether a resize, was done. It
+    /// answers with the flags that are left over.
+    pub fn tear<'a>(&self, image: &mut Vec<u8>, keep: &'a [bool]) -> Result<&'a [bool], AllocError>
+        ensures { IfOk result (λ rest. TornBy self.now keep.now rest.now image.old.items image.new.items) }
+    {
+        match self {
+            Action::Write(place, bytes, _) => {
+                let (flags, rest) = keep.split_at(bytes.len().min(keep.len()));
+                tear_write(image, *place as usize, bytes.as_ref(), flags)?;
+                Ok(rest)
+            }
+            Action::Resize(len) => match keep.split_first() {
+                Some((flag, rest)) => {
+                    if *flag {
+                        image.resize(*len as usize, 0)?;
+                    }
+                    Ok(rest)
+                }
+                None => Ok(keep),
+            },
+            Action::Read(_, _) | Action::Sync => Ok(keep),
+        }
+    }
+
+    /// Makes room for the bytes after it.
+    pub fn reserve(&self, bytes: &mut Vec<u8>) -> Result<(), AllocError>
+        ensures { bytes.new.items ≡ bytes.old.items }
+    {
+        let len = match self {
+            Action::Write(place, new, _) => (*place as usize).checked_add(new.len()),
+            Action::Resize(len) => Some(*len as usize),
+            Action::Read(_, _) | Action::Sync => Some(0),
+        };
+        match len {
+            Some(len) => bytes.try_reserve(len.saturating_sub(bytes.len())),
+            None => Err(AllocError),
+        }
+    }
+
+    /// Does it to these bytes. An `Err` leaves them as they were.
+    pub fn perform(&self, bytes: &mut Vec<u8>) -> Result<(), AllocError>
+        ensures ok { OnOk result (bytes.new.items ≡ done self.now bytes.old.items) }
+        ensures err { OnErr result (bytes.new.items ≡ bytes.old.items) }
+    {
+        match self {
+            Action::Write(place, new, _) => write_over(bytes, *place as usize, new.as_ref()),
+            Action::Resize(len) => bytes.resize(*len as usize, 0),
+            Action::Read(_, _) | Action::Sync => Ok(()),
+        }
+    }
+}
+
+impl Event {
+    /// How many events are durable after this one, where `settled` of the `events` before it were.
+    pub fn settled_after(&self, settled: usize, events: usize) -> usize
+        requires { events + 1 < 2 ^ 64 }
+        ensures { result ≡ settled_after self.now settled events }
+    {
+        if self.action.settles() && !self.failed {
+            events + 1
+        } else {
+            settled
+        }
+    }
+
+    /// One where it failed.
+    pub fn faults(&self) -> usize
+        ensures { result ≡ (if self.now.failed then 1 else 0) }
+    {
+        if self.failed { 1 } else { 0 }
+    }
+
+    /// Does it again. An `Err` leaves the bytes as they were.
+    pub fn redo(&self, bytes: &mut Vec<u8>) -> Result<(), AllocError>
+        ensures ok { OnOk result (bytes.new.items ≡ redone self.now bytes.old.items) }
+        ensures err { OnErr result (bytes.new.items ≡ bytes.old.items) }
+    {
+        if !self.failed {
+            self.action.perform(bytes)?;
+        }
+        Ok(())
+    }
+}
+
+/// The bytes after these events.
+pub fn replay(alloc: Global, first: &[u8], events: &[Event]) -> Result<Vec<u8>, AllocError>
+    ensures { IfOk result (λ bytes. bytes.items ≡ replayed events.now first.now) }
+{
+    let mut bytes = Vec::from_slice(alloc, first)?;
+    for event in events {
+        event.redo(&mut bytes)?;
+    }
+    Ok(bytes)
+}
+
+/// What a crash leaves of events that aren't durable, where these flags say what was done.
+pub fn tear(image: &mut Vec<u8>, events: &[Event], keep: &[bool]) -> Result<(), AllocError>
+    ensures { OnOk result (image.new.items ≡ torn keep.now (operations_of events.now) image.old.items) }
+{
+    let mut rest = keep;
+    for event in events {
+        rest = event.action.tear(image, rest)?;
+    }
+    Ok(())
+}
+
+/// Puts bytes at a place, behind zeros where it lies past the end. An `Err` leaves all as it was.
+#[tactic(auto, using(crate::proofs::Writes::written_over))]
+pub fn write_over(bytes: &mut Vec<u8>, place: usize, new: &[u8]) -> Result<(), AllocError>
+    ensures ok { OnOk result (bytes.new.items ≡ applied (Write place new.now) bytes.old.items) }
+    ensures err { OnErr result (bytes.new.items ≡ bytes.old.items) }
+{
+    let Some(end) = place.checked_add(new.len()) else {
+        return Err(AllocError);
+    };
+    grow(bytes, end)?;
+    put(bytes, place, new);
+    Ok(())
+}
+
+// Fills up with zeros to a length.
+fn grow(bytes: &mut Vec<u8>, len: usize) -> Result<(), AllocError>
+    ensures ok { OnOk result (bytes.new.items ≡ bytes.old.items ++ replicate (len - length bytes.old.items) 0) }
+    ensures err { OnErr result (bytes.new.items ≡ bytes.old.items) }
+{
+    if len <= bytes.len() {
+        return Ok(());
+    }
+    bytes.resize(len, 0)
+}
+
+// Copies bytes to a place among others.
+fn put(bytes: &mut Vec<u8>, place: usize, new: &[u8])
+    requires { place + length new.now ≤ length bytes.old.items }
+    ensures { bytes.new.items ≡ take place bytes.old.items ++ new.now ++ drop (place + length new.now) bytes.old.items }
+{
+    bytes[place..place + new.len()].copy_from_slice(new);
+}
+
+// Puts each byte for which there is a true flag.
+#[tactic(auto, using(crate::proofs::Torn::torn_write_more))]
+fn tear_write(
+    image: &mut Vec<u8>,
+    place: usize,
+    bytes: &[u8],
+    keep: &[bool],
+) -> Result<(), AllocError>
+    requires { length keep.now ≤ length bytes.now }
+    ensures { OnOk result (image.new.items ≡ torn_write keep.now place bytes.now image.old.items) }
+{
+    if place.checked_add(bytes.len()).is_none() {
+        return Err(AllocError);
+    }
+    for (index, flag) in keep.iter().enumerate() {
+        put_flagged(image, place + index, bytes[index], *flag)?;
+    }
+    Ok(())
+}
+
+// Puts a byte where its flag is true.
+fn put_flagged(image: &mut Vec<u8>, place: usize, byte: u8, flag: bool) -> Result<(), AllocError>
+    ensures { OnOk result (image.new.items ≡ (if flag then applied (Write place (byte ∷ [])) image.old.items else image.old.items)) }
+{
+    if flag {
+        write_over(image, place, &[byte])
+    } else {
+        Ok(())
+    }
+}

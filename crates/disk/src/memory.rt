@@ -1,0 +1,277 @@
+// A blob in memory, whose calls can be made to fail, and which can crash.
+ghost use Rattle.std.specs.Prelude.{◌≡◌, ◌≤◌, ◌<◌, ◌+◌, ◌-◌, ◌==◌, ◌++◌, [], ◌∷◌, length, map, vec_len, vec_capacity, if◌then◌else◌, IfOk, OnOk, OnErr, IsOkUnless};
+ghost use Rattle.std.specs.List.{concat};
+ghost use Rattle.disk.specs.Disk.{IsImage, Life, Write, Resize, failures, ReadGoes, WriteGoes, ResizeGoes, SyncGoes};
+ghost use Rattle.disk.specs.History.{life_of, begun, told, request_of};
+ghost use Rattle.disk.specs.Memory.{settled_after, CountsDown, IsRange};
+ghost use Rattle.disk.specs.Torn.{torn};
+
+use crate::action::{Action, Call, Event, replay, tear};
+use crate::{Blob, Error, IoBuf, IoBufs, ReadOptions, WriteOptions};
+use std::alloc::{AllocError, Global};
+use std::marker::Model;
+
+/// A blob in memory. It keeps what a crash needs to know: the bytes that its life began with, and each device call
+/// since. One of its calls can be made to fail, and it can crash.
+///
+/// A call that answers `BlobInsufficientLength`, `OffsetOverflow` or `OutOfMemory` asks no device: it changes nothing,
+/// stands in no log, and isn't counted by [`MemBlob::fail_at`].
+#[derive(Drop)]
+pub struct MemBlob {
+    alloc: Global,
+    // What its life began with.
+    first: Vec<u8>,
+    // The device calls of all lives, and how many of them were made in earlier ones.
+    calls: Vec<Call>,
+    earlier: usize,
+    // Whether each of the calls failed, and how many did.
+    failed: Vec<bool>,
+    failures: usize,
+    // The device calls of this life, and how many of them are durable.
+    events: Vec<Event>,
+    settled: usize,
+    readable: Vec<u8>,
+    // Which device call from now on is to fail; 0 for none.
+    failing: u64,
+}
+
+impl Model for MemBlob {
+    ghost use Rattle.disk.specs.History.{History};
+    ghost use Rattle.disk.specs.Memory.{history_of, IsKept};
+
+    ghost Value = { History };
+
+    ghost view = { λ m. history_of m.first.items m.earlier m.calls.items m.failed.items m.events.items m.failing };
+
+    ghost invariant = { λ m. IsKept
+        (history_of m.first.items m.earlier m.calls.items m.failed.items m.events.items m.failing)
+        m.readable.items m.calls.items m.failed.items m.failures m.earlier m.settled };
+}
+
+impl MemBlob {
+    /// An empty blob.
+    pub fn new(alloc: Global) -> Self
+        ensures life { life_of result ≡ begun [] [] }
+        ensures failing { result.failing ≡ 0 }
+    {
+        MemBlob::with_bytes(alloc, Vec::new(alloc), Vec::new(alloc))
+    }
+
+    /// A blob with a copy of these bytes, all durable. It answers `OutOfMemory` alone.
+    pub fn from_bytes(alloc: Global, bytes: &[u8]) -> Result<Self, Error>
+        ensures life { IfOk result (λ blob. life_of blob ≡ begun bytes.now []) }
+        ensures failing { IfOk result (λ blob. blob.failing ≡ 0) }
+        ensures err { IsOkUnless result Error.OutOfMemory }
+    {
+        let first = Vec::from_slice(alloc, bytes)?;
+        let readable = Vec::from_slice(alloc, bytes)?;
+        Ok(MemBlob::with_bytes(alloc, first, readable))
+    }
+
+    // A blob whose life begins with these bytes, which are passed twice.
+    fn with_bytes(alloc: Global, first: Vec<u8>, readable: Vec<u8>) -> Self
+        requires { readable.items ≡ first.items }
+        ensures life { life_of result ≡ begun first.items [] }
+        ensures failing { result.failing ≡ 0 }
+    {
+        MemBlob {
+            alloc,
+            first,
+            calls: Vec::new(alloc),
+            earlier: 0,
+            failed: Vec::new(alloc),
+            failures: 0,
+            events: Vec::new(alloc),
+            settled: 0,
+            readable,
+            failing: 0,
+        }
+    }
+
+    /// The number of readable bytes.
+    pub fn len(&self) -> u64
+        ensures { result ≡ length (life_of self.now).present.readable }
+    {
+        self.readable.len() as u64
+    }
+
+    /// The readable bytes.
+    pub fn bytes(&self) -> &[u8]
+        ensures { result.now ≡ (life_of self.now).present.readable }
+    {
+        &self.readable
+    }
+
+    /// Each device call in order, across crashes.
+    pub fn calls(&self) -> &[Call]
+        ensures { map request_of result.now ≡ map (λ e. e.request) (life_of self.now).present.log }
+    {
+        &self.calls
+    }
+
+    /// How many device calls failed, across crashes.
+    pub fn failures(&self) -> usize
+        ensures { result ≡ failures (life_of self.now).present.log }
+    {
+        self.failures
+    }
+
+    /// The nth device call from now on is to fail, and no other one.
+    pub fn fail_at(&mut self, n: u64)
+        requires { 1 ≤ n }
+        ensures life { life_of self.new ≡ life_of self.old }
+        ensures failing { self.new.failing ≡ n }
+    {
+        self.failing = n;
+    }
+
+    /// Crashes, and begins a new life with what is left: the durable bytes, and of the operations that aren't durable,
+    /// in order, those bytes of a write for which there is a true flag, and each resize whose flag is true. There is
+    /// one flag for each byte of a write and one for a resize. A missing flag is false.
+    ///
+    /// It answers `OutOfMemory` alone, and then nothing changed.
+    pub fn crash(&mut self, keep: &[bool]) -> Result<(), Error>
+        ensures life { let old = (life_of self.old).present in
+            OnOk result (life_of self.new ≡ begun (torn keep.now old.since old.base) old.log) }
+        ensures image { let old = (life_of self.old).present in IsImage old (torn keep.now old.since old.base) }
+        ensures failing { self.new.failing ≡ self.old.failing }
+        ensures same { OnErr result (self.new ≡ self.old) }
+        ensures err { IsOkUnless result Error.OutOfMemory }
+    {
+        let image = self.left(keep)?;
+        let readable = Vec::from_slice(self.alloc, &image)?;
+        self.first = image;
+        self.readable = readable;
+        self.earlier = self.calls.len();
+        self.events.clear();
+        self.settled = 0;
+        Ok(())
+    }
+
+    // What a crash leaves.
+    fn left(&self, keep: &[bool]) -> Result<Vec<u8>, AllocError>
+        ensures { let now = (life_of self.now).present in
+            IfOk result (λ image. image.items ≡ torn keep.now now.since now.base) }
+    {
+        let (settled, since) = self.events.split_at(self.settled);
+        let mut image = replay(self.alloc, &self.first, settled)?;
+        tear(&mut image, since, keep)?;
+        Ok(image)
+    }
+
+    // The bytes of a range, copied.
+    fn range(&self, alloc: Global, place: u64, len: usize) -> Result<IoBuf, Error>
+        ensures { IsRange place len (life_of self.now).present.readable result }
+    {
+        let readable = self.bytes();
+        if readable.len() < len || ((readable.len() - len) as u64) < place {
+            return Err(Error::BlobInsufficientLength);
+        }
+        let start = place as usize;
+        IoBuf::copy_from_slice(alloc, &readable[start..start + len])
+    }
+
+    // Asks the device, and answers whether it failed. An `Err` leaves all as it was.
+    fn ask(&mut self, action: Action) -> Result<bool, AllocError>
+        ensures failed { IfOk result (λ failed. failed ≡ (self.old.failing == 1)) }
+        ensures told { OnOk result (self.new ≡ told action self.old) }
+        ensures same { OnErr result (self.new ≡ self.old) }
+    {
+        // What may fail comes before the first change, also where the device is to fail.
+        make_room(&mut self.calls, &mut self.failed, &mut self.events)?;
+        action.reserve(&mut self.readable)?;
+        let event = Event {
+            action,
+            failed: self.failing == 1,
+        };
+        event.redo(&mut self.readable)?;
+        self.settled = event.settled_after(self.settled, self.events.len());
+        self.calls.push_reserved(event.action.call());
+        self.failed.push_reserved(event.failed);
+        self.failures += event.faults();
+        self.failing = self.failing.saturating_sub(1);
+        let failed = event.failed;
+        self.events.push_reserved(event);
+        Ok(failed)
+    }
+}
+
+impl Blob for MemBlob {
+    ghost use Rattle.disk.specs.Lives.{life_reads};
+
+    ghost life = { life_of };
+
+    fn read_at(
+        &mut self,
+        alloc: Global,
+        offset: u64,
+        len: usize,
+        _options: ReadOptions,
+    ) -> Result<IoBuf, Error>
+        ensures goes { ReadGoes offset len (life_of self.old) (life_of self.new) result }
+        ensures counts { CountsDown self.old.failing self.new.failing result }
+    {
+        let bytes = self.range(alloc, offset, len)?;
+        if self.ask(Action::Read(offset, len))? {
+            return Err(Error::ReadFailed);
+        }
+        Ok(bytes)
+    }
+
+    // What is unsynced before a durable write is made durable with it.
+    fn write_at(&mut self, offset: u64, bufs: &IoBufs, options: WriteOptions) -> Result<(), Error>
+        ensures goes { WriteGoes offset (concat bufs.now) options.sync (life_of self.old) (life_of self.new) result }
+        ensures counts { CountsDown self.old.failing self.new.failing result }
+    {
+        if offset.checked_add(bufs.len() as u64).is_none() {
+            return Err(Error::OffsetOverflow);
+        }
+        let bytes = bufs.coalesce()?;
+        if self.ask(Action::Write(offset, bytes, options.sync))? {
+            return Err(Error::WriteFailed);
+        }
+        Ok(())
+    }
+
+    fn resize(&mut self, len: u64) -> Result<(), Error>
+        ensures goes { ResizeGoes len (life_of self.old) (life_of self.new) result }
+        ensures counts { CountsDown self.old.failing self.new.failing result }
+    {
+        if self.ask(Action::Resize(len))? {
+            return Err(Error::ResizeFailed);
+        }
+        Ok(())
+    }
+
+    fn sync(&mut self) -> Result<(), Error>
+        ensures goes { SyncGoes (life_of self.old) (life_of self.new) result }
+        ensures counts { CountsDown self.old.failing self.new.failing result }
+    {
+        if self.ask(Action::Sync)? {
+            return Err(Error::SyncFailed);
+        }
+        Ok(())
+    }
+
+    ghost readable_is_image = { life_reads };
+}
+
+// Room for one device call more.
+fn make_room(
+    calls: &mut Vec<Call>,
+    failed: &mut Vec<bool>,
+    events: &mut Vec<Event>,
+) -> Result<(), AllocError>
+    ensures calls { calls.new.items ≡ calls.old.items }
+    ensures failed { failed.new.items ≡ failed.old.items }
+    ensures events { events.new.items ≡ events.old.items }
+    ensures room { OnOk result ((vec_len calls.new < vec_capacity calls.new) × (vec_len failed.new < vec_capacity failed.new) × (vec_len events.new < vec_capacity events.new)) }
+{
+    calls.try_reserve(1)?;
+    failed.try_reserve(1)?;
+    events.try_reserve(1)?;
+    Ok(())
+}
+
+#[cfg(test)]
+mod tests;

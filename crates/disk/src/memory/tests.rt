@@ -1,0 +1,204 @@
+use super::*;
+use std::test::Fail;
+
+const PLAIN: WriteOptions = WriteOptions {
+    sync: false,
+    dont_cache: false,
+};
+
+const DURABLE: WriteOptions = WriteOptions {
+    sync: true,
+    dont_cache: false,
+};
+
+// A step of a test: a call with what it answers, a plan, a crash with its flags, or a look at what is readable.
+#[derive(Clone, Copy)]
+enum Step {
+    Write(u64, &'static [u8], WriteOptions, Result<(), Error>),
+    Read(u64, usize, Result<&'static [u8], Error>),
+    Resize(u64, Result<(), Error>),
+    Sync(Result<(), Error>),
+    FailAt(u64),
+    Crash(&'static [bool]),
+    Shows(&'static [u8]),
+}
+
+impl Step {
+    // Whether it goes as it says.
+    fn goes(&self, alloc: Global, blob: &mut MemBlob) -> Result<bool, Error> {
+        match self {
+            Step::Write(place, bytes, options, want) => {
+                let bufs = bufs(alloc, bytes)?;
+                let got = blob.write_at(*place, &bufs, *options);
+                Ok(got == *want)
+            }
+            Step::Read(place, len, want) => {
+                let got = blob.read_at(alloc, *place, *len, ReadOptions::default());
+                Ok(read_as(&got, *want))
+            }
+            Step::Resize(len, want) => {
+                let got = blob.resize(*len);
+                Ok(got == *want)
+            }
+            Step::Sync(want) => {
+                let got = blob.sync();
+                Ok(got == *want)
+            }
+            Step::FailAt(n) => {
+                blob.fail_at((*n).max(1));
+                Ok(true)
+            }
+            Step::Crash(keep) => {
+                blob.crash(keep)?;
+                Ok(true)
+            }
+            Step::Shows(bytes) => Ok(shows(blob, bytes)),
+        }
+    }
+}
+
+fn bufs(alloc: Global, bytes: &[u8]) -> Result<IoBufs, Error> {
+    let mut bufs = IoBufs::new(alloc);
+    bufs.append(IoBuf::copy_from_slice(alloc, bytes)?)?;
+    Ok(bufs)
+}
+
+fn read_as(got: &Result<IoBuf, Error>, want: Result<&[u8], Error>) -> bool {
+    match got {
+        Ok(bytes) => want == Ok(bytes.as_ref()),
+        Err(error) => want == Err(*error),
+    }
+}
+
+fn shows(blob: &MemBlob, bytes: &[u8]) -> bool {
+    blob.bytes() == bytes
+}
+
+// The first step that doesn't go as it says.
+fn first_wrong(alloc: Global, blob: &mut MemBlob, steps: &[Step]) -> Result<Option<usize>, Error> {
+    for (at, step) in steps.iter().enumerate() {
+        if !step.goes(alloc, blob)? {
+            return Ok(Some(at));
+        }
+    }
+    Ok(None)
+}
+
+#[test]
+fn each_call_is_done_and_logged(rt: HostRuntime) -> Result<(), Fail> {
+    let mut blob = MemBlob::new(rt.alloc());
+    let steps = [
+        // Behind the end the gap is filled with zeros.
+        Step::Write(2, b"abc", PLAIN, Ok(())),
+        Step::Shows(b"\0\0abc"),
+        Step::Read(3, 2, Ok(b"bc")),
+        Step::Resize(3, Ok(())),
+        Step::Shows(b"\0\0a"),
+        Step::Resize(4, Ok(())),
+        Step::Shows(b"\0\0a\0"),
+        Step::Sync(Ok(())),
+        Step::Write(0, b"xy", DURABLE, Ok(())),
+        // All is durable.
+        Step::Crash(&[]),
+        Step::Shows(b"xya\0"),
+    ];
+    assert_eq!(rt; first_wrong(rt.alloc(), &mut blob, &steps)?, None);
+    assert_eq!(rt; blob.len(), 4);
+    let calls = [
+        Call::WriteAt(2, 3, false),
+        Call::ReadAt(3, 2),
+        Call::Resize(3),
+        Call::Resize(4),
+        Call::Sync,
+        Call::WriteAt(0, 2, true),
+    ];
+    assert_eq!(rt; blob.calls(), calls.as_slice());
+    assert_eq!(rt; blob.failures(), 0);
+    Ok(())
+}
+
+#[test]
+fn a_crash_keeps_what_the_flags_say(rt: HostRuntime) -> Result<(), Fail> {
+    let mut blob = MemBlob::from_bytes(rt.alloc(), b"abcdef")?;
+    let steps = [
+        Step::Write(1, b"XYZ", PLAIN, Ok(())),
+        // A failed write leaves the readable bytes, and a crash may do some of it.
+        Step::FailAt(1),
+        Step::Write(8, b"pqr", PLAIN, Err(Error::WriteFailed)),
+        Step::Shows(b"aXYZef"),
+        Step::Resize(2, Ok(())),
+        Step::Resize(11, Ok(())),
+        Step::Shows(b"aX\0\0\0\0\0\0\0\0\0"),
+        // XYZ, pqr, the two resizes, and one flag that is left over
+        Step::Crash(&[true, false, true, false, true, false, false, true, true]),
+        Step::Shows(b"aXcZef\0\0\0q\0"),
+        // Now that is durable.
+        Step::Crash(&[true, true]),
+        Step::Shows(b"aXcZef\0\0\0q\0"),
+        // A missing flag is false.
+        Step::Write(0, b"123", PLAIN, Ok(())),
+        Step::Resize(1, Ok(())),
+        Step::Crash(&[true, false]),
+        Step::Shows(b"1XcZef\0\0\0q\0"),
+    ];
+    assert_eq!(rt; first_wrong(rt.alloc(), &mut blob, &steps)?, None);
+    assert_eq!(rt; blob.calls().len(), 6);
+    assert_eq!(rt; blob.failures(), 1);
+    Ok(())
+}
+
+#[test]
+fn failed_calls_make_nothing_durable(rt: HostRuntime) -> Result<(), Fail> {
+    let mut blob = MemBlob::from_bytes(rt.alloc(), b"ab")?;
+    let steps = [
+        Step::Resize(3, Ok(())),
+        Step::FailAt(1),
+        Step::Sync(Err(Error::SyncFailed)),
+        Step::FailAt(1),
+        Step::Write(0, b"xy", DURABLE, Err(Error::WriteFailed)),
+        Step::Shows(b"ab\0"),
+        Step::FailAt(1),
+        Step::Resize(1, Err(Error::ResizeFailed)),
+        Step::Shows(b"ab\0"),
+        // the resize to 3, xy, and the resize to 1
+        Step::Crash(&[false, false, true, true]),
+        Step::Shows(b"a"),
+    ];
+    assert_eq!(rt; first_wrong(rt.alloc(), &mut blob, &steps)?, None);
+    assert_eq!(rt; blob.failures(), 3);
+    Ok(())
+}
+
+#[test]
+fn the_planned_call_fails_alone(rt: HostRuntime) -> Result<(), Fail> {
+    let mut blob = MemBlob::from_bytes(rt.alloc(), b"abc")?;
+    let steps = [
+        // The later plan replaces the earlier one.
+        Step::FailAt(1),
+        Step::FailAt(3),
+        Step::Sync(Ok(())),
+        // Calls that ask no device aren't counted, and stand in no log.
+        Step::Read(2, 2, Err(Error::BlobInsufficientLength)),
+        Step::Read(u64::MAX, 1, Err(Error::BlobInsufficientLength)),
+        Step::Write(u64::MAX, b"x", PLAIN, Err(Error::OffsetOverflow)),
+        Step::Write(u64::MAX - 1, b"x", PLAIN, Err(Error::OutOfMemory)),
+        Step::Shows(b"abc"),
+        Step::Sync(Ok(())),
+        // Nor where the next call is to fail.
+        Step::Resize(u64::MAX, Err(Error::OutOfMemory)),
+        // A crash leaves the plan.
+        Step::Crash(&[]),
+        Step::Read(0, 1, Err(Error::ReadFailed)),
+        Step::Read(0, 3, Ok(b"abc")),
+    ];
+    assert_eq!(rt; first_wrong(rt.alloc(), &mut blob, &steps)?, None);
+    let calls = [
+        Call::Sync,
+        Call::Sync,
+        Call::ReadAt(0, 1),
+        Call::ReadAt(0, 3),
+    ];
+    assert_eq!(rt; blob.calls(), calls.as_slice());
+    assert_eq!(rt; blob.failures(), 1);
+    Ok(())
+}

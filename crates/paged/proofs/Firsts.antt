@@ -1,0 +1,153 @@
+-- What the prefix of some pages says of them.
+use Rattle.std.proofs.Common.{◌≡◌, ◌≢◌, inl, inr, ℕ, zero, suc, ◌+◌, ◌-◌, ◌*◌, ◌/◌, ◌<◌, ◌≤◌, List, [], ◌∷◌, ◌++◌, length, take, drop, refl, sym, ◌∙◌, ap, subst, arith, length-take}
+use Rattle.std.specs.Prelude.{slice_get, Option, Some, None}
+use Rattle.std.proofs.lemmas.List.{take-take, length-take-le}
+use Rattle.std.proofs.lemmas.Nat.{div_below}
+use Rattle.std.proofs.Math.Nat.{div-mul-le_self, mul-le-mul_left}
+use Rattle.std.proofs.lemmas.Option.{same_Some, slice_get_within}
+use Rattle.std.proofs.lemmas.Bool.{cases_eq, cases_lt, eq-eqb, ne_eqb}
+use Rattle.page.specs.Page.{pages, pieces, active, value_len, value, text_of_pages, text}
+use Rattle.page.specs.declared.slot.ActiveChecksum.{ActiveChecksum}
+use Rattle.crash.specs.Full.{AreFull}
+use Rattle.crash.proofs.Pages.{length-pages, page_fits, page_is, pages_at, pages_fit, pages_reach, pages_of_take, take-pieces, pieces_of_take}
+use Rattle.crash.proofs.Texts.{active_none, text_full, text_part, value_len_le}
+use Rattle.paged.specs.declared.prefix.Prefix.{Prefix}
+use Rattle.paged.specs.Prefix.{page_at, behind, value_and_slot, prefix_of, prefix_pages, partial_pages, tip_of}
+use Rattle.paged.specs.Recovery.{opened_prefix, opened_size}
+use Rattle.paged.proofs.Prefixes.{partial_pages_le, active_zero, one_page, prefix_full, prefix_part, tip_fits, IsLast, last_is}
+
+module _ (sum : List ℕ → ℕ) (P : ℕ) where
+  -- what stands behind the full pages: nothing that has a value, or the page whose value this is
+  abbrev pub Behind : List (List ℕ) → ℕ → Option (List ℕ × ActiveChecksum) → Type 0
+  Behind some full None = (page : List ℕ) → slice_get some full ≡ Some page → value_len sum P page ≡ 0
+  Behind some full (Some v) = (page : List ℕ) × (slice_get some full ≡ Some page) × (active sum P page ≡ Some v.1) × (v.0 ≡ take v.1.len page) × (value_len sum P page ≢ P)
+
+  -- the full pages at the front, and what is behind them
+  pub record IsFirst (some : List (List ℕ)) (p : Prefix) : Type 0 where
+    pub within : prefix_pages p ≤ length some
+    pub tip : length (tip_of p.partial) ≤ P
+    pub full : AreFull sum P (take p.full_pages some)
+    pub behind : Behind some p.full_pages p.partial
+
+  -- the first page isn't full
+  behind_first : (page : List ℕ) (rest : List (List ℕ)) (slot : Option ActiveChecksum) → value_len sum P page ≢ P → active sum P page ≡ slot → Behind (page ∷ rest) 0 (value_and_slot slot page)
+  behind_first page rest None part told = λ other is. ap (λ (l : List ℕ). value_len sum P l) (sym (same_Some page other is)) ∙ active_none sum P page told
+  behind_first page rest (Some s) part told = (page, refl, told, refl, part)
+
+  -- a page more in front
+  behind_suc : (page : List ℕ) (rest : List (List ℕ)) (full : ℕ) (found : Option (List ℕ × ActiveChecksum)) → Behind rest full found → Behind (page ∷ rest) (suc full) found
+  behind_suc page rest full None is = is
+  behind_suc page rest full (Some v) is = is
+
+  behind_more : (page : List ℕ) (rest : List (List ℕ)) (full : ℕ) (found : Option (List ℕ × ActiveChecksum)) → Behind rest full found → Behind (page ∷ rest) (1 + full) found
+  behind_more page rest full found is = subst (λ (n : ℕ). Behind (page ∷ rest) n found) (let e : suc full ≡ 1 + full = omega arith in e) (behind_suc page rest full found is)
+
+  pub prefix_is : (some : List (List ℕ)) → IsFirst some (prefix_of sum P some)
+  prefix_is [] = record { within = omega arith; tip = omega arith; full = tt; behind = λ page is. absurd (cc) }
+  prefix_is (page ∷ rest) = elim (cases_eq (value_len sum P page) P) [
+    | inl full ↦
+        let before = prefix_is rest in
+        let p = prefix_of sum P rest in
+        subst (λ (q : Prefix). IsFirst (page ∷ rest) q) (sym (prefix_full sum P page rest full)) (record {
+          within = omega (arith, before.within);
+          tip = before.tip;
+          full = subst (λ (n : ℕ). AreFull sum P (take n (page ∷ rest))) (let e : suc p.full_pages ≡ 1 + p.full_pages = omega arith in e) (full, before.full);
+          behind = behind_more page rest p.full_pages p.partial before.behind;
+        })
+    | inr part ↦ subst (λ (q : Prefix). IsFirst (page ∷ rest) q) (sym (prefix_part sum P page rest part)) (record {
+        within = omega (arith, partial_pages_le (value_and_slot (active sum P page) page));
+        tip = tip_fits sum P page;
+        full = tt;
+        behind = behind_first page rest (active sum P page) part refl;
+      })
+  ]
+
+  -- each page of the prefix has a value
+  pub prefix_valued : (some : List (List ℕ)) (k : ℕ) (page : List ℕ) → 0 < P → k < prefix_pages (prefix_of sum P some) → slice_get some k ≡ Some page → value_len sum P page ≢ 0
+  prefix_valued [] k page positive lt is = absurd (cc)
+  prefix_valued (head ∷ rest) zero page positive lt is = λ none.
+    let empty : value_len sum P head ≡ 0 = ap (λ (l : List ℕ). value_len sum P l) (same_Some head page is) ∙ none in
+    let part = prefix_part sum P head rest (λ full. omega (arith, full, empty)) in
+    omega (arith, lt, ap (λ (q : Prefix). prefix_pages q) part, ap (λ (s : Option ActiveChecksum). partial_pages (value_and_slot s head)) (active_zero sum P head empty))
+  prefix_valued (head ∷ rest) (suc k) page positive lt is = elim (cases_eq (value_len sum P head) P) [
+    | inl full ↦ prefix_valued rest k page positive (omega (arith, lt, ap (λ (q : Prefix). prefix_pages q) (prefix_full sum P head rest full))) is
+    | inr part ↦ absurd (omega (arith, lt, ap (λ (q : Prefix). prefix_pages q) (prefix_part sum P head rest part), partial_pages_le (value_and_slot (active sum P head) head)))
+  ]
+
+  -- pages that have the prefix have no other
+  pub prefix_take : (some : List (List ℕ)) (j : ℕ) → 0 < P → prefix_pages (prefix_of sum P some) ≤ j → prefix_of sum P (take j some) ≡ prefix_of sum P some
+  prefix_take [] zero positive le = refl
+  prefix_take [] (suc j) positive le = refl
+  prefix_take (page ∷ rest) zero positive le = elim (cases_eq (value_len sum P page) 0) [
+    | inl none ↦ sym (prefix_part sum P page rest (λ full. omega (arith, full, none)) ∙ ap (λ (s : Option ActiveChecksum). record { full_pages = 0; partial = value_and_slot s page }) (active_zero sum P page none))
+    | inr some ↦ absurd (elim (cases_eq (value_len sum P page) P) [
+      | inl full ↦ omega (arith, le, ap (λ (q : Prefix). prefix_pages q) (prefix_full sum P page rest full))
+      | inr part ↦ omega (arith, le, ap (λ (q : Prefix). prefix_pages q) (prefix_part sum P page rest part), one_page sum P page some)
+    ])
+  ]
+  prefix_take (page ∷ rest) (suc j) positive le = elim (cases_eq (value_len sum P page) P) [
+    | inl full ↦
+        prefix_full sum P page (take j rest) full
+        ∙ ap (λ (q : Prefix). behind 1 q) (prefix_take rest j positive (omega (arith, le, ap (λ (q : Prefix). prefix_pages q) (prefix_full sum P page rest full))))
+        ∙ sym (prefix_full sum P page rest full)
+    | inr part ↦ prefix_part sum P page (take j rest) part ∙ sym (prefix_part sum P page rest part)
+  ]
+
+  -- and say no other text
+  pub text_take : (some : List (List ℕ)) (j : ℕ) → 0 < P → prefix_pages (prefix_of sum P some) ≤ j → text_of_pages sum P (take j some) ≡ text_of_pages sum P some
+  text_take [] zero positive le = refl
+  text_take [] (suc j) positive le = refl
+  text_take (page ∷ rest) zero positive le = elim (cases_eq (value_len sum P page) 0) [
+    | inl none ↦ sym (text_part sum P page rest (omega (arith, none)) ∙ ap (λ (n : ℕ). take n page) none)
+    | inr some ↦ absurd (elim (cases_eq (value_len sum P page) P) [
+      | inl full ↦ omega (arith, le, ap (λ (q : Prefix). prefix_pages q) (prefix_full sum P page rest full))
+      | inr part ↦ omega (arith, le, ap (λ (q : Prefix). prefix_pages q) (prefix_part sum P page rest part), one_page sum P page some)
+    ])
+  ]
+  text_take (page ∷ rest) (suc j) positive le = elim (cases_eq (value_len sum P page) P) [
+    | inl full ↦
+        text_full sum P page (take j rest) full
+        ∙ ap (λ (l : List ℕ). take P page ++ l) (text_take rest j positive (omega (arith, le, ap (λ (q : Prefix). prefix_pages q) (prefix_full sum P page rest full))))
+        ∙ sym (text_full sum P page rest full)
+    | inr part ↦
+        let less : value_len sum P page < P = omega (arith, value_len_le sum P page, part) in
+        text_part sum P page (take j rest) less ∙ sym (text_part sum P page rest less)
+  ]
+
+  -- the pages of a beginning
+  pub pages_of_beginning : (m : ℕ) (bytes : List ℕ) → m ≤ length bytes → pages P (take m bytes) ≡ take (m / (P + 12)) (pages P bytes)
+  pages_of_beginning m bytes le =
+      let n = m / (P + 12) in
+      let reach : n * (P + 12) ≤ m = div-mul-le_self m (P + 12) in
+      ap (λ (k : ℕ). pieces (k / (P + 12)) (P + 12) (take m bytes)) (length-take-le m bytes le)
+      ∙ pieces_of_take n (P + 12) m bytes reach
+      ∙ sym (take-pieces n (length bytes / (P + 12)) (P + 12) bytes (pages_fit P n bytes (omega (arith, reach))))
+
+  -- bytes that were cut behind the prefix have it, and say the same
+  module _ (m : ℕ) (bytes : List ℕ) (positive : 0 < P) (le : m ≤ length bytes) (kept : prefix_pages (prefix_of sum P (pages P bytes)) * (P + 12) ≤ m) where
+    enough : prefix_pages (prefix_of sum P (pages P bytes)) ≤ m / (P + 12)
+    enough = omega (arith, pages_fit P (prefix_pages (prefix_of sum P (pages P bytes))) (take m bytes) (omega (arith, kept, length-take-le m bytes le)), ap (λ (k : ℕ). k / (P + 12)) (length-take-le m bytes le))
+
+    pub prefix_of_beginning : prefix_of sum P (pages P (take m bytes)) ≡ prefix_of sum P (pages P bytes)
+    prefix_of_beginning = ap (λ (l : List (List ℕ)). prefix_of sum P l) (pages_of_beginning m bytes le) ∙ prefix_take (pages P bytes) (m / (P + 12)) positive enough
+
+    pub text_of_beginning : text sum P (take m bytes) ≡ text sum P bytes
+    text_of_beginning = ap (λ (l : List (List ℕ)). text_of_pages sum P l) (pages_of_beginning m bytes le) ∙ text_take (pages P bytes) (m / (P + 12)) positive enough
+
+  -- the prefix from the first page on ends no later than the last page that has a value
+  pub first_before_last : (bytes : List ℕ) → 0 < P → prefix_pages (prefix_of sum P (pages P bytes)) ≤ prefix_pages (opened_prefix sum P bytes)
+  first_before_last bytes positive = elim (cases_lt (prefix_pages (opened_prefix sum P bytes)) (prefix_pages (prefix_of sum P (pages P bytes)))) [
+    | inl less ↦
+        let n = prefix_pages (opened_prefix sum P bytes) in
+        let some = pages P bytes in
+        let last = last_is sum P (length bytes / (P + 12)) bytes in
+        let lt : n < length bytes / (P + 12) = omega (arith, less, (prefix_is some).within, length-pages P bytes) in
+        let here : slice_get some n ≡ Some (page_at P n bytes) = pages_at P n bytes (pages_reach P (n + 1) bytes (omega (arith, lt))) in
+        absurd (prefix_valued some n (page_at P n bytes) positive less here (last.none n (omega arith) lt))
+    | inr enough ↦ enough
+  ]
+
+  -- so opening leaves the prefix, and the text
+  module _ (bytes : List ℕ) (positive : 0 < P) where
+    pub first_size_le : prefix_pages (prefix_of sum P (pages P bytes)) * (P + 12) ≤ opened_size sum P bytes
+    first_size_le = let more : (P + 12) * prefix_pages (prefix_of sum P (pages P bytes)) ≤ (P + 12) * prefix_pages (opened_prefix sum P bytes) = mul-le-mul_left (P + 12) (first_before_last bytes positive) in omega (arith, more)

@@ -1,0 +1,81 @@
+-- A writer that stands behind the first pages of some bytes, with nothing unsynced.
+use Rattle.std.proofs.Common.{◌≡◌, ◌≢◌, ℕ, suc, ◌+◌, ◌-◌, ◌*◌, ◌/◌, ◌^◌, ◌<◌, ◌≤◌, List, [], ◌∷◌, ◌++◌, length, take, drop, refl, sym, ◌∙◌, ap, subst, arith}
+use Rattle.std.specs.Prelude.{Option, Some, None}
+use Rattle.std.proofs.lemmas.List.{take-take, length-take-le}
+use Rattle.disk.specs.Disk.{Disk}
+use Rattle.page.specs.Page.{pages, active, value_len, text}
+use Rattle.page.specs.declared.slot.ActiveChecksum.{ActiveChecksum}
+use Rattle.crash.specs.WriterState.{WriterState, SyncState}
+use Rattle.crash.specs.WriterState.SyncState.{Clean}
+use Rattle.crash.specs.Full.{AreFull}
+use Rattle.crash.specs.Sound.{IsSound, HasPage, content}
+use Rattle.crash.proofs.Lists.{within_take}
+use Rattle.crash.proofs.Pages.{pages_at, pages_reach, page_is, page_fits, length-pages}
+use Rattle.crash.proofs.Texts.{AreBytes, AreFull_same, value_len_le, active_is, text_cut, text_cut_part}
+use Rattle.crash.proofs.BuiltLaws.{IsSmall}
+use Rattle.crash.proofs.FlushLaws.{exact_content, page_content, has_page}
+use Rattle.crash.proofs.Soundness.{exact_sound, page_sound}
+use Rattle.paged.specs.declared.prefix.Prefix.{Prefix}
+use Rattle.paged.specs.Prefix.{page_at, prefix_of, prefix_pages, partial_pages, at_prefix, HasBytes}
+use Rattle.paged.specs.Recovery.{IsDurable}
+use Rattle.paged.proofs.Firsts.{Behind, IsFirst, prefix_is}
+
+module _ (sum : List ℕ → ℕ) (small_sum : IsSmall sum) (P id capacity : ℕ) (bytes : List ℕ) (d : Disk) (positive : 0 < P) (small : P < 2 ^ 16) (durable : IsDurable d) where
+  -- it is sound, and stands for what the bytes say
+  abbrev pub StandsFor : Prefix → Type 0
+  StandsFor p = IsSound sum (at_prefix P id capacity p Clean) d × (content (at_prefix P id capacity p Clean) d.readable ≡ text sum P bytes)
+
+  -- behind full pages alone
+  stands_none : (full : ℕ) → full ≤ length (pages P bytes) → AreFull sum P (take full (pages P bytes)) → Behind sum P (pages P bytes) full None → d.readable ≡ take (full * (P + 12)) bytes
+      → StandsFor (record { full_pages = full; partial = None })
+  stands_none full within are behind cut =
+      let w = at_prefix P id capacity (record { full_pages = full; partial = None }) Clean in
+      let n = full * (P + 12) in
+      let reach : n ≤ length bytes = pages_reach P full bytes (omega (arith, within, length-pages P bytes)) in
+      let size : length d.readable ≡ n = ap length cut ∙ length-take-le n bytes reach in
+      let same : take n bytes ≡ take n d.readable = sym (ap (λ (l : List ℕ). take n l) cut ∙ take-take n n bytes (omega arith)) in
+      let here : AreFull sum P (take full (pages P d.readable)) = AreFull_same sum P full bytes d.readable reach same are in
+      (exact_sound sum w d durable.since durable.base positive small here refl refl size,
+      exact_content sum w d durable.since durable.base positive small here refl refl size
+      ∙ ap (λ (l : List ℕ). text sum P l) cut
+      ∙ text_cut sum P full bytes positive are reach (λ more. behind (page_at P full bytes) (pages_at P full bytes more)))
+
+  -- behind full pages and a page with a shorter value
+  stands_some : (full : ℕ) (v : List ℕ × ActiveChecksum) → AreFull sum P (take full (pages P bytes)) → Behind sum P (pages P bytes) full (Some v) → HasBytes P full bytes (Some v) → d.readable ≡ take ((full + 1) * (P + 12)) bytes
+      → StandsFor (record { full_pages = full; partial = Some v })
+  stands_some full v are behind has cut =
+      let w = at_prefix P id capacity (record { full_pages = full; partial = Some v }) Clean in
+      let a = v.1 in
+      let k = full * (P + 12) in
+      let n = (full + 1) * (P + 12) in
+      let page_eq : behind.0 ≡ page_at P full bytes = page_is P full bytes behind.0 behind.1 in
+      let fits : n ≤ length bytes = page_fits P full bytes behind.0 behind.1 in
+      let size : length d.readable ≡ n = ap length cut ∙ length-take-le n bytes fits in
+      let page_same : page_at P full bytes ≡ page_at P full d.readable = sym (ap (λ (l : List ℕ). page_at P full l) cut ∙ within_take (P + 12) k n bytes (omega arith)) in
+      let same : take k bytes ≡ take k d.readable = sym (ap (λ (l : List ℕ). take k l) cut ∙ take-take k n bytes (omega arith)) in
+      let here : AreFull sum P (take full (pages P d.readable)) = AreFull_same sum P full bytes d.readable (omega (arith, fits)) same are in
+      let told : active sum P (page_at P full d.readable) ≡ Some a = ap (λ (l : List ℕ). active sum P l) (sym (page_eq ∙ page_same)) ∙ behind.2 in
+      let is = active_is sum P (page_at P full d.readable) a told in
+      let len : value_len sum P (page_at P full d.readable) ≡ value_len sum P behind.0 = ap (λ (l : List ℕ). value_len sum P l) (sym (page_eq ∙ page_same)) in
+      let part : a.len < P = omega (arith, is.len, is.fits, len, behind.4) in
+      let tip : v.0 ≡ take a.len (drop k d.readable) = behind.3 ∙ ap (λ (l : List ℕ). take a.len l) (page_eq ∙ page_same) ∙ take-take a.len (P + 12) (drop k d.readable) (omega (arith, part)) in
+      let are_bytes : AreBytes (page_at P full d.readable) = subst (λ (l : List ℕ). AreBytes l) page_same has in
+      let page : HasPage sum P full v.0 d.readable a = has_page sum P full v.0 d.readable a size are_bytes told part tip in
+      let less : value_len sum P (page_at P full bytes) < P = omega (arith, part, is.len, ap (λ (l : List ℕ). value_len sum P l) page_same) in
+      (page_sound sum w d durable.since durable.base positive small here refl small_sum a refl page,
+      page_content sum w d.readable a here (omega (arith, size)) told part tip
+      ∙ ap (λ (l : List ℕ). text sum P l) cut
+      ∙ text_cut_part sum P full bytes are fits less)
+
+  stands_behind : (full : ℕ) (found : Option (List ℕ × ActiveChecksum)) → full + partial_pages found ≤ length (pages P bytes) → AreFull sum P (take full (pages P bytes)) → Behind sum P (pages P bytes) full found → HasBytes P full bytes found
+      → d.readable ≡ take ((full + partial_pages found) * (P + 12)) bytes → StandsFor (record { full_pages = full; partial = found })
+  stands_behind full None within are behind has cut =
+      let e : full + 0 ≡ full = omega arith in
+      stands_none full (omega (arith, within)) are behind (cut ∙ ap (λ (n : ℕ). take (n * (P + 12)) bytes) e)
+  stands_behind full (Some v) within are behind has cut = stands_some full v are behind has cut
+
+  -- behind the prefix of the bytes' pages, which is all that the blob has
+  pub stands_first : (p : Prefix) → p ≡ prefix_of sum P (pages P bytes) → HasBytes P p.full_pages bytes p.partial → d.readable ≡ take (prefix_pages p * (P + 12)) bytes → StandsFor p
+  stands_first p is has cut =
+      let first : IsFirst sum P (pages P bytes) p = subst (λ (q : Prefix). IsFirst sum P (pages P bytes) q) (sym is) (prefix_is sum P (pages P bytes)) in
+      stands_behind p.full_pages p.partial first.within first.full first.behind has cut

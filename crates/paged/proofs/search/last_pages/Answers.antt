@@ -1,0 +1,116 @@
+use Rattle.std.proofs.Common.{◌≡◌, ◌+◌, ◌-◌, ◌*◌, ◌<◌, ◌≤◌, ℕ, length, ◌∙◌, ap, arith, sym}
+use Rattle.std.proofs.lemmas.Result.{err_from_is_err_and}
+use Rattle.std.specs.Int.NonZero.{non_zero_u16_get}
+use Rattle.paged.specs.Prefix.{page_at, last_prefix}
+use Rattle.paged.proofs.Prefixes.{told_read, value_read, told_full, told_part, found_some, found_none, last_none, last_full, last_part, last_fits, has_bytes_read}
+use Rattle.paged.proofs.Looking.{looked_read, read_gives, finds_fault, finds_memory}
+use Rattle.paged.proofs.search.last_pages.Goals as goal
+
+pub returns-in_err-bytes-clause-finds : goal.returns-in_err-bytes-clause-finds
+returns-in_err-bytes-clause-finds g c =
+    let life = g.B.Blob.life in
+    let old = life c.args.blob.now in
+    let size = c.physical_size-size.result in
+    let n = c.loop-pages.pages in
+    let P = non_zero_u16_get c.args.page_size in
+    let fits = last_fits P size n c.args.pages (length old.present.readable) c.physical_size-size.ensures c.loop-pages-test.true c.loop-pages.invariant.fewer c.requires.there in
+    let p = err_from_is_err_and c.from_residual.result c.from_residual.ensures.1 in
+    rw (p.1, p.2) (finds_fault ((n - 1) * size) size (last_prefix g.H.Sum.sum_of P c.args.pages old.present.readable) old (life c.loop-pages.blob) (life c.read_at.new.self) c.in_err-bytes.field-0.0 c.loop-pages.invariant.looked fits c.in_err-bytes.ensures.goes)
+
+pub returns-then-is_full-clause-finds : goal.returns-then-is_full-clause-finds
+returns-then-is_full-clause-finds g c =
+    let life = g.B.Blob.life in
+    let sum = g.H.Sum.sum_of in
+    let old = life c.args.blob.now in
+    let new = life c.read_at.new.self in
+    let readable = old.present.readable in
+    let size = c.physical_size-size.result in
+    let n = c.loop-pages.pages in
+    let P = non_zero_u16_get c.args.page_size in
+    let positive : 0 < P = omega arith in
+    let read = read_gives ((n - 1) * size) size old (life c.loop-pages.blob) new c.in_ok-bytes.bytes c.loop-pages.invariant.looked c.in_ok-bytes.ensures.goes in
+    let told = told_read sum P size (n - 1) c.as_ref.result.now c.in_ok-bytes.bytes readable c.slot_at-slot.result c.physical_size-size.ensures c.as_ref.ensures read c.slot_at-slot.ensures.slot in
+    let full = told_full sum P (page_at P (n - 1) readable) c.slot_at-slot.result c.is_full.result told c.is_full.ensures c.if-is_full.true in
+    (last_full sum P n c.args.pages readable positive c.loop-pages.invariant.same c.loop-pages-test.true full,
+    looked_read ((n - 1) * size) size old (life c.loop-pages.blob) new c.in_ok-bytes.bytes c.loop-pages.invariant.looked c.in_ok-bytes.ensures.goes)
+
+pub returns-in_err-partial-clause-finds : goal.returns-in_err-partial-clause-finds
+returns-in_err-partial-clause-finds g c =
+    let life = g.B.Blob.life in
+    let old = life c.args.blob.now in
+    let size = c.physical_size-size.result in
+    let n = c.loop-pages.pages in
+    let P = non_zero_u16_get c.args.page_size in
+    let looked = looked_read ((n - 1) * size) size old (life c.loop-pages.blob) (life c.read_at.new.self) c.in_ok-bytes.bytes c.loop-pages.invariant.looked c.in_ok-bytes.ensures.goes in
+    let p = err_from_is_err_and c.from_residual-in_err-partial.result c.from_residual-in_err-partial.ensures.1 in
+    rw (p.1, p.2) (finds_memory (last_prefix g.H.Sum.sum_of P c.args.pages old.present.readable) old (life c.read_at.new.self) c.in_err-partial.field-0.0 looked c.in_err-partial.ensures.err)
+
+pub returns-then-is_some-clause-finds : goal.returns-then-is_some-clause-finds
+returns-then-is_some-clause-finds g c =
+    let life = g.B.Blob.life in
+    let sum = g.H.Sum.sum_of in
+    let old = life c.args.blob.now in
+    let new = life c.read_at.new.self in
+    let readable = old.present.readable in
+    let size = c.physical_size-size.result in
+    let n = c.loop-pages.pages in
+    let P = non_zero_u16_get c.args.page_size in
+    let page = page_at P (n - 1) readable in
+    let read = read_gives ((n - 1) * size) size old (life c.loop-pages.blob) new c.in_ok-bytes.bytes c.loop-pages.invariant.looked c.in_ok-bytes.ensures.goes in
+    let told = told_read sum P size (n - 1) c.as_ref.result.now c.in_ok-bytes.bytes readable c.slot_at-slot.result c.physical_size-size.ensures c.as_ref.ensures read c.slot_at-slot.ensures.slot in
+    let part = told_part sum P page c.slot_at-slot.result c.is_full.result told c.is_full.ensures c.if-is_full.false in
+    let value = value_read sum P size (n - 1) c.in_ok-bytes.bytes readable c.slot_at-slot.result c.in_ok-partial.partial c.physical_size-size.ensures read told c.in_ok-partial.ensures.ok in
+    let some = found_some sum P page c.in_ok-partial.partial value (sym c.is_some.ensures ∙ c.if-is_some.true) in
+    (last_part sum P n c.args.pages readable c.in_ok-partial.partial c.loop-pages.invariant.same c.loop-pages-test.true value some part,
+    looked_read ((n - 1) * size) size old (life c.loop-pages.blob) new c.in_ok-bytes.bytes c.loop-pages.invariant.looked c.in_ok-bytes.ensures.goes)
+
+pub returns-then-is_some-clause-bytes : goal.returns-then-is_some-clause-bytes
+returns-then-is_some-clause-bytes g c =
+    let life = g.B.Blob.life in
+    let old = life c.args.blob.now in
+    let size = c.physical_size-size.result in
+    let n = c.loop-pages.pages in
+    let read = read_gives ((n - 1) * size) size old (life c.loop-pages.blob) (life c.read_at.new.self) c.in_ok-bytes.bytes c.loop-pages.invariant.looked c.in_ok-bytes.ensures.goes in
+    has_bytes_read (non_zero_u16_get c.args.page_size) size (n - 1) c.as_ref.result.now c.in_ok-bytes.bytes old.present.readable c.in_ok-partial.partial c.physical_size-size.ensures c.as_ref.ensures read c.slot_at-slot.ensures.bytes
+
+pub loop-pages-preserved : goal.loop-pages-preserved
+loop-pages-preserved g c =
+    let life = g.B.Blob.life in
+    let sum = g.H.Sum.sum_of in
+    let old = life c.args.blob.now in
+    let new = life c.read_at.new.self in
+    let readable = old.present.readable in
+    let size = c.physical_size-size.result in
+    let n = c.loop-pages.pages in
+    let P = non_zero_u16_get c.args.page_size in
+    let page = page_at P (n - 1) readable in
+    let read = read_gives ((n - 1) * size) size old (life c.loop-pages.blob) new c.in_ok-bytes.bytes c.loop-pages.invariant.looked c.in_ok-bytes.ensures.goes in
+    let told = told_read sum P size (n - 1) c.as_ref.result.now c.in_ok-bytes.bytes readable c.slot_at-slot.result c.physical_size-size.ensures c.as_ref.ensures read c.slot_at-slot.ensures.slot in
+    let value = value_read sum P size (n - 1) c.in_ok-bytes.bytes readable c.slot_at-slot.result c.in_ok-partial.partial c.physical_size-size.ensures read told c.in_ok-partial.ensures.ok in
+    let none = found_none sum P page c.in_ok-partial.partial value (sym c.is_some.ensures ∙ c.if-is_some.false) in
+    record {
+      fewer = omega arith;
+      same = last_none sum P n c.args.pages readable c.loop-pages.invariant.same c.loop-pages-test.true none;
+      looked = looked_read ((n - 1) * size) size old (life c.loop-pages.blob) new c.in_ok-bytes.bytes c.loop-pages.invariant.looked c.in_ok-bytes.ensures.goes;
+    }
+
+pub loop-pages-preserved-else-is_some : goal.loop-pages-preserved-else-is_some
+loop-pages-preserved-else-is_some g c =
+    let life = g.B.Blob.life in
+    let sum = g.H.Sum.sum_of in
+    let old = life c.args.blob.now in
+    let new = life c.read_at.new.self in
+    let readable = old.present.readable in
+    let size = c.physical_size-size.result in
+    let n = c.loop-pages.pages in
+    let P = non_zero_u16_get c.args.page_size in
+    let page = page_at P (n - 1) readable in
+    let read = read_gives ((n - 1) * size) size old (life c.loop-pages.blob) new c.in_ok-bytes.bytes c.loop-pages.invariant.looked c.in_ok-bytes.ensures.goes in
+    let told = told_read sum P size (n - 1) c.as_ref.result.now c.in_ok-bytes.bytes readable c.slot_at-slot.result c.physical_size-size.ensures c.as_ref.ensures read c.slot_at-slot.ensures.slot in
+    let value = value_read sum P size (n - 1) c.in_ok-bytes.bytes readable c.slot_at-slot.result c.in_ok-partial.partial c.physical_size-size.ensures read told c.in_ok-partial.ensures.ok in
+    let none = found_none sum P page c.in_ok-partial.partial value (sym c.is_some.ensures ∙ c.if-is_some.false) in
+    record {
+      fewer = omega arith;
+      same = last_none sum P n c.args.pages readable c.loop-pages.invariant.same c.loop-pages-test.true none;
+      looked = looked_read ((n - 1) * size) size old (life c.loop-pages.blob) new c.in_ok-bytes.bytes c.loop-pages.invariant.looked c.in_ok-bytes.ensures.goes;
+    }

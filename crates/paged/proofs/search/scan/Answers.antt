@@ -1,0 +1,111 @@
+use Rattle.std.proofs.Common.{◌≡◌, ◌+◌, ◌-◌, ◌*◌, ◌<◌, ◌≤◌, ℕ, length, ◌∙◌, ap, arith, sym}
+use Rattle.std.proofs.lemmas.Result.{err_from_is_err_and}
+use Rattle.std.specs.Int.NonZero.{non_zero_u16_get}
+use Rattle.page.specs.Page.{pieces}
+use Rattle.paged.specs.Prefix.{prefix_of}
+use Rattle.paged.proofs.Prefixes.{batch_fits, batch_read, stands_ended, stands_on, has_bytes_batch}
+use Rattle.paged.proofs.Looking.{looked_read, read_gives, finds_fault, finds_memory}
+use Rattle.paged.proofs.search.scan.Goals as goal
+
+pub returns-in_err-bytes-clause-finds : goal.returns-in_err-bytes-clause-finds
+returns-in_err-bytes-clause-finds g c =
+    let life = g.B.Blob.life in
+    let old = life c.args.blob.now in
+    let size = c.physical_size-size.result in
+    let k = c.loop-done.done in
+    let b = c.min-batch.result in
+    let P = non_zero_u16_get c.args.page_size in
+    let fits = batch_fits P size k b c.args.pages (length old.present.readable) c.physical_size-size.ensures (omega arith) c.requires.there in
+    let p = err_from_is_err_and c.from_residual.result c.from_residual.ensures.1 in
+    rw (p.1, p.2) (finds_fault (k * size) (b * size) (prefix_of g.H.Sum.sum_of P (pieces c.args.pages (P + 12) old.present.readable)) old (life c.loop-done.blob) (life c.read_at.new.self) c.in_err-bytes.field-0.0 c.loop-done.invariant.looked fits c.in_err-bytes.ensures.goes)
+
+pub returns-in_err-prefix-clause-finds : goal.returns-in_err-prefix-clause-finds
+returns-in_err-prefix-clause-finds g c =
+    let life = g.B.Blob.life in
+    let old = life c.args.blob.now in
+    let size = c.physical_size-size.result in
+    let P = non_zero_u16_get c.args.page_size in
+    let looked = looked_read (c.loop-done.done * size) (c.min-batch.result * size) old (life c.loop-done.blob) (life c.read_at.new.self) c.in_ok-bytes.bytes c.loop-done.invariant.looked c.in_ok-bytes.ensures.goes in
+    let p = err_from_is_err_and c.from_residual-in_err-prefix.result c.from_residual-in_err-prefix.ensures.1 in
+    rw (p.1, p.2) (finds_memory (prefix_of g.H.Sum.sum_of P (pieces c.args.pages (P + 12) old.present.readable)) old (life c.read_at.new.self) c.in_err-prefix.field-0.0 looked c.in_err-prefix.ensures.err)
+
+pub returns-then-prefix-batch-clause-finds : goal.returns-then-prefix-batch-clause-finds
+returns-then-prefix-batch-clause-finds g c =
+    let life = g.B.Blob.life in
+    let sum = g.H.Sum.sum_of in
+    let old = life c.args.blob.now in
+    let new = life c.read_at.new.self in
+    let readable = old.present.readable in
+    let size = c.physical_size-size.result in
+    let k = c.loop-done.done in
+    let b = c.min-batch.result in
+    let P = non_zero_u16_get c.args.page_size in
+    let q = c.in_ok-prefix.prefix in
+    let bytes = c.in_ok-bytes.bytes in
+    let le : k + b ≤ c.args.pages = omega arith in
+    let read = read_gives (k * size) (b * size) old (life c.loop-done.blob) new bytes c.loop-done.invariant.looked c.in_ok-bytes.ensures.goes in
+    let batch = batch_read sum P size k b c.args.pages readable bytes q c.physical_size-size.ensures le c.requires.there read c.in_ok-prefix.ensures.ok in
+    (sym (stands_ended sum P c.args.pages k b readable bytes q le batch (prefix_of sum P (pieces c.args.pages (P + 12) readable)) c.loop-done.invariant.stands c.if-prefix-batch.true),
+    looked_read (k * size) (b * size) old (life c.loop-done.blob) new bytes c.loop-done.invariant.looked c.in_ok-bytes.ensures.goes)
+
+pub returns-then-prefix-batch-clause-bytes : goal.returns-then-prefix-batch-clause-bytes
+returns-then-prefix-batch-clause-bytes g c =
+    let life = g.B.Blob.life in
+    let sum = g.H.Sum.sum_of in
+    let old = life c.args.blob.now in
+    let size = c.physical_size-size.result in
+    let k = c.loop-done.done in
+    let b = c.min-batch.result in
+    let P = non_zero_u16_get c.args.page_size in
+    let q = c.in_ok-prefix.prefix in
+    let bytes = c.in_ok-bytes.bytes in
+    let le : k + b ≤ c.args.pages = omega arith in
+    let read = read_gives (k * size) (b * size) old (life c.loop-done.blob) (life c.read_at.new.self) bytes c.loop-done.invariant.looked c.in_ok-bytes.ensures.goes in
+    let batch = batch_read sum P size k b c.args.pages old.present.readable bytes q c.physical_size-size.ensures le c.requires.there read c.in_ok-prefix.ensures.ok in
+    has_bytes_batch sum P c.args.pages k b old.present.readable bytes q q.partial le batch c.if-prefix-batch.true c.in_ok-prefix.ensures.bytes
+
+pub loop-done-preserved : goal.loop-done-preserved
+loop-done-preserved g c =
+    let life = g.B.Blob.life in
+    let sum = g.H.Sum.sum_of in
+    let old = life c.args.blob.now in
+    let new = life c.read_at.new.self in
+    let readable = old.present.readable in
+    let size = c.physical_size-size.result in
+    let k = c.loop-done.done in
+    let b = c.min-batch.result in
+    let P = non_zero_u16_get c.args.page_size in
+    let q = c.in_ok-prefix.prefix in
+    let bytes = c.in_ok-bytes.bytes in
+    let le : k + b ≤ c.args.pages = omega arith in
+    let read = read_gives (k * size) (b * size) old (life c.loop-done.blob) new bytes c.loop-done.invariant.looked c.in_ok-bytes.ensures.goes in
+    let batch = batch_read sum P size k b c.args.pages readable bytes q c.physical_size-size.ensures le c.requires.there read c.in_ok-prefix.ensures.ok in
+    record {
+      some = c.loop-done.invariant.some;
+      within = le;
+      stands = stands_on sum P c.args.pages k b readable bytes q le batch (prefix_of sum P (pieces c.args.pages (P + 12) readable)) c.loop-done.invariant.stands (omega arith);
+      looked = looked_read (k * size) (b * size) old (life c.loop-done.blob) new bytes c.loop-done.invariant.looked c.in_ok-bytes.ensures.goes;
+    }
+
+pub loop-done-preserved-else-prefix-batch : goal.loop-done-preserved-else-prefix-batch
+loop-done-preserved-else-prefix-batch g c =
+    let life = g.B.Blob.life in
+    let sum = g.H.Sum.sum_of in
+    let old = life c.args.blob.now in
+    let new = life c.read_at.new.self in
+    let readable = old.present.readable in
+    let size = c.physical_size-size.result in
+    let k = c.loop-done.done in
+    let b = c.min-batch.result in
+    let P = non_zero_u16_get c.args.page_size in
+    let q = c.in_ok-prefix.prefix in
+    let bytes = c.in_ok-bytes.bytes in
+    let le : k + b ≤ c.args.pages = omega arith in
+    let read = read_gives (k * size) (b * size) old (life c.loop-done.blob) new bytes c.loop-done.invariant.looked c.in_ok-bytes.ensures.goes in
+    let batch = batch_read sum P size k b c.args.pages readable bytes q c.physical_size-size.ensures le c.requires.there read c.in_ok-prefix.ensures.ok in
+    record {
+      some = c.loop-done.invariant.some;
+      within = le;
+      stands = stands_on sum P c.args.pages k b readable bytes q le batch (prefix_of sum P (pieces c.args.pages (P + 12) readable)) c.loop-done.invariant.stands (omega arith);
+      looked = looked_read (k * size) (b * size) old (life c.loop-done.blob) new bytes c.loop-done.invariant.looked c.in_ok-bytes.ensures.goes;
+    }

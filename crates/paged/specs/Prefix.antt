@@ -1,0 +1,66 @@
+-- The pages of a blob that a recovery keeps.
+use Rattle.std.specs.Prelude.{◌==◌, ◌+◌, ◌*◌, ◌<◌, ℕ, zero, suc, List, [], ◌∷◌, take, drop, get_or, Option, Some, None, if◌then◌else◌}
+use Rattle.page.specs.Page.{value_len, active}
+use Rattle.page.specs.declared.slot.ActiveChecksum.{ActiveChecksum}
+use Rattle.crash.specs.WriterState.{WriterState, SyncState}
+use Rattle.paged.specs.declared.prefix.Prefix.{Prefix}
+
+-- a physical page by its place
+abbrev pub page_at : ℕ → ℕ → List ℕ → List ℕ
+page_at P p bytes = take (P + 12) (drop (p * (P + 12)) bytes)
+
+-- so many full pages more in front
+abbrev pub behind : ℕ → Prefix → Prefix
+behind n p = record p { full_pages = n + p.full_pages }
+
+-- a page's value and the slot that tells it
+abbrev pub value_and_slot : Option ActiveChecksum → List ℕ → Option (List ℕ × ActiveChecksum)
+value_and_slot None page = None
+value_and_slot (Some slot) page = Some (take slot.len page, slot)
+
+-- the full pages at the front of some pages, and the value of the page behind them, if it has one
+abbrev pub prefix_of : (List ℕ → ℕ) → ℕ → List (List ℕ) → Prefix
+prefix_of sum P [] = record { full_pages = 0; partial = None }
+prefix_of sum P (page ∷ rest) = if value_len sum P page == P then behind 1 (prefix_of sum P rest) else record { full_pages = 0; partial = value_and_slot (active sum P page) page }
+
+-- the first pages of a blob up to the last that has a value; those before that one count as full
+abbrev pub last_prefix : (List ℕ → ℕ) → ℕ → ℕ → List ℕ → Prefix
+last_prefix sum P zero bytes = record { full_pages = 0; partial = None }
+last_prefix sum P (suc n) bytes =
+    if value_len sum P (page_at P n bytes) == 0 then last_prefix sum P n bytes
+    else (if value_len sum P (page_at P n bytes) == P then record { full_pages = n + 1; partial = None }
+    else record { full_pages = n; partial = value_and_slot (active sum P (page_at P n bytes)) (page_at P n bytes) })
+
+abbrev pub partial_pages : Option (List ℕ × ActiveChecksum) → ℕ
+partial_pages None = 0
+partial_pages (Some p) = 1
+
+-- how many pages a prefix has
+abbrev pub prefix_pages : Prefix → ℕ
+prefix_pages p = p.full_pages + partial_pages p.partial
+
+abbrev pub tip_of : Option (List ℕ × ActiveChecksum) → List ℕ
+tip_of None = []
+tip_of (Some p) = p.0
+
+abbrev pub slot_of_tip : Option (List ℕ × ActiveChecksum) → Option ActiveChecksum
+slot_of_tip None = None
+slot_of_tip (Some p) = Some p.1
+
+-- a writer whose blob ends with this prefix: its partial page is the tip, under the slot that tells it
+abbrev pub at_prefix : (P id capacity : ℕ) → Prefix → SyncState → WriterState
+at_prefix P id capacity p sync = record {
+  page_size = P;
+  id = id;
+  capacity = capacity;
+  full_pages = p.full_pages;
+  tip = tip_of p.partial;
+  flushed = slot_of_tip p.partial;
+  durable = slot_of_tip p.partial;
+  sync = sync;
+}
+
+-- a partial page that was read holds bytes: its slots are those that the slot's length and checksum are written as
+abbrev pub HasBytes : ℕ → ℕ → List ℕ → Option (List ℕ × ActiveChecksum) → Type 0
+HasBytes P page readable None = Unit {0}
+HasBytes P page readable (Some p) = (i : ℕ) → get_or (page_at P page readable) i 0 < 256

@@ -1,0 +1,134 @@
+-- What opening and recovering a blob do, by cases on the answer.
+use Rattle.std.specs.Prelude.{◌≡◌, ◌≢◌, ◌⊎◌, ◌<◌, ◌≤◌, ◌+◌, ◌*◌, ◌/◌, ◌^◌, ℕ, List, [], length, take, Option, Some, None, Result, Ok, Err}
+use Rattle.page.specs.Geometry.{adjusted}
+use Rattle.disk.specs.Disk.{Disk, Life, failures, ResizeGoes, SyncGoes}
+use Rattle.disk.specs.declared.error.Error.{Error}
+use Rattle.disk.specs.declared.error.Error.TheVariants.{ReadFailed, OffsetOverflow, OutOfMemory, IdsExhausted}
+use Rattle.page.specs.Page.{pages, text}
+use Rattle.page.specs.declared.slot.ActiveChecksum.{ActiveChecksum}
+use Rattle.cache.specs.CacheState.{CacheState}
+use Rattle.crash.specs.WriterState.{WriterState, SyncState}
+use Rattle.crash.specs.WriterState.SyncState.{Clean, Dirty}
+use Rattle.crash.specs.Looks.{Looked}
+use Rattle.crash.specs.Sound.{IsSound, content}
+use Rattle.crash.specs.Kept.{AllKeep, Through}
+use Rattle.crash.specs.Stays.{LeavesOnly}
+use Rattle.paged.specs.declared.prefix.Prefix.{Prefix}
+use Rattle.paged.specs.declared.writer.SyncState.TheVariants.{Clean as IsClean, Dirty as IsDirty}
+use Rattle.paged.specs.declared.writer.SyncState.{SyncState as State}
+use Rattle.paged.specs.Prefix.{prefix_of, last_prefix, prefix_pages, at_prefix, HasBytes}
+use Rattle.paged.specs.Calls.{HasCause, LogGrows}
+
+-- a search through pages: it answers this prefix, and only reads
+abbrev pub Finds : Prefix → Life → Life → Result Prefix Error → Type 0
+Finds p old new (Ok found) = (found ≡ p) × Looked old new
+Finds p old new (Err ReadFailed) = (failures old.present.log < failures new.present.log) × Looked old new
+Finds p old new (Err OutOfMemory) = Looked old new
+Finds p old new (Err _) = ⊥
+
+-- all that is readable is durable
+pub record IsDurable (d : Disk) : Type 0 where
+  pub since : d.since ≡ []
+  pub base : d.base ≡ d.readable
+
+-- a cut to so many bytes: a resize, and a sync behind it
+abbrev pub Cuts : ℕ → Life → Life → Result (Unit {0}) Error → Type 0
+Cuts kept old new (Ok u) = (mid : Life) × ResizeGoes kept old mid (Ok u) × SyncGoes mid new (Ok u)
+Cuts kept old new (Err e) = ResizeGoes kept old new (Err e) ⊎ ((mid : Life) × ResizeGoes kept old mid (Ok tt) × SyncGoes mid new (Err e))
+
+-- the same, where there is more
+abbrev pub CutsBack : ℕ → Life → Life → Result State Error → Type 0
+CutsBack kept old new (Ok IsDirty) = (kept ≡ length old.present.readable) × (new ≡ old)
+CutsBack kept old new (Ok IsClean) = (kept ≢ length old.present.readable) × Cuts kept old new (Ok tt)
+CutsBack kept old new (Err e) = Cuts kept old new (Err e)
+
+-- the blob keeps its first bytes: all of them and nothing was written, or the cut is durable
+pub data IsKept (old new : Life) (kept : ℕ) : SyncState → Type 0 where
+  whole : kept ≡ length old.present.readable → Looked old new → IsKept old new kept Dirty
+  cut : kept ≢ length old.present.readable → new.present.readable ≡ take kept old.present.readable → IsDurable new.present → IsKept old new kept Clean
+
+-- a writer that stands behind these pages gets an id
+abbrev pub Stands : CacheState → ℕ → Prefix → SyncState → Result WriterState Error → Type 0
+Stands cache capacity p sync (Ok w) = w ≡ at_prefix cache.page_size cache.ids_given capacity p sync
+Stands cache capacity p sync (Err OutOfMemory) = Unit {0}
+Stands cache capacity p sync (Err IdsExhausted) = 2 ^ 64 ≤ cache.ids_given
+Stands cache capacity p sync (Err _) = ⊥
+
+-- the pages of some bytes up to the last that has a value
+abbrev pub opened_prefix : (List ℕ → ℕ) → ℕ → List ℕ → Prefix
+opened_prefix sum P bytes = last_prefix sum P (length bytes / (P + 12)) bytes
+
+-- the bytes of those pages
+abbrev pub opened_size : (List ℕ → ℕ) → ℕ → List ℕ → ℕ
+opened_size sum P bytes = prefix_pages (opened_prefix sum P bytes) * (P + 12)
+
+-- the blob was only read, and then cut to so many bytes at most once
+abbrev pub TrimsTo : ℕ → Life → Life → Type 0
+TrimsTo kept old new = (mid : Life) × Looked old mid × ((new ≡ mid) ⊎ ((answer : Result (Unit {0}) Error) × Cuts kept mid new answer))
+
+-- the pages that a blob has of the tip's page, by its flushed slot
+abbrev pub slot_pages : Option ActiveChecksum → ℕ
+slot_pages None = 0
+slot_pages (Some slot) = 1
+
+-- a sync of the blob of a writer in this state, where there may be something to sync
+abbrev pub SyncsIn : SyncState → Life → Life → Result (Unit {0}) Error → Type 0
+SyncsIn Clean old new answer = (answer ≡ Ok tt) × (new ≡ old)
+SyncsIn Dirty old new answer = SyncGoes old new answer
+
+-- all that is written is made durable and what stands behind these pages is cut, durably; the writer stands there
+abbrev pub Keeps : WriterState → Prefix → Life → Life → Result WriterState Error → Type 0
+Keeps w p old new (Ok now) = (now ≡ at_prefix w.page_size w.id w.capacity p Clean) × (new.present.readable ≡ take (prefix_pages p * (w.page_size + 12)) old.present.readable) × IsDurable new.present × LogGrows old new
+Keeps w p old new (Err e) = HasCause old new e
+
+-- the blob was synced at most once, and then cut to so many bytes at most once
+abbrev pub EndsAt : ℕ → Life → Life → Type 0
+EndsAt kept old new = (mid : Life) × ((mid ≡ old) ⊎ ((answer : Result (Unit {0}) Error) × SyncGoes old mid answer)) × ((new ≡ mid) ⊎ ((answer : Result (Unit {0}) Error) × Cuts kept mid new answer))
+
+-- how opening ends, where it does: the writer stands at the pages up to the last that has a value
+pub record IsOpened (sum : List ℕ → ℕ) (cache : CacheState) (capacity : ℕ) (old new : Life) (w : WriterState) : Type 0 where
+  pub sync : SyncState
+  pub state : w ≡ at_prefix cache.page_size cache.ids_given (adjusted capacity cache.page_size) (opened_prefix sum cache.page_size old.present.readable) sync
+  pub kept : IsKept old new (opened_size sum cache.page_size old.present.readable) sync
+  pub bytes : HasBytes cache.page_size w.full_pages old.present.readable (opened_prefix sum cache.page_size old.present.readable).partial
+  pub log : LogGrows old new
+
+abbrev pub Opens : (List ℕ → ℕ) → CacheState → ℕ → Life → Life → Result WriterState Error → Type 0
+Opens sum cache capacity old new (Ok w) = IsOpened sum cache capacity old new w
+Opens sum cache capacity old new (Err OffsetOverflow) = (new ≡ old) × (2 ^ 64 ≤ adjusted capacity cache.page_size)
+Opens sum cache capacity old new (Err IdsExhausted) = 2 ^ 64 ≤ cache.ids_given
+Opens sum cache capacity old new (Err e) = HasCause old new e
+
+-- the cache once it was asked for an id, where the call came so far
+abbrev pub cache_after : Result WriterState Error → CacheState → CacheState
+cache_after (Ok w) cache = record cache { ids_given = cache.ids_given + 1 }
+cache_after (Err e) cache = cache
+
+-- the same after a recovery: where that didn't end, the call may have come so far or not
+abbrev pub GivesId : Result WriterState Error → CacheState → CacheState → Type 0
+GivesId (Ok w) old new = new ≡ cache_after (Ok w) old
+GivesId (Err e) old new = (new ≡ old) ⊎ (new ≡ record old { ids_given = old.ids_given + 1 })
+
+-- how a recovery ends, where it does: the writer stands at the full pages from the first on and the value behind them,
+-- nothing else is left in the blob, and all of it is durable
+pub record IsRecovered (sum : List ℕ → ℕ) (cache : CacheState) (capacity : ℕ) (old new : Life) (w : WriterState) : Type 0 where
+  pub state : w ≡ at_prefix cache.page_size cache.ids_given (adjusted capacity cache.page_size) (prefix_of sum cache.page_size (pages cache.page_size old.present.readable)) Clean
+  pub sound : IsSound sum w new.present
+  pub content : content w new.present.readable ≡ text sum cache.page_size old.present.readable
+  pub readable : new.present.readable ≡ take (prefix_pages (prefix_of sum cache.page_size (pages cache.page_size old.present.readable)) * (cache.page_size + 12)) old.present.readable
+  pub durable : IsDurable new.present
+  pub log : LogGrows old new
+
+abbrev pub Recovers : (List ℕ → ℕ) → CacheState → ℕ → Life → Life → Result WriterState Error → Type 0
+Recovers sum cache capacity old new (Ok w) = IsRecovered sum cache capacity old new w
+Recovers sum cache capacity old new (Err OffsetOverflow) = (new ≡ old) × (2 ^ 64 ≤ adjusted capacity cache.page_size)
+Recovers sum cache capacity old new (Err IdsExhausted) = 2 ^ 64 ≤ cache.ids_given
+Recovers sum cache capacity old new (Err e) = HasCause old new e
+
+-- where all was durable as the call began, every image at each moment since keeps the whole text
+abbrev pub KeepsText : (List ℕ → ℕ) → ℕ → Life → Life → Type 0
+KeepsText sum P old new = IsDurable old.present → Through (AllKeep sum P (text sum P old.present.readable) (length (text sum P old.present.readable))) old new
+
+-- and the text of every chance-free one is a prefix of it
+abbrev pub LeavesText : (List ℕ → ℕ) → ℕ → Life → Life → Type 0
+LeavesText sum P old new = IsDurable old.present → LeavesOnly sum P (text sum P old.present.readable) (text sum P old.present.readable) old new

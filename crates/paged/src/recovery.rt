@@ -1,0 +1,236 @@
+// Opening and recovering a blob.
+ghost use Rattle.std.specs.Prelude.{◌≡◌, ◌+◌, ◌*◌, ◌≤◌, ◌<◌, ◌^◌, length, IfOk, IsOkUnless, OnOk, OnErr};
+ghost use Rattle.std.specs.Int.NonZero.{non_zero_u16_get};
+ghost use Rattle.crash.specs.WriterState.SyncState.{Clean};
+ghost use Rattle.paged.specs.Prefix.{prefix_pages, at_prefix, tip_of, slot_of_tip};
+ghost use Rattle.paged.specs.Writer.{state_of, FitsBlob};
+ghost use Rattle.paged.specs.Recovery.{Opens, Recovers, IsDurable, Cuts, CutsBack, TrimsTo, Stands, SyncsIn, Keeps, EndsAt, slot_pages, opened_size, cache_after, GivesId, KeepsText, LeavesText};
+ghost use Rattle.page.specs.Page.{text};
+ghost use Rattle.crash.specs.Stays.{KeepsAll, StaysThrough};
+
+use crate::prefix::{Partial, Prefix};
+use crate::search::{last_pages, pages_of, physical_size, scan};
+use crate::writer::SyncState;
+use crate::{Recovery, Writer};
+use cache::CacheRef;
+use disk::{Blob, Error};
+use page::{ActiveChecksum, Sum, adjusted_capacity};
+use std::alloc::Global;
+use std::marker::PhantomData;
+use std::num::NonZeroUsize;
+
+/// Cuts a blob to so many bytes, durably.
+fn cut<B: Blob>(blob: &mut B, kept: u64) -> Result<(), Error>
+    ensures cuts { Cuts kept (B.life blob.old) (B.life blob.new) result }
+{
+    blob.resize(kept)?;
+    blob.sync()
+}
+
+/// Cuts a blob of `size` bytes to so many, durably, where it has more. It answers the state of the blob's writer then: a
+/// blob that wasn't cut may have something unsynced.
+fn cut_back<B: Blob>(blob: &mut B, size: u64, kept: u64) -> Result<SyncState, Error>
+    requires { size ≡ length (B.life blob.old).present.readable }
+    ensures cuts { CutsBack kept (B.life blob.old) (B.life blob.new) result }
+{
+    if kept == size {
+        return Ok(SyncState::Dirty);
+    }
+    cut(blob, kept)?;
+    Ok(SyncState::Clean)
+}
+
+/// Syncs the blob of a writer in this state, where it may have something unsynced.
+fn sync_dirty<B: Blob>(blob: &mut B, sync_state: SyncState) -> Result<(), Error>
+    ensures syncs { SyncsIn (state_of sync_state) (B.life blob.old) (B.life blob.new) result }
+{
+    match sync_state {
+        SyncState::Clean => Ok(()),
+        SyncState::Dirty => blob.sync(),
+    }
+}
+
+/// The bytes that a writer buffers whose tip's page has this value, and the slot that tells it. `OutOfMemory` alone.
+fn tip_and_slot(alloc: Global, partial: Partial) -> Result<(Vec<u8>, Option<ActiveChecksum>), Error>
+    ensures tip { IfOk result (λ t. t.0.items ≡ tip_of partial) }
+    ensures slot { IfOk result (λ t. t.1 ≡ slot_of_tip partial) }
+    ensures err { IsOkUnless result Error.OutOfMemory }
+{
+    match partial {
+        None => Ok((Vec::new(alloc), None)),
+        Some((value, slot)) => Ok((value.as_ref().to_vec(alloc)?, Some(slot))),
+    }
+}
+
+impl<B, H> Recovery<B, H> {
+    /// A writer with an id of its own that stands behind these pages of its blob. `OutOfMemory`; `IdsExhausted` where
+    /// the cache has no id left.
+    fn at_prefix(
+        alloc: Global,
+        cache: &mut CacheRef,
+        capacity: usize,
+        prefix: Prefix,
+        sync_state: SyncState,
+    ) -> Result<Self, Error>
+        requires fits { FitsBlob cache.old.page_size prefix.full_pages (length (tip_of prefix.partial)) }
+        ensures stands { Stands cache.old capacity prefix (state_of sync_state) result }
+        ensures ids { cache.new ≡ cache_after result cache.old }
+    {
+        let Prefix {
+            full_pages,
+            partial,
+        } = prefix;
+        let (tip, slot) = tip_and_slot(alloc, partial)?;
+        let id = cache.next_id()?;
+        Ok(Writer {
+            alloc,
+            id,
+            page_size: cache.page_size(),
+            capacity,
+            full_pages,
+            tip,
+            flushed: slot,
+            durable: slot,
+            sync_state,
+            of: PhantomData,
+        })
+    }
+}
+
+impl<B, H> Recovery<B, H> {
+    /// How many pages the blob has.
+    fn flushed_pages(&self) -> u64
+        ensures { result ≡ self.now.full_pages + slot_pages self.now.flushed }
+    {
+        match self.flushed {
+            None => self.full_pages,
+            Some(_) => self.full_pages + 1,
+        }
+    }
+}
+
+impl<B: Blob, H: Sum> Recovery<B, H> {
+    /// Opens a blob of `size` physical bytes, in which nothing need be sound: keeps its pages up to the last that has a
+    /// value, and cuts what follows, durably. Pages before that one aren't read. The page size is the cache's, the id
+    /// its next one; the buffer has `capacity` bytes, taken up to a multiple of the page size, and at least two pages.
+    ///
+    /// `OffsetOverflow` where that capacity passes `usize`: then no device was called. `ReadFailed`, `ResizeFailed` and
+    /// `SyncFailed` where the device failed, `OutOfMemory`; `IdsExhausted` where the cache has no id left: the blob was
+    /// cut then. After an error the cache is as it was.
+    pub fn open(
+        alloc: Global,
+        blob: &mut B,
+        size: u64,
+        capacity: usize,
+        cache: &mut CacheRef,
+    ) -> Result<Self, Error>
+        requires length { size ≡ length (B.life blob.old).present.readable }
+        ensures opens { Opens H.sum_of cache.old capacity (B.life blob.old) (B.life blob.new) result }
+        ensures ids { cache.new ≡ cache_after result cache.old }
+
+        // Where all was durable, at each moment since the call began, and at every answer.
+        ensures kept { KeepsText H.sum_of cache.old.page_size (B.life blob.old) (B.life blob.new) }
+        ensures only { LeavesText H.sum_of cache.old.page_size (B.life blob.old) (B.life blob.new) }
+    {
+        Self::open_pages(alloc, blob, size, capacity, cache)
+    }
+
+    /// The same.
+    fn open_pages(
+        alloc: Global,
+        blob: &mut B,
+        size: u64,
+        capacity: usize,
+        cache: &mut CacheRef,
+    ) -> Result<Self, Error>
+        requires length { size ≡ length (B.life blob.old).present.readable }
+        ensures opens { Opens H.sum_of cache.old capacity (B.life blob.old) (B.life blob.new) result }
+        ensures trims { TrimsTo (opened_size H.sum_of cache.old.page_size (B.life blob.old).present.readable) (B.life blob.old) (B.life blob.new) }
+        ensures ids { cache.new ≡ cache_after result cache.old }
+        ensures some { 0 < cache.old.page_size }
+    {
+        let page_size = cache.page_size();
+        let capacity = adjusted_capacity(capacity, u64::from(page_size.get()))?;
+        let physical_size = physical_size(page_size);
+        let last = last_pages::<B, H>(alloc, blob, page_size, size / physical_size)?;
+        let kept = pages_of(&last) * physical_size;
+        let sync_state = cut_back(blob, size, kept)?;
+        Self::at_prefix(alloc, cache, capacity, last, sync_state)
+    }
+
+    /// Ends a recovery whose blob has `pages` pages, of which these are kept: all that is written is made durable, then
+    /// what stands behind them is cut, durably, and the writer stands there. `ResizeFailed` and `SyncFailed` where the
+    /// device failed, `OutOfMemory`.
+    fn keep(mut self, blob: &mut B, pages: u64, prefix: Prefix) -> Result<Self, Error>
+        requires clean { self.sync ≡ Clean → IsDurable (B.life blob.old).present }
+        requires size { length (B.life blob.old).present.readable ≡ pages * (self.page_size + 12) }
+        requires small { pages * (self.page_size + 12) < 2 ^ 64 }
+        requires within { prefix_pages prefix ≤ pages }
+        requires tip { length (tip_of prefix.partial) ≤ self.page_size }
+        ensures keeps { Keeps self prefix (B.life blob.old) (B.life blob.new) result }
+        ensures ends { EndsAt (prefix_pages prefix * (self.page_size + 12)) (B.life blob.old) (B.life blob.new) }
+    {
+        sync_dirty(blob, self.sync_state)?;
+        let size = self.physical_page_size();
+        cut_back(blob, pages * size, pages_of(&prefix) * size)?;
+        let (tip, slot) = tip_and_slot(self.alloc, prefix.partial)?;
+        self.full_pages = prefix.full_pages;
+        self.tip = tip;
+        self.flushed = slot;
+        self.durable = slot;
+        self.sync_state = SyncState::Clean;
+        Ok(self)
+    }
+}
+
+/// Recovers a blob of `size` physical bytes, whatever they are, of which nothing is unsynced: the writer's content is the
+/// text of the bytes, which are the values of the pages from the first on joined while each is full, and the next
+/// page's value. What else the blob had is cut, and all of it is durable. Each read of the scan from the first page has
+/// at most as many pages as fit `buffer_size`, and at least one.
+///
+/// Errors are those of [`Recovery::open`]; what the blob then holds has the same text. After one the cache may have
+/// given an id.
+pub fn recover<B: Blob, H: Sum>(
+    alloc: Global,
+    blob: &mut B,
+    size: u64,
+    capacity: usize,
+    cache: &mut CacheRef,
+    buffer_size: NonZeroUsize,
+) -> Result<Recovery<B, H>, Error>
+    requires length { size ≡ length (B.life blob.old).present.readable }
+    requires durable { IsDurable (B.life blob.old).present }
+    ensures recovers { Recovers H.sum_of cache.old capacity (B.life blob.old) (B.life blob.new) result }
+    ensures ids { GivesId result cache.old cache.new }
+
+    // From then on every image keeps the whole text.
+    ensures durable { OnOk result (KeepsAll H.sum_of cache.old.page_size (text H.sum_of cache.old.page_size (B.life blob.old).present.readable) (B.life blob.new)) }
+
+    // At each moment since the call began, and at every answer.
+    ensures kept { KeepsText H.sum_of cache.old.page_size (B.life blob.old) (B.life blob.new) }
+    ensures only { LeavesText H.sum_of cache.old.page_size (B.life blob.old) (B.life blob.new) }
+{
+    recover_pages::<B, H>(alloc, blob, size, capacity, cache, buffer_size)
+}
+
+/// The same.
+fn recover_pages<B: Blob, H: Sum>(
+    alloc: Global,
+    blob: &mut B,
+    size: u64,
+    capacity: usize,
+    cache: &mut CacheRef,
+    buffer_size: NonZeroUsize,
+) -> Result<Recovery<B, H>, Error>
+    requires length { size ≡ length (B.life blob.old).present.readable }
+    requires durable { IsDurable (B.life blob.old).present }
+    ensures recovers { Recovers H.sum_of cache.old capacity (B.life blob.old) (B.life blob.new) result }
+    ensures ids { GivesId result cache.old cache.new }
+    ensures some { 0 < cache.old.page_size }
+    ensures stays { StaysThrough H.sum_of cache.old.page_size (text H.sum_of cache.old.page_size (B.life blob.old).present.readable) (B.life blob.old) (B.life blob.new) }
+{
+    let recovery = Recovery::<B, H>::open_pages(alloc, blob, size, capacity, cache)?;
+    let pages = recovery.flushed_pages();
+    let prefix = scan::<B, H>(alloc, blob, recovery.page_size, pages, buffer_size)?;
+    recovery.keep(blob, pages, prefix)
+}

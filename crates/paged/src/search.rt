@@ -1,0 +1,163 @@
+// Looking through the pages of a blob.
+ghost use Rattle.std.specs.Prelude.{◌≡◌, ◌==◌, ◌+◌, ◌-◌, ◌*◌, ◌≤◌, ◌<◌, ◌^◌, ℕ, length, take, drop, slice_index, IfOk, IsOkUnless, MatchOption};
+ghost use Rattle.std.specs.Int.NonZero.{non_zero_u16_get};
+ghost use Rattle.page.specs.Page.{active, pages, pieces};
+ghost use Rattle.crash.specs.Built.{kept_len};
+ghost use Rattle.paged.specs.Prefix.{prefix_of, last_prefix, prefix_pages, value_and_slot, HasBytes};
+ghost use Rattle.paged.specs.Recovery.{Finds};
+
+use crate::prefix::{Partial, Prefix};
+use disk::{Blob, Error, IoBuf, ReadOptions};
+use page::{ActiveChecksum, CHECKSUM_SIZE, Checksum, Sum};
+use std::alloc::Global;
+use std::num::{NonZeroU16, NonZeroUsize};
+
+/// The bytes of a physical page.
+pub(crate) fn physical_size(page_size: NonZeroU16) -> u64
+    ensures { result ≡ non_zero_u16_get page_size + 12 }
+{
+    u64::from(page_size.get()) + CHECKSUM_SIZE
+}
+
+/// How many pages a prefix has.
+pub(crate) fn pages_of(prefix: &Prefix) -> u64
+    requires { prefix.now.full_pages + 1 < 2 ^ 64 }
+    ensures { result ≡ prefix_pages prefix.now }
+{
+    match prefix.partial {
+        None => prefix.full_pages,
+        Some(_) => prefix.full_pages + 1,
+    }
+}
+
+/// Whether a slot tells a full page.
+fn is_full(slot: Option<ActiveChecksum>, page_size: NonZeroU16) -> bool
+    ensures { result ≡ (kept_len slot == non_zero_u16_get page_size) }
+{
+    matches!(slot, Some(slot) if slot.len == page_size.get())
+}
+
+/// The slot that tells the value of the physical page of `size` bytes at `at`.
+fn slot_at<H: Sum>(bytes: &[u8], at: usize, size: usize) -> Option<ActiveChecksum>
+    requires { at + size ≤ length bytes.now }
+    ensures slot { result ≡ active H.sum_of (size - 12) (take size (drop at bytes.now)) }
+    ensures bytes { (i : ℕ) → slice_index (take size (drop at bytes.now)) i < 256 }
+{
+    Checksum::validate_page::<H>(&bytes[at..at + size])
+}
+
+/// The value of the page that stands at `at`, with its slot. `OutOfMemory` alone.
+fn value_at(bytes: &IoBuf, at: usize, slot: Option<ActiveChecksum>) -> Result<Partial, Error>
+    requires within { MatchOption slot (Unit {0}) (λ s. at + s.len ≤ length bytes.now) }
+    requires fits { length bytes.now < 2 ^ 64 }
+    ensures ok { IfOk result (λ p. p ≡ value_and_slot slot (drop at bytes.now)) }
+    ensures err { IsOkUnless result Error.OutOfMemory }
+{
+    let Some(slot) = slot else {
+        return Ok(None);
+    };
+    let value = bytes.slice(at, at + usize::from(slot.len))?;
+    Ok(Some((value, slot)))
+}
+
+/// The prefix of the physical pages that these bytes are. `OutOfMemory` alone.
+pub(crate) fn leading_pages<H: Sum>(page_size: NonZeroU16, bytes: &IoBuf) -> Result<Prefix, Error>
+    ensures ok { IfOk result (λ p. p ≡ prefix_of H.sum_of (non_zero_u16_get page_size) (pages (non_zero_u16_get page_size) bytes.now)) }
+    ensures bytes { IfOk result (λ p. HasBytes (non_zero_u16_get page_size) p.full_pages bytes.now p.partial) }
+    ensures err { IsOkUnless result Error.OutOfMemory }
+{
+    let size = physical_size(page_size) as usize;
+    let count = bytes.len() / size;
+    for page in 0..count {
+        let slot = slot_at::<H>(bytes.as_ref(), page * size, size);
+        if !is_full(slot, page_size) {
+            return Ok(Prefix {
+                full_pages: page as u64,
+                partial: value_at(bytes, page * size, slot)?,
+            });
+        }
+    }
+    Ok(Prefix {
+        full_pages: count as u64,
+        partial: None,
+    })
+}
+
+/// The prefix of the first `pages` pages of a blob, which has them. Each read has at most as many pages as fit
+/// `buffer_size`, and at least one.
+pub(crate) fn scan<B: Blob, H: Sum>(
+    alloc: Global,
+    blob: &mut B,
+    page_size: NonZeroU16,
+    pages: u64,
+    buffer_size: NonZeroUsize,
+) -> Result<Prefix, Error>
+    requires there { pages * (non_zero_u16_get page_size + 12) ≤ length (B.life blob.old).present.readable }
+    requires fits { pages * (non_zero_u16_get page_size + 12) < 2 ^ 64 }
+    ensures finds { Finds (prefix_of H.sum_of (non_zero_u16_get page_size) (pieces pages (non_zero_u16_get page_size + 12) (B.life blob.old).present.readable)) (B.life blob.old) (B.life blob.new) result }
+    ensures bytes { IfOk result (λ p. HasBytes (non_zero_u16_get page_size) p.full_pages (B.life blob.old).present.readable p.partial) }
+{
+    let size = physical_size(page_size);
+    let most = (buffer_size.get() as u64 / size).max(1);
+    let mut done = 0;
+    while done < pages {
+        let batch = most.min(pages - done);
+        let bytes = blob.read_at(
+            alloc,
+            done * size,
+            (batch * size) as usize,
+            ReadOptions::default(),
+        )?;
+        let prefix = leading_pages::<H>(page_size, &bytes)?;
+        if prefix.full_pages < batch {
+            return Ok(Prefix {
+                full_pages: done + prefix.full_pages,
+                partial: prefix.partial,
+            });
+        }
+        done += batch;
+    }
+    Ok(Prefix {
+        full_pages: pages,
+        partial: None,
+    })
+}
+
+/// The first `pages` pages of a blob, which has them, up to the last that has a value. Pages before that one aren't
+/// read.
+pub(crate) fn last_pages<B: Blob, H: Sum>(
+    alloc: Global,
+    blob: &mut B,
+    page_size: NonZeroU16,
+    mut pages: u64,
+) -> Result<Prefix, Error>
+    requires there { pages * (non_zero_u16_get page_size + 12) ≤ length (B.life blob.old).present.readable }
+    requires fits { pages * (non_zero_u16_get page_size + 12) < 2 ^ 64 }
+    ensures finds { Finds (last_prefix H.sum_of (non_zero_u16_get page_size) pages (B.life blob.old).present.readable) (B.life blob.old) (B.life blob.new) result }
+    ensures bytes { IfOk result (λ p. HasBytes (non_zero_u16_get page_size) p.full_pages (B.life blob.old).present.readable p.partial) }
+{
+    let size = physical_size(page_size);
+    while pages > 0 {
+        let place = (pages - 1) * size;
+        let bytes = blob.read_at(alloc, place, size as usize, ReadOptions::default())?;
+        let slot = slot_at::<H>(bytes.as_ref(), 0, size as usize);
+        if is_full(slot, page_size) {
+            return Ok(Prefix {
+                full_pages: pages,
+                partial: None,
+            });
+        }
+        let partial = value_at(&bytes, 0, slot)?;
+        if partial.is_some() {
+            return Ok(Prefix {
+                full_pages: pages - 1,
+                partial,
+            });
+        }
+        pages -= 1;
+    }
+    Ok(Prefix {
+        full_pages: 0,
+        partial: None,
+    })
+}
