@@ -11,3 +11,4 @@ pub mod Spared
 pub mod Soundness
 pub mod CallLaws
 pub mod CutLaws
+pub mod Examples

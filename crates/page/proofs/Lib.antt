@@ -4,3 +4,4 @@ pub mod Footers
 pub mod WholePages
 pub mod Ranges
 pub mod Rows
+pub mod Examples

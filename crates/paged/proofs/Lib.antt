@@ -13,3 +13,5 @@ pub mod Firsts
 pub mod Standing
 pub mod Recovered
 pub mod Trims
+pub mod Examples
+pub mod RecoveryExamples

@@ -1,0 +1,103 @@
+-- Each definition of pages, computed on a few bytes. Pages have 4 bytes, and the checksum is the sum of the bytes.
+use Rattle.std.proofs.Common.{◌≡◌, ℕ, List, [], ◌∷◌, ◌++◌, refl}
+use Rattle.std.specs.Prelude.{Some, None, true, false}
+use Rattle.page.specs.Page.{slot_bytes, slot_of, slot_len, slot_crc, verifies, verified_len, value_len, value, active, pages, text}
+use Rattle.page.specs.Geometry.{adjusted, is_too_big}
+use Rattle.page.specs.Sums.{add_sum, const_sum}
+use Rattle.page.specs.declared.slot.Slot.TheVariants.{First, Second}
+
+-- the full page "abcd": four bytes, the slot of length 4 and sum 394, and an empty slot
+abbrev pub abcd_page : List ℕ
+abcd_page = 97 ∷ 98 ∷ 99 ∷ 100 ∷ 0 ∷ 4 ∷ 0 ∷ 0 ∷ 1 ∷ 138 ∷ 0 ∷ 0 ∷ 0 ∷ 0 ∷ 0 ∷ 0 ∷ []
+
+-- the partial page "ef": two bytes, two zeros, the slot of length 2 and sum 203, and an empty slot
+abbrev pub ef_page : List ℕ
+ef_page = 101 ∷ 102 ∷ 0 ∷ 0 ∷ 0 ∷ 2 ∷ 0 ∷ 0 ∷ 0 ∷ 203 ∷ 0 ∷ 0 ∷ 0 ∷ 0 ∷ 0 ∷ 0 ∷ []
+
+-- "ef" rewritten as "efg": the old slot stands, and the second one has length 3 and sum 306
+abbrev pub efg_page : List ℕ
+efg_page = 101 ∷ 102 ∷ 103 ∷ 0 ∷ 0 ∷ 2 ∷ 0 ∷ 0 ∷ 0 ∷ 203 ∷ 0 ∷ 3 ∷ 0 ∷ 0 ∷ 1 ∷ 50 ∷ []
+
+-- the slot of length 4 and sum 394
+pub a_slots_bytes : slot_bytes 4 394 ≡ 0 ∷ 4 ∷ 0 ∷ 0 ∷ 1 ∷ 138 ∷ []
+a_slots_bytes = refl
+
+-- it stands first behind the four bytes of "abcd"
+pub the_first_slot : slot_of 4 First abcd_page ≡ slot_bytes 4 394
+the_first_slot = refl
+
+-- the second slot of "efg" stands six bytes behind the first
+pub the_second_slot : slot_of 4 Second efg_page ≡ slot_bytes 3 306
+the_second_slot = refl
+
+-- its length
+pub a_slots_length : slot_len (slot_of 4 Second efg_page) ≡ 3
+a_slots_length = refl
+
+-- its checksum
+pub a_slots_checksum : slot_crc (slot_of 4 Second efg_page) ≡ 306
+a_slots_checksum = refl
+
+-- the slot over "ef" verifies
+pub a_true_slot : verifies add_sum 4 First ef_page ≡ true
+a_true_slot = refl
+
+-- an empty slot doesn't, though the sum of no bytes is 0
+pub an_empty_slot : verifies add_sum 4 Second ef_page ≡ false
+an_empty_slot = refl
+
+-- of "efg" the first slot verifies over 2 bytes, and the second over 3
+pub lengths_that_verify : verified_len add_sum 4 First efg_page ∷ verified_len add_sum 4 Second efg_page ∷ [] ≡ 2 ∷ 3 ∷ []
+lengths_that_verify = refl
+
+-- so its value has 3
+pub the_greater_length : value_len add_sum 4 efg_page ≡ 3
+the_greater_length = refl
+
+-- and is "efg"
+pub the_value : value add_sum 4 efg_page ≡ 101 ∷ 102 ∷ 103 ∷ []
+the_value = refl
+
+-- as the second slot says
+pub the_active_slot : active add_sum 4 efg_page ≡ Some (record { slot = Second; len = 3; crc = 306 })
+the_active_slot = refl
+
+-- with the third byte torn off the second slot fails, and the first one still says "ef"
+pub the_other_slot : active add_sum 4 (101 ∷ 102 ∷ 0 ∷ 0 ∷ 0 ∷ 2 ∷ 0 ∷ 0 ∷ 0 ∷ 203 ∷ 0 ∷ 3 ∷ 0 ∷ 0 ∷ 1 ∷ 50 ∷ []) ≡ Some (record { slot = First; len = 2; crc = 203 })
+the_other_slot = refl
+
+-- sixteen zeros have no value
+pub no_slot : active add_sum 4 (0 ∷ 0 ∷ 0 ∷ 0 ∷ 0 ∷ 0 ∷ 0 ∷ 0 ∷ 0 ∷ 0 ∷ 0 ∷ 0 ∷ 0 ∷ 0 ∷ 0 ∷ 0 ∷ []) ≡ None
+no_slot = refl
+
+-- two pages and a rest of one byte, which is no page
+pub two_pages : pages 4 (abcd_page ++ ef_page ++ 255 ∷ []) ≡ abcd_page ∷ ef_page ∷ []
+two_pages = refl
+
+-- they say "abcdef"
+pub the_text : text add_sum 4 (abcd_page ++ ef_page ++ 255 ∷ []) ≡ 97 ∷ 98 ∷ 99 ∷ 100 ∷ 101 ∷ 102 ∷ []
+the_text = refl
+
+-- the text ends with the first page that isn't full: behind "ef" no page counts
+pub the_text_ends : text add_sum 4 (ef_page ++ abcd_page) ≡ 101 ∷ 102 ∷ []
+the_text_ends = refl
+
+-- under a sum that is always 0 a slot with any length and a zero checksum verifies
+pub a_slot_by_chance : value const_sum 4 (101 ∷ 102 ∷ 0 ∷ 0 ∷ 0 ∷ 2 ∷ 0 ∷ 0 ∷ 0 ∷ 0 ∷ 0 ∷ 3 ∷ 0 ∷ 0 ∷ 0 ∷ 0 ∷ []) ≡ 101 ∷ 102 ∷ 0 ∷ []
+a_slot_by_chance = refl
+
+-- a sum of 2 to the 32 doesn't fit a slot: the slot that is written for one byte says 0, and doesn't verify
+pub a_great_sum : verifies (λ bytes. 4294967296) 1 First (7 ∷ slot_bytes 1 4294967296 ++ slot_bytes 0 0) ≡ false
+a_great_sum = refl
+
+-- the greatest that fits does
+pub a_greatest_sum : verifies (λ bytes. 4294967295) 1 First (7 ∷ slot_bytes 1 4294967295 ++ slot_bytes 0 0) ≡ true
+a_greatest_sum = refl
+
+-- a buffer of 5 bytes has two pages
+pub a_capacity : adjusted 5 4 ≡ 8
+a_capacity = refl
+
+-- behind 2 buffered bytes, 6 are not too big for 8, and 7 are
+pub too_big : is_too_big 2 8 6 4 ≡ false
+too_big = refl

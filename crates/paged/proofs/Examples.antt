@@ -1,0 +1,125 @@
+-- What a writer's calls are told by, at a few bytes. Pages have 4 bytes, and the checksum is their sum.
+use Rattle.std.proofs.Common.{◌≡◌, [], ◌∷◌, ◌++◌, refl, arith}
+use Rattle.std.specs.Prelude.{None, true, false}
+use Rattle.disk.specs.Disk.{Life, next, logged}
+use Rattle.disk.specs.Disk.Request.{ReadAt}
+use Rattle.disk.specs.declared.error.Error.TheVariants.{ReadFailed, InvalidChecksum}
+use Rattle.page.specs.Sums.{add_sum}
+use Rattle.page.proofs.Examples.{abcd_page, ef_page, efg_page}
+use Rattle.crash.specs.WriterState.{WriterState}
+use Rattle.crash.specs.WriterState.SyncState.{Clean, Dirty}
+use Rattle.crash.proofs.Examples.{at_rest, with_g}
+use Rattle.paged.specs.Writer.{physical_size, FitsBlob}
+use Rattle.paged.specs.Flush.{full_in, rest_of, has_work, carried, advanced, synced, place_of, flush_bytes, rest_bytes}
+use Rattle.paged.specs.Calls.{HasCause, LogGrows, IsSettled}
+use Rattle.paged.specs.Prefix.{page_at}
+use Rattle.paged.specs.Reads.{HasPages, ReadFault, size_of}
+
+-- one full page and five bytes more take three pages of 16 bytes
+pub a_physical_size : physical_size 4 1 5 ≡ 48
+a_physical_size = refl
+
+-- that is a place of 64 bits
+pub it_fits : FitsBlob 4 1 5
+it_fits = omega arith
+
+-- a page and a tip of three bytes are seven
+pub a_size : size_of with_g ≡ 7
+a_size = refl
+
+-- a writer with a tip of six bytes, "efghij"
+abbrev pub with_j : WriterState
+with_j = record with_g { tip = 101 ∷ 102 ∷ 103 ∷ 104 ∷ 105 ∷ 106 ∷ [] }
+
+-- its tip has one full page
+pub full_pages_of_a_tip : full_in with_j ≡ 1
+full_pages_of_a_tip = refl
+
+-- and "ij" behind it
+pub the_rest : rest_of with_j ≡ 105 ∷ 106 ∷ []
+the_rest = refl
+
+-- a flush has a full page to write
+pub work_for_full_pages : has_work with_j false ≡ true
+work_for_full_pages = refl
+
+-- a tip of "efg" has none
+pub no_full_page : has_work with_g false ≡ false
+no_full_page = refl
+
+-- but a rest of another length than the one that was written
+pub work_for_a_rest : has_work with_g true ≡ true
+work_for_a_rest = refl
+
+-- a rest that is written already is no work
+pub a_written_rest : has_work (record with_g { tip = 101 ∷ 102 ∷ [] }) true ≡ false
+a_written_rest = refl
+
+-- it writes behind the full page
+pub the_place : place_of with_g ≡ 16
+the_place = refl
+
+-- the page of "efg", with the slot of "ef" as it was
+pub the_flush : flush_bytes add_sum with_g true ≡ efg_page
+the_flush = refl
+
+-- of "efghij" first a full page that repeats the slot of "ef", and then the page of "ij" with an empty slot
+pub two_pages_flushed : flush_bytes add_sum with_j true
+    ≡ 101 ∷ 102 ∷ 103 ∷ 104 ∷ 0 ∷ 2 ∷ 0 ∷ 0 ∷ 0 ∷ 203 ∷ 0 ∷ 4 ∷ 0 ∷ 0 ∷ 1 ∷ 154 ∷ 105 ∷ 106 ∷ 0 ∷ 0 ∷ 0 ∷ 2 ∷ 0 ∷ 0 ∷ 0 ∷ 211 ∷ 0 ∷ 0 ∷ 0 ∷ 0 ∷ 0 ∷ 0 ∷ []
+two_pages_flushed = refl
+
+-- of which the second is the rest's
+pub the_rest_page : rest_bytes add_sum with_j true ≡ 105 ∷ 106 ∷ 0 ∷ 0 ∷ 0 ∷ 2 ∷ 0 ∷ 0 ∷ 0 ∷ 211 ∷ 0 ∷ 0 ∷ 0 ∷ 0 ∷ 0 ∷ 0 ∷ []
+the_rest_page = refl
+
+-- a clean writer takes the flushed slot over as the durable one
+pub a_carried_slot : carried (record with_g { durable = None }) ≡ with_g
+a_carried_slot = refl
+
+-- a dirty one keeps what it has
+pub a_kept_slot : carried (record with_g { durable = None; sync = Dirty }) ≡ record with_g { durable = None; sync = Dirty }
+a_kept_slot = refl
+
+-- once the full page is written: two full pages, and a tip of "ij" with no slot
+pub after_full_pages : advanced with_j None Dirty ≡ record with_g { full_pages = 2; tip = 105 ∷ 106 ∷ []; flushed = None; durable = None; sync = Dirty }
+after_full_pages = refl
+
+-- once that is synced
+pub after_a_sync : synced (advanced with_j None Dirty) ≡ advanced with_j None Clean
+after_a_sync = refl
+
+-- a writer of "abcdef" that is written whole and clean is settled
+pub settled : IsSettled (record with_g { tip = 101 ∷ 102 ∷ [] })
+settled = record { clean = refl; short = omega arith; flushed = refl }
+
+-- a blob of two pages
+abbrev pub old : Life
+old = record { present = at_rest (abcd_page ++ ef_page); past = [] }
+
+-- a read of it failed
+abbrev pub failed_read : Life
+failed_read = next old (logged (ReadAt 0 16) true old.present)
+
+-- so a call may answer ReadFailed
+pub a_cause : HasCause old failed_read ReadFailed
+a_cause = omega arith
+
+-- but not where no call failed
+pub no_cause : HasCause old (next old (logged (ReadAt 0 16) false old.present)) ReadFailed → ⊥
+no_cause cause = omega (arith, cause)
+
+-- its log has one failure more
+pub the_log_grows : LogGrows old failed_read
+the_log_grows = omega arith
+
+-- the second physical page
+pub second_page : page_at 4 1 (abcd_page ++ ef_page) ≡ ef_page
+second_page = refl
+
+-- the page below the tip is in the blob
+pub has_pages : HasPages with_g old
+has_pages = omega arith
+
+-- it is full, so a read can't answer InvalidChecksum
+pub no_read_fault : ReadFault add_sum with_g old old InvalidChecksum → ⊥
+no_read_fault fault = fault (refl, tt)
