@@ -1,5 +1,5 @@
 -- What an append owes.
-use Rattle.std.proofs.Common.{◌≡◌, ℕ, ◌+◌, ◌*◌, ◌≤◌, List, [], ◌++◌, length, refl, sym, ap, ◌∙◌, ◌^◌, subst, append-nil, inl, inr, Err, ◌⊎◌}
+use Rattle.std.proofs.Common.{◌≡◌, ℕ, ◌+◌, ◌*◌, ◌≤◌, List, [], ◌++◌, length, refl, sym, ◌∙◌, ◌^◌, subst, append-nil, inl, inr, Err, ◌⊎◌}
 use Rattle.disk.specs.Disk.{Life}
 use Rattle.disk.specs.declared.error.Error.{Error}
 use Rattle.disk.specs.declared.error.Error.TheVariants.{ReadFailed, WriteFailed, ResizeFailed, SyncFailed, InvalidChecksum, BlobInsufficientLength, OffsetOverflow, OutOfMemory, IdsExhausted}
@@ -7,11 +7,10 @@ use Rattle.crash.specs.WriterState.{WriterState}
 use Rattle.crash.specs.Sound.{IsSound, content}
 use Rattle.crash.specs.Stays.{StaysThrough}
 use Rattle.crash.proofs.FlushLaws.{tip_reach, length-content, longer_content}
-use Rattle.crash.proofs.Soundness.{longer_sound}
 use Rattle.crash.proofs.Moments.{stays_through_start, stays_through_longer}
 use Rattle.paged.proofs.Flushes.{begins}
 use Rattle.paged.specs.Writer.{physical_size}
-use Rattle.paged.specs.Calls.{GoesOn, Refuses, IsSameWriter, Appends}
+use Rattle.paged.specs.Calls.{GoesOn, Refuses, Appends}
 
 -- the size of a sound writer is the length of its content
 pub size_is_length : (sum : List ℕ → ℕ) (w : WriterState) (life : Life) → IsSound sum w life.present → w.full_pages * w.page_size + length w.tip ≡ length (content w life.present.readable)
@@ -42,7 +41,7 @@ append_refused sum w v old new bytes e sound is refused =
 pub append_unasked : (sum : List ℕ → ℕ) (w : WriterState) (life : Life) (bytes : List ℕ) → IsSound sum w life.present → StaysThrough sum w.page_size (content w life.present.readable ++ bytes) life life
 append_unasked sum w life bytes sound =
     stays_through_longer sum w.page_size (content w life.present.readable) (content w life.present.readable ++ bytes) life life (begins (content w life.present.readable) bytes)
-      (stays_through_start sum w.page_size (content w life.present.readable) life sound.truthful)
+    (stays_through_start sum w.page_size (content w life.present.readable) life sound.truthful)
 
 -- bytes that weren't buffered
 pub append_unbuffered : (sum : List ℕ → ℕ) (w : WriterState) (life : Life) (bytes : List ℕ) (e : Error) → IsSound sum w life.present

@@ -1,7 +1,7 @@
 -- Pages that are built one by one.
-use Rattle.std.proofs.Common.{◌≡◌, ℕ, suc, zero, ◌+◌, ◌*◌, ◌-◌, ◌/◌, ◌%◌, ◌<◌, ◌≤◌, List, [], ◌∷◌, ◌++◌, length, take, drop, refl, sym, ap, ◌∙◌, subst, arith, append_assoc, append-nil, length-drop, inl, inr}
+use Rattle.std.proofs.Common.{◌≡◌, ℕ, suc, zero, ◌+◌, ◌*◌, ◌-◌, ◌/◌, ◌%◌, ◌<◌, ◌≤◌, List, ◌++◌, length, take, drop, refl, sym, ap, ◌∙◌, arith, append_assoc, append-nil, length-drop, inl, inr}
 use Rattle.std.specs.Prelude.{Option, None}
-use Rattle.std.proofs.Math.Nat.{mod-eq_of_lt, mod-eq-sub-mod, div-eq-sub-div, suc-mul, zero-mul}
+use Rattle.std.proofs.Math.Nat.{mod-eq_of_lt, div-eq-sub-div, suc-mul, zero-mul}
 use Rattle.std.proofs.lemmas.List.{take-take, drop-take, drop-drop}
 use Rattle.std.proofs.lemmas.Bool.{cases_lt}
 use Rattle.page.specs.declared.slot.ActiveChecksum.{ActiveChecksum}
@@ -48,7 +48,7 @@ built-suc sum P durable zero bytes = append-nil _ ∙ ap (λ n. page_of sum P du
 built-suc sum P durable (suc k) bytes =
     let size : P + k * P ≡ suc k * P = omega (arith, suc-mul k P) in
     ap (λ back. page_of sum P durable (take P bytes) ++ back)
-        (built-suc sum P None k (drop P bytes)
-        ∙ ap (λ slot. built sum P None k (drop P bytes) ++ page_of sum P slot (take P (drop (k * P) (drop P bytes)))) (durable_after-none k)
-        ∙ ap (λ rest. built sum P None k (drop P bytes) ++ page_of sum P None (take P rest)) (drop-drop (k * P) P bytes ∙ ap (λ n. drop n bytes) size))
+    (built-suc sum P None k (drop P bytes)
+    ∙ ap (λ slot. built sum P None k (drop P bytes) ++ page_of sum P slot (take P (drop (k * P) (drop P bytes)))) (durable_after-none k)
+    ∙ ap (λ rest. built sum P None k (drop P bytes) ++ page_of sum P None (take P rest)) (drop-drop (k * P) P bytes ∙ ap (λ n. drop n bytes) size))
     ∙ sym (append_assoc (page_of sum P durable (take P bytes)) (built sum P None k (drop P bytes)) (page_of sum P None (take P (drop (suc k * P) bytes))))

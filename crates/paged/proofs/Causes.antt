@@ -1,9 +1,9 @@
 -- Why a call of the device answers an error.
-use Rattle.std.proofs.Common.{◌≡◌, ℕ, ◌+◌, ◌^◌, ◌<◌, ◌≤◌, List, [], ◌∷◌, ◌++◌, length, ap, sym, ◌∙◌, refl, subst, arith, Bool, true, false, Err}
-use Rattle.disk.specs.Disk.{Life, Entry, Request, WriteAt, ResizeTo, SyncAll, ReadAt, Operation, Write, Resize, failures, WriteGoes, ResizeGoes, SyncGoes, OperationGoes, next}
+use Rattle.std.proofs.Common.{◌≡◌, ℕ, ◌+◌, ◌^◌, ◌<◌, ◌≤◌, List, [], ◌∷◌, ◌++◌, length, length-append, ap, ◌∙◌, refl, subst, arith, Bool, true, false, Result, Ok, Err}
+use Rattle.disk.specs.Disk.{Life, Entry, Request, WriteAt, SyncAll, failures, WriteGoes, SyncGoes}
 use Rattle.disk.specs.declared.error.Error.{Error}
 use Rattle.disk.specs.declared.error.Error.TheVariants.{ReadFailed, WriteFailed, ResizeFailed, SyncFailed, InvalidChecksum, BlobInsufficientLength, OffsetOverflow, OutOfMemory, IdsExhausted}
-use Rattle.paged.specs.Calls.{HasCause, LogGrows}
+use Rattle.paged.specs.Calls.{HasCause, LogGrows, AsksAtMost}
 
 -- the failures of a log, and of what comes behind it
 pub failures-append : (log more : List Entry) → failures (log ++ more) ≡ failures log + failures more
@@ -71,3 +71,47 @@ no_overflow place bytes false old new e goes fits is =
 no_overflow place bytes true old new e goes fits is =
     let h : (new ≡ old) × (2 ^ 64 ≤ place + length bytes) = subst (λ e. WriteGoes place bytes true old new (Err e)) is goes in
     omega (arith, h.1)
+
+-- the log has one call more
+one_more : (log new : List Entry) (entry : Entry) → new ≡ log ++ entry ∷ [] → length new ≤ length log + 1
+one_more log new entry is = omega (arith, length-append log (entry ∷ []), ap length is)
+
+-- nothing was asked
+none_asked : (old new : Life) → new ≡ old → AsksAtMost 1 old new
+none_asked old new is = omega (arith, ap (λ (l : Life). length l.present.log) is)
+
+-- a write is one device call at most
+pub write_asks : (place : ℕ) (bytes : List ℕ) (sync : Bool) (old new : Life) (result : Result (Unit {0}) Error) → WriteGoes place bytes sync old new result → AsksAtMost 1 old new
+write_asks place bytes false old new (Ok done) (d, then, did) = one_more old.present.log new.present.log _ (ap (λ l. l.present.log) then ∙ ap (λ e. e.log) did.rest)
+write_asks place bytes false old new (Err ReadFailed) (is, (d, then, did)) = one_more old.present.log new.present.log _ (ap (λ l. l.present.log) then ∙ ap (λ e. e.log) did.rest)
+write_asks place bytes false old new (Err WriteFailed) (is, (d, then, did)) = one_more old.present.log new.present.log _ (ap (λ l. l.present.log) then ∙ ap (λ e. e.log) did.rest)
+write_asks place bytes false old new (Err ResizeFailed) (is, (d, then, did)) = one_more old.present.log new.present.log _ (ap (λ l. l.present.log) then ∙ ap (λ e. e.log) did.rest)
+write_asks place bytes false old new (Err SyncFailed) (is, (d, then, did)) = one_more old.present.log new.present.log _ (ap (λ l. l.present.log) then ∙ ap (λ e. e.log) did.rest)
+write_asks place bytes false old new (Err InvalidChecksum) (is, (d, then, did)) = one_more old.present.log new.present.log _ (ap (λ l. l.present.log) then ∙ ap (λ e. e.log) did.rest)
+write_asks place bytes false old new (Err BlobInsufficientLength) (is, (d, then, did)) = one_more old.present.log new.present.log _ (ap (λ l. l.present.log) then ∙ ap (λ e. e.log) did.rest)
+write_asks place bytes false old new (Err OffsetOverflow) (is, passes) = none_asked old new is
+write_asks place bytes false old new (Err OutOfMemory) is = none_asked old new is
+write_asks place bytes false old new (Err IdsExhausted) (is, (d, then, did)) = one_more old.present.log new.present.log _ (ap (λ l. l.present.log) then ∙ ap (λ e. e.log) did.rest)
+write_asks place bytes true old new (Ok done) (d, then, did) = one_more old.present.log new.present.log _ (ap (λ l. l.present.log) then ∙ ap (λ e. e.log) did.rest)
+write_asks place bytes true old new (Err ReadFailed) goes = absurd goes
+write_asks place bytes true old new (Err WriteFailed) (d, then, did) = one_more old.present.log new.present.log _ (ap (λ l. l.present.log) then ∙ ap (λ e. e.log) did.rest)
+write_asks place bytes true old new (Err ResizeFailed) goes = absurd goes
+write_asks place bytes true old new (Err SyncFailed) goes = absurd goes
+write_asks place bytes true old new (Err InvalidChecksum) goes = absurd goes
+write_asks place bytes true old new (Err BlobInsufficientLength) goes = absurd goes
+write_asks place bytes true old new (Err OffsetOverflow) (is, passes) = none_asked old new is
+write_asks place bytes true old new (Err OutOfMemory) is = none_asked old new is
+write_asks place bytes true old new (Err IdsExhausted) goes = absurd goes
+
+-- and so is a sync
+pub sync_asks : (old new : Life) (result : Result (Unit {0}) Error) → SyncGoes old new result → AsksAtMost 1 old new
+sync_asks old new (Ok done) is = one_more old.present.log new.present.log _ (ap (λ l. l.present.log) is)
+sync_asks old new (Err ReadFailed) goes = absurd goes
+sync_asks old new (Err WriteFailed) goes = absurd goes
+sync_asks old new (Err ResizeFailed) goes = absurd goes
+sync_asks old new (Err SyncFailed) is = one_more old.present.log new.present.log _ (ap (λ l. l.present.log) is)
+sync_asks old new (Err InvalidChecksum) goes = absurd goes
+sync_asks old new (Err BlobInsufficientLength) goes = absurd goes
+sync_asks old new (Err OffsetOverflow) goes = absurd goes
+sync_asks old new (Err OutOfMemory) is = none_asked old new is
+sync_asks old new (Err IdsExhausted) goes = absurd goes

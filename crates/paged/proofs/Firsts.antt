@@ -1,20 +1,19 @@
 -- What the prefix of some pages says of them.
-use Rattle.std.proofs.Common.{◌≡◌, ◌≢◌, inl, inr, ℕ, zero, suc, ◌+◌, ◌-◌, ◌*◌, ◌/◌, ◌<◌, ◌≤◌, List, [], ◌∷◌, ◌++◌, length, take, drop, refl, sym, ◌∙◌, ap, subst, arith, length-take}
+use Rattle.std.proofs.Common.{◌≡◌, ◌≢◌, inl, inr, ℕ, zero, suc, ◌+◌, ◌*◌, ◌/◌, ◌<◌, ◌≤◌, List, [], ◌∷◌, ◌++◌, length, take, refl, sym, ◌∙◌, ap, subst, arith}
 use Rattle.std.specs.Prelude.{slice_get, Option, Some, None}
-use Rattle.std.proofs.lemmas.List.{take-take, length-take-le}
-use Rattle.std.proofs.lemmas.Nat.{div_below}
+use Rattle.std.proofs.lemmas.List.{length-take-le}
 use Rattle.std.proofs.Math.Nat.{div-mul-le_self, mul-le-mul_left}
-use Rattle.std.proofs.lemmas.Option.{same_Some, slice_get_within}
-use Rattle.std.proofs.lemmas.Bool.{cases_eq, cases_lt, eq-eqb, ne_eqb}
-use Rattle.page.specs.Page.{pages, pieces, active, value_len, value, text_of_pages, text}
+use Rattle.std.proofs.lemmas.Option.{same_Some}
+use Rattle.std.proofs.lemmas.Bool.{cases_eq, cases_lt}
+use Rattle.page.specs.Page.{pages, pieces, active, value_len, text_of_pages, text}
 use Rattle.page.specs.declared.slot.ActiveChecksum.{ActiveChecksum}
 use Rattle.crash.specs.Full.{AreFull}
-use Rattle.crash.proofs.Pages.{length-pages, page_fits, page_is, pages_at, pages_fit, pages_reach, pages_of_take, take-pieces, pieces_of_take}
+use Rattle.crash.proofs.Pages.{length-pages, pages_at, pages_fit, pages_reach, take-pieces, pieces_of_take}
 use Rattle.crash.proofs.Texts.{active_none, text_full, text_part, value_len_le}
 use Rattle.paged.specs.declared.prefix.Prefix.{Prefix}
 use Rattle.paged.specs.Prefix.{page_at, behind, value_and_slot, prefix_of, prefix_pages, partial_pages, tip_of}
 use Rattle.paged.specs.Recovery.{opened_prefix, opened_size}
-use Rattle.paged.proofs.Prefixes.{partial_pages_le, active_zero, one_page, prefix_full, prefix_part, tip_fits, IsLast, last_is}
+use Rattle.paged.proofs.Prefixes.{partial_pages_le, active_zero, one_page, prefix_full, prefix_part, tip_fits, last_is}
 
 module _ (sum : List ℕ → ℕ) (P : ℕ) where
   -- what stands behind the full pages: nothing that has a value, or the page whose value this is
@@ -55,20 +54,20 @@ module _ (sum : List ℕ → ℕ) (P : ℕ) where
           behind = behind_more page rest p.full_pages p.partial before.behind;
         })
     | inr part ↦ subst (λ (q : Prefix). IsFirst (page ∷ rest) q) (sym (prefix_part sum P page rest part)) (record {
-        within = omega (arith, partial_pages_le (value_and_slot (active sum P page) page));
-        tip = tip_fits sum P page;
-        full = tt;
-        behind = behind_first page rest (active sum P page) part refl;
-      })
+      within = omega (arith, partial_pages_le (value_and_slot (active sum P page) page));
+      tip = tip_fits sum P page;
+      full = tt;
+      behind = behind_first page rest (active sum P page) part refl;
+    })
   ]
 
   -- each page of the prefix has a value
   pub prefix_valued : (some : List (List ℕ)) (k : ℕ) (page : List ℕ) → 0 < P → k < prefix_pages (prefix_of sum P some) → slice_get some k ≡ Some page → value_len sum P page ≢ 0
   prefix_valued [] k page positive lt is = absurd (cc)
   prefix_valued (head ∷ rest) zero page positive lt is = λ none.
-    let empty : value_len sum P head ≡ 0 = ap (λ (l : List ℕ). value_len sum P l) (same_Some head page is) ∙ none in
-    let part = prefix_part sum P head rest (λ full. omega (arith, full, empty)) in
-    omega (arith, lt, ap (λ (q : Prefix). prefix_pages q) part, ap (λ (s : Option ActiveChecksum). partial_pages (value_and_slot s head)) (active_zero sum P head empty))
+      let empty : value_len sum P head ≡ 0 = ap (λ (l : List ℕ). value_len sum P l) (same_Some head page is) ∙ none in
+      let part = prefix_part sum P head rest (λ full. omega (arith, full, empty)) in
+      omega (arith, lt, ap (λ (q : Prefix). prefix_pages q) part, ap (λ (s : Option ActiveChecksum). partial_pages (value_and_slot s head)) (active_zero sum P head empty))
   prefix_valued (head ∷ rest) (suc k) page positive lt is = elim (cases_eq (value_len sum P head) P) [
     | inl full ↦ prefix_valued rest k page positive (omega (arith, lt, ap (λ (q : Prefix). prefix_pages q) (prefix_full sum P head rest full))) is
     | inr part ↦ absurd (omega (arith, lt, ap (λ (q : Prefix). prefix_pages q) (prefix_part sum P head rest part), partial_pages_le (value_and_slot (active sum P head) head)))

@@ -1,26 +1,26 @@
 -- From what a device call did to what a flush and a sync owe.
-use Rattle.std.proofs.Common.{◌≡◌, ℕ, ◌+◌, ◌*◌, ◌%◌, ◌<◌, ◌≤◌, List, [], ◌++◌, length, take, refl, sym, ap, ◌∙◌, subst, arith, append_assoc, append-nil, Bool, true, false, Result, Ok, Err}
-use Rattle.std.specs.Prelude.{IfOk, IsErrOf, not, ◌==◌}
+use Rattle.std.proofs.Common.{◌≡◌, ℕ, ◌%◌, ◌<◌, List, [], ◌++◌, length, take, refl, sym, ap, ◌∙◌, subst, arith, append-nil, Bool, true, false, Result, Ok, Err, inr}
+use Rattle.std.specs.Prelude.{IfOk, IsErrOf, not, ◌==◌, if◌then◌else◌}
 use Rattle.std.proofs.lemmas.List.{take_at}
 use Rattle.std.proofs.lemmas.Bool.Decides.{nat_tests}
 use Rattle.std.proofs.Math.Nat.{mod-lt, mod-eq_of_lt}
-use Rattle.disk.specs.Disk.{Disk, Life, WriteAt, SyncAll, next, settle, logged, WriteGoes, SyncGoes}
+use Rattle.disk.specs.Disk.{Disk, Life, WriteAt, SyncAll, WriteGoes, SyncGoes}
 use Rattle.disk.specs.declared.error.Error.{Error}
 use Rattle.disk.specs.declared.error.Error.TheVariants.{OffsetOverflow}
-use Rattle.crash.specs.WriterState.{WriterState, SyncState}
+use Rattle.crash.specs.WriterState.{WriterState}
 use Rattle.crash.specs.WriterState.SyncState.{Clean, Dirty}
-use Rattle.crash.specs.Built.{after_write, kept_len}
+use Rattle.crash.specs.Built.{after_write}
 use Rattle.crash.specs.Sound.{IsSound, CanWrite, content, guard_slot}
 use Rattle.crash.specs.Stays.{StaysThrough}
 use Rattle.crash.proofs.BuiltLaws.{IsSmall}
 use Rattle.crash.proofs.FlushLaws.{flushed_fits}
-use Rattle.crash.proofs.Moments.{stays_through_start, stays_through_joins, stays_through_longer}
+use Rattle.crash.proofs.Moments.{stays_through_start, stays_through_joins}
 use Rattle.crash.proofs.Soundness.{carry_sound, guard_slot-again}
 use Rattle.crash.proofs.CallLaws.{sync_stays, sync_sound, sync_content, write_stays, write_sound, durable_write_sound, write_content}
 use Rattle.paged.proofs.Flushing.{length-rest}
-use Rattle.paged.proofs.Causes.{write_cause, sync_cause, cause_later, log_more}
+use Rattle.paged.proofs.Causes.{write_cause, sync_cause, cause_later, log_more, sync_asks}
 use Rattle.paged.specs.Flush.{full_in, has_work, carried, synced, place_of, flush_bytes, outcome}
-use Rattle.paged.specs.Calls.{HasCause, LogGrows, IsSameWriter, GoesOn, Refuses, Flushes, Syncs, Settles, IsSettled}
+use Rattle.paged.specs.Calls.{AsksAtMost, settle_calls, sync_calls, IsBounded, IsSameWriter, GoesOn, Flushes, Syncs, Settles, IsSettled}
 
 -- a content is the beginning of a longer one
 pub begins : (xs ys : List ℕ) → xs ≡ take (length xs) (xs ++ ys)
@@ -60,8 +60,8 @@ pub flush_call : (sum : List ℕ → ℕ) (w v : WriterState) (rest : Bool) (old
     → IfOk result (λ now. now ≡ after_write sum v (full_in v) rest) → (IsErrOf result OffsetOverflow → ⊥) → Flushes sum w old new result
 flush_call sum w v rest old new result small sound is =
     subst (λ v. CanWrite v.page_size v.tip (full_in v) rest → WriteGoes (place_of v) (flush_bytes sum v rest) false old new (outcome result)
-      → IfOk result (λ now. now ≡ after_write sum v (full_in v) rest) → (IsErrOf result OffsetOverflow → ⊥) → Flushes sum w old new result) (sym is)
-      (λ can goes state fits. flushes_carried sum w old new result (flush_goes sum (carried w) rest old new result small (carry_sound sum w old.present sound) (guard_slot-again w.sync w.flushed w.durable) can goes state fits))
+    → IfOk result (λ now. now ≡ after_write sum v (full_in v) rest) → (IsErrOf result OffsetOverflow → ⊥) → Flushes sum w old new result) (sym is)
+    (λ can goes state fits. flushes_carried sum w old new result (flush_goes sum (carried w) rest old new result small (carry_sound sum w old.present sound) (guard_slot-again w.sync w.flushed w.durable) can goes state fits))
 
 -- one call after another
 pub goes_on_more : (sum : List ℕ → ℕ) (w m n : WriterState) (old mid new : Life) → GoesOn sum w old [] m mid → GoesOn sum m mid [] n new → GoesOn sum w old [] n new
@@ -71,7 +71,7 @@ goes_on_more sum w m n old mid new first second = record {
   same = record { page_size = second.same.page_size ∙ first.same.page_size; id = second.same.id ∙ first.same.id; capacity = second.same.capacity ∙ first.same.capacity };
   log = omega (arith, first.log, second.log);
   stays = stays_through_joins sum w.page_size (content w old.present.readable ++ []) old mid new first.stays
-    (subst (λ P. StaysThrough sum P (content w old.present.readable ++ []) mid new) first.same.page_size
+      (subst (λ P. StaysThrough sum P (content w old.present.readable ++ []) mid new) first.same.page_size
       (subst (λ c. StaysThrough sum m.page_size c mid new) (append-nil (content m mid.present.readable) ∙ first.content) second.stays));
 }
 
@@ -122,13 +122,16 @@ sync_durably : (sum : List ℕ → ℕ) (w : WriterState) (rest : Bool) (old new
     → w.durable ≡ guard_slot w.sync w.flushed w.durable → rest ≡ not (length w.tip % w.page_size == 0) → CanWrite w.page_size w.tip (full_in w) rest
     → WriteGoes (place_of w) (flush_bytes sum w rest) true old new (outcome result)
     → IfOk result (λ now. now ≡ synced (after_write sum w (full_in w) rest)) → (IsErrOf result OffsetOverflow → ⊥) → Syncs sum w old new result
-sync_durably sum w rest old new (Ok now) small sound is rests can goes state fits = (record {
+sync_durably sum w rest old new (Ok now) small sound is rests can goes state fits = (
+  record {
     sound = subst (λ n. IsSound sum n new.present) (sym state) (durable_write_sound sum w old new (full_in w) rest (flush_bytes sum w rest) small sound is can refl tt goes);
     content = ap (λ n. content n new.present.readable) state ∙ write_content sum w old new (full_in w) rest (flush_bytes sum w rest) small sound is can refl true tt goes ∙ sym (append-nil (content w old.present.readable));
     same = subst (λ n. IsSameWriter w n) (sym state) (record { page_size = refl; id = refl; capacity = refl });
     log = log_more old.present.log new.present.log (WriteAt (place_of w) (length (flush_bytes sum w rest)) true) false (ap (λ l. l.present.log) goes.1 ∙ ap (λ e. e.log) goes.2.rest);
     stays = stays_nil sum w.page_size (content w old.present.readable) old new (write_stays sum w old new (full_in w) rest (flush_bytes sum w rest) small sound is can refl true (Ok tt) goes);
-  }, subst IsSettled (sym state) (settled_after sum w rest sound.stands.some rests))
+  },
+  subst IsSettled (sym state) (settled_after sum w rest sound.stands.some rests),
+)
 sync_durably sum w rest old new (Err e) small sound is rests can goes state fits = record {
   cause = write_cause (place_of w) (flush_bytes sum w rest) true old new e goes (λ h. fits (ap Err h));
   stays = write_stays sum w old new (full_in w) rest (flush_bytes sum w rest) small sound is can refl true (Err e) goes;
@@ -144,8 +147,8 @@ pub sync_write : (sum : List ℕ → ℕ) (w v : WriterState) (rest : Bool) (old
     → IfOk result (λ now. now ≡ synced (after_write sum v (full_in v) rest)) → (IsErrOf result OffsetOverflow → ⊥) → Syncs sum w old new result
 sync_write sum w v rest old new result small sound is rests =
     subst (λ v. CanWrite v.page_size v.tip (full_in v) rest → WriteGoes (place_of v) (flush_bytes sum v rest) true old new (outcome result)
-      → IfOk result (λ now. now ≡ synced (after_write sum v (full_in v) rest)) → (IsErrOf result OffsetOverflow → ⊥) → Syncs sum w old new result) (sym is)
-      (λ can goes state fits. syncs_carried sum w old new result (sync_durably sum (carried w) rest old new result small (carry_sound sum w old.present sound) (guard_slot-again w.sync w.flushed w.durable) rests can goes state fits))
+    → IfOk result (λ now. now ≡ synced (after_write sum v (full_in v) rest)) → (IsErrOf result OffsetOverflow → ⊥) → Syncs sum w old new result) (sym is)
+    (λ can goes state fits. syncs_carried sum w old new result (sync_durably sum (carried w) rest old new result small (carry_sound sum w old.present sound) (guard_slot-again w.sync w.flushed w.durable) rests can goes state fits))
 
 -- a dirty writer's durable slot is up to date
 pub dirty_carried : (w : WriterState) → w.sync ≡ Dirty → w.durable ≡ guard_slot w.sync w.flushed w.durable
@@ -156,16 +159,17 @@ pub sync_second : (sum : List ℕ → ℕ) (w now : WriterState) (rest : Bool) (
     → rest ≡ not (length w.tip % w.page_size == 0) → CanWrite w.page_size w.tip (full_in w) rest → WriteGoes (place_of w) (flush_bytes sum w rest) false old mid (Ok tt)
     → now ≡ after_write sum w (full_in w) rest → SyncGoes mid new (outcome result) → IfOk result (λ n. n ≡ synced now) → Syncs sum w old new result
 sync_second sum w now rest old mid new (Ok n) small sound dirty rests can goes state synced_blob last =
-    let first : GoesOn sum w old [] now mid = flush_goes sum w rest old mid (Ok now) small sound (dirty_carried w dirty) can goes state (λ is. cc) in
-    (goes_on_more sum w now n old mid new first (settle_ok sum now n mid new small first.sound synced_blob last),
-     subst IsSettled (sym (last ∙ ap synced state)) (settled_after sum w rest sound.stands.some rests))
+    let first : GoesOn sum w old [] now mid = flush_goes sum w rest old mid (Ok now) small sound (dirty_carried w dirty) can goes state (λ is. cc) in (
+      goes_on_more sum w now n old mid new first (settle_ok sum now n mid new small first.sound synced_blob last),
+      subst IsSettled (sym (last ∙ ap synced state)) (settled_after sum w rest sound.stands.some rests),
+    )
 sync_second sum w now rest old mid new (Err e) small sound dirty rests can goes state synced_blob last =
     let first : GoesOn sum w old [] now mid = flush_goes sum w rest old mid (Ok now) small sound (dirty_carried w dirty) can goes state (λ is. cc) in
     let second = sync_stays sum now mid first.sound new (Err e) synced_blob in
     record {
       cause = cause_later old mid new e first.log (sync_cause mid new e synced_blob);
       stays = subst (λ c. StaysThrough sum w.page_size c old new) (append-nil (content w old.present.readable))
-        (stays_through_joins sum w.page_size (content w old.present.readable ++ []) old mid new first.stays
+          (stays_through_joins sum w.page_size (content w old.present.readable ++ []) old mid new first.stays
           (subst (λ P. StaysThrough sum P (content w old.present.readable ++ []) mid new) first.same.page_size (subst (λ c. StaysThrough sum now.page_size c mid new) first.content second)));
     }
 
@@ -185,3 +189,50 @@ pub sync_settles : (sum : List ℕ → ℕ) (w : WriterState) (old new : Life) (
     → Settles sum w old new result → Syncs sum w old new result
 sync_settles sum w old new (Ok now) sound idle (goes, state) = (goes, subst IsSettled (sym state) (idle_settled sum w old.present sound idle))
 sync_settles sum w old new (Err e) sound idle refused = refused
+
+-- after a flush less than a page is buffered
+pub flush_short : (sum : List ℕ → ℕ) (w v : WriterState) (result : Result WriterState Error) → 0 < w.page_size → v ≡ carried w → IfOk result (λ now. now ≡ after_write sum v (full_in v) false)
+    → IfOk result (λ (now : WriterState). length now.tip < now.page_size)
+flush_short sum w v (Ok now) some is state =
+    let page : 0 < v.page_size = omega (arith, some, ap (λ (s : WriterState). s.page_size) is) in
+    subst (λ (n : WriterState). length n.tip < n.page_size) (sym state) (omega (arith, length-rest v, mod-lt (length v.tip) page))
+flush_short sum w v (Err e) some is state = tt
+
+-- and where no full page is
+pub idle_short : (w : WriterState) → has_work w false ≡ false → length w.tip < w.page_size
+idle_short w idle = grind (arith, nat_tests, idle)
+
+-- so it is within bounds
+pub short_bounded : (result : Result WriterState Error) → IfOk result (λ (now : WriterState). length now.tip < now.page_size) → IfOk result (λ now. IsBounded now)
+short_bounded (Ok now) short = inr short
+short_bounded (Err e) short = tt
+
+-- what is written is made durable in one call, or none
+pub settle_asks : (w : WriterState) (old new : Life) (result : Result WriterState Error) → w.sync ≡ Dirty → SyncGoes old new (outcome result) → AsksAtMost (settle_calls w.sync) old new
+settle_asks w old new result dirty goes = omega (arith, sync_asks old new (outcome result) goes, ap settle_calls dirty)
+
+-- a sync that writes and syncs, in two
+pub sync_asks_twice : (w : WriterState) (old mid new : Life) → has_work w true ≡ true → w.sync ≡ Dirty → AsksAtMost 1 old mid → AsksAtMost 1 mid new → AsksAtMost (sync_calls w) old new
+sync_asks_twice w old mid new work dirty first second =
+    let write : (if has_work w true then 1 else 0) ≡ 1 = ap {B = ℕ} (λ b. if b then 1 else 0) work in
+    omega (arith, first, second, ap settle_calls dirty, write)
+
+-- in one
+pub sync_asks_once : (w : WriterState) (old new : Life) → has_work w true ≡ true → AsksAtMost 1 old new → AsksAtMost (sync_calls w) old new
+sync_asks_once w old new work first =
+    let write : (if has_work w true then 1 else 0) ≡ 1 = ap {B = ℕ} (λ b. if b then 1 else 0) work in
+    omega (arith, first, write)
+
+-- where something is unsynced a call is due
+pub settle_due : (w : WriterState) → w.sync ≡ Dirty → settle_calls w.sync ≡ 0 → ⊥
+settle_due w dirty none = omega (arith, ap settle_calls dirty, none)
+
+-- and where something isn't written
+pub sync_due : (w : WriterState) → has_work w true ≡ true → sync_calls w ≡ 0 → ⊥
+sync_due w work none =
+    let write : (if has_work w true then 1 else 0) ≡ 1 = ap {B = ℕ} (λ b. if b then 1 else 0) work in
+    omega (arith, write, none)
+
+-- a sync that has nothing to write has to settle alone
+pub settle_none : (w : WriterState) → sync_calls w ≡ 0 → settle_calls w.sync ≡ 0
+settle_none w none = omega (arith, none)

@@ -1,5 +1,5 @@
 -- What a flush writes, and that places still fit.
-use Rattle.std.proofs.Common.{◌≡◌, ℕ, suc, zero, ◌+◌, ◌*◌, ◌-◌, ◌/◌, ◌%◌, ◌<◌, ◌≤◌, ◌^◌, List, [], ◌∷◌, ◌++◌, length, take, drop, refl, sym, ap, ◌∙◌, subst, arith, append_assoc, append-nil, length-drop, Bool, true, false, min}
+use Rattle.std.proofs.Common.{◌≡◌, ℕ, ◌+◌, ◌*◌, ◌-◌, ◌/◌, ◌%◌, ◌<◌, ◌≤◌, ◌^◌, List, ◌++◌, length, take, sym, ap, ◌∙◌, arith, append-nil, length-drop, Bool, true, false, min}
 use Rattle.std.proofs.Math.Nat.{mod-lt, div-add-mod', mod-eq_of_lt, div-eq_of_lt, mul-div_cancel, mul-le-mul_right, add-mul}
 use Rattle.std.proofs.lemmas.List.{take_all, length-take-le}
 use Rattle.std.specs.Prelude.{Option, not, ◌==◌}
@@ -26,7 +26,7 @@ flush_bytes-by_rest sum w false some = append-nil (built sum w.page_size w.durab
 flush_bytes-by_rest sum w true some =
     let short : length (rest_of w) ≤ w.page_size = omega (arith, length-rest w, mod-lt (length w.tip) some) in
     sym (built-suc sum w.page_size w.durable (full_in w) w.tip
-        ∙ ap (λ rest. built sum w.page_size w.durable (full_in w) w.tip ++ page_of sum w.page_size (durable_after w.durable (full_in w)) rest) (take_all w.page_size (rest_of w) short))
+    ∙ ap (λ rest. built sum w.page_size w.durable (full_in w) w.tip ++ page_of sum w.page_size (durable_after w.durable (full_in w)) rest) (take_all w.page_size (rest_of w) short))
 
 -- a tip's full pages have whole pages
 pub length-full : (w : WriterState) → length (take (full_in w * w.page_size) w.tip) ≡ full_in w * w.page_size

@@ -1,5 +1,5 @@
 -- The two halves of the promise, read off what each moment of a call owes.
-use Rattle.std.proofs.Common.{◌≡◌, ℕ, List, [], ◌++◌, length, refl, sym, ap, ◌∙◌, subst, append-nil, Ok, Err, Result}
+use Rattle.std.proofs.Common.{◌≡◌, ℕ, List, ◌++◌, sym, ◌∙◌, subst, append-nil, Ok, Err, Result}
 use Rattle.std.specs.Prelude.{OnOk}
 use Rattle.disk.specs.Disk.{Life}
 use Rattle.disk.specs.declared.error.Error.{Error}
@@ -9,7 +9,7 @@ use Rattle.crash.specs.Sound.{IsSound, content}
 use Rattle.crash.specs.Stays.{StaysThrough, KeepsAll, KeepsFloors, LeavesOnly}
 use Rattle.crash.proofs.Moments.{kept_through, only_through, only_behind, kept_through_longer}
 use Rattle.crash.proofs.Soundness.{settle_keeps}
-use Rattle.paged.specs.Calls.{GoesOn, Syncs, Appends}
+use Rattle.paged.specs.Calls.{Syncs, Appends}
 use Rattle.paged.proofs.Flushes.{begins}
 use Rattle.paged.proofs.Appends.{append_unasked}
 
@@ -23,7 +23,7 @@ pub sync_keeps_all : (sum : List ℕ → ℕ) (w : WriterState) (old new : Life)
 sync_keeps_all sum w old new (Ok now) (goes, settled) =
     let same : content now new.present.readable ≡ content w old.present.readable = goes.content ∙ append-nil (content w old.present.readable) in
     subst (λ P. KeepsAll sum P (content w old.present.readable) new) goes.same.page_size
-      (subst (λ c. KeepsAll sum now.page_size c new) same (settle_keeps sum now new.present goes.sound settled.clean settled.flushed))
+    (subst (λ c. KeepsAll sum now.page_size c new) same (settle_keeps sum now new.present goes.sound settled.clean settled.flushed))
 sync_keeps_all sum w old new (Err e) refused = tt
 
 -- whatever an append answers

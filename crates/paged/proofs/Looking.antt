@@ -1,11 +1,11 @@
 -- Calls that only read a blob.
-use Rattle.std.proofs.Common.{◌≡◌, inl, inr, ℕ, zero, suc, ◌+◌, ◌*◌, ◌<◌, ◌≤◌, List, [], ◌∷◌, ◌++◌, length, take, drop, refl, sym, ◌∙◌, ap, subst, arith, true, false, Bool}
-use Rattle.std.specs.Prelude.{Result, Ok, Err, if◌then◌else◌}
+use Rattle.std.proofs.Common.{◌≡◌, ℕ, ◌+◌, ◌<◌, ◌≤◌, List, [], ◌∷◌, ◌++◌, length, take, drop, refl, sym, ◌∙◌, ap, subst, arith, true, false, Bool}
+use Rattle.std.specs.Prelude.{Ok, Err, if◌then◌else◌}
 use Rattle.disk.specs.Disk.{Disk, Life, Request, Entry, failures, next, after, logged, AskedOnce, ReadGoes}
 use Rattle.disk.specs.Disk.Request.{ReadAt}
 use Rattle.disk.specs.declared.error.Error.{Error}
 use Rattle.disk.specs.declared.error.Error.TheVariants.{ReadFailed, WriteFailed, ResizeFailed, SyncFailed, InvalidChecksum, BlobInsufficientLength, OffsetOverflow, OutOfMemory, IdsExhausted}
-use Rattle.crash.specs.Kept.{Each, Through}
+use Rattle.crash.specs.Kept.{Each}
 use Rattle.crash.specs.Looks.{SameButLog, Looked}
 use Rattle.paged.specs.declared.prefix.Prefix.{Prefix}
 use Rattle.paged.specs.Recovery.{Finds}
@@ -78,9 +78,10 @@ read_gives place len start old new bytes so_far goes = goes.1 ∙ ap (λ (l : Li
 
 -- a look that goes on with a read that isn't answered
 pub finds_fault : (place len : ℕ) (p : Prefix) (start old new : Life) (e : Error) → Looked start old → place + len ≤ length start.present.readable → ReadGoes place len old new (Err e) → Finds p start new (Err e)
-finds_fault place len p start old new ReadFailed so_far there goes =
-    (let more : failures old.present.log < failures new.present.log = omega (arith, failures_asked (ReadAt place len) true old.present, ap (λ (l : Life). failures l.present.log) goes) in omega (arith, more, so_far.log),
-    looked_trans start old new so_far (looked_asked (ReadAt place len) true old new goes))
+finds_fault place len p start old new ReadFailed so_far there goes = (
+  let more : failures old.present.log < failures new.present.log = omega (arith, failures_asked (ReadAt place len) true old.present, ap (λ (l : Life). failures l.present.log) goes) in omega (arith, more, so_far.log),
+  looked_trans start old new so_far (looked_asked (ReadAt place len) true old new goes),
+)
 finds_fault place len p start old new WriteFailed so_far there goes = goes
 finds_fault place len p start old new ResizeFailed so_far there goes = goes
 finds_fault place len p start old new SyncFailed so_far there goes = goes

@@ -1,6 +1,6 @@
 -- Calls that only read.
-use Rattle.std.proofs.Common.{◌≡◌, ℕ, ◌+◌, ◌<◌, ◌≤◌, List, [], ◌∷◌, ◌++◌, refl, sym, ap, ◌∙◌, subst, arith, Bool, true, false, Ok, Err, Result}
-use Rattle.disk.specs.Disk.{Disk, Life, Request, ReadAt, failures, next, logged, ReadGoes}
+use Rattle.std.proofs.Common.{◌≡◌, ℕ, List, [], ◌∷◌, refl, sym, ap, ◌∙◌, subst, arith, Bool, true, false, Ok, Err, Result}
+use Rattle.disk.specs.Disk.{Disk, Life, Request, ReadAt, next, logged, ReadGoes}
 use Rattle.disk.specs.declared.error.Error.{Error}
 use Rattle.disk.specs.declared.error.Error.TheVariants.{ReadFailed, WriteFailed, ResizeFailed, SyncFailed, InvalidChecksum, BlobInsufficientLength, OffsetOverflow, OutOfMemory, IdsExhausted}
 use Rattle.crash.specs.Looks.{SameButLog, Looked}

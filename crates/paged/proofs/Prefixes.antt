@@ -1,18 +1,17 @@
 -- The prefix of pages that a recovery keeps.
-use Rattle.std.proofs.Common.{◌≡◌, ◌≢◌, inl, inr, ℕ, zero, suc, ◌+◌, ◌-◌, ◌*◌, ◌/◌, ◌<◌, ◌≤◌, List, [], ◌∷◌, ◌++◌, length, take, drop, get_or, refl, sym, ◌∙◌, ap, subst, arith, Bool, true, false, length-take}
-use Rattle.std.specs.Prelude.{slice_get, Option, Some, None, is_some, MatchOption, ◌==◌, if◌then◌else◌}
+use Rattle.std.proofs.Common.{◌≡◌, ◌≢◌, inl, inr, ℕ, zero, suc, ◌+◌, ◌-◌, ◌*◌, ◌<◌, ◌≤◌, List, [], ◌∷◌, ◌++◌, length, take, drop, refl, sym, ◌∙◌, ap, subst, arith, Bool, true, false, length-take}
+use Rattle.std.specs.Prelude.{Option, Some, None, is_some, MatchOption, ◌==◌}
 use Rattle.std.proofs.Math.Nat.{mul-le-mul_left}
 use Rattle.std.proofs.lemmas.List.{take-take, drop-drop, length-drop}
 use Rattle.std.proofs.lemmas.Bool.{eq-eqb, ne_eqb, eqb-true, cases_eq, cond-true, cond-false, false≢true}
 use Rattle.page.specs.Page.{pieces, pages, active, value_len, value_slot, slot_crc, slot_of}
 use Rattle.page.specs.declared.slot.ActiveChecksum.{ActiveChecksum}
-use Rattle.crash.specs.Full.{AreFull}
 use Rattle.crash.specs.Built.{kept_len}
-use Rattle.crash.proofs.Texts.{AreBytes, active_is, active_none, active_some, value_len_le}
+use Rattle.crash.proofs.Texts.{AreBytes, active_is, active_none, value_len_le}
 use Rattle.crash.proofs.Lists.{within_take, within_drop}
 use Rattle.crash.proofs.Pages.{pieces-add, pages_of_take, take-pages, length-pieces}
 use Rattle.paged.specs.declared.prefix.Prefix.{Prefix}
-use Rattle.paged.specs.Prefix.{page_at, behind, value_and_slot, prefix_of, last_prefix, prefix_pages, partial_pages, tip_of, slot_of_tip, HasBytes}
+use Rattle.paged.specs.Prefix.{page_at, behind, value_and_slot, prefix_of, last_prefix, prefix_pages, partial_pages, tip_of, HasBytes}
 
 -- pages in front of pages in front
 pub behind-behind : (m n : ℕ) (p : Prefix) → behind m (behind n p) ≡ behind (m + n) p
@@ -248,10 +247,10 @@ module _ (sum : List ℕ → ℕ) (P : ℕ) where
     | inr some ↦ elim (cases_eq (value_len sum P (page_at P n bytes)) P) [
       | inl full ↦ subst (λ (p : Prefix). IsLast (suc n) bytes p) (sym (last_full_suc n bytes some full)) (record { within = omega arith; tip = omega arith; none = λ k le lt. absurd (omega arith) })
       | inr part ↦ subst (λ (p : Prefix). IsLast (suc n) bytes p) (sym (last_part_suc n bytes some part)) (record {
-          within = omega (arith, partial_pages_le (value_and_slot (active sum P (page_at P n bytes)) (page_at P n bytes)));
-          tip = tip_fits (page_at P n bytes);
-          none = λ k le lt. absurd (omega (arith, le, lt, one_page (page_at P n bytes) some));
-        })
+        within = omega (arith, partial_pages_le (value_and_slot (active sum P (page_at P n bytes)) (page_at P n bytes)));
+        tip = tip_fits (page_at P n bytes);
+        none = λ k le lt. absurd (omega (arith, le, lt, one_page (page_at P n bytes) some));
+      })
     ]
   ]
 

@@ -1,16 +1,14 @@
 -- Reads of pages and of ranges.
-use Rattle.std.proofs.Common.{◌≡◌, ◌≢◌, ℕ, ◌+◌, ◌*◌, ◌-◌, ◌/◌, ◌%◌, ◌<◌, ◌≤◌, List, [], ◌∷◌, ◌++◌, length, take, drop, min, max, refl, sym, ap, ◌∙◌, subst, arith, append_assoc, inl, inr, Bool, true, false, Ok, Err, Result}
+use Rattle.std.proofs.Common.{◌≡◌, ℕ, ◌+◌, ◌*◌, ◌-◌, ◌/◌, ◌%◌, ◌<◌, ◌≤◌, List, [], ◌++◌, length, take, drop, min, max, sym, ap, ◌∙◌, subst, arith, append_assoc, inl, inr, Ok, Err, Result}
 use Rattle.std.proofs.lemmas.Bool.{cases_lt}
-use Rattle.std.specs.Prelude.{Option, Some, None}
-use Rattle.std.specs.List.{concat}
-use Rattle.std.proofs.Math.Nat.{div-add-mod', mod-lt, suc-mul, mul-le-mul_right}
+use Rattle.std.specs.Prelude.{Some, None}
+use Rattle.std.proofs.Math.Nat.{div-add-mod', suc-mul, mul-le-mul_right}
 use Rattle.std.proofs.lemmas.List.{take-append-drop, drop-drop, take-take, drop-take}
-use Rattle.disk.specs.Disk.{Disk, Life, ReadGoes, failures}
+use Rattle.disk.specs.Disk.{Life, ReadGoes}
 use Rattle.disk.specs.declared.error.Error.{Error}
 use Rattle.disk.specs.declared.error.Error.TheVariants.{ReadFailed, WriteFailed, ResizeFailed, SyncFailed, InvalidChecksum, BlobInsufficientLength, OffsetOverflow, OutOfMemory, IdsExhausted}
-use Rattle.page.specs.Page.{pages, value_len, active}
-use Rattle.crash.specs.Full.{AreFull}
-use Rattle.crash.specs.Looks.{SameButLog, Looked}
+use Rattle.page.specs.Page.{value_len, active}
+use Rattle.crash.specs.Looks.{Looked}
 use Rattle.crash.specs.WriterState.{WriterState}
 use Rattle.crash.specs.Sound.{content}
 use Rattle.crash.proofs.FlushLaws.{content_in_page, content_in_tip}
@@ -134,18 +132,19 @@ take_none n xs none = ap (λ n. take n xs) none
 -- what a range has of the tip is what it has behind the part below
 tip_part : (w : WriterState) (offset end below : ℕ) (readable : List ℕ) → w.full_pages * (w.page_size + 12) ≤ length readable → below ≡ w.full_pages * w.page_size → offset ≤ end
     → take (end - max offset below) (drop (max offset below - w.full_pages * w.page_size) w.tip)
-      ≡ take (end - (offset + (min end below - offset))) (drop (offset + (min end below - offset)) (content w readable))
+    ≡ take (end - (offset + (min end below - offset))) (drop (offset + (min end below - offset)) (content w readable))
 tip_part w offset end below readable there is order =
     elim (cases_lt (max offset below) end) [
-      inl some ↦
-        let place : w.full_pages * w.page_size + (max offset below - w.full_pages * w.page_size) ≡ offset + (min end below - offset) = omega arith in
-        let count : end - max offset below ≡ end - (offset + (min end below - offset)) = omega arith in
-        ap (λ n. take n (drop (max offset below - w.full_pages * w.page_size) w.tip)) count
-        ∙ ap (λ b. take (end - (offset + (min end below - offset))) b) (sym (content_in_tip w readable there (max offset below - w.full_pages * w.page_size)))
-        ∙ ap (λ n. take (end - (offset + (min end below - offset))) (drop n (content w readable))) place
-    | inr none ↦
-        take_none (end - max offset below) (drop (max offset below - w.full_pages * w.page_size) w.tip) (omega arith)
-        ∙ sym (take_none (end - (offset + (min end below - offset))) (drop (offset + (min end below - offset)) (content w readable)) (omega arith)) ]
+      | inl some ↦
+          let place : w.full_pages * w.page_size + (max offset below - w.full_pages * w.page_size) ≡ offset + (min end below - offset) = omega arith in
+          let count : end - max offset below ≡ end - (offset + (min end below - offset)) = omega arith in
+          ap (λ n. take n (drop (max offset below - w.full_pages * w.page_size) w.tip)) count
+          ∙ ap (λ b. take (end - (offset + (min end below - offset))) b) (sym (content_in_tip w readable there (max offset below - w.full_pages * w.page_size)))
+          ∙ ap (λ n. take (end - (offset + (min end below - offset))) (drop n (content w readable))) place
+      | inr none ↦
+          take_none (end - max offset below) (drop (max offset below - w.full_pages * w.page_size) w.tip) (omega arith)
+          ∙ sym (take_none (end - (offset + (min end below - offset))) (drop (offset + (min end below - offset)) (content w readable)) (omega arith))
+    ]
 
 -- a range is what it has below the tip, and what it has of the tip
 pub range_joins : (w : WriterState) (offset len end below : ℕ) (readable first all : List ℕ) → w.full_pages * (w.page_size + 12) ≤ length readable → below ≡ w.full_pages * w.page_size → end ≡ offset + len

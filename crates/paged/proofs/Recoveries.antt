@@ -1,5 +1,5 @@
 -- What opening and recovering leave of a blob.
-use Rattle.std.proofs.Common.{◌≡◌, ◌≢◌, ◌⊎◌, inl, inr, ℕ, zero, suc, ◌+◌, ◌-◌, ◌*◌, ◌/◌, ◌%◌, ◌^◌, ◌<◌, ◌≤◌, List, [], ◌∷◌, ◌++◌, length, take, drop, refl, sym, ◌∙◌, ap, subst, arith, true, false, Bool}
+use Rattle.std.proofs.Common.{◌≡◌, ◌⊎◌, inl, inr, ℕ, ◌+◌, ◌*◌, ◌/◌, ◌%◌, ◌^◌, ◌<◌, ◌≤◌, List, length, take, refl, sym, ◌∙◌, ap, subst, arith, true, false, Bool}
 use Rattle.std.specs.Prelude.{Result, Ok, Err, Option, Some, None, if◌then◌else◌}
 use Rattle.std.specs.Int.{div_ceil}
 use Rattle.std.proofs.Math.Nat.{div-eq_of_lt, mod-eq_of_lt, mul-div_cancel, mul-mod_left, mul-le-mul_left}
@@ -7,7 +7,7 @@ use Rattle.std.proofs.lemmas.Bool.{cases_lt}
 use Rattle.std.proofs.lemmas.List.{take_all}
 use Rattle.page.specs.Geometry.{adjusted}
 use Rattle.page.specs.declared.slot.ActiveChecksum.{ActiveChecksum}
-use Rattle.disk.specs.Disk.{Disk, Life, Request, Operation, Operated, applied, failures, next, logged, settle, AskedOnce, ResizeGoes, SyncGoes}
+use Rattle.disk.specs.Disk.{Disk, Life, Request, Operation, Operated, failures, logged, settle, ResizeGoes, SyncGoes}
 use Rattle.disk.specs.Disk.Operation.{Resize}
 use Rattle.disk.specs.Disk.Request.{ResizeTo, SyncAll}
 use Rattle.disk.specs.declared.error.Error.{Error}
@@ -23,10 +23,10 @@ use Rattle.paged.specs.declared.writer.SyncState.{SyncState as State}
 use Rattle.paged.specs.Writer.{state_of, FitsBlob}
 use Rattle.paged.specs.Prefix.{last_prefix, prefix_pages, partial_pages, tip_of, slot_of_tip, at_prefix, HasBytes}
 use Rattle.paged.specs.Calls.{HasCause, LogGrows}
-use Rattle.paged.specs.Recovery.{Finds, IsDurable, Cuts, CutsBack, IsKept, Stands, TrimsTo, SyncsIn, EndsAt, IsOpened, Opens, opened_prefix, opened_size}
+use Rattle.paged.specs.Recovery.{Finds, IsDurable, Cuts, CutsBack, IsKept, Stands, TrimsTo, SyncsIn, EndsAt, Opens, opened_prefix, opened_size}
 use Rattle.paged.specs.Recovery.IsKept.{whole, cut}
 use Rattle.paged.proofs.Prefixes.{IsLast, last_is}
-use Rattle.paged.proofs.Looking.{failures-append, failures_asked, looked_readable}
+use Rattle.paged.proofs.Looking.{failures_asked, looked_readable}
 
 -- ---- the device's calls
 
@@ -37,9 +37,10 @@ failures_operated o request failed old new operated = ap (λ (d : Disk). failure
 -- a resize that cuts, done
 pub resize_done : (kept : ℕ) (old new : Life) → kept ≤ length old.present.readable → ResizeGoes kept old new (Ok tt) → (new.present.readable ≡ take kept old.present.readable) × LogGrows old new
 resize_done kept old new le goes =
-    let now : new.present ≡ goes.0 = ap (λ (l : Life). l.present) goes.1 in
-    (ap (λ (d : Disk). d.readable) now ∙ goes.2.done refl ∙ cut_is kept old.present.readable le,
-    omega (arith, ap (λ (d : Disk). failures d.log) now, failures_operated (Resize kept) (ResizeTo kept) false old.present goes.0 goes.2))
+    let now : new.present ≡ goes.0 = ap (λ (l : Life). l.present) goes.1 in (
+      ap (λ (d : Disk). d.readable) now ∙ goes.2.done refl ∙ cut_is kept old.present.readable le,
+      omega (arith, ap (λ (d : Disk). failures d.log) now, failures_operated (Resize kept) (ResizeTo kept) false old.present goes.0 goes.2),
+    )
 
 -- a resize that isn't done
 pub resize_cause : (kept : ℕ) (old new : Life) (e : Error) → ResizeGoes kept old new (Err e) → HasCause old new e
@@ -57,10 +58,11 @@ resize_cause kept old new IdsExhausted goes = absurd (cc (goes.0))
 -- a sync, done
 pub sync_done : (old new : Life) → SyncGoes old new (Ok tt) → (new.present.readable ≡ old.present.readable) × IsDurable new.present × LogGrows old new
 sync_done old new goes =
-    let now : new.present ≡ settle (logged SyncAll false old.present) = ap (λ (l : Life). l.present) goes in
-    (ap (λ (d : Disk). d.readable) now,
-    record { since = ap (λ (d : Disk). d.since) now; base = ap (λ (d : Disk). d.base) now ∙ sym (ap (λ (d : Disk). d.readable) now) },
-    omega (arith, ap (λ (d : Disk). failures d.log) now, failures_asked SyncAll false old.present))
+    let now : new.present ≡ settle (logged SyncAll false old.present) = ap (λ (l : Life). l.present) goes in (
+      ap (λ (d : Disk). d.readable) now,
+      record { since = ap (λ (d : Disk). d.since) now; base = ap (λ (d : Disk). d.base) now ∙ sym (ap (λ (d : Disk). d.readable) now) },
+      omega (arith, ap (λ (d : Disk). failures d.log) now, failures_asked SyncAll false old.present),
+    )
 
 -- a sync that isn't done
 pub sync_cause : (old new : Life) (e : Error) → SyncGoes old new (Err e) → HasCause old new e
@@ -251,10 +253,11 @@ ends_back kept s old mid new (Err e) syncs cuts = (mid, synced_once s old mid (O
 pub ended : (kept : ℕ) (s : SyncState) (t : State) (old mid new : Life) → (s ≡ Clean → IsDurable old.present) → kept ≤ length old.present.readable → SyncsIn s old mid (Ok tt) → CutsBack kept mid new (Ok t)
     → (new.present.readable ≡ take kept old.present.readable) × IsDurable new.present × LogGrows old new
 ended kept s IsDirty old mid new clean le syncs cuts =
-    let first = synced_done s old mid clean syncs in
-    (ap (λ (l : Life). l.present.readable) cuts.1 ∙ first.0 ∙ sym (take_all kept old.present.readable (omega (arith, cuts.0, ap length first.0))),
-    subst (λ (l : Life). IsDurable l.present) (sym cuts.1) first.1,
-    omega (arith, first.2, ap (λ (l : Life). failures l.present.log) cuts.1))
+    let first = synced_done s old mid clean syncs in (
+      ap (λ (l : Life). l.present.readable) cuts.1 ∙ first.0 ∙ sym (take_all kept old.present.readable (omega (arith, cuts.0, ap length first.0))),
+      subst (λ (l : Life). IsDurable l.present) (sym cuts.1) first.1,
+      omega (arith, first.2, ap (λ (l : Life). failures l.present.log) cuts.1),
+    )
 ended kept s IsClean old mid new clean le syncs cuts =
     let first = synced_done s old mid clean syncs in
     let second = cut_done kept mid new (omega (arith, ap length first.0)) cuts.1 in

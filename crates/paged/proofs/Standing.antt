@@ -1,17 +1,16 @@
 -- A writer that stands behind the first pages of some bytes, with nothing unsynced.
-use Rattle.std.proofs.Common.{◌≡◌, ◌≢◌, ℕ, suc, ◌+◌, ◌-◌, ◌*◌, ◌/◌, ◌^◌, ◌<◌, ◌≤◌, List, [], ◌∷◌, ◌++◌, length, take, drop, refl, sym, ◌∙◌, ap, subst, arith}
+use Rattle.std.proofs.Common.{◌≡◌, ℕ, ◌+◌, ◌*◌, ◌^◌, ◌<◌, ◌≤◌, List, length, take, drop, refl, sym, ◌∙◌, ap, subst, arith}
 use Rattle.std.specs.Prelude.{Option, Some, None}
 use Rattle.std.proofs.lemmas.List.{take-take, length-take-le}
 use Rattle.disk.specs.Disk.{Disk}
 use Rattle.page.specs.Page.{pages, active, value_len, text}
 use Rattle.page.specs.declared.slot.ActiveChecksum.{ActiveChecksum}
-use Rattle.crash.specs.WriterState.{WriterState, SyncState}
 use Rattle.crash.specs.WriterState.SyncState.{Clean}
 use Rattle.crash.specs.Full.{AreFull}
 use Rattle.crash.specs.Sound.{IsSound, HasPage, content}
 use Rattle.crash.proofs.Lists.{within_take}
 use Rattle.crash.proofs.Pages.{pages_at, pages_reach, page_is, page_fits, length-pages}
-use Rattle.crash.proofs.Texts.{AreBytes, AreFull_same, value_len_le, active_is, text_cut, text_cut_part}
+use Rattle.crash.proofs.Texts.{AreBytes, AreFull_same, active_is, text_cut, text_cut_part}
 use Rattle.crash.proofs.BuiltLaws.{IsSmall}
 use Rattle.crash.proofs.FlushLaws.{exact_content, page_content, has_page}
 use Rattle.crash.proofs.Soundness.{exact_sound, page_sound}
@@ -34,11 +33,12 @@ module _ (sum : List ℕ → ℕ) (small_sum : IsSmall sum) (P id capacity : ℕ
       let reach : n ≤ length bytes = pages_reach P full bytes (omega (arith, within, length-pages P bytes)) in
       let size : length d.readable ≡ n = ap length cut ∙ length-take-le n bytes reach in
       let same : take n bytes ≡ take n d.readable = sym (ap (λ (l : List ℕ). take n l) cut ∙ take-take n n bytes (omega arith)) in
-      let here : AreFull sum P (take full (pages P d.readable)) = AreFull_same sum P full bytes d.readable reach same are in
-      (exact_sound sum w d durable.since durable.base positive small here refl refl size,
-      exact_content sum w d durable.since durable.base positive small here refl refl size
-      ∙ ap (λ (l : List ℕ). text sum P l) cut
-      ∙ text_cut sum P full bytes positive are reach (λ more. behind (page_at P full bytes) (pages_at P full bytes more)))
+      let here : AreFull sum P (take full (pages P d.readable)) = AreFull_same sum P full bytes d.readable reach same are in (
+        exact_sound sum w d durable.since durable.base positive small here refl refl size,
+        exact_content sum w d durable.since durable.base positive small here refl refl size
+            ∙ ap (λ (l : List ℕ). text sum P l) cut
+            ∙ text_cut sum P full bytes positive are reach (λ more. behind (page_at P full bytes) (pages_at P full bytes more)),
+      )
 
   -- behind full pages and a page with a shorter value
   stands_some : (full : ℕ) (v : List ℕ × ActiveChecksum) → AreFull sum P (take full (pages P bytes)) → Behind sum P (pages P bytes) full (Some v) → HasBytes P full bytes (Some v) → d.readable ≡ take ((full + 1) * (P + 12)) bytes
@@ -61,11 +61,12 @@ module _ (sum : List ℕ → ℕ) (small_sum : IsSmall sum) (P id capacity : ℕ
       let tip : v.0 ≡ take a.len (drop k d.readable) = behind.3 ∙ ap (λ (l : List ℕ). take a.len l) (page_eq ∙ page_same) ∙ take-take a.len (P + 12) (drop k d.readable) (omega (arith, part)) in
       let are_bytes : AreBytes (page_at P full d.readable) = subst (λ (l : List ℕ). AreBytes l) page_same has in
       let page : HasPage sum P full v.0 d.readable a = has_page sum P full v.0 d.readable a size are_bytes told part tip in
-      let less : value_len sum P (page_at P full bytes) < P = omega (arith, part, is.len, ap (λ (l : List ℕ). value_len sum P l) page_same) in
-      (page_sound sum w d durable.since durable.base positive small here refl small_sum a refl page,
-      page_content sum w d.readable a here (omega (arith, size)) told part tip
-      ∙ ap (λ (l : List ℕ). text sum P l) cut
-      ∙ text_cut_part sum P full bytes are fits less)
+      let less : value_len sum P (page_at P full bytes) < P = omega (arith, part, is.len, ap (λ (l : List ℕ). value_len sum P l) page_same) in (
+        page_sound sum w d durable.since durable.base positive small here refl small_sum a refl page,
+        page_content sum w d.readable a here (omega (arith, size)) told part tip
+            ∙ ap (λ (l : List ℕ). text sum P l) cut
+            ∙ text_cut_part sum P full bytes are fits less,
+      )
 
   stands_behind : (full : ℕ) (found : Option (List ℕ × ActiveChecksum)) → full + partial_pages found ≤ length (pages P bytes) → AreFull sum P (take full (pages P bytes)) → Behind sum P (pages P bytes) full found → HasBytes P full bytes found
       → d.readable ≡ take ((full + partial_pages found) * (P + 12)) bytes → StandsFor (record { full_pages = full; partial = found })

@@ -1,8 +1,8 @@
 -- What each moment of opening and recovering a blob owes to the first, where that one was durable.
-use Rattle.std.proofs.Common.{◌≡◌, ◌⊎◌, inl, inr, ℕ, ◌+◌, ◌*◌, ◌<◌, ◌≤◌, List, [], length, take, refl, sym, ◌∙◌, ap, subst, arith, Result, Ok, Err}
+use Rattle.std.proofs.Common.{◌≡◌, ◌⊎◌, inl, inr, ℕ, ◌+◌, ◌*◌, ◌<◌, ◌≤◌, List, length, take, refl, sym, ◌∙◌, ap, subst, arith, Result, Ok, Err}
 use Rattle.disk.specs.declared.error.Error.TheVariants.{ReadFailed, WriteFailed, ResizeFailed, SyncFailed, InvalidChecksum, BlobInsufficientLength, OffsetOverflow, OutOfMemory, IdsExhausted}
 use Rattle.page.specs.Page.{text, pages}
-use Rattle.disk.specs.Disk.{Disk, Life, ResizeGoes, SyncGoes}
+use Rattle.disk.specs.Disk.{Disk, Life, SyncGoes}
 use Rattle.disk.specs.declared.error.Error.{Error}
 use Rattle.std.specs.Prelude.{OnOk}
 use Rattle.cache.specs.CacheState.{CacheState}
@@ -14,9 +14,9 @@ use Rattle.crash.proofs.Moments.{stays_through_joins, only_through}
 use Rattle.crash.proofs.CutLaws.{all_kept_through, rest_keeps, resize_stays, cut_sync_stays, rest_through_start, rest_looked_stays, rest_looked_rests, rest_sync_stays, rest_sync_rests}
 use Rattle.paged.specs.declared.prefix.Prefix.{Prefix}
 use Rattle.paged.specs.Prefix.{prefix_of, prefix_pages}
-use Rattle.paged.specs.Recovery.{IsDurable, Cuts, TrimsTo, EndsAt, KeepsText, LeavesText, IsRecovered, Recovers, IsKept, Finds, opened_prefix, opened_size}
+use Rattle.paged.specs.Recovery.{IsDurable, Cuts, TrimsTo, EndsAt, KeepsText, LeavesText, Recovers, IsKept, Finds, opened_prefix, opened_size}
 use Rattle.paged.specs.Recovery.IsKept.{whole, cut}
-use Rattle.paged.proofs.Firsts.{IsFirst, prefix_is, text_of_beginning, first_size_le}
+use Rattle.paged.proofs.Firsts.{prefix_is, text_of_beginning, first_size_le}
 use Rattle.paged.proofs.Recoveries.{opened_size_le}
 
 -- all is durable, and says this content
@@ -34,7 +34,7 @@ module _ (sum : List ℕ → ℕ) (P : ℕ) (content bytes : List ℕ) (some : 0
       → Cuts (k * (P + 12)) old new answer → StaysThrough sum P content old new
   cuts_stay k old new (Ok u) rest within leaves cuts =
       cut_sync_stays sum P k content old cuts.0 new (Ok u) (Ok u) some rest.durable.since rest.durable.base (subst (λ (l : List ℕ). k * (P + 12) ≤ length l) (sym rest.readable) within) (here old.present rest)
-        (ap (λ (l : List ℕ). text sum P (take (k * (P + 12)) l)) rest.readable ∙ leaves) cuts.1 cuts.2
+      (ap (λ (l : List ℕ). text sum P (take (k * (P + 12)) l)) rest.readable ∙ leaves) cuts.1 cuts.2
   cuts_stay k old new (Err e) rest within leaves cuts = elim cuts [
     | inl first ↦ resize_stays sum P k content old new (Err e) some rest.durable.since rest.durable.base (subst (λ (l : List ℕ). k * (P + 12) ≤ length l) (sym rest.readable) within) (here old.present rest)
         (ap (λ (l : List ℕ). text sum P (take (k * (P + 12)) l)) rest.readable ∙ leaves) first
@@ -96,7 +96,7 @@ module _ (sum : List ℕ → ℕ) (P : ℕ) (old new : Life) where
       let bytes = old.present.readable in
       let le = opened_size_le sum P bytes in
       trims_stay sum P (text sum P bytes) bytes some (prefix_pages (opened_prefix sum P bytes)) old new (start durable) le
-        (text_of_beginning sum P (opened_size sum P bytes) bytes some le (first_size_le sum P bytes some)) trims
+      (text_of_beginning sum P (opened_size sum P bytes) bytes some le (first_size_le sum P bytes some)) trims
 
   -- the two halves, read off what each moment owes
   pub keeps_text : (IsDurable old.present → StaysThrough sum P (text sum P old.present.readable) old new) → KeepsText sum P old new
@@ -136,7 +136,7 @@ module _ (sum : List ℕ → ℕ) (P : ℕ) (old mid : Life) (some : 0 < P) (dur
       → StaysThrough sum P (text sum P old.present.readable) old scanned
   scanned_stay s scanned trims kept looked =
       stays_through_joins sum P (text sum P old.present.readable) old mid scanned (opens_stay sum P old mid some trims durable)
-        (looked_stays sum P (text sum P old.present.readable) mid.present.readable some mid scanned (opened_rests s kept) looked)
+      (looked_stays sum P (text sum P old.present.readable) mid.present.readable some mid scanned (opened_rests s kept) looked)
 
   -- and of what is kept of it
   pub recovers_stay : (s : SyncState) (scanned new : Life) (Q : ℕ) (p : Prefix) → TrimsTo (opened_size sum P old.present.readable) old mid → IsKept old mid (opened_size sum P old.present.readable) s → Looked mid scanned
@@ -149,9 +149,9 @@ module _ (sum : List ℕ → ℕ) (P : ℕ) (old mid : Life) (some : 0 < P) (dur
       let le : k * (P + 12) ≤ length bytes = pages_reach P k bytes (omega (arith, (prefix_is sum P (pages P bytes)).within, length-pages P bytes)) in
       let place : prefix_pages p * (Q + 12) ≡ k * (P + 12) = ap (λ (n : ℕ). prefix_pages p * (n + 12)) same ∙ ap (λ (q : Prefix). prefix_pages q * (P + 12)) is in
       stays_through_joins sum P content old scanned new (scanned_stay s scanned trims kept looked)
-        (ends_stay sum P content bytes some k scanned new (looked_rests sum P content bytes some mid scanned rest looked) le
-          (text_of_beginning sum P (k * (P + 12)) bytes some le (omega arith) ∙ rest.says)
-          (subst (λ (n : ℕ). EndsAt n scanned new) place ends))
+      (ends_stay sum P content bytes some k scanned new (looked_rests sum P content bytes some mid scanned rest looked) le
+      (text_of_beginning sum P (k * (P + 12)) bytes some le (omega arith) ∙ rest.says)
+      (subst (λ (n : ℕ). EndsAt n scanned new) place ends))
 
 -- a recovery keeps all
 pub recovers_keep_all : (sum : List ℕ → ℕ) (cache : CacheState) (capacity : ℕ) (old new : Life) (result : Result WriterState Error) → 0 < cache.page_size → Recovers sum cache capacity old new result
@@ -162,5 +162,5 @@ recovers_keep_all sum cache capacity old new (Ok w) some is =
     let k = prefix_pages (prefix_of sum P (pages P bytes)) in
     let le : k * (P + 12) ≤ length bytes = pages_reach P k bytes (omega (arith, (prefix_is sum P (pages P bytes)).within, length-pages P bytes)) in
     rest_keeps sum P (text sum P bytes) new.present is.durable.since
-      (ap (λ (l : List ℕ). text sum P l) (is.durable.base ∙ is.readable) ∙ text_of_beginning sum P (k * (P + 12)) bytes some le (omega arith))
+    (ap (λ (l : List ℕ). text sum P l) (is.durable.base ∙ is.readable) ∙ text_of_beginning sum P (k * (P + 12)) bytes some le (omega arith))
 recovers_keep_all sum cache capacity old new (Err e) some is = tt

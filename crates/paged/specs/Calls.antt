@@ -1,15 +1,15 @@
 -- What each public call of a writer does, by cases on its answer.
-use Rattle.std.specs.Prelude.{◌≡◌, ◌<◌, ◌≤◌, ◌+◌, ◌*◌, ◌^◌, ◌++◌, ℕ, List, [], length, Result, Ok, Err}
+use Rattle.std.specs.Prelude.{◌≡◌, ◌⊎◌, ◌<◌, ◌≤◌, ◌+◌, ◌^◌, ◌++◌, ℕ, List, [], length, true, if◌then◌else◌, Result, Ok, Err}
 use Rattle.disk.specs.Disk.{Life, failures}
 use Rattle.disk.specs.declared.error.Error.{Error}
-use Rattle.disk.specs.declared.error.Error.TheVariants.{ReadFailed, WriteFailed, ResizeFailed, SyncFailed, InvalidChecksum, BlobInsufficientLength, OffsetOverflow, OutOfMemory, IdsExhausted}
-use Rattle.crash.specs.WriterState.{WriterState}
-use Rattle.crash.specs.WriterState.SyncState.{Clean}
+use Rattle.disk.specs.declared.error.Error.TheVariants.{ReadFailed, WriteFailed, ResizeFailed, SyncFailed, OffsetOverflow, OutOfMemory}
+use Rattle.crash.specs.WriterState.{WriterState, SyncState}
+use Rattle.crash.specs.WriterState.SyncState.{Clean, Dirty}
 use Rattle.crash.specs.Sound.{IsSound, content}
 use Rattle.crash.specs.Stays.{StaysThrough}
 use Rattle.crash.specs.Built.{kept_len}
 use Rattle.paged.specs.Writer.{physical_size}
-use Rattle.paged.specs.Flush.{synced}
+use Rattle.paged.specs.Flush.{has_work, synced}
 
 -- why a call that asked the device may answer this error: the device failed in the call, or memory was refused
 abbrev pub HasCause : Life → Life → Error → Type 0
@@ -23,6 +23,23 @@ HasCause old new _ = ⊥
 -- the log loses nothing
 abbrev pub LogGrows : Life → Life → Type 0
 LogGrows old new = failures old.present.log ≤ failures new.present.log
+
+-- at most so many device calls were made
+abbrev pub AsksAtMost : ℕ → Life → Life → Type 0
+AsksAtMost n old new = length new.present.log ≤ length old.present.log + n
+
+-- the device calls that make what is written durable: a sync, where something is unsynced
+abbrev pub settle_calls : SyncState → ℕ
+settle_calls Clean = 0
+settle_calls Dirty = 1
+
+-- those of a sync: a write before it, where something isn't written
+abbrev pub sync_calls : WriterState → ℕ
+sync_calls w = (if has_work w true then 1 else 0) + settle_calls w.sync
+
+-- what is buffered is within the capacity, or less than a page
+abbrev pub IsBounded : WriterState → Type 0
+IsBounded w = (length w.tip ≤ w.capacity) ⊎ (length w.tip < w.page_size)
 
 -- the writer is the same but for its pages and what it buffers
 pub record IsSameWriter (old new : WriterState) : Type 0 where

@@ -3,7 +3,7 @@ use Rattle.std.specs.Prelude.{ℕ, ◌+◌, ◌*◌, ◌/◌, ◌%◌, ◌==◌,
 use Rattle.disk.specs.declared.error.Error.{Error}
 use Rattle.page.specs.declared.slot.ActiveChecksum.{ActiveChecksum}
 use Rattle.crash.specs.WriterState.{WriterState, SyncState}
-use Rattle.crash.specs.WriterState.SyncState.{Clean, Dirty}
+use Rattle.crash.specs.WriterState.SyncState.{Clean}
 use Rattle.crash.specs.Sound.{guard_slot}
 use Rattle.crash.specs.Built.{kept_len, durable_after, page_of, built, written_pages}
 

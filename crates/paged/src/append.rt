@@ -3,7 +3,7 @@ ghost use Rattle.std.specs.Prelude.{◌≡◌, ◌⊎◌, ◌↔◌, ◌+◌, �
 ghost use Rattle.crash.specs.Sound.{IsSound, content};
 ghost use Rattle.crash.specs.Stays.{KeepsFloors, LeavesOnly};
 ghost use Rattle.paged.specs.Writer.{physical_size, FitsBlob};
-ghost use Rattle.paged.specs.Calls.{Appends, Flushes};
+ghost use Rattle.paged.specs.Calls.{AsksAtMost, IsBounded, Appends, Flushes};
 
 use crate::Writer;
 use cache::CacheRef;
@@ -54,6 +54,9 @@ impl<B: Blob, H: Sum, Phase> Writer<B, H, Phase> {
         requires sound { IsSound H.sum_of self (B.life blob.old).present }
         ensures appends { Appends H.sum_of self bytes.now (B.life blob.old) (B.life blob.new) result }
         ensures overflow { 2 ^ 64 ≤ physical_size self.page_size self.full_pages (length self.tip + length bytes.now) → result ≡ Err Error.OffsetOverflow }
+        ensures bounded { IfOk result (λ r. IsBounded r.0) }
+        ensures buffered { length self.tip + length bytes.now ≤ self.capacity → B.life blob.new ≡ B.life blob.old }
+        ensures calls { AsksAtMost 1 (B.life blob.old) (B.life blob.new) }
 
         // At each moment since the call began, and at every answer.
         ensures kept { KeepsFloors H.sum_of self.page_size (content self (B.life blob.old).present.readable) (B.life blob.old) (B.life blob.new) }
@@ -67,6 +70,9 @@ impl<B: Blob, H: Sum, Phase> Writer<B, H, Phase> {
         requires sound { IsSound H.sum_of self (B.life blob.old).present }
         ensures appends { Appends H.sum_of self bytes.now (B.life blob.old) (B.life blob.new) result }
         ensures overflow { 2 ^ 64 ≤ physical_size self.page_size self.full_pages (length self.tip + length bytes.now) → result ≡ Err Error.OffsetOverflow }
+        ensures bounded { IfOk result (λ r. IsBounded r.0) }
+        ensures buffered { length self.tip + length bytes.now ≤ self.capacity → B.life blob.new ≡ B.life blob.old }
+        ensures calls { AsksAtMost 1 (B.life blob.old) (B.life blob.new) }
     {
         let at = self.size();
         let writer = self.buffer(bytes)?;
@@ -78,6 +84,9 @@ impl<B: Blob, H: Sum, Phase> Writer<B, H, Phase> {
     fn write_full_pages(self, blob: &mut B) -> Result<Self, Error>
         requires sound { IsSound H.sum_of self (B.life blob.old).present }
         ensures flushes { Flushes H.sum_of self (B.life blob.old) (B.life blob.new) result }
+        ensures bounded { IfOk result (λ w. IsBounded w) }
+        ensures buffered { length self.tip ≤ self.capacity → B.life blob.new ≡ B.life blob.old }
+        ensures calls { AsksAtMost 1 (B.life blob.old) (B.life blob.new) }
     {
         if self.tip.len() <= self.capacity {
             return Ok(self);

@@ -1,12 +1,12 @@
 // Writing the tip out, and syncing.
-ghost use Rattle.std.specs.Prelude.{◌≡◌, ◌+◌, ◌*◌, ◌<◌, ◌^◌, ◌++◌, IfOk, OnOk, IsOkUnless, IsErrOf, not, ◌==◌, ◌%◌, length, true, false, [], drop, vec_len, ◌≤◌};
+ghost use Rattle.std.specs.Prelude.{◌≡◌, ◌+◌, ◌*◌, ◌<◌, ◌^◌, ◌++◌, IfOk, OnOk, IsOkUnless, IsErrOf, Ok, not, ◌==◌, ◌%◌, length, true, false, [], drop, vec_len, ◌≤◌};
 ghost use Rattle.std.specs.List.{concat};
 ghost use Rattle.disk.specs.Disk.{WriteGoes, SyncGoes};
 ghost use Rattle.crash.specs.WriterState.SyncState.{Clean, Dirty};
 ghost use Rattle.crash.specs.Built.{after_write, durable_after, rest_written};
 ghost use Rattle.crash.specs.Sound.{CanWrite, IsSound, content};
 ghost use Rattle.crash.specs.Stays.{KeepsAll, KeepsFloors, LeavesOnly};
-ghost use Rattle.paged.specs.Calls.{Flushes, Settles, Syncs};
+ghost use Rattle.paged.specs.Calls.{AsksAtMost, settle_calls, sync_calls, Flushes, Settles, Syncs};
 ghost use Rattle.paged.specs.Writer.{state_of};
 ghost use Rattle.paged.specs.Flush.{full_in, rest_of, rest_bytes, has_work, carried, advanced, place_of, flush_bytes, synced, outcome};
 
@@ -169,6 +169,8 @@ impl<B: Blob, H: Sum, Phase> Writer<B, H, Phase> {
     pub(crate) fn flush(self, blob: &mut B) -> Result<Self, Error>
         requires sound { IsSound H.sum_of self (B.life blob.old).present }
         ensures flushes { Flushes H.sum_of self (B.life blob.old) (B.life blob.new) result }
+        ensures calls { AsksAtMost 1 (B.life blob.old) (B.life blob.new) }
+        ensures short { IfOk result (λ w. length w.tip < w.page_size) }
     {
         if !self.has_flush_work(false) {
             return Ok(self);
@@ -183,6 +185,8 @@ impl<B: Blob, H: Sum, Phase> Writer<B, H, Phase> {
     pub fn sync(self, blob: &mut B, _cache: &mut CacheRef) -> Result<Self, Error>
         requires sound { IsSound H.sum_of self (B.life blob.old).present }
         ensures syncs { Syncs H.sum_of self (B.life blob.old) (B.life blob.new) result }
+        ensures calls { AsksAtMost (sync_calls self) (B.life blob.old) (B.life blob.new) }
+        ensures idle { sync_calls self ≡ 0 → (result ≡ Ok self) × (B.life blob.new ≡ B.life blob.old) }
 
         // From then on every image keeps the whole content.
         ensures durable { OnOk result (KeepsAll H.sum_of self.page_size (content self (B.life blob.old).present.readable) (B.life blob.new)) }
@@ -198,6 +202,8 @@ impl<B: Blob, H: Sum, Phase> Writer<B, H, Phase> {
     fn sync_all(self, blob: &mut B) -> Result<Self, Error>
         requires sound { IsSound H.sum_of self (B.life blob.old).present }
         ensures syncs { Syncs H.sum_of self (B.life blob.old) (B.life blob.new) result }
+        ensures calls { AsksAtMost (sync_calls self) (B.life blob.old) (B.life blob.new) }
+        ensures idle { sync_calls self ≡ 0 → (result ≡ Ok self) × (B.life blob.new ≡ B.life blob.old) }
     {
         if self.has_flush_work(true) {
             self.sync_pages(blob)
@@ -211,6 +217,8 @@ impl<B: Blob, H: Sum, Phase> Writer<B, H, Phase> {
         requires sound { IsSound H.sum_of self (B.life blob.old).present }
         requires work { has_work self true ≡ true }
         ensures syncs { Syncs H.sum_of self (B.life blob.old) (B.life blob.new) result }
+        ensures calls { AsksAtMost (sync_calls self) (B.life blob.old) (B.life blob.new) }
+        ensures idle { sync_calls self ≡ 0 → (result ≡ Ok self) × (B.life blob.new ≡ B.life blob.old) }
     {
         let rest = self.has_rest();
         match self.sync_state {
@@ -223,6 +231,8 @@ impl<B: Blob, H: Sum, Phase> Writer<B, H, Phase> {
     pub(crate) fn settle(self, blob: &mut B) -> Result<Self, Error>
         requires sound { IsSound H.sum_of self (B.life blob.old).present }
         ensures settles { Settles H.sum_of self (B.life blob.old) (B.life blob.new) result }
+        ensures calls { AsksAtMost (settle_calls self.sync) (B.life blob.old) (B.life blob.new) }
+        ensures idle { settle_calls self.sync ≡ 0 → (result ≡ Ok self) × (B.life blob.new ≡ B.life blob.old) }
     {
         match self.sync_state {
             SyncState::Clean => Ok(self),

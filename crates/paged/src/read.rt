@@ -50,7 +50,12 @@ impl<B: Blob, H: Sum, Phase> Writer<B, H, Phase> {
         ensures { ReadGoes (page * (self.now.page_size + 12)) (self.now.page_size + 12) (B.life blob.old) (B.life blob.new) result }
     {
         let size = self.physical_page_size();
-        blob.read_at(self.alloc, page * size, size as usize, ReadOptions::default())
+        blob.read_at(
+            self.alloc,
+            page * size,
+            size as usize,
+            ReadOptions::default(),
+        )
     }
 
     /// The `len` bytes from byte `skip` on of a page below the tip. `InvalidChecksum` where the page isn't full.
@@ -70,7 +75,13 @@ impl<B: Blob, H: Sum, Phase> Writer<B, H, Phase> {
     }
 
     /// Adds the bytes below the tip from one logical place to before another, page by page.
-    fn read_below(&self, blob: &mut B, bufs: &mut IoBufs, mut at: u64, end: u64) -> Result<(), Error>
+    fn read_below(
+        &self,
+        blob: &mut B,
+        bufs: &mut IoBufs,
+        mut at: u64,
+        end: u64,
+    ) -> Result<(), Error>
         requires below { end ≤ self.now.full_pages * self.now.page_size }
         requires there { HasPages self.now (B.life blob.old) }
         ensures ok { OnOk result (concat bufs.new ≡ concat bufs.old ++ take (end - at) (drop at (content self.now (B.life blob.old).present.readable))) }
@@ -105,9 +116,7 @@ impl<B: Blob, H: Sum, Phase> Writer<B, H, Phase> {
         ensures reads { Reads H.sum_of self.now offset len (B.life blob.old) (B.life blob.new) result }
         ensures looked { Looked (B.life blob.old) (B.life blob.new) }
     {
-        let end = offset
-            .checked_add(len as u64)
-            .ok_or(Error::OffsetOverflow)?;
+        let end = offset.checked_add(len as u64).ok_or(Error::OffsetOverflow)?;
         if end > self.size() {
             return Err(Error::BlobInsufficientLength);
         }

@@ -1,4 +1,4 @@
-use Rattle.std.proofs.Common.{◌≡◌, ◌∙◌, ◌<◌, sym, arith}
+use Rattle.std.proofs.Common.{◌∙◌, ◌<◌, sym, arith}
 use Rattle.std.proofs.lemmas.Bool.Decides.{nat_tests}
 use Rattle.std.specs.Int.NonZero.{non_zero_u16_get}
 use Rattle.paged.proofs.Reading.{not_full, value_says}

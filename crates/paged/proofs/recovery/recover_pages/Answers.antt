@@ -1,4 +1,4 @@
-use Rattle.std.proofs.Common.{◌≡◌, ◌+◌, ◌*◌, ◌<◌, ◌≤◌, ◌^◌, ℕ, length, ◌∙◌, ap, arith, sym, refl, subst, take}
+use Rattle.std.proofs.Common.{◌≡◌, ◌+◌, ℕ, length, ◌∙◌, ap, arith, subst}
 use Rattle.std.specs.Int.NonZero.{non_zero_u16_get}
 use Rattle.crash.specs.WriterState.{WriterState}
 use Rattle.page.specs.Page.{pieces}
@@ -61,8 +61,12 @@ keep-requires-clause-small g c =
     let mid = life c.open_pages.new.blob in
     let w = c.in_ok-recovery.recovery in
     let opened = c.in_ok-recovery.ensures.opens in
-    omega (arith, counted_length sum cache c.args.capacity old mid w opened c.flushed_pages-pages.result w.page_size (opened_page_size sum cache c.args.capacity old mid w opened) c.flushed_pages-pages.ensures,
-      opened_length sum cache c.args.capacity old mid w opened, opened_size_le sum cache.page_size old.present.readable)
+    omega (
+      arith,
+      counted_length sum cache c.args.capacity old mid w opened c.flushed_pages-pages.result w.page_size (opened_page_size sum cache c.args.capacity old mid w opened) c.flushed_pages-pages.ensures,
+      opened_length sum cache c.args.capacity old mid w opened,
+      opened_size_le sum cache.page_size old.present.readable,
+    )
 
 pub keep-requires-clause-within : goal.keep-requires-clause-within
 keep-requires-clause-within g c =
@@ -101,7 +105,7 @@ returns-in_err-prefix-clause-stays g c =
     let opened = c.in_ok-recovery.ensures.opens in
     let Q = non_zero_u16_get c.recovery.inside.page_size in
     scanned_stay g.H.Sum.sum_of c.args.cache.now.page_size (life c.args.blob.now) (life c.open_pages.new.blob) c.open_pages.ensures.some c.requires.durable opened.sync (life c.scan.new.blob) c.open_pages.ensures.trims opened.kept
-      (finds_looked (prefix_of g.H.Sum.sum_of Q (pieces c.flushed_pages-pages.result (Q + 12) (life c.open_pages.new.blob).present.readable)) (life c.open_pages.new.blob) (life c.scan.new.blob) c.in_err-prefix.field-0.0 c.in_err-prefix.ensures.finds)
+    (finds_looked (prefix_of g.H.Sum.sum_of Q (pieces c.flushed_pages-pages.result (Q + 12) (life c.open_pages.new.blob).present.readable)) (life c.open_pages.new.blob) (life c.scan.new.blob) c.in_err-prefix.field-0.0 c.in_err-prefix.ensures.finds)
 
 pub returns-clause-stays : goal.returns-clause-stays
 returns-clause-stays g c =

@@ -1,4 +1,4 @@
-use Rattle.std.proofs.Common.{◌≡◌, ◌+◌, ◌-◌, ◌*◌, ◌<◌, ◌≤◌, ℕ, length, ◌∙◌, ap, arith, sym}
+use Rattle.std.proofs.Common.{◌-◌, ◌*◌, ◌<◌, length, ◌∙◌, arith, sym}
 use Rattle.std.proofs.lemmas.Result.{err_from_is_err_and}
 use Rattle.std.specs.Int.NonZero.{non_zero_u16_get}
 use Rattle.paged.specs.Prefix.{page_at, last_prefix}
@@ -30,9 +30,10 @@ returns-then-is_full-clause-finds g c =
     let positive : 0 < P = omega arith in
     let read = read_gives ((n - 1) * size) size old (life c.loop-pages.blob) new c.in_ok-bytes.bytes c.loop-pages.invariant.looked c.in_ok-bytes.ensures.goes in
     let told = told_read sum P size (n - 1) c.as_ref.result.now c.in_ok-bytes.bytes readable c.slot_at-slot.result c.physical_size-size.ensures c.as_ref.ensures read c.slot_at-slot.ensures.slot in
-    let full = told_full sum P (page_at P (n - 1) readable) c.slot_at-slot.result c.is_full.result told c.is_full.ensures c.if-is_full.true in
-    (last_full sum P n c.args.pages readable positive c.loop-pages.invariant.same c.loop-pages-test.true full,
-    looked_read ((n - 1) * size) size old (life c.loop-pages.blob) new c.in_ok-bytes.bytes c.loop-pages.invariant.looked c.in_ok-bytes.ensures.goes)
+    let full = told_full sum P (page_at P (n - 1) readable) c.slot_at-slot.result c.is_full.result told c.is_full.ensures c.if-is_full.true in (
+      last_full sum P n c.args.pages readable positive c.loop-pages.invariant.same c.loop-pages-test.true full,
+      looked_read ((n - 1) * size) size old (life c.loop-pages.blob) new c.in_ok-bytes.bytes c.loop-pages.invariant.looked c.in_ok-bytes.ensures.goes,
+    )
 
 pub returns-in_err-partial-clause-finds : goal.returns-in_err-partial-clause-finds
 returns-in_err-partial-clause-finds g c =
@@ -60,9 +61,10 @@ returns-then-is_some-clause-finds g c =
     let told = told_read sum P size (n - 1) c.as_ref.result.now c.in_ok-bytes.bytes readable c.slot_at-slot.result c.physical_size-size.ensures c.as_ref.ensures read c.slot_at-slot.ensures.slot in
     let part = told_part sum P page c.slot_at-slot.result c.is_full.result told c.is_full.ensures c.if-is_full.false in
     let value = value_read sum P size (n - 1) c.in_ok-bytes.bytes readable c.slot_at-slot.result c.in_ok-partial.partial c.physical_size-size.ensures read told c.in_ok-partial.ensures.ok in
-    let some = found_some sum P page c.in_ok-partial.partial value (sym c.is_some.ensures ∙ c.if-is_some.true) in
-    (last_part sum P n c.args.pages readable c.in_ok-partial.partial c.loop-pages.invariant.same c.loop-pages-test.true value some part,
-    looked_read ((n - 1) * size) size old (life c.loop-pages.blob) new c.in_ok-bytes.bytes c.loop-pages.invariant.looked c.in_ok-bytes.ensures.goes)
+    let some = found_some sum P page c.in_ok-partial.partial value (sym c.is_some.ensures ∙ c.if-is_some.true) in (
+      last_part sum P n c.args.pages readable c.in_ok-partial.partial c.loop-pages.invariant.same c.loop-pages-test.true value some part,
+      looked_read ((n - 1) * size) size old (life c.loop-pages.blob) new c.in_ok-bytes.bytes c.loop-pages.invariant.looked c.in_ok-bytes.ensures.goes,
+    )
 
 pub returns-then-is_some-clause-bytes : goal.returns-then-is_some-clause-bytes
 returns-then-is_some-clause-bytes g c =

@@ -1,7 +1,7 @@
-use Rattle.std.proofs.Common.{◌≡◌, ◌+◌, ◌*◌, ◌/◌, ◌<◌, ◌≤◌, ℕ, length, ◌∙◌, ap, arith, sym}
+use Rattle.std.proofs.Common.{◌+◌, ◌*◌, ◌/◌, ◌≤◌, length, ◌∙◌, ap, arith, sym}
 use Rattle.std.proofs.Math.Nat.{div-mul-le_self, mul-le-mul_left}
 use Rattle.std.specs.Int.NonZero.{non_zero_u16_get}
-use Rattle.page.specs.Page.{active, value_len, pages}
+use Rattle.page.specs.Page.{pages}
 use Rattle.paged.specs.Prefix.{page_at, prefix_of}
 use Rattle.paged.proofs.Prefixes.{told_at, told_full, told_part, value_told, value_within, has_bytes, stands_next, stands_part}
 use Rattle.paged.proofs.search.leading_pages.Goals as goal

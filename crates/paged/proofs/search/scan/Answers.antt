@@ -1,4 +1,4 @@
-use Rattle.std.proofs.Common.{◌≡◌, ◌+◌, ◌-◌, ◌*◌, ◌<◌, ◌≤◌, ℕ, length, ◌∙◌, ap, arith, sym}
+use Rattle.std.proofs.Common.{◌+◌, ◌*◌, ◌≤◌, length, arith, sym}
 use Rattle.std.proofs.lemmas.Result.{err_from_is_err_and}
 use Rattle.std.specs.Int.NonZero.{non_zero_u16_get}
 use Rattle.page.specs.Page.{pieces}
@@ -44,9 +44,10 @@ returns-then-prefix-batch-clause-finds g c =
     let bytes = c.in_ok-bytes.bytes in
     let le : k + b ≤ c.args.pages = omega arith in
     let read = read_gives (k * size) (b * size) old (life c.loop-done.blob) new bytes c.loop-done.invariant.looked c.in_ok-bytes.ensures.goes in
-    let batch = batch_read sum P size k b c.args.pages readable bytes q c.physical_size-size.ensures le c.requires.there read c.in_ok-prefix.ensures.ok in
-    (sym (stands_ended sum P c.args.pages k b readable bytes q le batch (prefix_of sum P (pieces c.args.pages (P + 12) readable)) c.loop-done.invariant.stands c.if-prefix-batch.true),
-    looked_read (k * size) (b * size) old (life c.loop-done.blob) new bytes c.loop-done.invariant.looked c.in_ok-bytes.ensures.goes)
+    let batch = batch_read sum P size k b c.args.pages readable bytes q c.physical_size-size.ensures le c.requires.there read c.in_ok-prefix.ensures.ok in (
+      sym (stands_ended sum P c.args.pages k b readable bytes q le batch (prefix_of sum P (pieces c.args.pages (P + 12) readable)) c.loop-done.invariant.stands c.if-prefix-batch.true),
+      looked_read (k * size) (b * size) old (life c.loop-done.blob) new bytes c.loop-done.invariant.looked c.in_ok-bytes.ensures.goes,
+    )
 
 pub returns-then-prefix-batch-clause-bytes : goal.returns-then-prefix-batch-clause-bytes
 returns-then-prefix-batch-clause-bytes g c =

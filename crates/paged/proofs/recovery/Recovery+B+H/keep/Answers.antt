@@ -1,12 +1,12 @@
-use Rattle.std.proofs.Common.{◌≡◌, ◌+◌, ◌*◌, ◌<◌, ◌≤◌, ◌^◌, ℕ, length, ◌∙◌, ap, arith, sym, refl, subst, take}
+use Rattle.std.proofs.Common.{◌≡◌, ◌+◌, ◌*◌, ℕ, length, ◌∙◌, ap, arith, sym, refl, subst}
 use Rattle.std.proofs.lemmas.Result.{err_from_is_err_and}
 use Rattle.std.specs.Int.NonZero.{non_zero_u16_get}
 use Rattle.std.specs.Prelude.{Err, Ok}
 use Rattle.crash.specs.WriterState.{WriterState}
 use Rattle.crash.specs.WriterState.SyncState.{Clean}
 use Rattle.paged.specs.Writer.{state_of}
-use Rattle.paged.specs.Prefix.{prefix_pages, tip_of}
-use Rattle.paged.specs.Recovery.{SyncsIn, CutsBack}
+use Rattle.paged.specs.Prefix.{prefix_pages}
+use Rattle.paged.specs.Recovery.{CutsBack}
 use Rattle.paged.proofs.Recoveries.{synced_cause, ends_synced, ends_back, ended, ended_cause, fewer_bytes, fits_at, state_at}
 use Rattle.paged.proofs.recovery.Recovery+B+H.keep.Goals as goal
 
@@ -75,10 +75,13 @@ returns-clause-keeps g c =
     let kept : c.pages_of.result * c.physical_page_size-size.result ≡ prefix_pages c.args.prefix * (P + 12) = ap (λ n. n * c.physical_page_size-size.result) c.pages_of.ensures ∙ ap (λ n. prefix_pages c.args.prefix * n) c.physical_page_size-size.ensures in
     let le = fewer_bytes P (length old.present.readable) (prefix_pages c.args.prefix) c.args.pages c.requires.within c.requires.size in
     let clean = λ (is : state_of c.self.inside.sync_state ≡ Clean). c.requires.clean (sym (ap (λ (w : WriterState). w.sync) c.self.view_is) ∙ is) in
-    let end = ended (prefix_pages c.args.prefix * (P + 12)) (state_of c.self.inside.sync_state) t old mid new clean le c.in_ok-sync_dirty.ensures.syncs (subst (λ (n : ℕ). CutsBack n mid new (Ok t)) kept c.in_ok-cut_back.ensures.cuts) in
-    (state_at (non_zero_u16_get c.self.inside.page_size) P c.self.inside.id c.args.self.id c.self.inside.capacity c.args.self.capacity c.args.prefix c.in_ok-tip.tip.items c.in_ok-tip.slot
-      (ap (λ (w : WriterState). w.page_size) c.self.view_is) (ap (λ (w : WriterState). w.id) c.self.view_is) (ap (λ (w : WriterState). w.capacity) c.self.view_is) c.in_ok-tip.ensures.tip c.in_ok-tip.ensures.slot,
-    end.0, end.1, end.2)
+    let end = ended (prefix_pages c.args.prefix * (P + 12)) (state_of c.self.inside.sync_state) t old mid new clean le c.in_ok-sync_dirty.ensures.syncs (subst (λ (n : ℕ). CutsBack n mid new (Ok t)) kept c.in_ok-cut_back.ensures.cuts) in (
+      state_at (non_zero_u16_get c.self.inside.page_size) P c.self.inside.id c.args.self.id c.self.inside.capacity c.args.self.capacity c.args.prefix c.in_ok-tip.tip.items c.in_ok-tip.slot
+          (ap (λ (w : WriterState). w.page_size) c.self.view_is) (ap (λ (w : WriterState). w.id) c.self.view_is) (ap (λ (w : WriterState). w.capacity) c.self.view_is) c.in_ok-tip.ensures.tip c.in_ok-tip.ensures.slot,
+      end.0,
+      end.1,
+      end.2,
+    )
 
 pub returns-clause-ends : goal.returns-clause-ends
 returns-clause-ends g c =

@@ -5,9 +5,9 @@ use Rattle.paged.proofs.writer.Writer.append.Goals as goal
 pub returns-clause-kept : goal.returns-clause-kept
 returns-clause-kept g c =
     keeps_floors_before g.H.Sum.sum_of c.args.self.page_size (content c.args.self (g.B.Blob.life c.args.blob.now).present.readable) c.args.bytes.now (g.B.Blob.life c.args.blob.now) (g.B.Blob.life c.append_bytes.new.blob)
-      (appends_stay g.H.Sum.sum_of c.args.self c.args.bytes.now (g.B.Blob.life c.args.blob.now) (g.B.Blob.life c.append_bytes.new.blob) c.append_bytes.result c.requires.sound c.append_bytes.ensures.appends)
+    (appends_stay g.H.Sum.sum_of c.args.self c.args.bytes.now (g.B.Blob.life c.args.blob.now) (g.B.Blob.life c.append_bytes.new.blob) c.append_bytes.result c.requires.sound c.append_bytes.ensures.appends)
 
 pub returns-clause-only : goal.returns-clause-only
 returns-clause-only g c =
     leaves_only_behind g.H.Sum.sum_of c.args.self.page_size (content c.args.self (g.B.Blob.life c.args.blob.now).present.readable) c.args.bytes.now (g.B.Blob.life c.args.blob.now) (g.B.Blob.life c.append_bytes.new.blob)
-      (appends_stay g.H.Sum.sum_of c.args.self c.args.bytes.now (g.B.Blob.life c.args.blob.now) (g.B.Blob.life c.append_bytes.new.blob) c.append_bytes.result c.requires.sound c.append_bytes.ensures.appends)
+    (appends_stay g.H.Sum.sum_of c.args.self c.args.bytes.now (g.B.Blob.life c.args.blob.now) (g.B.Blob.life c.append_bytes.new.blob) c.append_bytes.result c.requires.sound c.append_bytes.ensures.appends)

@@ -14,7 +14,7 @@ returns-clause-bytes g c =
     let len : c.len.result ≡ length w.tip = c.len.ensures ∙ c.self.inside.tip.ok.0 ∙ ap (λ s. length s.tip) c.self.view_is in
     let size : P ≡ w.page_size = c.from-page_size.ensures ∙ c.get.ensures.value ∙ ap (λ s. s.page_size) c.self.view_is in
     let full : c.split_at.result.0.now ≡ take (length w.tip / P * P) w.tip =
-      c.split_at.ensures.front ∙ ap (λ n. take (n / P * P) c.deref.result.now) len ∙ ap (λ bytes. take (length w.tip / P * P) bytes) tip in
+    c.split_at.ensures.front ∙ ap (λ n. take (n / P * P) c.deref.result.now) len ∙ ap (λ bytes. take (length w.tip / P * P) bytes) tip in
     let some : 0 < w.page_size = omega (arith, size, c.get.ensures.nonzero, c.from-page_size.ensures) in
     rw (c.in_ok-append.ensures.bytes, c.new-bufs.ensures, c.from.ensures, c.in_ok-from_vec.ensures.ok, c.in_ok-flushed.ensures.bytes, c.in_ok-push_pages.ensures.pages, c.in_ok-out.ensures.items)
-      (flush_bytes-built g.H.Sum.sum_of w c.args.rest P c.self.inside.durable c.split_at.result.0.now some size (ap (λ s. s.durable) c.self.view_is) full)
+    (flush_bytes-built g.H.Sum.sum_of w c.args.rest P c.self.inside.durable c.split_at.result.0.now some size (ap (λ s. s.durable) c.self.view_is) full)

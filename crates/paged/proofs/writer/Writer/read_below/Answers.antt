@@ -4,7 +4,7 @@ use Rattle.std.proofs.Math.Nat.{mod-lt}
 use Rattle.crash.specs.Sound.{content}
 use Rattle.std.proofs.lemmas.Result.{err_from_is_err_and}
 use Rattle.paged.proofs.Looks.{looked_joins}
-use Rattle.paged.proofs.Reading.{page_below, read_fault, read_step, has_pages_later}
+use Rattle.paged.proofs.Reading.{page_below, read_fault, read_step}
 use Rattle.paged.proofs.writer.Writer.read_below.Goals as goal
 
 pub read_page-requires-clause-below : goal.read_page-requires-clause-below
@@ -42,9 +42,9 @@ loop-at-preserved g c = record {
       let skip : c.loop-at.at % c.from-page_size.result ≡ c.loop-at.at % w.page_size = ap (λ n. c.loop-at.at % n) size in
       let page : c.loop-at.at / c.from-page_size.result ≡ c.loop-at.at / w.page_size = ap (λ n. c.loop-at.at / n) size in
       let more : c.in_ok-bytes.bytes ≡ take c.min-len.result (drop (c.loop-at.at / w.page_size * (w.page_size + 12) + c.loop-at.at % w.page_size) (g.B.Blob.life c.loop-at.blob).present.readable) =
-        c.in_ok-bytes.ensures.reads ∙ ap (λ n. take c.min-len.result (drop (n * (w.page_size + 12) + c.loop-at.at % c.from-page_size.result) (g.B.Blob.life c.loop-at.blob).present.readable)) page
-        ∙ ap (λ n. take c.min-len.result (drop (c.loop-at.at / w.page_size * (w.page_size + 12) + n) (g.B.Blob.life c.loop-at.blob).present.readable)) skip in
+      c.in_ok-bytes.ensures.reads ∙ ap (λ n. take c.min-len.result (drop (n * (w.page_size + 12) + c.loop-at.at % c.from-page_size.result) (g.B.Blob.life c.loop-at.blob).present.readable)) page
+      ∙ ap (λ n. take c.min-len.result (drop (c.loop-at.at / w.page_size * (w.page_size + 12) + n) (g.B.Blob.life c.loop-at.blob).present.readable)) skip in
       read_step w c.loop-at.at c.min-len.result c.args.end (g.B.Blob.life c.args.blob.now) (g.B.Blob.life c.loop-at.blob) (concat c.loop-at.bufs) c.in_ok-bytes.bytes (concat c.append.new.self)
-        (concat c.args.bufs.now ++ take (c.args.end - c.args.at) (drop c.args.at (content w (g.B.Blob.life c.args.blob.now).present.readable)))
-        some c.requires.there c.loop-at.invariant.looked below (omega (arith, c.min-len.ensures)) (omega (arith, c.min-len.ensures, size, skip, mod-lt c.loop-at.at some)) more c.in_ok-append.ensures.bytes c.loop-at.invariant.bytes;
+      (concat c.args.bufs.now ++ take (c.args.end - c.args.at) (drop c.args.at (content w (g.B.Blob.life c.args.blob.now).present.readable)))
+      some c.requires.there c.loop-at.invariant.looked below (omega (arith, c.min-len.ensures)) (omega (arith, c.min-len.ensures, size, skip, mod-lt c.loop-at.at some)) more c.in_ok-append.ensures.bytes c.loop-at.invariant.bytes;
 }

@@ -1,4 +1,4 @@
-use Rattle.std.proofs.Common.{◌≡◌, ◌*◌, ◌+◌, ◌∙◌, arith, Ok, Err}
+use Rattle.std.proofs.Common.{◌*◌, ◌+◌, Ok, Err}
 use Rattle.std.proofs.lemmas.Result.{err_from_is_err_and}
 use Rattle.paged.proofs.Looks.{looked_read}
 use Rattle.paged.proofs.Reading.{page_fault, slice_reads}
@@ -15,7 +15,7 @@ returns-in_err-bytes-clause-looked g c = looked_read (c.args.page * (c.args.self
 pub returns-then-is_full-clause-reads : goal.returns-then-is_full-clause-reads
 returns-then-is_full-clause-reads g c =
     slice_reads g.H.Sum.sum_of c.args.self.now.page_size c.args.page c.args.skip c.args.len (g.B.Blob.life c.args.blob.now) (g.B.Blob.life c.read_physical.new.blob) c.in_ok-bytes.bytes c.slice.result
-      c.in_ok-bytes.ensures.1 c.requires.within c.slice.ensures.ok c.slice.ensures.err
+    c.in_ok-bytes.ensures.1 c.requires.within c.slice.ensures.ok c.slice.ensures.err
 
 pub returns-then-is_full-clause-looked : goal.returns-then-is_full-clause-looked
 returns-then-is_full-clause-looked g c = looked_read (c.args.page * (c.args.self.now.page_size + 12)) (c.args.self.now.page_size + 12) (g.B.Blob.life c.args.blob.now) (g.B.Blob.life c.read_physical.new.blob) (Ok c.in_ok-bytes.bytes) c.in_ok-bytes.ensures

@@ -1,7 +1,6 @@
-use Rattle.std.proofs.Common.{◌≡◌, ◌*◌, ◌+◌, ◌<◌, ◌∙◌, ap, sym, arith, length, false}
+use Rattle.std.proofs.Common.{◌≡◌, ◌*◌, ◌<◌, ap, arith, length, false}
 use Rattle.std.specs.List.{concat}
 use Rattle.std.proofs.lemmas.Result.{err_from_is_err_and}
-use Rattle.disk.specs.declared.error.Error.TheVariants.{OffsetOverflow}
 use Rattle.paged.specs.Writer.{FitsBlob}
 use Rattle.paged.specs.Flush.{place_of, flush_bytes}
 use Rattle.paged.proofs.Causes.{no_overflow}
