@@ -1,5 +1,5 @@
 // What a device is asked for.
-ghost use Rattle.std.specs.Prelude.{[], ◌∷◌, if◌then◌else◌, ◌≡◌, ◌≤◌, ◌+◌, ◌-◌, ◌<◌, ◌^◌, ◌++◌, length, take, drop, replicate, OnOk, OnErr, IfOk};
+ghost use Rattle.std.specs.Prelude.{[], ◌∷◌, if◌then◌else◌, ◌≡◌, ◌≤◌, ◌+◌, ◌-◌, ◌<◌, ◌^◌, ◌++◌, length, take, drop, replicate, vec_capacity, OnOk, OnErr, IfOk};
 ghost use Rattle.disk.specs.Disk.{applied, Write};
 ghost use Rattle.disk.specs.History.{request_of, asked, done, settles, redone, replayed, operations_of, TornBy};
 ghost use Rattle.disk.specs.Memory.{settled_after};
@@ -87,7 +87,8 @@ impl Action {
 
     /// Makes room for the bytes after it.
     pub fn reserve(&self, bytes: &mut Vec<u8>) -> Result<(), AllocError>
-        ensures { bytes.new.items ≡ bytes.old.items }
+        ensures same { bytes.new.items ≡ bytes.old.items }
+        ensures room { OnOk result (length (done self.now bytes.old.items) ≤ vec_capacity bytes.new) }
     {
         let len = match self {
             Action::Write(place, new, _) => (*place as usize).checked_add(new.len()),

@@ -22,7 +22,7 @@ invariant_of-self-2 c =
     (c.push_reserved.ensures.items ∙ ap (λ v. v ++ c.call.result ∷ []) room.calls)
     (c.push_reserved-2.ensures.items ∙ ap (λ v. v ++ (inside.failing == 1) ∷ []) room.failed)
     (c.push_reserved-3.ensures.items ∙ ap (λ v. v ++ record { action = c.args.action; failed = inside.failing == 1 } ∷ []) room.events)
-    (c.in_ok-redo.ensures.ok ∙ ap (redone (record { action = c.args.action; failed = inside.failing == 1 })) c.reserve.ensures)
+    (c.in_ok-redo.ensures.ok ∙ ap (redone (record { action = c.args.action; failed = inside.failing == 1 })) c.reserve.ensures.same)
     c.saturating_sub-self-inside.ensures
     (ap (λ n. inside.failures + n) c.faults.ensures)
     (c.settled_after-self-inside.ensures ∙ ap (settled_after (record { action = c.args.action; failed = inside.failing == 1 }) inside.settled) count)
