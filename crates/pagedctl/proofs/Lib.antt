@@ -1,0 +1,8 @@
+pub mod Flags
+pub mod HexRead
+pub mod HexText
+pub mod Lines
+pub mod Numbers
+pub mod Runs
+pub mod ScriptLines
+pub mod Steps

@@ -1,0 +1,33 @@
+-- Lines as words.
+use Rattle.std.proofs.Common.{◌≡◌, ◌≢◌, ◌<◌, ◌==◌, ℕ, List, [], ◌∷◌, length, map, vec_len, codes, Result, Ok, Err, Vec, Global, Bor, ap, arith}
+use Rattle.std.specs.Prelude.{IfOk}
+use Rattle.std.proofs.lemmas.List.{length-map}
+use Rattle.std.proofs.lemmas.List.Splits.{length-slice_split}
+use Rattle.std.specs.Fmt.{decimal}
+use Rattle.std.specs.Int.NonZero.{non_zero_u64_get}
+use Rattle.std.proofs.lemmas.Fmt.{decimal_injective}
+use Rattle.pagedctl.specs.declared.script.Line.{Line}
+use Rattle.pagedctl.specs.declared.script.Line.TheVariants.{Step, Fail, Crash, Recover, Dump}
+use Rattle.pagedctl.specs.declared.step.Step.TheVariants.{Append, Sync, Size, Read}
+use Rattle.pagedctl.specs.Script.{IsLine, line_words, parts_of}
+
+-- no line fails the call of number 0
+pub no_fail_zero : (word : List ℕ) (n : ℕ) → word ≡ decimal n → n ≡ 0 → (v : Line) → IsLine v → codes "fail" ∷ word ∷ [] ≢ line_words v
+no_fail_zero word n written zero (Step (Append bytes)) is same = cc
+no_fail_zero word n written zero (Step Sync) is same = cc
+no_fail_zero word n written zero (Step Size) is same = cc
+no_fail_zero word n written zero (Step (Read offset len)) is same = cc
+no_fail_zero word n written zero (Fail number) is same =
+    let e : decimal n ≡ decimal (non_zero_u64_get number) = cc in
+    let same_number = decimal_injective n (non_zero_u64_get number) (omega arith) is.1 e in
+    omega arith
+no_fail_zero word n written zero (Crash keep) is same = cc
+no_fail_zero word n written zero Recover is same = cc
+no_fail_zero word n written zero Dump is same = cc
+
+-- there is a part, if only an empty one
+pub some_parts : {E : Type 0} (at : ℕ) (bytes : List ℕ) (r : Result (Vec (Bor (List ℕ)) Global) E) → IfOk r (λ parts. map (λ part. part.now) parts.items ≡ parts_of at bytes) → IfOk r (λ parts. 0 < vec_len parts)
+some_parts at bytes (Ok parts) are =
+    let counted = ap (λ (l : List (List ℕ)). length l) are in
+    omega (arith, length-map parts.items (λ (part : Bor (List ℕ)). part.now), length-slice_split (λ byte. byte == at) bytes, counted, parts.ok.0)
+some_parts at bytes (Err e) are = tt

@@ -1,0 +1,71 @@
+-- What one step of a session does, and each call behind it.
+use Rattle.std.specs.Prelude.{◌≡◌, ℕ, List, Option, Some, None, Ok, Err}
+use Rattle.std.specs.List.{concat}
+use Rattle.disk.specs.Disk.{Disk, Life, after}
+use Rattle.disk.specs.declared.error.Error.TheVariants.{OutOfMemory}
+use Rattle.crash.specs.WriterState.{WriterState}
+use Rattle.crash.specs.Looks.{Looked}
+use Rattle.paged.specs.Calls.{Appends, Syncs}
+use Rattle.paged.specs.Reads.{Reads, size_of}
+use Rattle.pagedctl.specs.declared.step.Step.{Step}
+use Rattle.pagedctl.specs.declared.step.Reply.{Reply}
+use Rattle.pagedctl.specs.declared.step.Reply.TheVariants.{At, Done, Length, Bytes, Fault, Closed}
+use Rattle.pagedctl.specs.Run.{Standing, Did, StandsFor, IsReady}
+
+-- a session with no writer
+pub record IsClosed (now : Option WriterState) (old new : Life) (reply : Reply) : Type 0 where
+  pub replied : reply ≡ Closed
+  pub writer : now ≡ None
+  pub life : new ≡ old
+
+-- an append
+abbrev pub Appended : (List ℕ → ℕ) → Option WriterState → Option WriterState → List ℕ → Life → Life → Reply → Type 0
+Appended sum None now bytes old new reply = IsClosed now old new reply
+Appended sum (Some w) now bytes old new (At n) = (v : WriterState) × (now ≡ Some v) × Appends sum w bytes old new (Ok (v, n))
+Appended sum (Some w) now bytes old new (Fault e) = (now ≡ None) × Appends sum w bytes old new (Err e)
+Appended sum (Some w) now bytes old new _ = ⊥
+
+-- a sync
+abbrev pub Synced : (List ℕ → ℕ) → Option WriterState → Option WriterState → Life → Life → Reply → Type 0
+Synced sum None now old new reply = IsClosed now old new reply
+Synced sum (Some w) now old new Done = (v : WriterState) × (now ≡ Some v) × Syncs sum w old new (Ok v)
+Synced sum (Some w) now old new (Fault e) = (now ≡ None) × Syncs sum w old new (Err e)
+Synced sum (Some w) now old new _ = ⊥
+
+-- the size
+abbrev pub Sized : Option WriterState → Reply → Type 0
+Sized None reply = reply ≡ Closed
+Sized (Some w) reply = reply ≡ Length (size_of w)
+
+-- a read
+abbrev pub ReadsBytes : (List ℕ → ℕ) → WriterState → (offset len : ℕ) → Life → Life → Reply → Type 0
+ReadsBytes sum w offset len old new (Bytes bytes) = (bufs : List (List ℕ)) × (bytes.items ≡ concat bufs) × Reads sum w offset len old new (Ok bufs)
+ReadsBytes sum w offset len old new (Fault e) = Reads sum w offset len old new (Err e)
+ReadsBytes sum w offset len old new _ = ⊥
+
+abbrev pub DidRead : (List ℕ → ℕ) → Option WriterState → (offset len : ℕ) → Life → Life → Reply → Type 0
+DidRead sum None offset len old new reply = (reply ≡ Closed) × (new ≡ old)
+DidRead sum (Some w) offset len old new reply = ReadsBytes sum w offset len old new reply × Looked old new
+
+-- the reply of these bytes, or that there is no memory for them
+abbrev pub IsBytes : List ℕ → Reply → Type 0
+IsBytes all (Bytes bytes) = bytes.items ≡ all
+IsBytes all (Fault e) = e ≡ OutOfMemory
+IsBytes all _ = ⊥
+
+-- one step by a session that stood for this
+pub record Stepped (sum : List ℕ → ℕ) (P : ℕ) (step : Step) (reply : Reply) (writer : Option WriterState) (old new : Life) (before : Standing) : Type 0 where
+  pub moments : List Disk
+  pub goes : new ≡ after old moments
+  pub behind : Standing
+  pub did : Did sum P step reply old.present moments before behind
+  pub stands : StandsFor sum P writer behind new.present
+
+-- one step, whatever the session stood for
+abbrev pub StepsAlways : (List ℕ → ℕ) → Step → Reply → Option WriterState → Option WriterState → Life → Life → Type 0
+StepsAlways sum step reply was now old new = (P : ℕ) → (before : Standing) → StandsFor sum P was before old.present → Stepped sum P step reply now old new before
+
+-- one step, whatever the session stood for; its writer is sound then, if it has one
+pub record Takes (sum : List ℕ → ℕ) (step : Step) (reply : Reply) (was now : Option WriterState) (old new : Life) : Type 0 where
+  pub ready : IsReady sum now new.present
+  pub always : StepsAlways sum step reply was now old new

@@ -1,0 +1,133 @@
+-- How a script is written.
+use Rattle.std.specs.Prelude.{◌≡◌, ◌⊎◌, length, ◌≢◌, ◌<◌, ◌^◌, ℕ, Bool, List, [], ◌∷◌, Result, Ok, Err, slice_index, slice_index_or, codes, map, take, drop, ◌-◌, ◌+◌, ◌≤◌, ◌==◌, zero, suc, nat_eq, if◌then◌else◌}
+use Rattle.std.specs.List.{slice_split, starts_with}
+use Rattle.std.specs.Fmt.{decimal}
+use Rattle.std.specs.Int.NonZero.{non_zero_u16_get, non_zero_u64_get, non_zero_usize_get}
+use Rattle.hex.specs.declared.error.FromHexError.{FromHexError}
+use Rattle.hex.specs.declared.error.FromHexError.TheVariants as hex
+use Rattle.pagedctl.specs.declared.word.ReadError.{ReadError}
+use Rattle.pagedctl.specs.declared.word.ReadError.TheVariants.{Unreadable, OutOfMemory}
+use Rattle.pagedctl.specs.declared.script.Line.{Line}
+use Rattle.pagedctl.specs.declared.script.Line.TheVariants.{Step, Fail, Crash, Recover, Dump}
+use Rattle.pagedctl.specs.declared.script.Script.{Script}
+use Rattle.pagedctl.specs.declared.script.ScriptError.{ScriptError}
+use Rattle.pagedctl.specs.declared.script.ScriptError.TheVariants as script
+use Rattle.pagedctl.specs.declared.script.Start.{Start}
+use Rattle.pagedctl.specs.declared.script.SumName.{SumName}
+use Rattle.pagedctl.specs.declared.script.SumName.TheVariants.{Add, Const}
+use Rattle.pagedctl.specs.declared.step.Step as step
+use Rattle.pagedctl.specs.declared.step.Step.TheVariants.{Append, Sync, Size, Read}
+use Rattle.pagedctl.specs.Text.{hex_of}
+
+-- what reading answers, where each value has a text: the value of which this is the text, or that it is the text of none
+abbrev pub Reads : {V T : Type 0} → (V → T) → (V → Type 0) → T → Result V ReadError → Type 0
+Reads text IsOne read (Ok v) = read ≡ text v
+Reads {V} text IsOne read (Err Unreadable) = (v : V) → IsOne v → read ≢ text v
+Reads text IsOne read (Err OutOfMemory) = Unit {0}
+
+-- why a word isn't read where it isn't decoded
+abbrev pub hex_refused : FromHexError → ReadError
+hex_refused hex.OutOfMemory = OutOfMemory
+hex_refused _ = Unreadable
+
+-- a number of 64 bits
+abbrev pub IsU64 : ℕ → Type 0
+IsU64 n = n < 2 ^ 64
+
+-- there is a sign, or a zero in front of another digit
+abbrev pub HasLead : List ℕ → Type 0
+HasLead word = (slice_index word 0 ≡ 43) ⊎ ((slice_index word 0 ≡ 48) × (1 < length word))
+
+-- each of these numbers is a byte
+abbrev pub AreBytes : List ℕ → Type 0
+AreBytes xs = (i : ℕ) → slice_index xs i < 256
+
+-- a flag as a digit
+abbrev pub flag_digit : Bool → ℕ
+flag_digit flag = if flag then 49 else 48
+
+-- flags as digits
+abbrev pub flags_text : List Bool → List ℕ
+flags_text [] = codes "-"
+flags_text (flag ∷ flags) = map flag_digit (flag ∷ flags)
+
+-- the parts between the bytes that are this one
+abbrev pub parts_of : ℕ → List ℕ → List (List ℕ)
+parts_of at bytes = slice_split (λ byte. byte == at) bytes
+
+-- the words of a line: one space parts two of them
+abbrev pub words_of : List ℕ → List (List ℕ)
+words_of line = parts_of 32 line
+
+-- all but the line feed at the end, where there is one
+abbrev pub without_last_feed : List ℕ → List ℕ
+without_last_feed input = if starts_with nat_eq (drop (length input - 1) input) (10 ∷ []) then take (length input - 1) input else input
+
+-- the lines of an input: each ends in a line feed, which the last may lack
+abbrev pub lines_of : List ℕ → List (List ℕ)
+lines_of input = parts_of 10 (without_last_feed input)
+
+-- a checksum function's name
+abbrev pub sum_word : SumName → List ℕ
+sum_word Add = codes "add"
+sum_word Const = codes "const"
+
+-- the words of a script's first line
+abbrev pub start_words : Start → List (List ℕ)
+start_words start = codes "start" ∷ decimal (non_zero_u16_get start.page_size) ∷ decimal start.capacity ∷ decimal (non_zero_usize_get start.pages) ∷ sum_word start.sum ∷ []
+
+-- the words of a step
+abbrev pub step_words : step.Step → List (List ℕ)
+step_words (Append bytes) = codes "append" ∷ hex_of bytes.items ∷ []
+step_words Sync = codes "sync" ∷ []
+step_words Size = codes "size" ∷ []
+step_words (Read offset len) = codes "read" ∷ decimal offset ∷ decimal len ∷ []
+
+-- the words of a line behind the first
+abbrev pub line_words : Line → List (List ℕ)
+line_words (Step step) = step_words step
+line_words (Fail number) = codes "fail" ∷ decimal (non_zero_u64_get number) ∷ []
+line_words (Crash keep) = codes "crash" ∷ flags_text keep.items ∷ []
+line_words Recover = codes "recover" ∷ []
+line_words Dump = codes "dump" ∷ []
+
+-- the numbers and the bytes of a line are in range
+abbrev pub IsLine : Line → Type 0
+IsLine (Step (Append bytes)) = AreBytes bytes.items
+IsLine (Step (Read offset len)) = IsU64 offset × IsU64 len
+IsLine (Fail number) = (0 < non_zero_u64_get number) × IsU64 (non_zero_u64_get number)
+IsLine _ = Unit {0}
+
+-- a size of pages in bytes
+abbrev pub IsPageSize : ℕ → Type 0
+IsPageSize n = (0 < n) × (n < 2 ^ 16)
+
+-- a number of pages for the cache
+abbrev pub IsPages : ℕ → Type 0
+IsPages n = (0 < n) × (n ≤ 4096)
+
+-- the numbers of a first line are in range
+abbrev pub IsStart : Start → Type 0
+IsStart start = IsPageSize (non_zero_u16_get start.page_size) × IsU64 start.capacity × IsPages (non_zero_usize_get start.pages)
+
+-- the line at this place can be read: place 0 has the first line
+abbrev pub IsReadable : ℕ → List ℕ → Type 0
+IsReadable zero line = (start : Start) × (words_of line ≡ start_words start)
+IsReadable (suc place) line = (read : Line) × (words_of line ≡ line_words read)
+
+-- the line at this place is one of no script
+abbrev pub IsUnreadable : ℕ → List ℕ → Type 0
+IsUnreadable zero line = (start : Start) → IsStart start → words_of line ≢ start_words start
+IsUnreadable (suc place) line = (read : Line) → IsLine read → words_of line ≢ line_words read
+
+-- why a script isn't read where the line of this number isn't
+abbrev pub error_at : ℕ → ReadError → ScriptError
+error_at number Unreadable = script.Unreadable number
+error_at number OutOfMemory = script.OutOfMemory
+
+-- what reading these lines answers: the script whose lines they are, or the number of the first that can't be read, from 1
+abbrev pub ReadsScript : List (List ℕ) → Result Script ScriptError → Type 0
+ReadsScript lines (Ok script) = map words_of lines ≡ start_words script.start ∷ map line_words script.lines.items
+ReadsScript lines (Err (script.Unreadable number)) = (0 < number) × (number ≤ length lines) × IsUnreadable (number - 1) (slice_index_or lines (number - 1) [])
+    × ((place : ℕ) → place + 1 < number → IsReadable place (slice_index_or lines place []))
+ReadsScript lines (Err script.OutOfMemory) = Unit {0}

@@ -1,0 +1,25 @@
+-- The text of bytes and of replies.
+use Rattle.std.specs.Prelude.{ℕ, List, [], ◌∷◌, ◌++◌, ◌/◌, ◌%◌, false, codes}
+use Rattle.std.specs.List.{flat_map}
+use Rattle.std.specs.Fmt.{decimal, digit_glyph}
+use Rattle.disk.specs.Error.{number_of, name_of}
+use Rattle.pagedctl.specs.declared.step.Reply.{Reply}
+use Rattle.pagedctl.specs.declared.step.Reply.TheVariants.{At, Done, Length, Bytes, Fault, Closed}
+
+-- a byte as two hexadecimal digits
+abbrev pub hex_digits : ℕ → List ℕ
+hex_digits byte = digit_glyph false (byte / 16) ∷ digit_glyph false (byte % 16) ∷ []
+
+-- bytes in hexadecimal
+abbrev pub hex_of : List ℕ → List ℕ
+hex_of [] = codes "-"
+hex_of (byte ∷ bytes) = flat_map hex_digits (byte ∷ bytes)
+
+-- a reply as it is printed
+abbrev pub reply_text : Reply → List ℕ
+reply_text (At place) = codes "at " ++ decimal place
+reply_text Done = codes "ok"
+reply_text (Length size) = codes "size " ++ decimal size
+reply_text (Bytes bytes) = codes "bytes " ++ hex_of bytes.items
+reply_text (Fault error) = codes "fault E" ++ decimal (number_of error) ++ codes " " ++ name_of error
+reply_text Closed = codes "closed"

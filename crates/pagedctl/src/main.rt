@@ -1,0 +1,99 @@
+//! Plays a script of steps over a blob in memory, with failing device calls and crashes, and writes one line a reply.
+//!
+//! The script comes on standard input. The exit status is 0 where it was played to its end (a fault is a reply), 2 where a
+//! line can't be read (then nothing was played), and 1 where the input or the output failed or there was no memory for the
+//! script.
+#![tactic(auto)]
+
+ghost use Rattle.std.specs.Prelude.{◌≡◌, ◌<◌, ℕ, IfSome, IfOk};
+ghost use Rattle.std.specs.Io.KnownBytes.{Keeps};
+ghost use Rattle.pagedctl.specs.Play.{Plays, IsScript, IsNoScript};
+
+mod script;
+mod session;
+mod stage;
+mod step;
+mod stop;
+#[cfg(test)]
+mod tests;
+mod text;
+mod word;
+
+use crate::script::{Script, SumName, parse};
+use crate::stage::Stage;
+use crate::stop::Stop;
+use page::{AddSum, ConstSum, Sum};
+use std::alloc::Global;
+use std::io;
+use std::io::{BufWriter, Read, Write};
+use std::process::ExitCode;
+
+/// Plays the script that `input` holds, writes its replies to `out`, and answers the exit status. Where that isn't 0,
+/// `err` gets one line that says why.
+pub fn play_on<R: Read, W: Write, E: Write>(
+    alloc: Global,
+    input: &mut R,
+    out: &mut W,
+    err: &mut E,
+) -> u8
+    ensures status { result < 3 }
+    ensures played { result ≡ 0 → IfSome (R.remaining input.old) IsScript }
+    ensures unreadable { result ≡ 2 → IfSome (R.remaining input.old) (λ bytes. (number : ℕ) × IsNoScript number bytes) }
+    ensures nothing { result ≡ 2 → Keeps (W.contents out.old) (W.contents out.new) }
+{
+    match play_input(alloc, input, out) {
+        Ok(()) => 0,
+        Err(stop) => {
+            let _ = writeln!(err, "{stop}");
+            stop.status()
+        }
+    }
+}
+
+/// The same, with a reader and writers of its own.
+pub fn play<R: Read + Drop, W: Write + Drop, E: Write + Drop>(
+    alloc: Global,
+    mut input: R,
+    mut out: W,
+    mut err: E,
+) -> u8
+    ensures status { result < 3 }
+    ensures played { result ≡ 0 → IfSome (R.remaining input) IsScript }
+    ensures unreadable { result ≡ 2 → IfSome (R.remaining input) (λ bytes. (number : ℕ) × IsNoScript number bytes) }
+{
+    play_on(alloc, &mut input, &mut out, &mut err)
+}
+
+fn play_input<R: Read, W: Write>(alloc: Global, input: &mut R, out: &mut W) -> Result<(), Stop>
+    ensures { Plays (R.remaining input.old) (W.contents out.old) (W.contents out.new) result }
+{
+    let mut text = Vec::new(alloc);
+    input.read_to_end(&mut text)?;
+    let script = parse(alloc, &text)?;
+    play_script(alloc, script, out)?;
+    Ok(())
+}
+
+fn play_script<W: Write>(alloc: Global, script: Script, out: &mut W) -> io::Result<()> {
+    let mut out = BufWriter::new(alloc, out)?;
+    match script.start.sum {
+        SumName::Add => play_over::<AddSum, _>(alloc, script, &mut out),
+        SumName::Const => play_over::<ConstSum, _>(alloc, script, &mut out),
+    }
+}
+
+// Each line's reply is out before the next line is played.
+fn play_over<H: Sum, W: Write>(alloc: Global, script: Script, out: &mut W) -> io::Result<()> {
+    let mut stage = Stage::<H>::new(alloc, script.start);
+    stage.open(out)?;
+    out.flush()?;
+    for line in script.lines {
+        stage.play(line, out)?;
+        out.flush()?;
+    }
+    Ok(())
+}
+
+fn main(rt: HostRuntime) -> ExitCode {
+    ExitCode::from(play(rt.alloc(), rt.stdin(), rt.stdout(), rt.stderr()))
+}

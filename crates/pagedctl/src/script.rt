@@ -1,0 +1,297 @@
+// Scripts: what each line asks for.
+ghost use Rattle.std.specs.Prelude.{◌≡◌, ◌<◌, [], ◌∷◌, vec_len, codes, map, IfOk, ⊤};
+ghost use Rattle.std.specs.Fmt.{decimal};
+ghost use Rattle.std.specs.Int.NonZero.{non_zero_u16_get, non_zero_usize_get};
+ghost use Rattle.pagedctl.specs.Script.{Reads, ReadsScript, IsLine, IsStart, IsPageSize, IsPages, parts_of, lines_of, words_of, error_at, without_last_feed, line_words, start_words, sum_word};
+
+use crate::step::Step;
+use crate::word::{ReadError, parse_flags, parse_hex, parse_number};
+use std::alloc::{AllocError, AllocFailed, Global};
+use std::num::{NonZeroU16, NonZeroU64, NonZeroUsize};
+
+/// The most pages that the cache of a script may hold.
+const MOST_PAGES: u64 = 4096;
+
+/// A whole script.
+#[derive(Debug, PartialEq, Eq, Drop)]
+pub struct Script {
+    /// Its first line.
+    pub start: Start,
+    /// The lines behind it.
+    pub lines: Vec<Line>,
+}
+
+/// What a script runs over.
+#[derive(Clone, Copy, Debug, PartialEq, Eq)]
+pub struct Start {
+    /// The logical bytes of a page.
+    pub page_size: NonZeroU16,
+    /// The bytes that the writer may hold back.
+    pub capacity: usize,
+    /// The pages that the cache may hold.
+    pub pages: NonZeroUsize,
+    /// The checksum function of the pages.
+    pub sum: SumName,
+}
+
+/// A checksum function.
+#[derive(Clone, Copy, Debug, PartialEq, Eq)]
+pub enum SumName {
+    /// `AddSum`.
+    Add,
+    /// `ConstSum`.
+    Const,
+}
+
+/// A line behind the first.
+#[derive(Debug, PartialEq, Eq, Drop)]
+pub enum Line {
+    /// A step of the session.
+    Step(Step),
+    /// The device call of this number from now on is to fail.
+    Fail(NonZeroU64),
+    /// A crash that keeps what these flags say of what isn't durable.
+    Crash(Vec<bool>),
+    /// A recovery after a crash.
+    Recover,
+    /// Shows the readable bytes.
+    Dump,
+}
+
+/// Why a script can't be run.
+#[derive(Clone, Copy, Debug, PartialEq, Eq)]
+pub enum ScriptError {
+    /// The line of this number can't be read, and each before it can. The first line has the number 1.
+    Unreadable(u64),
+    /// A request for memory was refused.
+    OutOfMemory,
+}
+
+impl From<AllocError> for ScriptError {
+    ghost use Rattle.std.specs.Prelude.{◌≡◌};
+    ghost use Rattle.pagedctl.specs.declared.script.ScriptError.TheVariants.{OutOfMemory};
+
+    ghost from_gives = { λ _ e. e ≡ OutOfMemory };
+
+    fn from(_: AllocError) -> Self {
+        ScriptError::OutOfMemory
+    }
+}
+
+impl<T: Drop> From<AllocFailed<T>> for ScriptError {
+    ghost use Rattle.std.specs.Prelude.{◌≡◌};
+    ghost use Rattle.pagedctl.specs.declared.script.ScriptError.TheVariants.{OutOfMemory};
+
+    ghost from_gives = { λ _ e. e ≡ OutOfMemory };
+
+    fn from(_: AllocFailed<T>) -> Self {
+        ScriptError::OutOfMemory
+    }
+}
+
+impl ScriptError {
+    // Why the line of this number isn't read.
+    fn at(number: u64, error: ReadError) -> Self
+        ensures { result ≡ error_at number error }
+    {
+        match error {
+            ReadError::Unreadable => ScriptError::Unreadable(number),
+            ReadError::OutOfMemory => ScriptError::OutOfMemory,
+        }
+    }
+}
+
+/// Reads a whole script. Its lines end in a line feed, which the last may lack.
+pub fn parse(alloc: Global, input: &[u8]) -> Result<Script, ScriptError>
+    ensures reads { ReadsScript (lines_of input.now) result }
+{
+    let text = without_last_feed(input);
+    let lines = parts(alloc, text, b'\n')?;
+    match lines.as_slice() {
+        [first, others @ ..] => parse_lines(alloc, first, others),
+        [] => unreachable!(),
+    }
+}
+
+fn without_last_feed(input: &[u8]) -> &[u8]
+    ensures { result.now ≡ without_last_feed input.now }
+{
+    input.strip_suffix(b"\n").unwrap_or(input)
+}
+
+// The parts of some bytes between those that are this one.
+fn parts<'a>(alloc: Global, bytes: &'a [u8], at: u8) -> Result<Vec<&'a [u8]>, AllocError>
+    ensures parts { IfOk result (λ parts. map (λ part. part.now) parts.items ≡ parts_of at bytes.now) }
+    ensures some { IfOk result (λ parts. 0 < vec_len parts) }
+{
+    bytes.split(|byte| *byte == at).collect(alloc)
+}
+
+fn parse_lines(alloc: Global, first: &[u8], others: &[&[u8]]) -> Result<Script, ScriptError>
+    ensures reads { ReadsScript (first.now ∷ map (λ line. line.now) others.now) result }
+{
+    let start = match parse_start(alloc, first) {
+        Ok(start) => start,
+        Err(error) => return Err(ScriptError::at(1, error)),
+    };
+    let mut lines = Vec::with_capacity(alloc, others.len())?;
+    for (index, line) in others.iter().enumerate() {
+        match parse_line(alloc, line) {
+            Ok(line) => lines.push(line)?,
+            Err(error) => return Err(ScriptError::at(index as u64 + 2, error)),
+        }
+    }
+    Ok(Script { start, lines })
+}
+
+fn parse_start(alloc: Global, line: &[u8]) -> Result<Start, ReadError>
+    ensures reads { Reads start_words IsStart (words_of line.now) result }
+{
+    let words = parts(alloc, line, b' ')?;
+    match words.as_slice() {
+        [b"start", page_size, capacity, pages, sum] => {
+            parse_settings(page_size, capacity, pages, sum)
+        }
+        _ => Err(ReadError::Unreadable),
+    }
+}
+
+// What a script runs over, by the words behind the name of its first line.
+fn parse_settings(
+    page_size: &[u8],
+    capacity: &[u8],
+    pages: &[u8],
+    sum: &[u8],
+) -> Result<Start, ReadError>
+    ensures reads { Reads start_words IsStart (codes "start" ∷ page_size.now ∷ capacity.now ∷ pages.now ∷ sum.now ∷ []) result }
+{
+    let page_size = parse_page_size(page_size)?;
+    let capacity = parse_number(capacity)? as usize;
+    let pages = parse_pages(pages)?;
+    let sum = parse_sum(sum)?;
+    Ok(Start {
+        page_size,
+        capacity,
+        pages,
+        sum,
+    })
+}
+
+fn parse_page_size(word: &[u8]) -> Result<NonZeroU16, ReadError>
+    ensures reads { Reads (λ size. decimal (non_zero_u16_get size)) (λ size. IsPageSize (non_zero_u16_get size)) word.now result }
+{
+    let Ok(size) = u16::try_from(parse_number(word)?) else {
+        return Err(ReadError::Unreadable);
+    };
+    match NonZeroU16::new(size) {
+        Some(size) => Ok(size),
+        None => Err(ReadError::Unreadable),
+    }
+}
+
+fn parse_pages(word: &[u8]) -> Result<NonZeroUsize, ReadError>
+    ensures reads { Reads (λ pages. decimal (non_zero_usize_get pages)) (λ pages. IsPages (non_zero_usize_get pages)) word.now result }
+{
+    let pages = parse_number(word)?;
+    if MOST_PAGES < pages {
+        return Err(ReadError::Unreadable);
+    }
+    match NonZeroUsize::new(pages as usize) {
+        Some(pages) => Ok(pages),
+        None => Err(ReadError::Unreadable),
+    }
+}
+
+fn parse_sum(word: &[u8]) -> Result<SumName, ReadError>
+    ensures reads { Reads sum_word (λ _. ⊤) word.now result }
+{
+    match word {
+        b"add" => Ok(SumName::Add),
+        b"const" => Ok(SumName::Const),
+        _ => Err(ReadError::Unreadable),
+    }
+}
+
+fn parse_line(alloc: Global, line: &[u8]) -> Result<Line, ReadError>
+    ensures reads { Reads line_words IsLine (words_of line.now) result }
+{
+    let words = parts(alloc, line, b' ')?;
+    parse_words(alloc, &words)
+}
+
+fn parse_words(alloc: Global, words: &[&[u8]]) -> Result<Line, ReadError>
+    ensures reads { Reads line_words IsLine (map (λ word. word.now) words.now) result }
+{
+    match words {
+        [name] => parse_bare(name),
+        [name, word] => parse_with_one(alloc, name, word),
+        [name, first, second] => parse_with_two(name, first, second),
+        _ => Err(ReadError::Unreadable),
+    }
+}
+
+// A line of one word.
+fn parse_bare(name: &[u8]) -> Result<Line, ReadError>
+    ensures reads { Reads line_words IsLine (name.now ∷ []) result }
+{
+    match name {
+        b"sync" => Ok(Line::Step(Step::Sync)),
+        b"size" => Ok(Line::Step(Step::Size)),
+        b"recover" => Ok(Line::Recover),
+        b"dump" => Ok(Line::Dump),
+        _ => Err(ReadError::Unreadable),
+    }
+}
+
+// A line of two words.
+fn parse_with_one(alloc: Global, name: &[u8], word: &[u8]) -> Result<Line, ReadError>
+    ensures reads { Reads line_words IsLine (name.now ∷ word.now ∷ []) result }
+{
+    match name {
+        b"append" => parse_append(alloc, word),
+        b"fail" => parse_fail(word),
+        b"crash" => parse_crash(alloc, word),
+        _ => Err(ReadError::Unreadable),
+    }
+}
+
+// A line of three words.
+fn parse_with_two(name: &[u8], first: &[u8], second: &[u8]) -> Result<Line, ReadError>
+    ensures reads { Reads line_words IsLine (name.now ∷ first.now ∷ second.now ∷ []) result }
+{
+    match name {
+        b"read" => parse_read(first, second),
+        _ => Err(ReadError::Unreadable),
+    }
+}
+
+fn parse_append(alloc: Global, word: &[u8]) -> Result<Line, ReadError>
+    ensures reads { Reads line_words IsLine (codes "append" ∷ word.now ∷ []) result }
+{
+    let bytes = parse_hex(alloc, word)?;
+    Ok(Line::Step(Step::Append(bytes)))
+}
+
+fn parse_fail(word: &[u8]) -> Result<Line, ReadError>
+    ensures reads { Reads line_words IsLine (codes "fail" ∷ word.now ∷ []) result }
+{
+    match NonZeroU64::new(parse_number(word)?) {
+        Some(number) => Ok(Line::Fail(number)),
+        None => Err(ReadError::Unreadable),
+    }
+}
+
+fn parse_crash(alloc: Global, word: &[u8]) -> Result<Line, ReadError>
+    ensures reads { Reads line_words IsLine (codes "crash" ∷ word.now ∷ []) result }
+{
+    let keep = parse_flags(alloc, word)?;
+    Ok(Line::Crash(keep))
+}
+
+fn parse_read(offset: &[u8], len: &[u8]) -> Result<Line, ReadError>
+    ensures reads { Reads line_words IsLine (codes "read" ∷ offset.now ∷ len.now ∷ []) result }
+{
+    let offset = parse_number(offset)?;
+    let len = parse_number(len)? as usize;
+    Ok(Line::Step(Step::Read(offset, len)))
+}

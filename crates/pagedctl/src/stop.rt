@@ -1,0 +1,61 @@
+// Why a script isn't played to its end.
+ghost use Rattle.std.specs.Prelude.{◌≡◌, Some};
+ghost use Rattle.pagedctl.specs.Play.{status_of, stop_text};
+
+use crate::script::ScriptError;
+use std::{fmt, io};
+
+/// Why a script isn't played to its end.
+#[derive(Clone, Copy, Debug, PartialEq, Eq)]
+pub enum Stop {
+    /// The line of this number can't be read. Nothing is played then.
+    Unreadable(u64),
+    /// The input or the output failed, or there was no memory for the script.
+    Failed,
+}
+
+impl Stop {
+    /// The exit status.
+    pub fn status(self) -> u8
+        ensures { result ≡ status_of self }
+    {
+        match self {
+            Stop::Unreadable(_) => 2,
+            Stop::Failed => 1,
+        }
+    }
+}
+
+impl fmt::Display for Stop {
+    ghost output = { λ stop. Some (stop_text stop) };
+
+    fn fmt<W: fmt::Write>(&self, f: &mut fmt::Formatter<W>) -> fmt::Result {
+        match self {
+            Stop::Unreadable(number) => write!(f, "unreadable line {number}"),
+            Stop::Failed => write!(f, "pagedctl: stopped"),
+        }
+    }
+}
+
+impl From<io::Error> for Stop {
+    ghost use Rattle.pagedctl.specs.declared.stop.Stop.TheVariants.{Failed};
+
+    ghost from_gives = { λ _ stop. stop ≡ Failed };
+
+    fn from(_: io::Error) -> Self {
+        Stop::Failed
+    }
+}
+
+impl From<ScriptError> for Stop {
+    ghost use Rattle.pagedctl.specs.Play.{stopped_by};
+
+    ghost from_gives = { λ error stop. stop ≡ stopped_by error };
+
+    fn from(error: ScriptError) -> Self {
+        match error {
+            ScriptError::Unreadable(number) => Stop::Unreadable(number),
+            ScriptError::OutOfMemory => Stop::Failed,
+        }
+    }
+}

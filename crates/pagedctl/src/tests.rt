@@ -1,0 +1,307 @@
+// Scripts, and what the program writes for them.
+use crate::play;
+use std::alloc::Global;
+use std::io;
+use std::io::{ErrorKind, Read};
+use std::process::Abort;
+use std::test::Fail;
+
+// Plays a script, and looks at all that it wrote and at its status.
+fn expect(
+    rt: &impl Abort,
+    alloc: Global,
+    script: &[u8],
+    out: &[u8],
+    err: &[u8],
+    status: u8,
+) -> Result<(), Fail> {
+    let mut written = Vec::new(alloc);
+    let mut errors = Vec::new(alloc);
+    let ended = play(alloc, script, &mut written, &mut errors);
+    let script = str::from_utf8(script).unwrap_or("a script that is no text");
+    assert_eq!(rt; str::from_utf8(&written)?, str::from_utf8(out)?, "{script}");
+    assert_eq!(rt; str::from_utf8(&errors)?, str::from_utf8(err)?, "{script}");
+    assert_eq!(rt; ended, status, "{script}");
+    Ok(())
+}
+
+// A script that is played to its end.
+fn plays(rt: &impl Abort, alloc: Global, script: &str, out: &str) -> Result<(), Fail> {
+    expect(rt, alloc, script.as_bytes(), out.as_bytes(), b"", 0)
+}
+
+// A script whose first bad line is this one.
+fn names_line(rt: &impl Abort, alloc: Global, script: &[u8], number: u64) -> Result<(), Fail> {
+    let error = format!(in alloc; "unreadable line {number}\n")?;
+    expect(rt, alloc, script, b"", error.as_bytes(), 2)
+}
+
+#[test]
+fn a_torn_write_keeps_what_was_synced(rt: HostRuntime) -> Result<(), Fail> {
+    let script = "\
+start 4 8 4 add
+append 616263646566
+sync
+append 67
+fail 1
+sync
+crash 111111111111111
+dump
+recover
+size
+read 0 6
+";
+    let out = "\
+recovered 0
+at 0
+ok
+at 6
+ok
+fault E2 WriteFailed
+crashed 32
+blob 6162636400040000018a0000000000006566670000020000\
+00cb000300000100
+recovered 6
+size 6
+bytes 616263646566
+";
+    plays(&rt, rt.alloc(), script, out)
+}
+
+#[test]
+fn a_sum_that_tells_nothing_lets_a_zero_in(rt: HostRuntime) -> Result<(), Fail> {
+    let script = "\
+start 4 8 4 const
+append 616263646566
+sync
+append 67
+fail 1
+sync
+crash 000000000011
+recover
+read 0 7
+";
+    let out = "\
+recovered 0
+at 0
+ok
+at 6
+ok
+fault E2 WriteFailed
+crashed 32
+recovered 7
+bytes 61626364656600
+";
+    plays(&rt, rt.alloc(), script, out)
+}
+
+#[test]
+fn a_refused_sync_closes_and_a_refused_read_does_not(rt: HostRuntime) -> Result<(), Fail> {
+    let script = "\
+start 4 8 4 add
+read 0 1
+read 18446744073709551615 1
+read 0 0
+append 61
+append -
+fail 1
+sync
+append 62
+sync
+size
+read 0 1
+recover
+";
+    let out = "\
+recovered 0
+fault E6 BlobInsufficientLength
+fault E7 OffsetOverflow
+bytes -
+at 0
+at 1
+ok
+fault E2 WriteFailed
+closed
+closed
+closed
+closed
+not-crashed
+";
+    plays(&rt, rt.alloc(), script, out)
+}
+
+#[test]
+fn a_recovery_follows_a_crash_alone(rt: HostRuntime) -> Result<(), Fail> {
+    let script = "\
+start 4 8 4 add
+recover
+dump
+crash -
+size
+recover
+crash 0
+fail 1
+dump
+recover
+recover
+crash 1
+recover
+recover
+size
+";
+    let out = "\
+recovered 0
+not-crashed
+blob -
+crashed 0
+closed
+not-crashed
+crashed 0
+ok
+blob -
+fault E4 SyncFailed
+not-crashed
+crashed 0
+recovered 0
+not-crashed
+size 0
+";
+    plays(&rt, rt.alloc(), script, out)
+}
+
+#[test]
+fn numbers_reach_their_bounds(rt: HostRuntime) -> Result<(), Fail> {
+    let alloc = rt.alloc();
+    plays(&rt, alloc, "start 1 0 1 add", "recovered 0\n")?;
+    plays(
+        &rt,
+        alloc,
+        "start 65535 18446744073709551615 4096 const\n",
+        "recovered 0\n",
+    )?;
+    let script = "\
+start 4 18446744073709551615 1 add
+size
+recover
+fail 18446744073709551615
+read 18446744073709551615 18446744073709551615";
+    let out = "\
+fault E7 OffsetOverflow
+closed
+not-crashed
+ok
+closed
+";
+    plays(&rt, alloc, script, out)
+}
+
+#[test]
+fn a_bad_first_line_is_named(rt: HostRuntime) -> Result<(), Fail> {
+    let scripts: [&[u8]; 20] = [
+        b"",
+        b"\n",
+        b"\nstart 4 8 4 add\n",
+        b"size\n",
+        b"start\n",
+        b"start 4 8 4\n",
+        b"start 4 8 4 add 1\n",
+        b"start 4 8 4 add \n",
+        b" start 4 8 4 add\n",
+        b"start  4 8 4 add\n",
+        b"start 4 8 4 add\r\n",
+        b"start 4 8 4 crc\n",
+        b"start 0 8 4 add\n",
+        b"start 65536 8 4 add\n",
+        b"start 04 8 4 add\n",
+        b"start 4 18446744073709551616 4 add\n",
+        b"start 4 8 0 add\n",
+        b"start 4 8 4097 add\n",
+        b"start 4 8 -1 add\nbad\n",
+        b"\xff\n",
+    ];
+    for script in scripts {
+        names_line(&rt, rt.alloc(), script, 1)?;
+    }
+    Ok(())
+}
+
+#[test]
+fn a_bad_second_line_is_named(rt: HostRuntime) -> Result<(), Fail> {
+    let alloc = rt.alloc();
+    let lines: [&[u8]; 34] = [
+        b"",
+        b" ",
+        b"append",
+        b"append ",
+        b"append 6",
+        b"append 6A",
+        b"append 6g",
+        b"append  61",
+        b"append 61 ",
+        b"append 61 62",
+        b"append \xff\xff",
+        b"sync -",
+        b"Sync",
+        b"size 0",
+        b"read 0",
+        b"read 00 1",
+        b"read 0 01",
+        b"read 0 18446744073709551616",
+        b"read +1 1",
+        b"read 0 ",
+        b"read -1 1",
+        b"fail",
+        b"fail 0",
+        b"crash",
+        b"crash ",
+        b"crash 2",
+        b"crash 0 1",
+        b"recover 1",
+        b"dump -",
+        b"owned 61",
+        b"try 61",
+        b"truncate 0",
+        b"replay 64",
+        b"start 4 8 4 add",
+    ];
+    for line in lines {
+        let mut script = Vec::from_slice(alloc, b"start 4 8 4 add\n")?;
+        script.extend_from_slice(line)?;
+        script.extend_from_slice(b"\nbad\n")?;
+        names_line(&rt, alloc, &script, 2)?;
+    }
+    names_line(&rt, alloc, b"start 4 8 4 add\nsize\nread 1 2\n\n", 4)
+}
+
+// A reader that fails after some bytes.
+#[derive(Drop)]
+struct Broken<'a>(&'a [u8]);
+
+impl Read for Broken<'_> {
+    fn read(&mut self, buf: &mut [u8]) -> io::Result<usize> {
+        if self.0.is_empty() {
+            return Err(io::Error::from(ErrorKind::BrokenPipe));
+        }
+        self.0.read(buf)
+    }
+}
+
+#[test]
+fn a_failed_input_or_output_stops_it(rt: HostRuntime) -> Result<(), Fail> {
+    let alloc = rt.alloc();
+    let mut out = Vec::new(alloc);
+    let mut err = Vec::new(alloc);
+    let status = play(alloc, Broken(b"start 4 8 4 add\n"), &mut out, &mut err);
+    assert_eq!(rt; status, 1);
+    assert!(rt; out.is_empty());
+    assert_eq!(rt; err.as_slice(), b"pagedctl: stopped\n".as_slice());
+
+    let mut room = [0u8; 15];
+    let script: &[u8] = b"start 4 8 4 add\nsize\n";
+    let mut err = Vec::new(alloc);
+    let status = play(alloc, script, room.as_mut_slice(), &mut err);
+    assert_eq!(rt; status, 1);
+    assert_eq!(rt; room.as_slice(), b"recovered 0\nsiz".as_slice());
+    assert_eq!(rt; err.as_slice(), b"pagedctl: stopped\n".as_slice());
+    Ok(())
+}

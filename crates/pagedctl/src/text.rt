@@ -1,0 +1,39 @@
+// The printed text of replies.
+ghost use Rattle.std.specs.Prelude.{Some};
+ghost use Rattle.pagedctl.specs.Text.{hex_of, reply_text};
+
+use crate::step::Reply;
+use std::fmt;
+
+/// Bytes as lower-case hexadecimal digits, two a byte, or `-` where there is none.
+#[derive(Clone, Copy, Debug)]
+pub struct Hex<'a>(pub &'a [u8]);
+
+impl fmt::Display for Hex<'_> {
+    ghost output = { λ hex. Some (hex_of hex.0.now) };
+
+    fn fmt<W: fmt::Write>(&self, f: &mut fmt::Formatter<W>) -> fmt::Result {
+        if self.0.is_empty() {
+            return write!(f, "-");
+        }
+        for &byte in self.0 {
+            write!(f, "{byte:02x}")?;
+        }
+        Ok(())
+    }
+}
+
+impl fmt::Display for Reply {
+    ghost output = { λ reply. Some (reply_text reply) };
+
+    fn fmt<W: fmt::Write>(&self, f: &mut fmt::Formatter<W>) -> fmt::Result {
+        match self {
+            Reply::At(place) => write!(f, "at {place}"),
+            Reply::Done => write!(f, "ok"),
+            Reply::Length(size) => write!(f, "size {size}"),
+            Reply::Bytes(bytes) => write!(f, "bytes {}", Hex(bytes)),
+            Reply::Fault(error) => write!(f, "fault E{} {}", error.number(), error.name()),
+            Reply::Closed => write!(f, "closed"),
+        }
+    }
+}
