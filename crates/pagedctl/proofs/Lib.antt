@@ -6,3 +6,4 @@ pub mod Numbers
 pub mod Runs
 pub mod ScriptLines
 pub mod Steps
+pub mod Examples

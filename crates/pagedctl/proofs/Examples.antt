@@ -1,0 +1,68 @@
+-- Examples of what a run says.
+use Rattle.std.proofs.Common.{◌≡◌, ◌<◌, ◌≤◌, ◌+◌, ◌^◌, ℕ, List, [], ◌∷◌, length, take, refl, sym, ap, ◌∙◌, inl, arith, true, false}
+use Rattle.disk.specs.declared.error.Error.TheVariants.{SyncFailed, BlobInsufficientLength, OffsetOverflow}
+use Rattle.page.specs.Page.{text}
+use Rattle.page.specs.Sums.{add_sum}
+use Rattle.crash.specs.Kept.{AllOnly}
+use Rattle.crash.proofs.CutLaws.{rest_only}
+use Rattle.crash.proofs.Examples.{durable, six, all_keep}
+use Rattle.pagedctl.specs.declared.step.Step.TheVariants.{Sync, Size, Read}
+use Rattle.pagedctl.specs.declared.step.Reply.TheVariants.{Length}
+use Rattle.pagedctl.specs.Run.{Standing, accepted, refused, Replies, HasCause, Ran}
+
+-- a writer of "abcdef", all of which every crash keeps
+abbrev pub six_stand : Standing
+six_stand = record { has_writer = true; content = six; floor = 6; otherwise = six }
+
+-- the same, with nothing synced yet
+abbrev pub none_synced : Standing
+none_synced = record { has_writer = true; content = six; floor = 0; otherwise = six }
+
+-- after a sync all of it is kept
+pub a_sync_step : accepted Sync none_synced ≡ six_stand
+a_sync_step = refl
+
+-- a refused sync takes the writer, and what was kept still is
+pub a_refused_sync : refused Sync six_stand ≡ record { has_writer = false; content = six; floor = 6; otherwise = six }
+a_refused_sync = refl
+
+-- a refused read takes nothing
+pub a_refused_read : refused (Read 4 3) six_stand ≡ six_stand
+a_refused_read = refl
+
+pub a_size_reply : Replies Size six (Length 6)
+a_size_reply = refl
+
+-- a read of three bytes from the fifth on passes the end
+pub a_read_past_the_end : HasCause 4 (Read 4 3) six durable durable BlobInsufficientLength
+a_read_past_the_end = (omega arith, omega arith)
+
+-- one within the size doesn't
+pub no_end_within : HasCause 4 (Read 4 2) six durable durable BlobInsufficientLength → ⊥
+no_end_within cause = omega (arith, cause.1)
+
+-- where the log gained no failure, no device fault is answered
+pub no_fault_of_its_own : HasCause 4 Sync six durable durable SyncFailed → ⊥
+no_fault_of_its_own cause = omega arith
+
+-- nor does a sync ever overflow
+pub no_overflow : HasCause 4 Sync six durable durable OffsetOverflow → ⊥
+no_overflow cause = cause
+
+-- the blob says nothing else
+six_only : AllOnly add_sum 4 six six durable
+six_only = λ image is_image free.
+    let says : text add_sum 4 image ≡ six = rest_only add_sum 4 six durable image refl refl is_image in
+    inl (says ∙ sym (ap (λ (l : List ℕ). take (length l) six) says))
+
+-- a run of one step: the size
+pub a_run_of_one : Ran add_sum 4 (Size ∷ []) (Length 6 ∷ []) durable [] six_stand six_stand
+a_run_of_one = (
+  [], [], refl, six_stand,
+  record { answer = (refl, refl, refl); asks = refl; kept = (all_keep, tt); only = (six_only, tt) },
+  (refl, refl, all_keep, six_only),
+)
+
+-- another size isn't answered
+pub no_other_size : Replies Size six (Length 7) → ⊥
+no_other_size is = omega (arith, is)
