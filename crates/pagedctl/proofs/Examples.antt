@@ -58,7 +58,10 @@ six_only = λ image is_image free.
 -- a run of one step: the size
 pub a_run_of_one : Ran add_sum 4 (Size ∷ []) (Length 6 ∷ []) durable [] six_stand six_stand
 a_run_of_one = (
-  [], [], refl, six_stand,
+  [],
+  [],
+  refl,
+  six_stand,
   record { answer = (refl, refl, refl); asks = refl; kept = (all_keep, tt); only = (six_only, tt) },
   (refl, refl, all_keep, six_only),
 )
