@@ -1,14 +1,19 @@
 -- What opening and recovering a blob keep, at a few bytes. Pages have 4 bytes, and the checksum is their sum.
-use Rattle.std.proofs.Common.{◌≡◌, ℕ, List, [], ◌∷◌, ◌++◌, refl}
+use Rattle.std.proofs.Common.{◌≡◌, ℕ, List, [], ◌∷◌, ◌++◌, refl, arith}
 use Rattle.std.specs.Prelude.{Some, None}
-use Rattle.page.specs.Page.{pages}
+use Rattle.page.specs.Page.{pages, text}
 use Rattle.page.specs.Sums.{add_sum}
 use Rattle.page.proofs.Examples.{abcd_page, ef_page}
 use Rattle.page.specs.declared.slot.Slot.TheVariants.{First}
 use Rattle.page.specs.declared.slot.ActiveChecksum.{ActiveChecksum}
 use Rattle.crash.specs.WriterState.SyncState.{Clean}
+use Rattle.crash.specs.Stays.{StaysThrough}
+use Rattle.crash.proofs.CutLaws.{rest_through_start}
+use Rattle.crash.proofs.Examples.{durable, before, behind}
 use Rattle.paged.specs.Prefix.{prefix_of, last_prefix, prefix_pages, at_prefix}
-use Rattle.paged.specs.Recovery.{opened_prefix, opened_size}
+use Rattle.paged.specs.Calls.{AsksAtMost}
+use Rattle.paged.specs.Recovery.{IsDurable, KeepsText, LeavesText, opened_prefix, opened_size}
+use Rattle.paged.proofs.Trims.{keeps_text, leaves_text}
 
 -- the slot of "ef"
 abbrev pub slot_of_ef : ActiveChecksum
@@ -46,3 +51,26 @@ an_opened_size = refl
 pub a_recovered_writer : at_prefix 4 0 8 (opened_prefix add_sum 4 (abcd_page ++ ef_page ++ no_page)) Clean
     ≡ record { page_size = 4; id = 0; capacity = 8; full_pages = 1; tip = 101 ∷ 102 ∷ []; flushed = Some slot_of_ef; durable = Some slot_of_ef; sync = Clean }
 a_recovered_writer = refl
+
+-- all of the blob is durable
+pub all_durable : IsDurable durable
+all_durable = record { since = refl; base = refl }
+
+-- a call that does nothing keeps the text "abcdef"
+stays : IsDurable durable → StaysThrough add_sum 4 (text add_sum 4 durable.readable) before before
+stays rests = rest_through_start add_sum 4 (text add_sum 4 durable.readable) before rests.since rests.base refl
+
+pub a_kept_text : KeepsText add_sum 4 before before
+a_kept_text = keeps_text add_sum 4 before before stays
+
+-- and leaves no other
+pub no_other_text : LeavesText add_sum 4 before before
+no_other_text = leaves_text add_sum 4 before before stays
+
+-- one write is one device call
+pub one_call : AsksAtMost 1 before behind
+one_call = omega arith
+
+-- and not none
+pub a_call : AsksAtMost 0 before behind → ⊥
+a_call none = omega (arith, none)
