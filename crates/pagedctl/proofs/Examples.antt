@@ -1,5 +1,5 @@
 -- Examples of what a run says.
-use Rattle.std.proofs.Common.{◌≡◌, ◌<◌, ◌≤◌, ◌+◌, ◌^◌, ℕ, List, [], ◌∷◌, length, take, refl, sym, ap, ◌∙◌, inl, arith, true, false}
+use Rattle.std.proofs.Common.{◌≡◌, ℕ, List, [], ◌∷◌, length, take, refl, sym, ap, ◌∙◌, inl, arith, true, false}
 use Rattle.disk.specs.declared.error.Error.TheVariants.{SyncFailed, BlobInsufficientLength, OffsetOverflow}
 use Rattle.page.specs.Page.{text}
 use Rattle.page.specs.Sums.{add_sum}
