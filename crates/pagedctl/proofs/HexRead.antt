@@ -142,6 +142,10 @@ decoded-hex_of word (b ∷ rest) h none some =
     let ok = decode_of-ok word (b ∷ rest) h in
     sym (decoded-hex_digits 0 word (b ∷ rest) (sym (decode_of-even word ok.0) ∙ h) none)
 
+-- what is decoded is bytes
+pub decoded-bytes : (word bytes : List ℕ) → decode_of word ≡ Ok bytes → AreBytes bytes
+decoded-bytes word bytes h = (decode_of-ok word bytes h).3
+
 not_refused : (word : List ℕ) (e : FromHexError) (bytes : List ℕ) → (e ≡ hex.OutOfMemory) ⊎ (decode_of word ≡ Err e) → decode_of word ≡ Ok bytes → e ≢ hex.OutOfMemory → ⊥
 not_refused word e bytes (inl memory) decoded other = other memory
 not_refused word e bytes (inr refused) decoded other = let no : Err e ≡ Ok bytes = sym refused ∙ decoded in cc

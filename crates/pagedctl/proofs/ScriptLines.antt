@@ -8,7 +8,7 @@ use Rattle.pagedctl.specs.declared.script.Line.TheVariants.{Recover}
 use Rattle.std.specs.Prelude.{IfSome}
 use Rattle.pagedctl.specs.declared.script.Script.{Script}
 use Rattle.pagedctl.specs.declared.script.Start.{Start}
-use Rattle.pagedctl.specs.Script.{Reads, ReadsScript, IsLine, IsReadable, words_of, line_words, start_words, error_at, lines_of}
+use Rattle.pagedctl.specs.Script.{Reads, ReadsScript, IsLine, IsStart, IsReadable, words_of, line_words, start_words, error_at, lines_of}
 use Rattle.pagedctl.specs.Play.{IsScript}
 
 -- one line more was read
@@ -42,14 +42,14 @@ line_read read others i place within so_far before =
 
 -- so is each line of the script before this one
 readable_before : (first : List ℕ) (others : List (List ℕ)) (start : Start) (read : List Line) (i place : ℕ) → i ≤ length others
-    → words_of first ≡ start_words start → map line_words read ≡ map words_of (take i others) → place < suc i → IsReadable place (get_or (first ∷ others) place [])
-readable_before first others start read i zero within begins so_far before = (start, begins)
+    → (words_of first ≡ start_words start) × IsStart start → map line_words read ≡ map words_of (take i others) → place < suc i → IsReadable place (get_or (first ∷ others) place [])
+readable_before first others start read i zero within begins so_far before = (start, begins.0, begins.1)
 readable_before first others start read i (suc place) within begins so_far before =
     (get_or read place Recover, line_read read others i place within so_far (omega arith))
 
 -- a line that isn't read, behind those that were
 pub stops : (first : List ℕ) (others : List (List ℕ)) (start : Start) (read : List Line) (i : ℕ) (e : ReadError) → i < length others
-    → words_of first ≡ start_words start → map line_words read ≡ map words_of (take i others)
+    → (words_of first ≡ start_words start) × IsStart start → map line_words read ≡ map words_of (take i others)
     → Reads line_words IsLine (words_of (get_or others i [])) (Err e) → ReadsScript (first ∷ others) (Err (error_at (i + 2) e))
 stops first others start read i Unreadable below begins so_far this =
     let place : i + 2 - 1 ≡ suc i = omega arith in (
@@ -62,7 +62,7 @@ stops first others start read i OutOfMemory below begins so_far this = tt
 
 -- the same of lines that are lent
 pub stops_at : (first : List ℕ) (lines : List (Bor (List ℕ))) (start : Start) (read : List Line) (i : ℕ) (e : ReadError) (d : Bor (List ℕ)) → i < length lines
-    → words_of first ≡ start_words start → map line_words read ≡ map words_of (take i (map (λ (l : Bor (List ℕ)). l.now) lines))
+    → (words_of first ≡ start_words start) × IsStart start → map line_words read ≡ map words_of (take i (map (λ (l : Bor (List ℕ)). l.now) lines))
     → Reads line_words IsLine (words_of (get_or lines i d).now) (Err e) → ReadsScript (first ∷ map (λ (l : Bor (List ℕ)). l.now) lines) (Err (error_at (i + 2) e))
 stops_at first lines start read i e d below begins so_far this =
     let nows = map (λ (l : Bor (List ℕ)). l.now) lines in

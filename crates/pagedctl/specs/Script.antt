@@ -21,7 +21,7 @@ use Rattle.pagedctl.specs.Text.{hex_of}
 
 -- what reading answers, where each value has a text: the value of which this is the text, or that it is the text of none
 abbrev pub Reads : {V T : Type 0} → (V → T) → (V → Type 0) → T → Result V ReadError → Type 0
-Reads text IsOne read (Ok v) = read ≡ text v
+Reads text IsOne read (Ok v) = (read ≡ text v) × IsOne v
 Reads {V} text IsOne read (Err Unreadable) = (v : V) → IsOne v → read ≢ text v
 Reads text IsOne read (Err OutOfMemory) = Unit {0}
 
@@ -112,7 +112,7 @@ IsStart start = IsPageSize (non_zero_u16_get start.page_size) × IsU64 start.cap
 
 -- the line at this place can be read: place 0 has the first line
 abbrev pub IsReadable : ℕ → List ℕ → Type 0
-IsReadable zero line = (start : Start) × (words_of line ≡ start_words start)
+IsReadable zero line = (start : Start) × (words_of line ≡ start_words start) × IsStart start
 IsReadable (suc place) line = (read : Line) × (words_of line ≡ line_words read)
 
 -- the line at this place is one of no script
@@ -127,7 +127,7 @@ error_at number OutOfMemory = script.OutOfMemory
 
 -- what reading these lines answers: the script whose lines they are, or the number of the first that can't be read, from 1
 abbrev pub ReadsScript : List (List ℕ) → Result Script ScriptError → Type 0
-ReadsScript lines (Ok script) = map words_of lines ≡ start_words script.start ∷ map line_words script.lines.items
+ReadsScript lines (Ok script) = (map words_of lines ≡ start_words script.start ∷ map line_words script.lines.items) × IsStart script.start
 ReadsScript lines (Err (script.Unreadable number)) = (0 < number) × (number ≤ length lines) × IsUnreadable (number - 1) (slice_index_or lines (number - 1) [])
     × ((place : ℕ) → place + 1 < number → IsReadable place (slice_index_or lines place []))
 ReadsScript lines (Err script.OutOfMemory) = Unit {0}

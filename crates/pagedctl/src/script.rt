@@ -223,15 +223,15 @@ fn parse_words(alloc: Global, words: &[&[u8]]) -> Result<Line, ReadError>
     ensures reads { Reads line_words IsLine (map (λ word. word.now) words.now) result }
 {
     match words {
-        [name] => parse_bare(name),
-        [name, word] => parse_with_one(alloc, name, word),
-        [name, first, second] => parse_with_two(name, first, second),
+        [name] => parse_one_word(name),
+        [name, word] => parse_two_words(alloc, name, word),
+        [name, first, second] => parse_three_words(name, first, second),
         _ => Err(ReadError::Unreadable),
     }
 }
 
 // A line of one word.
-fn parse_bare(name: &[u8]) -> Result<Line, ReadError>
+fn parse_one_word(name: &[u8]) -> Result<Line, ReadError>
     ensures reads { Reads line_words IsLine (name.now ∷ []) result }
 {
     match name {
@@ -244,7 +244,7 @@ fn parse_bare(name: &[u8]) -> Result<Line, ReadError>
 }
 
 // A line of two words.
-fn parse_with_one(alloc: Global, name: &[u8], word: &[u8]) -> Result<Line, ReadError>
+fn parse_two_words(alloc: Global, name: &[u8], word: &[u8]) -> Result<Line, ReadError>
     ensures reads { Reads line_words IsLine (name.now ∷ word.now ∷ []) result }
 {
     match name {
@@ -256,7 +256,7 @@ fn parse_with_one(alloc: Global, name: &[u8], word: &[u8]) -> Result<Line, ReadE
 }
 
 // A line of three words.
-fn parse_with_two(name: &[u8], first: &[u8], second: &[u8]) -> Result<Line, ReadError>
+fn parse_three_words(name: &[u8], first: &[u8], second: &[u8]) -> Result<Line, ReadError>
     ensures reads { Reads line_words IsLine (name.now ∷ first.now ∷ second.now ∷ []) result }
 {
     match name {

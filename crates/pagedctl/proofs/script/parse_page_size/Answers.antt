@@ -6,11 +6,11 @@ use Rattle.pagedctl.proofs.script.parse_page_size.Goals as goal
 pub returns-in_default : goal.returns-in_default
 returns-in_default c = record {
   reads = λ v is same.
-      let e = same_number _ c.in_ok-parse_number.field-0 (non_zero_u16_get v) (search rules) (omega arith) c.in_ok-parse_number.ensures.reads same in c.in_default.ensures (omega arith);
+      let e = same_number _ c.in_ok-parse_number.field-0 (non_zero_u16_get v) (search rules) (omega arith) c.in_ok-parse_number.ensures.reads.0 same in c.in_default.ensures (omega arith);
 }
 
 pub returns-in-None : goal.returns-in-None
 returns-in-None c = record {
   reads = λ v is same.
-      let e = same_number _ c.in_ok-parse_number.field-0 (non_zero_u16_get v) (search rules) (omega arith) c.in_ok-parse_number.ensures.reads same in omega arith;
+      let e = same_number _ c.in_ok-parse_number.field-0 (non_zero_u16_get v) (search rules) (omega arith) c.in_ok-parse_number.ensures.reads.0 same in omega arith;
 }

@@ -1,6 +1,0 @@
-use Rattle.std.proofs.Common.{rules, ap, List, ℕ, [], ◌∷◌, codes, arith}
-use Rattle.std.proofs.lemmas.Slice.Eq.{text_from_reads}
-use Rattle.pagedctl.proofs.script.parse_bare.Goals as goal
-
-pub returns-in-recover : goal.returns-in-recover
-returns-in-recover c = record { reads = ap (λ (word : List ℕ). word ∷ []) (text_from_reads c.args.name.now (codes "recover") (omega arith) (search rules)) }
