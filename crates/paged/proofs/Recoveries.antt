@@ -219,7 +219,7 @@ module _ (sum : List ℕ → ℕ) (cache : CacheState) (capacity : ℕ) (old new
   opens_end s room p (Err BlobInsufficientLength) room_is is bytes kept stands = absurd stands
   opens_end s room p (Err OffsetOverflow) room_is is bytes kept stands = absurd stands
   opens_end s room p (Err OutOfMemory) room_is is bytes kept stands = tt
-  opens_end s room p (Err IdsExhausted) room_is is bytes kept stands = stands
+  opens_end s room p (Err IdsExhausted) room_is is bytes kept stands = (stands, state_of s, kept.0)
 
 -- ---- ending a recovery
 

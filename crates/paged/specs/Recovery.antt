@@ -96,7 +96,7 @@ pub record IsOpened (sum : List ℕ → ℕ) (cache : CacheState) (capacity : �
 abbrev pub Opens : (List ℕ → ℕ) → CacheState → ℕ → Life → Life → Result WriterState Error → Type 0
 Opens sum cache capacity old new (Ok w) = IsOpened sum cache capacity old new w
 Opens sum cache capacity old new (Err OffsetOverflow) = (new ≡ old) × (2 ^ 64 ≤ adjusted capacity cache.page_size)
-Opens sum cache capacity old new (Err IdsExhausted) = 2 ^ 64 ≤ cache.ids_given
+Opens sum cache capacity old new (Err IdsExhausted) = (2 ^ 64 ≤ cache.ids_given) × (sync : SyncState) × IsKept old new (opened_size sum cache.page_size old.present.readable) sync
 Opens sum cache capacity old new (Err e) = HasCause old new e
 
 -- the cache once it was asked for an id, where the call came so far
