@@ -1,10 +1,16 @@
 -- Lists of buffers, one more at a time.
-use Rattle.std.proofs.Common.{◌≡◌, ℕ, List, [], ◌∷◌, ◌++◌, ◌+◌, ◌<◌, length, take, ap, ◌∙◌, append-nil, slice_index_or}
+use Rattle.std.proofs.Common.{◌≡◌, ℕ, List, [], ◌∷◌, ◌++◌, ◌+◌, ◌<◌, length, take, ap, ◌∙◌, append-nil, slice_index_or, refl, arith}
 use Rattle.std.specs.List.{concat}
 use Rattle.std.proofs.lemmas.List.{take_more}
+use Rattle.disk.specs.Bufs.{with_buf}
 use Rattle.std.proofs.lemmas.List.Folds.{concat-append}
 
 -- one buffer more in a loop
 pub concat_more : (xs : List (List ℕ)) (i : ℕ) (d : List ℕ) → i < length xs → concat (take (i + 1) xs) ≡ concat (take i xs) ++ slice_index_or xs i d
 concat_more xs i d below =
     ap concat (take_more xs i d below) ∙ concat-append (take i xs) (slice_index_or xs i d ∷ []) ∙ ap (λ v. concat (take i xs) ++ v) (append-nil (slice_index_or xs i d))
+
+-- a buffer that isn't empty joins the list
+pub with_some : (bufs : List (List ℕ)) (buf : List ℕ) → 0 < length buf → with_buf bufs buf ≡ bufs ++ buf ∷ []
+with_some bufs [] some = absurd (omega arith)
+with_some bufs (byte ∷ bytes) some = refl

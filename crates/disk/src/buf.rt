@@ -1,12 +1,12 @@
 // Byte buffers that are shared and cut with no copy.
-ghost use Rattle.std.specs.Prelude.{◌≡◌, ◌==◌, ◌≤◌, ◌++◌, [], length, slice_range, IfOk, IsOkUnless, OnOk, OnErr};
+ghost use Rattle.std.specs.Prelude.{◌≡◌, ◌==◌, ◌≤◌, ◌++◌, [], length, slice_range, take, IfOk, IfErr, IsOkUnless, OnOk, OnErr};
 ghost use Rattle.std.specs.List.{concat};
 ghost use Rattle.std.specs.Slice.Iter.{iter_rest};
 ghost use Rattle.disk.specs.Bufs.{with_buf};
 
 use crate::Error;
 use bytes::Bytes;
-use std::alloc::Global;
+use std::alloc::{AllocFailed, Global};
 use std::marker::Model;
 use std::slice::Iter;
 
@@ -137,6 +137,38 @@ impl IoBufs {
         self.bufs.push(buf)?;
         self.len = len;
         Ok(())
+    }
+
+    /// Adds the first `len` bytes of a vector at the end, without a copy; nothing where `len` is 0. Where memory is
+    /// refused, or all the bytes together would pass `usize`, the vector comes back, and the list is as it was.
+    pub fn append_front(&mut self, bytes: Vec<u8>, len: usize) -> Result<(), AllocFailed<Vec<u8>>>
+        requires { len ≤ length bytes.items }
+        ensures bufs { OnOk result (self.new ≡ with_buf self.old (take len bytes.items)) }
+        ensures bytes { OnOk result (concat self.new ≡ concat self.old ++ take len bytes.items) }
+        ensures same { OnErr result (self.new ≡ self.old) }
+        ensures back { IfErr result (λ e. e.value.items ≡ bytes.items) }
+    {
+        if len == 0 {
+            return Ok(());
+        }
+        let Some(end) = self.len.checked_add(len) else {
+            return Err(AllocFailed { value: bytes });
+        };
+        if self.bufs.try_reserve(1).is_err() {
+            return Err(AllocFailed { value: bytes });
+        }
+        let mut bytes = Bytes::from_vec(bytes)?;
+        bytes.truncate(len);
+        self.bufs.push_reserved(IoBuf { bytes });
+        self.len = end;
+        Ok(())
+    }
+
+    /// The buffers in order.
+    pub fn as_slice(&self) -> &[IoBuf]
+        ensures { result.now ≡ self.now }
+    {
+        &self.bufs
     }
 
     /// The buffers in order.

@@ -5,3 +5,4 @@ pub mod WholePages
 pub mod Ranges
 pub mod Rows
 pub mod Examples
+mod Chunks

@@ -3,3 +3,4 @@ pub mod Sums
 pub mod Page
 pub mod Footer
 pub mod Geometry
+pub mod Tip

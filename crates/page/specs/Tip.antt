@@ -1,0 +1,77 @@
+-- A tip: the bytes of a blob from a place on that are buffered, and what each call of its buffer does.
+use Rattle.std.specs.Prelude.{◌≡◌, ℕ, ◌+◌, ◌*◌, ◌/◌, ◌%◌, ◌<◌, ◌≤◌, ◌^◌, ◌++◌, Bool, nat_lt, List, length, take, drop, All, Option, Some, None, Result, Ok, Err}
+use Rattle.std.specs.List.{concat}
+use Rattle.disk.specs.declared.error.Error.{Error}
+use Rattle.disk.specs.declared.error.Error.TheVariants.{OffsetOverflow, OutOfMemory}
+
+-- the bytes behind a logical place, in pages of so many bytes; as many as the capacity are to be buffered
+pub record Tip : Type 0 where
+  pub page_size : ℕ
+  pub capacity : ℕ
+  pub offset : ℕ
+  pub bytes : List ℕ
+
+-- the logical size of the blob
+abbrev pub tip_size : Tip → ℕ
+tip_size t = t.offset + length t.bytes
+
+-- with these bytes behind its own
+abbrev pub joined : Tip → List ℕ → Tip
+joined t more = record t { bytes = t.bytes ++ more }
+
+-- how many of its bytes stand in whole pages
+abbrev pub full_len : Tip → ℕ
+full_len t = length t.bytes / t.page_size * t.page_size
+
+-- without these
+abbrev pub drained : Tip → Tip
+drained t = record t { offset = t.offset + full_len t; bytes = drop (full_len t) t.bytes }
+
+-- each of these chunks is a whole number of pages
+abbrev pub AreWholePages : ℕ → List (List ℕ) → Type 0
+AreWholePages P chunks = All (λ chunk. length chunk % P ≡ 0) chunks
+
+-- each of these is a page
+abbrev pub ArePages : ℕ → List (List ℕ) → Type 0
+ArePages P pages = All (λ page. length page ≡ P) pages
+
+-- an append: it tells whether the capacity is passed now
+abbrev pub AppendGoes : Tip → List ℕ → Tip → Result Bool Error → Type 0
+AppendGoes old bytes new (Ok passed) = (tip_size old + length bytes < 2 ^ 64) × (new ≡ joined old bytes) × (passed ≡ nat_lt old.capacity (length old.bytes + length bytes))
+AppendGoes old bytes new (Err OffsetOverflow) = (2 ^ 64 ≤ tip_size old + length bytes) × (new ≡ old)
+AppendGoes old bytes new (Err OutOfMemory) = (tip_size old + length bytes < 2 ^ 64) × (new ≡ old)
+AppendGoes old bytes new (Err _) = ⊥
+
+-- an append within the capacity: it tells the place of the first byte, or that they don't fit
+abbrev pub TryAppendGoes : Tip → List ℕ → Tip → Result (Option ℕ) Error → Type 0
+TryAppendGoes old bytes new (Ok (Some place)) = (tip_size old + length bytes < 2 ^ 64) × (length old.bytes + length bytes ≤ old.capacity) × (place ≡ tip_size old) × (new ≡ joined old bytes)
+TryAppendGoes old bytes new (Ok None) = (tip_size old + length bytes < 2 ^ 64) × (old.capacity < length old.bytes + length bytes) × (new ≡ old)
+TryAppendGoes old bytes new (Err OffsetOverflow) = (2 ^ 64 ≤ tip_size old + length bytes) × (new ≡ old)
+TryAppendGoes old bytes new (Err OutOfMemory) = (tip_size old + length bytes < 2 ^ 64) × (length old.bytes + length bytes ≤ old.capacity) × (new ≡ old)
+TryAppendGoes old bytes new (Err _) = ⊥
+
+-- the whole pages are handed out, in order
+abbrev pub DrainGoes : Tip → Tip → Result (List (List ℕ)) Error → Type 0
+DrainGoes old new (Ok chunks) = (concat chunks ≡ take (full_len old) old.bytes) × AreWholePages old.page_size chunks × (new ≡ drained old)
+DrainGoes old new (Err OutOfMemory) = new ≡ old
+DrainGoes old new (Err _) = ⊥
+
+-- other bytes at another place
+abbrev pub ReplaceGoes : Tip → ℕ → List ℕ → Tip → Result (Unit {0}) Error → Type 0
+ReplaceGoes old offset bytes new (Ok _) = new ≡ record old { offset = offset; bytes = bytes }
+ReplaceGoes old offset bytes new (Err OffsetOverflow) = (2 ^ 64 ≤ offset + length bytes) × (new ≡ old)
+ReplaceGoes old offset bytes new (Err OutOfMemory) = (offset + length bytes < 2 ^ 64) × (new ≡ old)
+ReplaceGoes old offset bytes new (Err _) = ⊥
+
+-- a buffer is made
+abbrev pub StartGoes : Tip → Result Tip Error → Type 0
+StartGoes tip (Ok new) = (tip_size tip < 2 ^ 64) × (new ≡ tip)
+StartGoes tip (Err OffsetOverflow) = 2 ^ 64 ≤ tip_size tip
+StartGoes tip (Err OutOfMemory) = tip_size tip < 2 ^ 64
+StartGoes tip (Err _) = ⊥
+
+-- what holds of every tip
+pub record IsTip (page_size capacity offset : ℕ) (bytes : List ℕ) : Type 0 where
+  pub some : 0 < page_size
+  pub whole : capacity % page_size ≡ 0
+  pub small : offset + length bytes < 2 ^ 64

@@ -1,0 +1,23 @@
+// Values that write themselves.
+ghost use Rattle.std.specs.Prelude.{◌≡◌, ◌≤◌, ◌++◌, List, ℕ, OnOk, IsOk, length};
+
+use bytes::BufMut;
+use std::alloc::AllocError;
+
+/// A value whose encoding has a known size.
+pub trait EncodeSize {
+    /// The bytes that the value is encoded as.
+    ghost encoded: { Self → List ℕ };
+
+    /// How many bytes these are.
+    fn encode_size(&self) -> usize
+        ensures { result ≡ length (encoded self.now) };
+}
+
+/// A value that writes its encoding.
+pub trait Write: EncodeSize {
+    /// Writes the encoded bytes behind those that `out` holds. Where `out` has room for all of them it answers `Ok`.
+    fn write<O: BufMut>(&self, out: &mut O) -> Result<(), AllocError>
+        ensures bytes { OnOk result (O.written out.new ≡ O.written out.old ++ Self.encoded self.now) }
+        ensures room { length (Self.encoded self.now) ≤ O.spare out.old → IsOk result };
+}
