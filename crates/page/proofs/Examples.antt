@@ -1,10 +1,12 @@
 -- Each definition of pages, computed on a few bytes. Pages have 4 bytes, and the checksum is the sum of the bytes.
-use Rattle.std.proofs.Common.{◌≡◌, ℕ, List, [], ◌∷◌, ◌++◌, refl}
-use Rattle.std.specs.Prelude.{Some, None, true, false}
+use Rattle.std.proofs.Common.{◌≡◌, ◌%◌, ℕ, List, [], ◌∷◌, ◌++◌, length, refl, lit<, lit≤}
+use Rattle.std.specs.Prelude.{Some, None, Ok, true, false}
 use Rattle.page.specs.Page.{slot_bytes, slot_of, slot_len, slot_crc, verifies, verified_len, value_len, value, active, pages, text}
 use Rattle.page.specs.Geometry.{adjusted, is_too_big}
 use Rattle.page.specs.Sums.{add_sum, const_sum}
+use Rattle.page.specs.Tip.{Tip, tip_size, joined, full_len, drained, grown_limit, page_limit, kept_limit, AppendGoes, TryAppendGoes, DrainGoes}
 use Rattle.page.specs.declared.slot.Slot.TheVariants.{First, Second}
+use Rattle.page.proofs.Chunks.{All-single}
 
 -- the full page "abcd": four bytes, the slot of length 4 and sum 394, and an empty slot
 abbrev pub abcd_page : List ℕ
@@ -101,3 +103,57 @@ a_capacity = refl
 -- behind 2 buffered bytes, 6 are not too big for 8, and 7 are
 pub too_big : is_too_big 2 8 6 4 ≡ false
 too_big = refl
+
+-- seven bytes behind place 10, in pages of 8, of which 64 are to be buffered
+abbrev pub seven : Tip
+seven = record { page_size = 8; capacity = 64; offset = 10; bytes = 1 ∷ 1 ∷ 1 ∷ 1 ∷ 1 ∷ 1 ∷ 1 ∷ [] }
+
+-- the blob has 17 bytes
+pub a_tips_size : tip_size seven ≡ 17
+a_tips_size = refl
+
+-- two bytes more make a page and a byte
+abbrev pub nine : Tip
+nine = joined seven (2 ∷ 2 ∷ [])
+
+pub whole_pages_of_a_tip : full_len nine ≡ 8
+whole_pages_of_a_tip = refl
+
+-- handed out, the page leaves one byte behind it
+pub a_drained_tip : drained nine ≡ record { page_size = 8; capacity = 64; offset = 18; bytes = 2 ∷ [] }
+a_drained_tip = refl
+
+-- an append that doesn't pass the capacity says so
+pub an_append : AppendGoes seven (2 ∷ 2 ∷ []) nine (Ok false)
+an_append = (lit< tt, refl, refl)
+
+-- so many fit, and the first stands behind the seven
+pub a_try : TryAppendGoes seven (2 ∷ 2 ∷ []) nine (Ok (Some 17))
+a_try = (lit< tt, lit≤ tt, refl, refl)
+
+-- the page is one chunk
+pub a_drain : DrainGoes nine (drained nine) (Ok ((1 ∷ 1 ∷ 1 ∷ 1 ∷ 1 ∷ 1 ∷ 1 ∷ 2 ∷ []) ∷ []))
+a_drain = (refl, All-single (λ chunk. length chunk % 8 ≡ 0) _ refl, refl)
+
+-- behind one page 17 bytes need three
+pub room_for_what_is_needed : grown_limit 8 17 64 8 ≡ 24
+room_for_what_is_needed = refl
+
+-- a chunk is as long as those before it together
+pub room_for_as_much_again : grown_limit 32 8 512 8 ≡ 32
+room_for_as_much_again = refl
+
+-- but not past the capacity
+pub room_within_the_capacity : grown_limit 48 1 64 8 ≡ 16
+room_within_the_capacity = refl
+
+-- a tail that begins with a byte has room for a page, and one without a byte has none
+pub room_for_a_page : page_limit (2 ∷ []) 8 ≡ 8
+room_for_a_page = refl
+
+pub no_room : page_limit [] 8 ≡ 0
+no_room = refl
+
+-- a byte behind a page in a chunk of two pages moves to a page of its own
+pub room_that_is_kept : kept_limit nine.bytes 16 8 ≡ 8
+room_that_is_kept = refl

@@ -6,3 +6,4 @@ pub mod Ranges
 pub mod Rows
 pub mod Examples
 mod Chunks
+mod Buffers

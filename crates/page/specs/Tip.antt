@@ -1,5 +1,6 @@
 -- A tip: the bytes of a blob from a place on that are buffered, and what each call of its buffer does.
-use Rattle.std.specs.Prelude.{◌≡◌, ℕ, ◌+◌, ◌*◌, ◌/◌, ◌%◌, ◌<◌, ◌≤◌, ◌^◌, ◌++◌, Bool, nat_lt, List, length, take, drop, All, Option, Some, None, Result, Ok, Err}
+use Rattle.std.specs.Prelude.{◌≡◌, ℕ, ◌+◌, ◌*◌, ◌/◌, ◌%◌, ◌<◌, ◌≤◌, ◌^◌, ◌++◌, Bool, ◌&&◌, if◌then◌else◌, nat_lt, nat_le, min, max, List, [], ◌∷◌, ◌-◌, length, take, drop, All, Option, Some, None, Result, Ok, Err}
+use Rattle.std.specs.Int.{next_multiple_of}
 use Rattle.std.specs.List.{concat}
 use Rattle.disk.specs.declared.error.Error.{Error}
 use Rattle.disk.specs.declared.error.Error.TheVariants.{OffsetOverflow, OutOfMemory}
@@ -70,8 +71,29 @@ StartGoes tip (Err OffsetOverflow) = 2 ^ 64 ≤ tip_size tip
 StartGoes tip (Err OutOfMemory) = tip_size tip < 2 ^ 64
 StartGoes tip (Err _) = ⊥
 
--- what holds of every tip
-pub record IsTip (page_size capacity offset : ℕ) (bytes : List ℕ) : Type 0 where
+-- how many bytes a tail has room for that begins with these, less than a page: a page, or none where there is no byte
+abbrev pub page_limit : List ℕ → ℕ → ℕ
+page_limit [] P = 0
+page_limit (byte ∷ bytes) P = P
+
+-- how many the next tail has room for, behind so many bytes in whole pages, of which this many more are needed: as many as are
+-- buffered already, within the capacity; at least a page and what is needed; in whole pages
+abbrev pub grown_limit : (filled needed capacity P : ℕ) → ℕ
+grown_limit filled needed capacity P = next_multiple_of (max (max needed P) (min filled (capacity - filled))) P
+
+-- how many a tail has room for once its full pages are frozen: what stood in a chunk of more than a page moves to another
+abbrev pub kept_limit : List ℕ → ℕ → ℕ → ℕ
+kept_limit tail limit P = if nat_lt (length tail) P && nat_le limit P then limit else page_limit (drop (length tail / P * P) tail) P
+
+-- bytes and their limit are these
+abbrev pub AreSame : List ℕ → ℕ → List ℕ → ℕ → Type 0
+AreSame bytes limit as_bytes as_limit = (bytes ≡ as_bytes) × (limit ≡ as_limit)
+
+-- the tip in frozen chunks, each of whole pages, and a tail behind them with room for whole pages
+pub record IsBuffer (page_size capacity offset : ℕ) (chunks : List (List ℕ)) (tail : List ℕ) (limit : ℕ) : Type 0 where
   pub some : 0 < page_size
   pub whole : capacity % page_size ≡ 0
-  pub small : offset + length bytes < 2 ^ 64
+  pub small : offset + length (concat chunks ++ tail) < 2 ^ 64
+  pub whole_chunks : AreWholePages page_size chunks
+  pub whole_limit : limit % page_size ≡ 0
+  pub room : length tail ≤ limit

@@ -1,35 +1,46 @@
 // The tip of a blob: the bytes behind its full pages.
-ghost use Rattle.std.specs.Prelude.{◌≡◌, ◌==◌, ◌<◌, ◌≤◌, ◌+◌, ◌-◌, ◌%◌, ◌++◌, length, take, drop, OnOk, IsOkUnless};
+ghost use Rattle.std.specs.Prelude.{◌≡◌, ◌==◌, ◌<◌, ◌≤◌, ◌+◌, ◌-◌, ◌^◌, ◌%◌, ◌↔◌, ◌++◌, length, take, drop, IsTrue, OnOk, IsOkUnless};
 ghost use Rattle.std.specs.List.{concat};
 ghost use Rattle.page.specs.Tip.{tip_size, AreWholePages, AppendGoes, TryAppendGoes, DrainGoes, ReplaceGoes, StartGoes};
 
+use crate::tail::{Tail, next_limit};
 use crate::{EncodeSize, Write};
 use disk::{Error, IoBuf, IoBufs};
 use std::alloc::Global;
 use std::marker::Model;
+use std::mem;
 
 /// Bytes that are appended behind a logical place of a blob, in pages of one size.
 ///
-/// An error changes nothing.
+/// They stand in frozen chunks, each a whole number of pages, and one tail behind them that still grows. An append copies
+/// each byte once, and full pages are handed out where they stand. After an error the buffer is as it was.
 #[derive(Drop)]
 pub struct Buffer {
     alloc: Global,
     page_size: usize,
     capacity: usize,
     offset: u64,
-    prefix: IoBufs,
-    tail: Vec<u8>,
+    chunks: IoBufs,
+    tail: Tail,
 }
 
 impl Model for Buffer {
-    ghost use Rattle.std.specs.Prelude.{◌≡◌, ◌++◌, []};
-    ghost use Rattle.page.specs.Tip.{Tip, IsTip};
+    ghost use Rattle.std.specs.Prelude.{◌++◌};
+    ghost use Rattle.std.specs.List.{concat};
+    ghost use Rattle.page.specs.Tip.{Tip, IsBuffer};
 
     ghost Value = { Tip };
 
-    ghost view = { λ b. record { page_size = b.page_size; capacity = b.capacity; offset = b.offset; bytes = b.tail.items } };
+    ghost view = { λ b. record { page_size = b.page_size; capacity = b.capacity; offset = b.offset; bytes = concat b.chunks ++ b.tail.bytes.items } };
 
-    ghost invariant = { λ b. IsTip b.page_size b.capacity b.offset b.tail.items × (b.prefix ≡ []) };
+    ghost invariant = { λ b. IsBuffer b.page_size b.capacity b.offset b.chunks b.tail.bytes.items b.tail.limit };
+}
+
+/// Whether the places behind one go on for so many bytes.
+fn has_places(place: u64, len: usize) -> bool
+    ensures { IsTrue result ↔ place + len < 2 ^ 64 }
+{
+    place.checked_add(len as u64).is_some()
 }
 
 impl Buffer {
@@ -49,7 +60,7 @@ impl Buffer {
         requires short { length bytes.now < page_size }
         ensures { StartGoes (record { page_size = page_size; capacity = capacity; offset = offset; bytes = bytes.now }) result }
     {
-        if offset.checked_add(bytes.len() as u64).is_none() {
+        if !has_places(offset, bytes.len()) {
             return Err(Error::OffsetOverflow);
         }
         Ok(Buffer {
@@ -57,8 +68,8 @@ impl Buffer {
             page_size,
             capacity,
             offset,
-            prefix: IoBufs::new(alloc),
-            tail: Vec::from_slice(alloc, bytes)?,
+            chunks: IoBufs::new(alloc),
+            tail: Tail::partial(alloc, bytes, page_size)?,
         })
     }
 
@@ -66,14 +77,14 @@ impl Buffer {
     pub fn size(&self) -> u64
         ensures { result ≡ tip_size self.now }
     {
-        self.offset + self.tail.len() as u64
+        self.offset + self.len() as u64
     }
 
     /// The number of bytes that are buffered.
     pub fn len(&self) -> usize
         ensures { result ≡ length self.now.bytes }
     {
-        self.tail.len()
+        self.chunks.len() + self.tail.bytes.len()
     }
 
     /// Whether no byte is buffered.
@@ -97,12 +108,19 @@ impl Buffer {
         self.capacity
     }
 
+    /// The bytes of a page.
+    pub fn page_size(&self) -> usize
+        ensures { result ≡ self.now.page_size }
+    {
+        self.page_size
+    }
+
     /// The bytes: frozen chunks, each of whole pages, and the tail behind them.
     pub fn parts(&self) -> (&IoBufs, &[u8])
         ensures bytes { concat result.0.now ++ result.1.now ≡ self.now.bytes }
         ensures whole { AreWholePages self.now.page_size result.0.now }
     {
-        (&self.prefix, &self.tail)
+        (&self.chunks, &self.tail.bytes)
     }
 
     /// The bytes, where they are less than a page.
@@ -110,7 +128,7 @@ impl Buffer {
         requires { length self.now.bytes < self.now.page_size }
         ensures { result.now ≡ self.now.bytes }
     {
-        &self.tail
+        &self.tail.bytes
     }
 
     /// Adds the bytes from `start` to before `end`. `OutOfMemory` alone.
@@ -120,7 +138,14 @@ impl Buffer {
         ensures ok { OnOk result (concat bufs.new ≡ concat bufs.old ++ take (end - start) (drop start self.now.bytes)) }
         ensures err { IsOkUnless result Error.OutOfMemory }
     {
-        let bytes = &self.tail[start..end];
+        let mut at = 0;
+        for chunk in self.chunks.as_slice() {
+            let from = start.saturating_sub(at).min(chunk.len());
+            let to = end.saturating_sub(at).min(chunk.len());
+            bufs.append(chunk.slice(from, to)?)?;
+            at += chunk.len();
+        }
+        let bytes = &self.tail.bytes[start.saturating_sub(at)..end.saturating_sub(at)];
         bufs.append(IoBuf::copy_from_slice(self.alloc, bytes)?)
     }
 
@@ -130,11 +155,25 @@ impl Buffer {
     pub fn append(&mut self, bytes: &[u8]) -> Result<bool, Error>
         ensures { AppendGoes self.old bytes.now self.new result }
     {
-        if self.size().checked_add(bytes.len() as u64).is_none() {
+        let len = self.len();
+        if !has_places(self.size(), bytes.len()) {
             return Err(Error::OffsetOverflow);
         }
-        self.tail.extend_from_slice(bytes)?;
-        Ok(self.tail.len() > self.capacity)
+        let end = len + bytes.len();
+        let spare = self.tail.spare();
+        if bytes.len() <= spare {
+            self.tail.bytes.extend_from_slice(bytes)?;
+            return Ok(end > self.capacity);
+        }
+        let limit = next_limit(
+            len + spare,
+            bytes.len() - spare,
+            self.capacity,
+            self.page_size,
+        )?;
+        self.tail
+            .extend(self.alloc, &mut self.chunks, bytes, limit)?;
+        Ok(end > self.capacity)
     }
 
     /// Appends bytes where the capacity isn't passed then, and answers the logical place of the first; `None` where it
@@ -145,10 +184,10 @@ impl Buffer {
         ensures { TryAppendGoes self.old bytes.now self.new result }
     {
         let place = self.size();
-        if place.checked_add(bytes.len() as u64).is_none() {
+        if !has_places(place, bytes.len()) {
             return Err(Error::OffsetOverflow);
         }
-        if self.tail.len() + bytes.len() > self.capacity {
+        if self.len() + bytes.len() > self.capacity {
             return Ok(None);
         }
         self.append(bytes)?;
@@ -159,19 +198,28 @@ impl Buffer {
     /// `None` where it would be: then the value isn't encoded.
     ///
     /// `OffsetOverflow`, before anything else, where the new size passes the greatest place; `OutOfMemory`.
-    pub fn try_append_value<T: EncodeSize + Write>(&mut self, value: &T) -> Result<Option<u64>, Error>
+    pub fn try_append_value<T: EncodeSize + Write>(
+        &mut self,
+        value: &T,
+    ) -> Result<Option<u64>, Error>
         ensures { TryAppendGoes self.old (T.encoded value.now) self.new result }
     {
         let size = value.encode_size();
         let place = self.size();
-        if place.checked_add(size as u64).is_none() {
+        if !has_places(place, size) {
             return Err(Error::OffsetOverflow);
         }
-        if self.tail.len() + size > self.capacity {
+        if self.len() + size > self.capacity {
             return Ok(None);
         }
-        self.tail.try_reserve(size)?;
-        value.write(&mut self.tail)?;
+        if size <= self.tail.spare() {
+            self.tail.bytes.try_reserve(size)?;
+            value.write(&mut self.tail.bytes)?;
+            return Ok(Some(place));
+        }
+        let mut bytes = Vec::with_capacity(self.alloc, size)?;
+        value.write(&mut bytes)?;
+        self.append(&bytes)?;
         Ok(Some(place))
     }
 
@@ -180,11 +228,13 @@ impl Buffer {
         ensures { DrainGoes self.old self.new result }
     {
         let full_len = self.len() / self.page_size * self.page_size;
-        let mut drained = IoBufs::new(self.alloc);
-        drained.append(IoBuf::copy_from_slice(self.alloc, &self.tail[..full_len])?)?;
-        self.tail.drain(..full_len);
+        if full_len == 0 {
+            return Ok(IoBufs::new(self.alloc));
+        }
+        self.tail
+            .freeze_full_pages(self.alloc, &mut self.chunks, self.page_size)?;
         self.offset += full_len as u64;
-        Ok(drained)
+        Ok(mem::replace(&mut self.chunks, IoBufs::new(self.alloc)))
     }
 
     /// Sets other bytes, less than a page, at another logical place.
@@ -194,10 +244,11 @@ impl Buffer {
         requires { length bytes.now < self.old.page_size }
         ensures { ReplaceGoes self.old offset bytes.now self.new result }
     {
-        if offset.checked_add(bytes.len() as u64).is_none() {
+        if !has_places(offset, bytes.len()) {
             return Err(Error::OffsetOverflow);
         }
-        self.tail = Vec::from_slice(self.alloc, bytes)?;
+        self.tail = Tail::partial(self.alloc, bytes, self.page_size)?;
+        self.chunks = IoBufs::new(self.alloc);
         self.offset = offset;
         Ok(())
     }

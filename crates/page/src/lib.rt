@@ -11,6 +11,7 @@ mod geometry;
 mod pages;
 mod slot;
 mod sum;
+mod tail;
 
 pub use buffer::Buffer;
 pub use checksum::Checksum;
@@ -22,3 +23,6 @@ pub use geometry::{
 pub use pages::split_pages;
 pub use slot::{ActiveChecksum, Slot};
 pub use sum::{AddSum, ConstSum, Sum};
+
+#[cfg(test)]
+mod tests;

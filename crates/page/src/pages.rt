@@ -24,11 +24,7 @@ fn push_pages(pages: &mut Vec<IoBuf>, chunk: &IoBuf, page_size: usize) -> Result
 
 #[tactic(auto, using(crate::proofs::Chunks::concat_more))]
 /// The pages that these chunks are, in order, each shared with its chunk. `OutOfMemory` alone.
-pub fn split_pages(
-    alloc: Global,
-    chunks: &IoBufs,
-    page_size: usize,
-) -> Result<Vec<IoBuf>, Error>
+pub fn split_pages(alloc: Global, chunks: &IoBufs, page_size: usize) -> Result<Vec<IoBuf>, Error>
     requires some { 0 < page_size }
     requires whole { AreWholePages page_size chunks.now }
     ensures bytes { IfOk result (λ pages. concat pages.items ≡ concat chunks.now) }

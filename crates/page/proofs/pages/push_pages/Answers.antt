@@ -1,5 +1,4 @@
-use Rattle.std.proofs.Common.{◌≡◌, ◌<◌, ◌/◌, List, ℕ, ◌++◌, ◌∷◌, [], ap, refl, ◌∙◌, subst, sym}
-use Rattle.std.specs.List.{concat}
+use Rattle.std.proofs.Common.{◌≡◌, ◌<◌, ◌/◌, ◌++◌, ◌∷◌, [], ap, ◌∙◌, subst, sym}
 use Rattle.page.specs.Tip.{ArePages}
 use Rattle.page.proofs.Chunks.{pages_pushed, are_pages_pushed}
 use Rattle.page.proofs.pages.push_pages.Goals as goal
