@@ -1,5 +1,8 @@
+pub mod Sizes
+pub mod Footers
 pub mod Building
 pub mod Flushing
+pub mod Drains
 pub mod Causes
 pub mod Flushes
 pub mod Appends
