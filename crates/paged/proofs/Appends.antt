@@ -15,7 +15,7 @@ use Rattle.page.specs.Tip.{Tip, TryAppendGoes}
 use Rattle.page.specs.declared.slot.ActiveChecksum.{ActiveChecksum}
 use Rattle.paged.specs.Writer.{physical_size, FitsBlob, IsWriter}
 use Rattle.paged.proofs.Sizes.{size_fits}
-use Rattle.paged.specs.Calls.{GoesOn, Refuses, Appends, TryAppends, BuffersOver}
+use Rattle.paged.specs.Calls.{GoesOn, Refuses, Appends, Buffers, TryAppends, BuffersOver}
 
 -- the size of a sound writer is the length of its content
 pub size_is_length : (sum : List ℕ → ℕ) (w : WriterState) (life : Life) → IsSound sum w life.present → w.full_pages * w.page_size + length w.tip ≡ length (content w life.present.readable)
@@ -49,10 +49,16 @@ append_unasked sum w life bytes sound =
     (stays_through_start sum w.page_size (content w life.present.readable) life sound.truthful)
 
 -- bytes that weren't buffered
-pub append_unbuffered : (sum : List ℕ → ℕ) (w : WriterState) (life : Life) (bytes : List ℕ) (e : Error) → IsSound sum w life.present
-    → ((e ≡ OffsetOverflow) × (2 ^ 64 ≤ physical_size w.page_size w.full_pages (length w.tip + length bytes))) ⊎ (e ≡ OutOfMemory) → Appends sum w bytes life life (Err e)
-append_unbuffered sum w life bytes e sound (inl (is, passes)) = subst (λ e. Appends sum w bytes life life (Err e)) (sym is) (refl, passes)
-append_unbuffered sum w life bytes e sound (inr is) = subst (λ e. Appends sum w bytes life life (Err e)) (sym is) (record { cause = tt; stays = append_unasked sum w life bytes sound })
+pub append_unbuffered : (sum : List ℕ → ℕ) (w now : WriterState) (life : Life) (bytes : List ℕ) (e : Error) → IsSound sum w life.present → Buffers w bytes now (Err e) → Appends sum w bytes life life (Err e)
+append_unbuffered sum w now life bytes OffsetOverflow sound goes = (refl, goes.0)
+append_unbuffered sum w now life bytes OutOfMemory sound goes = record { cause = tt; stays = append_unasked sum w life bytes sound }
+append_unbuffered sum w now life bytes ReadFailed sound goes = absurd goes
+append_unbuffered sum w now life bytes WriteFailed sound goes = absurd goes
+append_unbuffered sum w now life bytes ResizeFailed sound goes = absurd goes
+append_unbuffered sum w now life bytes SyncFailed sound goes = absurd goes
+append_unbuffered sum w now life bytes InvalidChecksum sound goes = absurd goes
+append_unbuffered sum w now life bytes BlobInsufficientLength sound goes = absurd goes
+append_unbuffered sum w now life bytes IdsExhausted sound goes = absurd goes
 
 -- an append whose flush is refused
 pub append_fails : (sum : List ℕ → ℕ) (w : WriterState) (bytes : List ℕ) (old new : Life) (e : Error) → Refuses sum w.page_size (content w old.present.readable ++ bytes) old new e → Appends sum w bytes old new (Err e)

@@ -1,6 +1,6 @@
 -- What a flush writes, and that places still fit.
-use Rattle.std.proofs.Common.{◌≡◌, ℕ, ◌+◌, ◌*◌, ◌-◌, ◌/◌, ◌%◌, ◌<◌, ◌≤◌, ◌^◌, List, ◌++◌, length, take, drop, refl, sym, ap, ◌∙◌, arith, append-nil, length-drop, Bool, true, false, min}
-use Rattle.std.proofs.Math.Nat.{mod-lt, div-add-mod', mod-eq_of_lt, div-eq_of_lt, mul-div_cancel, mul-le-mul_right, add-mul, zero-mul}
+use Rattle.std.proofs.Common.{◌≡◌, ℕ, ◌+◌, ◌*◌, ◌-◌, ◌/◌, ◌%◌, ◌<◌, ◌≤◌, ◌^◌, List, ◌++◌, length, take, drop, refl, sym, ap, ◌∙◌, arith, append-nil, length-drop, inl, inr, Bool, true, false, min}
+use Rattle.std.proofs.Math.Nat.{mod-lt, div-zero, div-add-mod', mod-eq_of_lt, div-eq_of_lt, mul-div_cancel, mul-le-mul_right, add-mul, zero-mul}
 use Rattle.std.proofs.lemmas.List.{take_all, length-take-le}
 use Rattle.std.specs.Prelude.{Option, not, ◌==◌}
 use Rattle.std.specs.Int.{div_ceil}
@@ -15,6 +15,7 @@ use Rattle.crash.proofs.BuiltLaws.{length-built}
 use Rattle.paged.specs.Flush.{full_in, rest_of, rest_bytes, has_work, advanced, flush_bytes, place_of}
 use Rattle.std.proofs.lemmas.Bool.Decides.{nat_tests}
 use Rattle.std.proofs.lemmas.Nat.{le-div}
+use Rattle.std.proofs.lemmas.Bool.{cases_lt}
 use Rattle.paged.proofs.Building.{built-take, built-suc}
 use Rattle.paged.proofs.Footers.{length-pages}
 
@@ -74,6 +75,14 @@ fits-rest P full n r some is = ap (λ pages. pages * (P + 12)) (omega (arith, di
 pages_at_most : (w : WriterState) (rest : Bool) → 0 < w.page_size → CanWrite w.page_size w.tip (full_in w) rest → written_pages (full_in w) rest ≤ div_ceil (length w.tip) w.page_size
 pages_at_most w false some can = omega arith
 pages_at_most w true some can = omega (arith, div-add-mod' (length w.tip) w.page_size, mod-lt (length w.tip) some)
+
+-- where something can be written pages have some bytes
+pub can_some : (w : WriterState) (rest : Bool) → CanWrite w.page_size w.tip (full_in w) rest → 0 < w.page_size
+can_some w rest can = elim (cases_lt 0 w.page_size) [ inl some ↦ some | inr none ↦ absurd (nothing w rest (omega (arith, none)) can) ]
+  where
+    nothing : (w : WriterState) (rest : Bool) → w.page_size ≡ 0 → CanWrite w.page_size w.tip (full_in w) rest → ⊥
+    nothing w false none can = omega (arith, can.0, ap (λ n. length w.tip / n) none, div-zero (length w.tip))
+    nothing w true none can = omega (arith, can.1, ap (λ n. (full_in w + 1) * n) none)
 
 -- the places of a flush are numbers of 64 bits
 pub flush_fits : (sum : List ℕ → ℕ) (w : WriterState) (rest : Bool) → 0 < w.page_size → CanWrite w.page_size w.tip (full_in w) rest → FitsBlob w.page_size w.full_pages (length w.tip)
