@@ -13,6 +13,7 @@ pub mod Prefixes
 pub mod Looking
 pub mod Recoveries
 pub mod Firsts
+pub mod Places
 pub mod Standing
 pub mod Recovered
 pub mod Trims

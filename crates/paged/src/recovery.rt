@@ -150,7 +150,6 @@ impl<B: Blob, H: Sum> Recovery<B, H> {
     ) -> Result<Self, Error>
         requires length { size ≡ length (B.life blob.old).present.readable }
         ensures opens { Opens H.sum_of cache.old capacity (B.life blob.old) (B.life blob.new) result }
-        ensures within { IfOk result (λ w. HoldsWithin w) }
         ensures trims { TrimsTo (opened_size H.sum_of cache.old.page_size (B.life blob.old).present.readable) (B.life blob.old) (B.life blob.new) }
         ensures ids { cache.new ≡ cache_after result cache.old }
         ensures some { 0 < cache.old.page_size }
@@ -232,7 +231,6 @@ fn recover_pages<B: Blob, H: Sum>(
     requires length { size ≡ length (B.life blob.old).present.readable }
     requires durable { IsDurable (B.life blob.old).present }
     ensures recovers { Recovers H.sum_of cache.old capacity (B.life blob.old) (B.life blob.new) result }
-    ensures within { IfOk result (λ w. HoldsWithin w) }
     ensures ids { GivesId result cache.old cache.new }
     ensures some { 0 < cache.old.page_size }
     ensures stays { StaysThrough H.sum_of cache.old.page_size (text H.sum_of cache.old.page_size (B.life blob.old).present.readable) (B.life blob.old) (B.life blob.new) }
