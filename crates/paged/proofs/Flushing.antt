@@ -12,12 +12,12 @@ use Rattle.crash.specs.Built.{built, page_of, durable_after, written_pages}
 use Rattle.paged.specs.Writer.{physical_size, FitsBlob}
 use Rattle.crash.specs.Sound.{CanWrite}
 use Rattle.crash.proofs.BuiltLaws.{length-built}
-use Rattle.paged.specs.Flush.{full_in, rest_of, rest_bytes, has_work, advanced, flush_bytes, place_of}
+use Rattle.paged.specs.Flush.{full_in, rest_of, rest_bytes, has_work, advanced, flush_bytes, footers_of, with_footers, place_of}
 use Rattle.std.proofs.lemmas.Bool.Decides.{nat_tests}
 use Rattle.std.proofs.lemmas.Nat.{le-div}
 use Rattle.std.proofs.lemmas.Bool.{cases_lt}
 use Rattle.paged.proofs.Building.{built-take, built-suc}
-use Rattle.paged.proofs.Footers.{length-pages}
+use Rattle.paged.proofs.Footers.{length-pages, with_footers-built}
 
 -- what is left of a tip behind its full pages is less than a page
 pub length-rest : (w : WriterState) → length (rest_of w) ≡ length w.tip % w.page_size
@@ -49,13 +49,14 @@ rest_bytes-drained sum w false some = refl
 rest_bytes-drained sum w true some = rest_bytes-short sum (advanced w w.flushed w.sync) (short_drained w some)
 
 -- the same, as a program builds it
-pub flush_bytes-drained : (sum : List ℕ → ℕ) (w v : WriterState) (rest : Bool) (P : ℕ) (durable : Option ActiveChecksum) (pages : List (List ℕ)) → 0 < w.page_size → P ≡ w.page_size → durable ≡ w.durable
+pub flush_bytes-drained : (sum : List ℕ → ℕ) (w v : WriterState) (rest : Bool) (durable : Option ActiveChecksum) (pages : List (List ℕ)) → 0 < w.page_size → durable ≡ w.durable
     → ArePages w.page_size pages → concat pages ≡ take (full_in w * w.page_size) w.tip → v ≡ advanced w w.flushed w.sync
-    → built sum P durable (length pages) (concat pages) ++ rest_bytes sum v rest ≡ flush_bytes sum w rest
-flush_bytes-drained sum w v rest P durable pages some size slot are is state =
+    → with_footers pages (footers_of sum durable pages) ++ rest_bytes sum v rest ≡ flush_bytes sum w rest
+flush_bytes-drained sum w v rest durable pages some slot are is state =
     let bytes : length pages * w.page_size ≡ full_in w * w.page_size = sym (length-pages w.page_size pages are) ∙ ap length is ∙ length-full w in
     let count : length pages ≡ full_in w = sym (mul-div_cancel (length pages) some) ∙ ap (λ n. n / w.page_size) bytes ∙ mul-div_cancel (full_in w) some in
-    (λ i. built sum (size i) (slot i) (count i) (is i) ++ rest_bytes sum (state i) rest)
+    ap (λ b. b ++ rest_bytes sum v rest) (with_footers-built sum w.page_size durable pages are)
+    ∙ (λ i. built sum w.page_size (slot i) (count i) (is i) ++ rest_bytes sum (state i) rest)
     ∙ ap (λ b. b ++ rest_bytes sum (advanced w w.flushed w.sync) rest) (built-take sum w.page_size w.durable (full_in w) w.tip)
     ∙ ap (λ b. built sum w.page_size w.durable (full_in w) w.tip ++ b) (rest_bytes-drained sum w rest some)
     ∙ flush_bytes-by_rest sum w rest some

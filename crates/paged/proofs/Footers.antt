@@ -1,10 +1,9 @@
 -- Full pages with their footers.
-use Rattle.std.proofs.Common.{◌≡◌, ℕ, suc, zero, ◌+◌, ◌*◌, ◌-◌, ◌<◌, List, [], ◌∷◌, ◌++◌, length, take, drop, get_or, slice_range, refl, sym, ap, ◌∙◌, arith, append_assoc, append-nil, length-append}
-use Rattle.std.specs.Prelude.{Option, None, Some, Result, Ok, Err, IfOk, replicate}
+use Rattle.std.proofs.Common.{◌≡◌, ℕ, suc, zero, ◌+◌, ◌*◌, ◌-◌, ◌^◌, ◌<◌, List, [], ◌∷◌, ◌++◌, length, take, drop, get_or, slice_range, refl, sym, ap, ◌∙◌, arith, append_assoc, append-nil, length-append}
+use Rattle.std.specs.Prelude.{Option, None, Some, replicate}
 use Rattle.std.specs.List.{All, concat}
 use Rattle.std.proofs.lemmas.List.{take_at, drop_at, drop-drop, at_drop_more}
 use Rattle.std.proofs.lemmas.List.Elements.{All-head, All-tail}
-use Rattle.disk.specs.declared.error.Error.{Error}
 use Rattle.page.specs.Page.{slot_bytes}
 use Rattle.page.specs.Tip.{ArePages}
 use Rattle.page.specs.declared.slot.ActiveChecksum.{ActiveChecksum}
@@ -88,8 +87,6 @@ length-footers sum durable (page ∷ pages) =
     let f = footer (kept_slot durable) (kept_bytes durable) (slot_bytes (length page) (sum page)) in
     length-append f (footers_of sum None pages) ∙ omega (arith, length-footer durable (length page) (sum page), length-footers sum None pages)
 
--- what a program has built of full pages
-pub pages_built : (sum : List ℕ → ℕ) (P : ℕ) (durable : Option ActiveChecksum) (pages : List (List ℕ)) (footers : List ℕ) (result : Result (List (List ℕ)) Error) → ArePages P pages → footers ≡ footers_of sum durable pages
-    → IfOk result (λ bufs. concat bufs ≡ with_footers pages footers) → IfOk result (λ bufs. concat bufs ≡ built sum P durable (length pages) (concat pages))
-pages_built sum P durable pages footers (Ok bufs) are is ok = ok ∙ ap (with_footers pages) is ∙ with_footers-built sum P durable pages are
-pages_built sum P durable pages footers (Err e) are is ok = tt
+-- pages of fewer bytes than this have fewer
+pub small_pages : (P : ℕ) (pages : List (List ℕ)) → P < 2 ^ 16 → ArePages P pages → All (λ page. length page < 2 ^ 16) pages
+small_pages P pages small are k d below = let size : length (get_or pages k d) ≡ P = are k d below in omega (arith, small, size)

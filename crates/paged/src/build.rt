@@ -1,11 +1,10 @@
 // The bytes of a flush: physical pages, of which the first repeats the durable slot.
-ghost use Rattle.std.specs.Prelude.{◌≡◌, ◌<◌, ◌≤◌, ◌^◌, ◌*◌, ◌++◌, ◌+◌, length, replicate, IfOk, OnOk, IsOkUnless};
+ghost use Rattle.std.specs.Prelude.{◌≡◌, ◌<◌, ◌≤◌, ◌^◌, ◌*◌, ◌++◌, ◌+◌, length, replicate, All, IfOk, OnOk, IsOkUnless};
 ghost use Rattle.std.specs.List.{concat};
 ghost use Rattle.page.specs.Slot.{other};
 ghost use Rattle.page.specs.Page.{slot_bytes};
 ghost use Rattle.page.specs.Footer.{footer_bytes};
-ghost use Rattle.page.specs.Tip.{ArePages};
-ghost use Rattle.crash.specs.Built.{kept_slot, kept_bytes, footer, page_of, built};
+ghost use Rattle.crash.specs.Built.{kept_slot, kept_bytes, footer, page_of};
 ghost use Rattle.paged.specs.Flush.{footers_of, with_footers};
 
 use bytes::Bytes;
@@ -86,12 +85,10 @@ pub(crate) fn push_page<H: Sum>(
 /// The footers of full pages, joined; the first repeats the durable slot. `OutOfMemory` alone.
 fn footers_of<H: Sum>(
     alloc: Global,
-    page_size: usize,
     mut durable: Option<ActiveChecksum>,
     pages: &[IoBuf],
 ) -> Result<Vec<u8>, Error>
-    requires small { page_size < 2 ^ 16 }
-    requires pages { ArePages page_size pages.now }
+    requires { All (λ page. length page < 2 ^ 16) pages.now }
     ensures footers { IfOk result (λ out. out.items ≡ footers_of H.sum_of durable pages.now) }
     ensures err { IsOkUnless result Error.OutOfMemory }
 {
@@ -125,15 +122,13 @@ fn with_footers(alloc: Global, pages: Vec<IoBuf>, footers: &IoBuf) -> Result<IoB
 /// footers are parts of one buffer. `OutOfMemory` alone.
 pub(crate) fn physical_pages<H: Sum>(
     alloc: Global,
-    page_size: usize,
     durable: Option<ActiveChecksum>,
     pages: Vec<IoBuf>,
 ) -> Result<IoBufs, Error>
-    requires small { page_size < 2 ^ 16 }
-    requires pages { ArePages page_size pages.items }
-    ensures bytes { IfOk result (λ bufs. concat bufs ≡ built H.sum_of page_size durable (length pages.items) (concat pages.items)) }
+    requires { All (λ page. length page < 2 ^ 16) pages.items }
+    ensures bytes { IfOk result (λ bufs. concat bufs ≡ with_footers pages.items (footers_of H.sum_of durable pages.items)) }
     ensures err { IsOkUnless result Error.OutOfMemory }
 {
-    let footers = footers_of::<H>(alloc, page_size, durable, &pages)?;
+    let footers = footers_of::<H>(alloc, durable, &pages)?;
     with_footers(alloc, pages, &IoBuf::from(Bytes::from_vec(footers)?))
 }

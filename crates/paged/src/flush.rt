@@ -1,5 +1,5 @@
 // Writing the tip out, and syncing.
-ghost use Rattle.std.specs.Prelude.{◌≡◌, ◌+◌, ◌*◌, ◌<◌, ◌^◌, ◌++◌, IfOk, OnOk, IsOkUnless, IsErrOf, Ok, not, ◌==◌, ◌%◌, ◌≤◌, length, true, false, [], take};
+ghost use Rattle.std.specs.Prelude.{◌≡◌, ◌+◌, ◌*◌, ◌<◌, ◌^◌, ◌++◌, IfOk, OnOk, IsOkUnless, IsErrOf, Ok, not, ◌==◌, ◌%◌, ◌≤◌, length, All, true, false, [], take};
 ghost use Rattle.std.specs.List.{concat};
 ghost use Rattle.disk.specs.Disk.{WriteGoes, SyncGoes};
 ghost use Rattle.crash.specs.WriterState.SyncState.{Clean, Dirty};
@@ -65,7 +65,6 @@ impl<B, H, Phase> Writer<B, H, Phase> {
         ensures place { result ≡ place_of self.now }
         ensures fits { FitsBlob self.now.page_size self.now.full_pages (length self.now.tip) }
     {
-        let _ = &self.tip;
         self.full_pages() * self.physical_page_size()
     }
 
@@ -73,6 +72,7 @@ impl<B, H, Phase> Writer<B, H, Phase> {
     fn drain(&mut self) -> Result<Vec<IoBuf>, Error>
         ensures bytes { IfOk result (λ pages. concat pages.items ≡ take (full_in self.old * self.old.page_size) self.old.tip) }
         ensures pages { IfOk result (λ pages. ArePages self.old.page_size pages.items) }
+        ensures small { IfOk result (λ pages. All (λ page. length page < 2 ^ 16) pages.items) }
         ensures state { OnOk result (self.new ≡ advanced self.old self.old.flushed self.old.sync) }
         ensures err { IsOkUnless result Error.OutOfMemory }
     {
@@ -112,10 +112,9 @@ impl<B, H: Sum, Phase> Writer<B, H, Phase> {
         ensures state { OnOk result (self.new ≡ advanced self.old (rest_written H.sum_of (durable_after self.old.durable (full_in self.old)) (rest_of self.old) rest) self.old.sync) }
         ensures err { IsOkUnless result Error.OutOfMemory }
     {
-        let page_size = usize::from(self.page_size.get());
         let durable = self.durable;
         let pages = self.drain()?;
-        let mut bufs = physical_pages::<H>(self.alloc, page_size, durable, pages)?;
+        let mut bufs = physical_pages::<H>(self.alloc, durable, pages)?;
         self.flushed = self.push_rest(&mut bufs, rest)?;
         Ok(bufs)
     }

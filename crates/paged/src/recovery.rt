@@ -79,13 +79,9 @@ impl<B, H> Recovery<B, H> {
         ensures stands { Stands cache.old capacity prefix (state_of sync_state) result }
         ensures ids { cache.new ≡ cache_after result cache.old }
     {
-        let Prefix {
-            full_pages,
-            partial,
-        } = prefix;
-        let (bytes, slot) = tip_and_slot(&partial);
+        let (bytes, slot) = tip_and_slot(&prefix.partial);
         let page_size = cache.page_size();
-        let offset = full_pages * u64::from(page_size.get());
+        let offset = prefix.full_pages * u64::from(page_size.get());
         let tip = Buffer::from(alloc, offset, bytes, capacity, usize::from(page_size.get()))?;
         let id = cache.next_id()?;
         Ok(Writer {

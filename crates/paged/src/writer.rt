@@ -1,5 +1,6 @@
 // The writer.
 ghost use Rattle.std.specs.Prelude.{◌≡◌, ◌+◌, ◌*◌, length};
+ghost use Rattle.paged.specs.Writer.{FitsBlob};
 
 use page::{ActiveChecksum, Buffer};
 use std::alloc::Global;
@@ -97,9 +98,10 @@ impl<B, H, Phase> Writer<B, H, Phase> {
         self.tip.size()
     }
 
-    /// The full pages that the blob has.
+    /// How many full pages the blob has.
     pub(crate) fn full_pages(&self) -> u64
-        ensures { result ≡ self.now.full_pages }
+        ensures value { result ≡ self.now.full_pages }
+        ensures fits { FitsBlob self.now.page_size self.now.full_pages (length self.now.tip) }
     {
         self.tip.offset() / u64::from(self.page_size.get())
     }

@@ -3,6 +3,7 @@ use Rattle.std.specs.Prelude.{◌==◌}
 use Rattle.std.specs.Int.NonZero.{non_zero_u16_get}
 use Rattle.page.specs.Tip.{ArePages}
 use Rattle.paged.specs.Writer.{state_of}
+use Rattle.paged.proofs.Footers.{small_pages}
 use Rattle.paged.proofs.Drains.{is_writer_drained, pages_drained, durable_some, durable_none, drained_state}
 use Rattle.paged.proofs.writer.Writer.drain.Goals as goal
 use Rattle.paged.proofs.writer.Writer.drain.Goals.{then-not-is_empty, else-not-is_empty}
@@ -32,3 +33,6 @@ returns-clause-state g c =
       | else-not-is_empty w ↦ w.self-is ∙ drained_state P inside.id inside.tip c.drain_full_pages.new.self inside.flushed inside.durable _ (state_of inside.sync_state) c.args.self.now some c.self.invariant c.in_ok-chunks.ensures.2 c.self.view_is
       (durable_none inside.durable (length pages) (length inside.tip.bytes / P) count (w.if-not-is_empty.ensures ∙ ap (λ n. n == 0) c.in_ok-pages.pages.ok.0))
     ]
+
+pub returns-clause-small : goal.returns-clause-small
+returns-clause-small g c = small_pages c.from-page_size.result c.in_ok-pages.pages.items (omega arith) c.in_ok-pages.ensures.pages
