@@ -1,5 +1,5 @@
 -- What an append owes.
-use Rattle.std.proofs.Common.{◌≡◌, ℕ, ◌+◌, ◌*◌, ◌/◌, ◌<◌, ◌≤◌, List, [], ◌++◌, length, refl, sym, ap, arith, ◌∙◌, ◌^◌, subst, append-nil, inl, inr, Ok, Err, Result, ◌⊎◌}
+use Rattle.std.proofs.Common.{◌≡◌, ℕ, ◌+◌, ◌*◌, ◌/◌, ◌<◌, List, [], ◌++◌, length, refl, sym, ap, arith, ◌∙◌, subst, append-nil, Ok, Err, Result}
 use Rattle.std.specs.Prelude.{Option, Some, None}
 use Rattle.disk.specs.Disk.{Life}
 use Rattle.disk.specs.declared.error.Error.{Error}
@@ -13,7 +13,7 @@ use Rattle.paged.proofs.Flushes.{begins, goes_on_same}
 use Rattle.crash.proofs.Soundness.{longer_sound}
 use Rattle.page.specs.Tip.{Tip, TryAppendGoes}
 use Rattle.page.specs.declared.slot.ActiveChecksum.{ActiveChecksum}
-use Rattle.paged.specs.Writer.{physical_size, FitsBlob, IsWriter}
+use Rattle.paged.specs.Writer.{FitsBlob, IsWriter}
 use Rattle.paged.proofs.Sizes.{size_fits}
 use Rattle.paged.specs.Calls.{GoesOn, Refuses, Appends, Buffers, TryAppends, BuffersOver}
 

@@ -1,9 +1,8 @@
 -- What opening and recovering leave of a blob.
-use Rattle.std.proofs.Common.{◌≡◌, ◌⊎◌, inl, inr, ℕ, ◌+◌, ◌*◌, ◌/◌, ◌%◌, ◌^◌, ◌<◌, ◌≤◌, List, length, take, refl, sym, ◌∙◌, ap, subst, arith, true, false, Bool}
+use Rattle.std.proofs.Common.{◌≡◌, ◌⊎◌, inl, inr, ℕ, ◌+◌, ◌*◌, ◌/◌, ◌^◌, ◌<◌, ◌≤◌, List, length, take, refl, sym, ◌∙◌, ap, subst, arith, true, false, Bool}
 use Rattle.std.specs.Prelude.{Result, Ok, Err, Option, Some, None, if◌then◌else◌}
 use Rattle.std.specs.Int.{div_ceil}
-use Rattle.std.proofs.Math.Nat.{div-eq_of_lt, mod-eq_of_lt, mul-div_cancel, mul-mod_left, mul-le-mul_left}
-use Rattle.std.proofs.lemmas.Bool.{cases_lt}
+use Rattle.std.proofs.Math.Nat.{div-eq_of_lt, mod-eq_of_lt, mul-le-mul_left}
 use Rattle.std.proofs.lemmas.List.{take_all}
 use Rattle.page.specs.Geometry.{adjusted}
 use Rattle.page.specs.declared.slot.ActiveChecksum.{ActiveChecksum}
@@ -21,7 +20,7 @@ use Rattle.paged.specs.declared.prefix.Prefix.{Prefix}
 use Rattle.paged.specs.declared.writer.SyncState.TheVariants.{Clean as IsClean, Dirty as IsDirty}
 use Rattle.paged.specs.declared.writer.SyncState.{SyncState as State}
 use Rattle.paged.specs.Writer.{state_of, FitsBlob}
-use Rattle.paged.specs.Prefix.{last_prefix, prefix_pages, partial_pages, tip_of, slot_of_tip, at_prefix, HasBytes}
+use Rattle.paged.specs.Prefix.{last_prefix, prefix_pages, partial_pages, tip_of, at_prefix, HasBytes}
 use Rattle.paged.specs.Calls.{HasCause, LogGrows}
 use Rattle.paged.specs.Recovery.{Finds, IsDurable, Cuts, CutsBack, IsKept, Stands, TrimsTo, SyncsIn, EndsAt, Opens, opened_prefix, opened_size}
 use Rattle.paged.specs.Recovery.IsKept.{whole, cut}

@@ -1,10 +1,10 @@
 -- Sizes of a blob: which of them its places fit.
-use Rattle.std.proofs.Common.{◌≡◌, ℕ, ◌+◌, ◌*◌, ◌/◌, ◌<◌, ◌≤◌, ◌^◌, ◌↔◌, arith, inl, inr}
+use Rattle.std.proofs.Common.{ℕ, ◌+◌, ◌*◌, ◌/◌, ◌<◌, ◌≤◌, ◌^◌, ◌↔◌, arith, inl, inr}
 use Rattle.std.specs.Int.{div_ceil}
 use Rattle.std.proofs.Math.Nat.{mul-le-mul_right, add-mul, le-div_iff_mul-le}
 use Rattle.std.proofs.lemmas.Grind.{div_ceil_times}
 use Rattle.std.proofs.lemmas.Bool.{cases_lt}
-use Rattle.paged.specs.Writer.{physical_size, FitsBlob}
+use Rattle.paged.specs.Writer.{FitsBlob}
 
 -- full pages, and pages for bytes behind them, are no more than so many where the bytes of all are within theirs
 pages_within : (P full n c most : ℕ) → n ≤ c * P → c * P < n + P → (full + c ≤ most) ↔ (full * P + n ≤ most * P)

@@ -97,7 +97,10 @@ impl<B: Blob, H: Sum, Phase> Writer<B, H, Phase> {
     ///
     /// `OffsetOverflow`, before anything else, where the new size or the physical size that it needs passes the
     /// greatest `u64`; `OutOfMemory`. After `None` or an error the writer is as it was.
-    pub fn try_append_value<T: EncodeSize + Write>(&mut self, value: &T) -> Result<Option<u64>, Error>
+    pub fn try_append_value<T: EncodeSize + Write>(
+        &mut self,
+        value: &T,
+    ) -> Result<Option<u64>, Error>
         ensures tries { TryAppends self.old (T.encoded value.now) self.new result }
         ensures appends { BuffersOver H.sum_of self.old (T.encoded value.now) self.new result }
     {

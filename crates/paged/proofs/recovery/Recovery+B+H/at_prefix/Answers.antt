@@ -1,4 +1,4 @@
-use Rattle.std.proofs.Common.{◌≡◌, ◌*◌, ℕ, length, ◌∙◌, ap, arith, refl, sym, subst}
+use Rattle.std.proofs.Common.{◌*◌, ℕ, length, ◌∙◌, ap, arith, refl, sym, subst}
 use Rattle.std.specs.Int.NonZero.{non_zero_u16_get}
 use Rattle.page.specs.Tip.{Tip}
 use Rattle.paged.specs.Writer.{state_of, FitsBlob}

@@ -108,7 +108,7 @@ returns-clause-keeps g c =
     let end = ended (prefix_pages c.args.prefix * (P + 12)) (state_of c.self.inside.sync_state) t old mid new clean le c.in_ok-sync_dirty.ensures.syncs (subst (λ (n : ℕ). CutsBack n mid new (Ok t)) kept c.in_ok-cut_back.ensures.cuts) in (
       state_at (non_zero_u16_get c.self.inside.page_size) c.self.inside.id c.args.self.id c.args.self.capacity c.args.self.capacity c.args.prefix c.replace.new.self c.tip_and_slot-slot.result.1 Clean (placed g (goal.at.returns-clause-keeps g c).In_ok-replace)
           (ap (λ (w : WriterState). w.id) c.self.view_is) refl c.tip_and_slot-slot.ensures.slot
-      ∙ ap (λ (n : ℕ). at_prefix n c.args.self.id c.args.self.capacity c.args.prefix Clean) (ap (λ (w : WriterState). w.page_size) c.self.view_is),
+          ∙ ap (λ (n : ℕ). at_prefix n c.args.self.id c.args.self.capacity c.args.prefix Clean) (ap (λ (w : WriterState). w.page_size) c.self.view_is),
       end.0,
       end.1,
       end.2,

@@ -29,9 +29,9 @@ returns-clause-state g c =
     let count : length pages ≡ length inside.tip.bytes / P = pages_drained P inside.tip pages some c.self.invariant.page_size are (c.in_ok-pages.ensures.bytes ∙ c.in_ok-chunks.ensures.0) in
     elim c.if-not-is_empty.branch [
       | then-not-is_empty w ↦ w.self-is ∙ drained_state P inside.id inside.tip c.drain_full_pages.new.self inside.flushed inside.durable _ (state_of inside.sync_state) c.args.self.now some c.self.invariant c.in_ok-chunks.ensures.2 c.self.view_is
-      (durable_some inside.durable (length pages) (length inside.tip.bytes / P) count (w.if-not-is_empty.ensures ∙ ap (λ n. n == 0) c.in_ok-pages.pages.ok.0))
+          (durable_some inside.durable (length pages) (length inside.tip.bytes / P) count (w.if-not-is_empty.ensures ∙ ap (λ n. n == 0) c.in_ok-pages.pages.ok.0))
       | else-not-is_empty w ↦ w.self-is ∙ drained_state P inside.id inside.tip c.drain_full_pages.new.self inside.flushed inside.durable _ (state_of inside.sync_state) c.args.self.now some c.self.invariant c.in_ok-chunks.ensures.2 c.self.view_is
-      (durable_none inside.durable (length pages) (length inside.tip.bytes / P) count (w.if-not-is_empty.ensures ∙ ap (λ n. n == 0) c.in_ok-pages.pages.ok.0))
+          (durable_none inside.durable (length pages) (length inside.tip.bytes / P) count (w.if-not-is_empty.ensures ∙ ap (λ n. n == 0) c.in_ok-pages.pages.ok.0))
     ]
 
 pub returns-clause-small : goal.returns-clause-small

@@ -1,4 +1,4 @@
-use Rattle.std.proofs.Common.{◌<◌, ◌++◌, ap, ◌∙◌, subst, arith}
+use Rattle.std.proofs.Common.{◌<◌, ◌++◌, ap, ◌∙◌, subst}
 use Rattle.paged.specs.Flush.{rest_bytes}
 use Rattle.paged.proofs.Flushing.{flush_bytes-drained}
 use Rattle.paged.proofs.writer.Writer.take_pages.Goals as goal
