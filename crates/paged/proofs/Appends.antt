@@ -1,16 +1,21 @@
 -- What an append owes.
-use Rattle.std.proofs.Common.{◌≡◌, ℕ, ◌+◌, ◌*◌, ◌≤◌, List, [], ◌++◌, length, refl, sym, ◌∙◌, ◌^◌, subst, append-nil, inl, inr, Err, ◌⊎◌}
+use Rattle.std.proofs.Common.{◌≡◌, ℕ, ◌+◌, ◌*◌, ◌/◌, ◌<◌, List, [], ◌++◌, length, refl, sym, ap, arith, ◌∙◌, subst, append-nil, Ok, Err, Result}
+use Rattle.std.specs.Prelude.{Option, Some, None}
 use Rattle.disk.specs.Disk.{Life}
 use Rattle.disk.specs.declared.error.Error.{Error}
 use Rattle.disk.specs.declared.error.Error.TheVariants.{ReadFailed, WriteFailed, ResizeFailed, SyncFailed, InvalidChecksum, BlobInsufficientLength, OffsetOverflow, OutOfMemory, IdsExhausted}
-use Rattle.crash.specs.WriterState.{WriterState}
+use Rattle.crash.specs.WriterState.{WriterState, SyncState}
 use Rattle.crash.specs.Sound.{IsSound, content}
 use Rattle.crash.specs.Stays.{StaysThrough}
 use Rattle.crash.proofs.FlushLaws.{tip_reach, length-content, longer_content}
 use Rattle.crash.proofs.Moments.{stays_through_start, stays_through_longer}
-use Rattle.paged.proofs.Flushes.{begins}
-use Rattle.paged.specs.Writer.{physical_size}
-use Rattle.paged.specs.Calls.{GoesOn, Refuses, Appends}
+use Rattle.paged.proofs.Flushes.{begins, goes_on_same}
+use Rattle.crash.proofs.Soundness.{longer_sound}
+use Rattle.page.specs.Tip.{Tip, TryAppendGoes}
+use Rattle.page.specs.declared.slot.ActiveChecksum.{ActiveChecksum}
+use Rattle.paged.specs.Writer.{FitsBlob, IsWriter}
+use Rattle.paged.proofs.Sizes.{size_fits}
+use Rattle.paged.specs.Calls.{GoesOn, Refuses, Appends, Buffers, TryAppends, BuffersOver}
 
 -- the size of a sound writer is the length of its content
 pub size_is_length : (sum : List ℕ → ℕ) (w : WriterState) (life : Life) → IsSound sum w life.present → w.full_pages * w.page_size + length w.tip ≡ length (content w life.present.readable)
@@ -44,10 +49,16 @@ append_unasked sum w life bytes sound =
     (stays_through_start sum w.page_size (content w life.present.readable) life sound.truthful)
 
 -- bytes that weren't buffered
-pub append_unbuffered : (sum : List ℕ → ℕ) (w : WriterState) (life : Life) (bytes : List ℕ) (e : Error) → IsSound sum w life.present
-    → ((e ≡ OffsetOverflow) × (2 ^ 64 ≤ physical_size w.page_size w.full_pages (length w.tip + length bytes))) ⊎ (e ≡ OutOfMemory) → Appends sum w bytes life life (Err e)
-append_unbuffered sum w life bytes e sound (inl (is, passes)) = subst (λ e. Appends sum w bytes life life (Err e)) (sym is) (refl, passes)
-append_unbuffered sum w life bytes e sound (inr is) = subst (λ e. Appends sum w bytes life life (Err e)) (sym is) (record { cause = tt; stays = append_unasked sum w life bytes sound })
+pub append_unbuffered : (sum : List ℕ → ℕ) (w now : WriterState) (life : Life) (bytes : List ℕ) (e : Error) → IsSound sum w life.present → Buffers w bytes now (Err e) → Appends sum w bytes life life (Err e)
+append_unbuffered sum w now life bytes OffsetOverflow sound goes = (refl, goes.0)
+append_unbuffered sum w now life bytes OutOfMemory sound goes = record { cause = tt; stays = append_unasked sum w life bytes sound }
+append_unbuffered sum w now life bytes ReadFailed sound goes = absurd goes
+append_unbuffered sum w now life bytes WriteFailed sound goes = absurd goes
+append_unbuffered sum w now life bytes ResizeFailed sound goes = absurd goes
+append_unbuffered sum w now life bytes SyncFailed sound goes = absurd goes
+append_unbuffered sum w now life bytes InvalidChecksum sound goes = absurd goes
+append_unbuffered sum w now life bytes BlobInsufficientLength sound goes = absurd goes
+append_unbuffered sum w now life bytes IdsExhausted sound goes = absurd goes
 
 -- an append whose flush is refused
 pub append_fails : (sum : List ℕ → ℕ) (w : WriterState) (bytes : List ℕ) (old new : Life) (e : Error) → Refuses sum w.page_size (content w old.present.readable ++ bytes) old new e → Appends sum w bytes old new (Err e)
@@ -60,3 +71,40 @@ append_fails sum w bytes old new BlobInsufficientLength refused = refused
 append_fails sum w bytes old new OffsetOverflow refused = absurd refused.cause
 append_fails sum w bytes old new OutOfMemory refused = refused
 append_fails sum w bytes old new IdsExhausted refused = refused
+
+-- bytes that are buffered are an append
+pub buffered_goes : (sum : List ℕ → ℕ) (w now : WriterState) (bytes : List ℕ) (life : Life) → IsSound sum w life.present → now ≡ record w { tip = w.tip ++ bytes } → GoesOn sum w life bytes now life
+buffered_goes sum w now bytes life sound is =
+    append_goes sum w now now life life bytes sound is (goes_on_same sum now life (subst (λ (v : WriterState). IsSound sum v life.present) (sym is) (longer_sound sum w life.present sound bytes)))
+
+-- over any blob
+pub buffers_over : (sum : List ℕ → ℕ) (w now : WriterState) (bytes : List ℕ) (result : Result (Option ℕ) Error) → TryAppends w bytes now result → BuffersOver sum w bytes now result
+buffers_over sum w now bytes (Ok (Some at)) tries = λ life sound. (tries.2 ∙ size_is_length sum w life sound, buffered_goes sum w now bytes life sound tries.3)
+buffers_over sum w now bytes (Ok None) tries = tt
+buffers_over sum w now bytes (Err e) tries = tt
+
+-- a writer's state with this tip
+abbrev pub with_tip : (P id : ℕ) → Option ActiveChecksum → Option ActiveChecksum → SyncState → Tip → WriterState
+with_tip P id flushed durable sync tip = record { page_size = P; id = id; capacity = tip.capacity; full_pages = tip.offset / P; tip = tip.bytes; flushed = flushed; durable = durable; sync = sync }
+
+-- what its buffer does is what the writer does
+module _ (P id : ℕ) (flushed durable : Option ActiveChecksum) (sync : SyncState) (some : 0 < P) (old new : Tip) (bytes : List ℕ) (is : IsWriter P old) where
+  tries_with : (result : Result (Option ℕ) Error) → FitsBlob P (old.offset / P) (length old.bytes + length bytes) → TryAppendGoes old bytes new result
+      → TryAppends (with_tip P id flushed durable sync old) bytes (with_tip P id flushed durable sync new) result
+  tries_with (Ok (Some at)) fits goes = (fits, goes.1, goes.2 ∙ ap (λ n. n + length old.bytes) is.whole, ap (with_tip P id flushed durable sync) goes.3)
+  tries_with (Ok None) fits goes = (fits, goes.1, ap (with_tip P id flushed durable sync) goes.2)
+  tries_with (Err OffsetOverflow) fits goes = absurd (omega (arith, size_fits P (old.offset / P) (length old.bytes + length bytes) some fits, is.whole, goes.0))
+  tries_with (Err OutOfMemory) fits goes = (fits, goes.1, ap (with_tip P id flushed durable sync) goes.2)
+  tries_with (Err ReadFailed) fits goes = goes
+  tries_with (Err WriteFailed) fits goes = goes
+  tries_with (Err ResizeFailed) fits goes = goes
+  tries_with (Err SyncFailed) fits goes = goes
+  tries_with (Err InvalidChecksum) fits goes = goes
+  tries_with (Err BlobInsufficientLength) fits goes = goes
+  tries_with (Err IdsExhausted) fits goes = goes
+
+  pub tries : (w : WriterState) (result : Result (Option ℕ) Error) → with_tip P id flushed durable sync old ≡ w → FitsBlob w.page_size w.full_pages (length w.tip + length bytes) → TryAppendGoes old bytes new result
+      → TryAppends w bytes (with_tip P id flushed durable sync new) result
+  tries w result view fits goes =
+      subst (λ (v : WriterState). TryAppends v bytes (with_tip P id flushed durable sync new) result) view
+      (tries_with result (subst (λ (v : WriterState). FitsBlob v.page_size v.full_pages (length v.tip + length bytes)) (sym view) fits) goes)

@@ -1,29 +1,10 @@
 -- Pages that are built one by one.
-use Rattle.std.proofs.Common.{◌≡◌, ℕ, suc, zero, ◌+◌, ◌*◌, ◌-◌, ◌/◌, ◌%◌, ◌<◌, ◌≤◌, List, ◌++◌, length, take, drop, refl, sym, ap, ◌∙◌, arith, append_assoc, append-nil, length-drop, inl, inr}
+use Rattle.std.proofs.Common.{◌≡◌, ℕ, suc, zero, ◌+◌, ◌*◌, List, ◌++◌, take, drop, refl, sym, ap, ◌∙◌, arith, append_assoc, append-nil}
 use Rattle.std.specs.Prelude.{Option, None}
-use Rattle.std.proofs.Math.Nat.{mod-eq_of_lt, div-eq-sub-div, suc-mul, zero-mul}
+use Rattle.std.proofs.Math.Nat.{suc-mul, zero-mul}
 use Rattle.std.proofs.lemmas.List.{take-take, drop-take, drop-drop}
-use Rattle.std.proofs.lemmas.Bool.{cases_lt}
 use Rattle.page.specs.declared.slot.ActiveChecksum.{ActiveChecksum}
 use Rattle.crash.specs.Built.{built, page_of, durable_after}
-
--- whole pages that aren't none are at least one page
-pub one_page : (n P : ℕ) → 0 < n → n % P ≡ 0 → P ≤ n
-one_page n P some whole = elim (cases_lt n P) [ inl less ↦ absurd (omega (arith, mod-eq_of_lt less)) | inr enough ↦ enough ]
-
--- the pages of some bytes are the first, and the pages of the others
-pub built_next : (sum : List ℕ → ℕ) (P : ℕ) (durable : Option ActiveChecksum) (bytes : List ℕ) → 0 < P → P ≤ length bytes
-    → built sum P durable (length bytes / P) bytes ≡ page_of sum P durable (take P bytes) ++ built sum P None ((length bytes - P) / P) (drop P bytes)
-built_next sum P durable bytes some enough =
-    let e : length bytes / P ≡ suc ((length bytes - P) / P) = omega (arith, div-eq-sub-div some enough) in
-    ap (λ m. built sum P durable m bytes) e
-
--- one page more is built
-pub built_step : (sum : List ℕ → ℕ) (P : ℕ) (durable : Option ActiveChecksum) (out next bytes chunk rest : List ℕ) → 0 < P → P ≤ length bytes
-    → next ≡ out ++ page_of sum P durable chunk → chunk ≡ take P bytes → rest ≡ drop P bytes
-    → next ++ built sum P None (length rest / P) rest ≡ out ++ built sum P durable (length bytes / P) bytes
-built_step sum P durable out next bytes chunk rest some enough page first others =
-    rw (page, first, others, length-drop, append_assoc) (ap (λ b. out ++ b) (sym (built_next sum P durable bytes some enough)))
 
 -- only the bytes of the pages count
 pub built-take : (sum : List ℕ → ℕ) (P : ℕ) (durable : Option ActiveChecksum) (k : ℕ) (bytes : List ℕ) → built sum P durable k (take (k * P) bytes) ≡ built sum P durable k bytes

@@ -13,7 +13,7 @@ use Rattle.crash.proofs.Texts.{active_none, text_full, text_part, value_len_le}
 use Rattle.paged.specs.declared.prefix.Prefix.{Prefix}
 use Rattle.paged.specs.Prefix.{page_at, behind, value_and_slot, prefix_of, prefix_pages, partial_pages, tip_of}
 use Rattle.paged.specs.Recovery.{opened_prefix, opened_size}
-use Rattle.paged.proofs.Prefixes.{partial_pages_le, active_zero, one_page, prefix_full, prefix_part, tip_fits, last_is}
+use Rattle.paged.proofs.Prefixes.{partial_pages_le, active_zero, one_page, prefix_full, prefix_part, tip_short, last_is}
 
 module _ (sum : List ℕ → ℕ) (P : ℕ) where
   -- what stands behind the full pages: nothing that has a value, or the page whose value this is
@@ -24,7 +24,7 @@ module _ (sum : List ℕ → ℕ) (P : ℕ) where
   -- the full pages at the front, and what is behind them
   pub record IsFirst (some : List (List ℕ)) (p : Prefix) : Type 0 where
     pub within : prefix_pages p ≤ length some
-    pub tip : length (tip_of p.partial) ≤ P
+    pub tip : 0 < P → length (tip_of p.partial) < P
     pub full : AreFull sum P (take p.full_pages some)
     pub behind : Behind some p.full_pages p.partial
 
@@ -42,7 +42,7 @@ module _ (sum : List ℕ → ℕ) (P : ℕ) where
   behind_more page rest full found is = subst (λ (n : ℕ). Behind (page ∷ rest) n found) (let e : suc full ≡ 1 + full = omega arith in e) (behind_suc page rest full found is)
 
   pub prefix_is : (some : List (List ℕ)) → IsFirst some (prefix_of sum P some)
-  prefix_is [] = record { within = omega arith; tip = omega arith; full = tt; behind = λ page is. absurd (cc) }
+  prefix_is [] = record { within = omega arith; tip = λ positive. positive; full = tt; behind = λ page is. absurd (cc) }
   prefix_is (page ∷ rest) = elim (cases_eq (value_len sum P page) P) [
     | inl full ↦
         let before = prefix_is rest in
@@ -55,7 +55,7 @@ module _ (sum : List ℕ → ℕ) (P : ℕ) where
         })
     | inr part ↦ subst (λ (q : Prefix). IsFirst (page ∷ rest) q) (sym (prefix_part sum P page rest part)) (record {
       within = omega (arith, partial_pages_le (value_and_slot (active sum P page) page));
-      tip = tip_fits sum P page;
+      tip = λ positive. tip_short sum P page part;
       full = tt;
       behind = behind_first page rest (active sum P page) part refl;
     })

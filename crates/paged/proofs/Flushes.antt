@@ -1,5 +1,5 @@
 -- From what a device call did to what a flush and a sync owe.
-use Rattle.std.proofs.Common.{◌≡◌, ℕ, ◌%◌, ◌<◌, List, [], ◌++◌, length, take, refl, sym, ap, ◌∙◌, subst, arith, append-nil, Bool, true, false, Result, Ok, Err, inr}
+use Rattle.std.proofs.Common.{◌≡◌, ℕ, ◌%◌, ◌<◌, ◌≤◌, List, [], ◌++◌, length, take, refl, sym, ap, ◌∙◌, subst, arith, append-nil, Bool, true, false, Result, Ok, Err, inl}
 use Rattle.std.specs.Prelude.{IfOk, IsErrOf, not, ◌==◌, if◌then◌else◌}
 use Rattle.std.proofs.lemmas.List.{take_at}
 use Rattle.std.proofs.lemmas.Bool.Decides.{nat_tests}
@@ -20,7 +20,7 @@ use Rattle.crash.proofs.CallLaws.{sync_stays, sync_sound, sync_content, write_st
 use Rattle.paged.proofs.Flushing.{length-rest}
 use Rattle.paged.proofs.Causes.{write_cause, sync_cause, cause_later, log_more, sync_asks}
 use Rattle.paged.specs.Flush.{full_in, has_work, carried, synced, place_of, flush_bytes, outcome}
-use Rattle.paged.specs.Calls.{AsksAtMost, settle_calls, sync_calls, IsBounded, IsSameWriter, GoesOn, Flushes, Syncs, Settles, IsSettled}
+use Rattle.paged.specs.Calls.{AsksAtMost, settle_calls, sync_calls, IsBounded, HoldsWithin, IsSameWriter, GoesOn, Flushes, Syncs, Settles, IsSettled}
 
 -- a content is the beginning of a longer one
 pub begins : (xs ys : List ℕ) → xs ≡ take (length xs) (xs ++ ys)
@@ -190,22 +190,28 @@ pub sync_settles : (sum : List ℕ → ℕ) (w : WriterState) (old new : Life) (
 sync_settles sum w old new (Ok now) sound idle (goes, state) = (goes, subst IsSettled (sym state) (idle_settled sum w old.present sound idle))
 sync_settles sum w old new (Err e) sound idle refused = refused
 
--- after a flush less than a page is buffered
-pub flush_short : (sum : List ℕ → ℕ) (w v : WriterState) (result : Result WriterState Error) → 0 < w.page_size → v ≡ carried w → IfOk result (λ now. now ≡ after_write sum v (full_in v) false)
-    → IfOk result (λ (now : WriterState). length now.tip < now.page_size)
-flush_short sum w v (Ok now) some is state =
+-- after a flush less than a page is buffered, and so no more than the capacity
+pub flush_within : (sum : List ℕ → ℕ) (w v : WriterState) (result : Result WriterState Error) → 0 < w.page_size → w.page_size ≤ w.capacity → v ≡ carried w → IfOk result (λ now. now ≡ after_write sum v (full_in v) false)
+    → IfOk result (λ now. HoldsWithin now)
+flush_within sum w v (Ok now) some room is state =
     let page : 0 < v.page_size = omega (arith, some, ap (λ (s : WriterState). s.page_size) is) in
-    subst (λ (n : WriterState). length n.tip < n.page_size) (sym state) (omega (arith, length-rest v, mod-lt (length v.tip) page))
-flush_short sum w v (Err e) some is state = tt
+    let fits : v.page_size ≤ v.capacity = omega (arith, room, ap (λ (s : WriterState). s.page_size) is, ap (λ (s : WriterState). s.capacity) is) in
+    subst (λ (n : WriterState). HoldsWithin n) (sym state) (omega (arith, length-rest v, mod-lt (length v.tip) page, fits))
+flush_within sum w v (Err e) some room is state = tt
 
 -- and where no full page is
-pub idle_short : (w : WriterState) → has_work w false ≡ false → length w.tip < w.page_size
-idle_short w idle = grind (arith, nat_tests, idle)
+pub idle_within : (w : WriterState) → w.page_size ≤ w.capacity → has_work w false ≡ false → HoldsWithin w
+idle_within w room idle = let short : length w.tip < w.page_size = grind (arith, nat_tests, idle) in omega (arith, short, room)
 
--- so it is within bounds
-pub short_bounded : (result : Result WriterState Error) → IfOk result (λ (now : WriterState). length now.tip < now.page_size) → IfOk result (λ now. IsBounded now)
-short_bounded (Ok now) short = inr short
-short_bounded (Err e) short = tt
+-- the same after a sync
+pub sync_within : (sum : List ℕ → ℕ) (w : WriterState) (old new : Life) (result : Result WriterState Error) → w.page_size ≤ w.capacity → Syncs sum w old new result → IfOk result (λ now. HoldsWithin now)
+sync_within sum w old new (Ok now) room syncs = omega (arith, syncs.1.short, syncs.0.same.page_size, syncs.0.same.capacity, room)
+sync_within sum w old new (Err e) room syncs = tt
+
+-- what is within the capacity is within bounds
+pub within_bounded : {A : Type 0} (state : A → WriterState) (result : Result A Error) → IfOk result (λ a. HoldsWithin (state a)) → IfOk result (λ a. IsBounded (state a))
+within_bounded state (Ok a) within = inl within
+within_bounded state (Err e) within = tt
 
 -- what is written is made durable in one call, or none
 pub settle_asks : (w : WriterState) (old new : Life) (result : Result WriterState Error) → w.sync ≡ Dirty → SyncGoes old new (outcome result) → AsksAtMost (settle_calls w.sync) old new

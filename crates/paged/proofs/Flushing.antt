@@ -1,19 +1,23 @@
 -- What a flush writes, and that places still fit.
-use Rattle.std.proofs.Common.{◌≡◌, ℕ, ◌+◌, ◌*◌, ◌-◌, ◌/◌, ◌%◌, ◌<◌, ◌≤◌, ◌^◌, List, ◌++◌, length, take, sym, ap, ◌∙◌, arith, append-nil, length-drop, Bool, true, false, min}
-use Rattle.std.proofs.Math.Nat.{mod-lt, div-add-mod', mod-eq_of_lt, div-eq_of_lt, mul-div_cancel, mul-le-mul_right, add-mul}
+use Rattle.std.proofs.Common.{◌≡◌, ℕ, ◌+◌, ◌*◌, ◌-◌, ◌/◌, ◌%◌, ◌<◌, ◌≤◌, ◌^◌, List, ◌++◌, length, take, drop, refl, sym, ap, ◌∙◌, arith, append-nil, length-drop, inl, inr, Bool, true, false, min}
+use Rattle.std.proofs.Math.Nat.{mod-lt, div-zero, div-add-mod', mod-eq_of_lt, div-eq_of_lt, mul-div_cancel, mul-le-mul_right, add-mul, zero-mul}
 use Rattle.std.proofs.lemmas.List.{take_all, length-take-le}
 use Rattle.std.specs.Prelude.{Option, not, ◌==◌}
 use Rattle.std.specs.Int.{div_ceil}
+use Rattle.std.specs.List.{concat}
+use Rattle.page.specs.Tip.{ArePages}
 use Rattle.page.specs.declared.slot.ActiveChecksum.{ActiveChecksum}
 use Rattle.crash.specs.WriterState.{WriterState}
 use Rattle.crash.specs.Built.{built, page_of, durable_after, written_pages}
 use Rattle.paged.specs.Writer.{physical_size, FitsBlob}
 use Rattle.crash.specs.Sound.{CanWrite}
 use Rattle.crash.proofs.BuiltLaws.{length-built}
-use Rattle.paged.specs.Flush.{full_in, rest_of, rest_bytes, has_work, flush_bytes, place_of}
+use Rattle.paged.specs.Flush.{full_in, rest_of, rest_bytes, has_work, advanced, flush_bytes, footers_of, with_footers, place_of}
 use Rattle.std.proofs.lemmas.Bool.Decides.{nat_tests}
 use Rattle.std.proofs.lemmas.Nat.{le-div}
+use Rattle.std.proofs.lemmas.Bool.{cases_lt}
 use Rattle.paged.proofs.Building.{built-take, built-suc}
+use Rattle.paged.proofs.Footers.{length-pages, with_footers-built}
 
 -- what is left of a tip behind its full pages is less than a page
 pub length-rest : (w : WriterState) → length (rest_of w) ≡ length w.tip % w.page_size
@@ -32,17 +36,29 @@ flush_bytes-by_rest sum w true some =
 pub length-full : (w : WriterState) → length (take (full_in w * w.page_size) w.tip) ≡ full_in w * w.page_size
 length-full w = length-take-le (full_in w * w.page_size) w.tip (omega (arith, div-add-mod' (length w.tip) w.page_size))
 
+-- the page of a tip that has no full pages
+pub rest_bytes-short : (sum : List ℕ → ℕ) (w : WriterState) → length w.tip < w.page_size → rest_bytes sum w true ≡ page_of sum w.page_size w.durable w.tip
+rest_bytes-short sum w short = ap (λ k. page_of sum w.page_size (durable_after w.durable k) (drop (k * w.page_size) w.tip)) (div-eq_of_lt short) ∙ ap (λ n. page_of sum w.page_size w.durable (drop n w.tip)) (zero-mul w.page_size)
+
+-- the same, where the full pages were taken out of the tip
+pub short_drained : (w : WriterState) → 0 < w.page_size → length (rest_of w) < w.page_size
+short_drained w some = omega (arith, length-rest w, mod-lt (length w.tip) some)
+
+rest_bytes-drained : (sum : List ℕ → ℕ) (w : WriterState) (rest : Bool) → 0 < w.page_size → rest_bytes sum (advanced w w.flushed w.sync) rest ≡ rest_bytes sum w rest
+rest_bytes-drained sum w false some = refl
+rest_bytes-drained sum w true some = rest_bytes-short sum (advanced w w.flushed w.sync) (short_drained w some)
+
 -- the same, as a program builds it
-pub flush_bytes-built : (sum : List ℕ → ℕ) (w : WriterState) (rest : Bool) (P : ℕ) (durable : Option ActiveChecksum) (full : List ℕ) → 0 < w.page_size → P ≡ w.page_size → durable ≡ w.durable
-    → full ≡ take (length w.tip / P * P) w.tip → built sum P durable (length full / P) full ++ rest_bytes sum w rest ≡ flush_bytes sum w rest
-flush_bytes-built sum w rest P durable full some size slot is =
-    let same : full ≡ take (full_in w * w.page_size) w.tip = is ∙ ap (λ n. take (length w.tip / n * n) w.tip) size in
-    let count : length full / w.page_size ≡ full_in w = ap (λ bytes. length bytes / w.page_size) same ∙ ap (λ n. n / w.page_size) (length-full w) ∙ mul-div_cancel (full_in w) some in
-    ap (λ s. built sum P s (length full / P) full ++ rest_bytes sum w rest) slot
-    ∙ ap (λ n. built sum n w.durable (length full / n) full ++ rest_bytes sum w rest) size
-    ∙ ap (λ n. built sum w.page_size w.durable n full ++ rest_bytes sum w rest) count
-    ∙ ap (λ bytes. built sum w.page_size w.durable (full_in w) bytes ++ rest_bytes sum w rest) same
-    ∙ ap (λ bytes. bytes ++ rest_bytes sum w rest) (built-take sum w.page_size w.durable (full_in w) w.tip)
+pub flush_bytes-drained : (sum : List ℕ → ℕ) (w v : WriterState) (rest : Bool) (durable : Option ActiveChecksum) (pages : List (List ℕ)) → 0 < w.page_size → durable ≡ w.durable
+    → ArePages w.page_size pages → concat pages ≡ take (full_in w * w.page_size) w.tip → v ≡ advanced w w.flushed w.sync
+    → with_footers pages (footers_of sum durable pages) ++ rest_bytes sum v rest ≡ flush_bytes sum w rest
+flush_bytes-drained sum w v rest durable pages some slot are is state =
+    let bytes : length pages * w.page_size ≡ full_in w * w.page_size = sym (length-pages w.page_size pages are) ∙ ap length is ∙ length-full w in
+    let count : length pages ≡ full_in w = sym (mul-div_cancel (length pages) some) ∙ ap (λ n. n / w.page_size) bytes ∙ mul-div_cancel (full_in w) some in
+    ap (λ b. b ++ rest_bytes sum v rest) (with_footers-built sum w.page_size durable pages are)
+    ∙ (λ i. built sum w.page_size (slot i) (count i) (is i) ++ rest_bytes sum (state i) rest)
+    ∙ ap (λ b. b ++ rest_bytes sum (advanced w w.flushed w.sync) rest) (built-take sum w.page_size w.durable (full_in w) w.tip)
+    ∙ ap (λ b. built sum w.page_size w.durable (full_in w) w.tip ++ b) (rest_bytes-drained sum w rest some)
     ∙ flush_bytes-by_rest sum w rest some
 
 -- pages that are taken off the front of some bytes are counted off
@@ -56,18 +72,18 @@ div_ceil-rest n r P some is =
 pub fits-rest : (P full n r : ℕ) → 0 < P → r ≡ n - n / P * P → physical_size P (full + n / P) r ≡ physical_size P full n
 fits-rest P full n r some is = ap (λ pages. pages * (P + 12)) (omega (arith, div_ceil-rest n r P some is))
 
--- the same, with the numbers that a program has
-pub fits-advanced : (P full n x y r : ℕ) → 0 < P → y ≡ P → x ≡ n → r ≡ n - x / y * y → FitsBlob P full n → FitsBlob P (full + x / y) r
-fits-advanced P full n x y r some size len is fits =
-    let quotient : x / y ≡ n / P = ap (λ a. a / y) len ∙ ap (λ b. n / b) size in
-    let part : r ≡ n - n / P * P = is ∙ ap (λ q. n - q * y) quotient ∙ ap (λ b. n - n / P * b) size in
-    let same : physical_size P (full + x / y) r ≡ physical_size P full n = ap (λ q. physical_size P (full + q) r) quotient ∙ fits-rest P full n r some part in
-    omega (arith, same, fits)
-
 -- a flush writes no more pages than the tip has
 pages_at_most : (w : WriterState) (rest : Bool) → 0 < w.page_size → CanWrite w.page_size w.tip (full_in w) rest → written_pages (full_in w) rest ≤ div_ceil (length w.tip) w.page_size
 pages_at_most w false some can = omega arith
 pages_at_most w true some can = omega (arith, div-add-mod' (length w.tip) w.page_size, mod-lt (length w.tip) some)
+
+-- where something can be written pages have some bytes
+pub can_some : (w : WriterState) (rest : Bool) → CanWrite w.page_size w.tip (full_in w) rest → 0 < w.page_size
+can_some w rest can = elim (cases_lt 0 w.page_size) [ inl some ↦ some | inr none ↦ absurd (nothing w rest (omega (arith, none)) can) ]
+  where
+    nothing : (w : WriterState) (rest : Bool) → w.page_size ≡ 0 → CanWrite w.page_size w.tip (full_in w) rest → ⊥
+    nothing w false none can = omega (arith, can.0, ap (λ n. length w.tip / n) none, div-zero (length w.tip))
+    nothing w true none can = omega (arith, can.1, ap (λ n. (full_in w + 1) * n) none)
 
 -- the places of a flush are numbers of 64 bits
 pub flush_fits : (sum : List ℕ → ℕ) (w : WriterState) (rest : Bool) → 0 < w.page_size → CanWrite w.page_size w.tip (full_in w) rest → FitsBlob w.page_size w.full_pages (length w.tip)

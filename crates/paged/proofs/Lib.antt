@@ -1,5 +1,8 @@
+pub mod Sizes
+pub mod Footers
 pub mod Building
 pub mod Flushing
+pub mod Drains
 pub mod Causes
 pub mod Flushes
 pub mod Appends
@@ -10,6 +13,7 @@ pub mod Prefixes
 pub mod Looking
 pub mod Recoveries
 pub mod Firsts
+pub mod Places
 pub mod Standing
 pub mod Recovered
 pub mod Trims

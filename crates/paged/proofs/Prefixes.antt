@@ -217,22 +217,22 @@ module _ (sum : List ℕ → ℕ) (P : ℕ) where
       ∙ sym (last_part_suc n bytes (λ none. has (len ∙ none)) (λ full. part (len ∙ full)))
       ∙ same
 
-  -- a value is at most a page's payload
-  value_fits : (slot : Option ActiveChecksum) (page : List ℕ) → kept_len slot ≤ P → length (tip_of (value_and_slot slot page)) ≤ P
-  value_fits None page fits = omega arith
-  value_fits (Some s) page fits = omega (arith, length-take s.len page)
+  -- the value of a page that isn't full is less than a page's payload
+  value_short : (slot : Option ActiveChecksum) (page : List ℕ) → kept_len slot < P → length (tip_of (value_and_slot slot page)) < P
+  value_short None page short = short
+  value_short (Some s) page short = omega (arith, short, length-take s.len page)
 
-  pub tip_fits : (page : List ℕ) → length (tip_of (value_and_slot (active sum P page) page)) ≤ P
-  tip_fits page = value_fits (active sum P page) page (omega (arith, told_len page, value_len_le sum P page))
+  pub tip_short : (page : List ℕ) → value_len sum P page ≢ P → length (tip_of (value_and_slot (active sum P page) page)) < P
+  tip_short page part = value_short (active sum P page) page (omega (arith, told_len page, value_len_le sum P page, part))
 
   -- the last of some pages that has a value is one of them, and none behind it has one
   pub record IsLast (n : ℕ) (bytes : List ℕ) (p : Prefix) : Type 0 where
     pub within : prefix_pages p ≤ n
-    pub tip : length (tip_of p.partial) ≤ P
+    pub tip : 0 < P → length (tip_of p.partial) < P
     pub none : (k : ℕ) → prefix_pages p ≤ k → k < n → value_len sum P (page_at P k bytes) ≡ 0
 
   pub last_is : (n : ℕ) (bytes : List ℕ) → IsLast n bytes (last_prefix sum P n bytes)
-  last_is zero bytes = record { within = omega arith; tip = omega arith; none = λ k le lt. absurd (omega arith) }
+  last_is zero bytes = record { within = omega arith; tip = λ positive. positive; none = λ k le lt. absurd (omega arith) }
   last_is (suc n) bytes = elim (cases_eq (value_len sum P (page_at P n bytes)) 0) [
     | inl none ↦
         let before = last_is n bytes in
@@ -245,10 +245,10 @@ module _ (sum : List ℕ → ℕ) (P : ℕ) where
           ];
         })
     | inr some ↦ elim (cases_eq (value_len sum P (page_at P n bytes)) P) [
-      | inl full ↦ subst (λ (p : Prefix). IsLast (suc n) bytes p) (sym (last_full_suc n bytes some full)) (record { within = omega arith; tip = omega arith; none = λ k le lt. absurd (omega arith) })
+      | inl full ↦ subst (λ (p : Prefix). IsLast (suc n) bytes p) (sym (last_full_suc n bytes some full)) (record { within = omega arith; tip = λ positive. positive; none = λ k le lt. absurd (omega arith) })
       | inr part ↦ subst (λ (p : Prefix). IsLast (suc n) bytes p) (sym (last_part_suc n bytes some part)) (record {
         within = omega (arith, partial_pages_le (value_and_slot (active sum P (page_at P n bytes)) (page_at P n bytes)));
-        tip = tip_fits (page_at P n bytes);
+        tip = λ positive. tip_short (page_at P n bytes) part;
         none = λ k le lt. absurd (omega (arith, le, lt, one_page (page_at P n bytes) some));
       })
     ]

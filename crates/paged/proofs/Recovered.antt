@@ -84,10 +84,12 @@ module _ (sum : List ℕ → ℕ) (cache : CacheState) (capacity : ℕ) (old mid
       ∙ ap (λ (n : ℕ). prefix_of sum n (pages n mid.present.readable)) same
 
 -- a prefix has no more pages than there are
-pub found_within : (sum : List ℕ → ℕ) (P count : ℕ) (bytes : List ℕ) (p : Prefix) → p ≡ prefix_of sum P (pieces count (P + 12) bytes) → (prefix_pages p ≤ count) × (length (tip_of p.partial) ≤ P)
-found_within sum P count bytes p is =
-    let first = prefix_is sum P (pieces count (P + 12) bytes) in
-    (omega (arith, first.within, ap (λ (q : Prefix). prefix_pages q) is, length-pieces count (P + 12) bytes), omega (arith, first.tip, ap (λ (q : Prefix). length (tip_of q.partial)) is))
+pub found_within : (sum : List ℕ → ℕ) (P count : ℕ) (bytes : List ℕ) (p : Prefix) → p ≡ prefix_of sum P (pieces count (P + 12) bytes) → prefix_pages p ≤ count
+found_within sum P count bytes p is = omega (arith, (prefix_is sum P (pieces count (P + 12) bytes)).within, ap (λ (q : Prefix). prefix_pages q) is, length-pieces count (P + 12) bytes)
+
+-- what is behind them is less than a page
+pub found_short : (sum : List ℕ → ℕ) (P count : ℕ) (bytes : List ℕ) (p : Prefix) → 0 < P → p ≡ prefix_of sum P (pieces count (P + 12) bytes) → length (tip_of p.partial) < P
+found_short sum P count bytes p some is = omega (arith, (prefix_is sum P (pieces count (P + 12) bytes)).tip some, ap (λ (q : Prefix). length (tip_of q.partial)) is)
 
 module _ (sum : List ℕ → ℕ) (cache : CacheState) (capacity : ℕ) (old new : Life) where
   -- a recovery that isn't done

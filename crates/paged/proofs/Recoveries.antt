@@ -1,9 +1,8 @@
 -- What opening and recovering leave of a blob.
-use Rattle.std.proofs.Common.{◌≡◌, ◌⊎◌, inl, inr, ℕ, ◌+◌, ◌*◌, ◌/◌, ◌%◌, ◌^◌, ◌<◌, ◌≤◌, List, length, take, refl, sym, ◌∙◌, ap, subst, arith, true, false, Bool}
+use Rattle.std.proofs.Common.{◌≡◌, ◌⊎◌, inl, inr, ℕ, ◌+◌, ◌*◌, ◌/◌, ◌^◌, ◌<◌, ◌≤◌, List, length, take, refl, sym, ◌∙◌, ap, subst, arith, true, false, Bool}
 use Rattle.std.specs.Prelude.{Result, Ok, Err, Option, Some, None, if◌then◌else◌}
 use Rattle.std.specs.Int.{div_ceil}
-use Rattle.std.proofs.Math.Nat.{div-eq_of_lt, mod-eq_of_lt, mul-div_cancel, mul-mod_left, mul-le-mul_left}
-use Rattle.std.proofs.lemmas.Bool.{cases_lt}
+use Rattle.std.proofs.Math.Nat.{div-eq_of_lt, mod-eq_of_lt, mul-le-mul_left}
 use Rattle.std.proofs.lemmas.List.{take_all}
 use Rattle.page.specs.Geometry.{adjusted}
 use Rattle.page.specs.declared.slot.ActiveChecksum.{ActiveChecksum}
@@ -21,7 +20,7 @@ use Rattle.paged.specs.declared.prefix.Prefix.{Prefix}
 use Rattle.paged.specs.declared.writer.SyncState.TheVariants.{Clean as IsClean, Dirty as IsDirty}
 use Rattle.paged.specs.declared.writer.SyncState.{SyncState as State}
 use Rattle.paged.specs.Writer.{state_of, FitsBlob}
-use Rattle.paged.specs.Prefix.{last_prefix, prefix_pages, partial_pages, tip_of, slot_of_tip, at_prefix, HasBytes}
+use Rattle.paged.specs.Prefix.{last_prefix, prefix_pages, partial_pages, tip_of, at_prefix, HasBytes}
 use Rattle.paged.specs.Calls.{HasCause, LogGrows}
 use Rattle.paged.specs.Recovery.{Finds, IsDurable, Cuts, CutsBack, IsKept, Stands, TrimsTo, SyncsIn, EndsAt, Opens, opened_prefix, opened_size}
 use Rattle.paged.specs.Recovery.IsKept.{whole, cut}
@@ -116,22 +115,15 @@ finds_cause p old new IdsExhausted finds = absurd finds
 
 -- ---- opening
 
--- a tip of at most a page takes as many pages as its value does
-tip_pages : (P : ℕ) (found : Option (List ℕ × ActiveChecksum)) → 0 < P → length (tip_of found) ≤ P → div_ceil (length (tip_of found)) P ≤ partial_pages found
-tip_pages P None some fits = omega (arith, div-eq_of_lt some, mod-eq_of_lt some)
-tip_pages P (Some v) some fits = elim (cases_lt (length v.0) P) [
-  | inl less ↦ omega (arith, div-eq_of_lt less)
-  | inr enough ↦
-      let is : length v.0 ≡ 1 * P = omega arith in
-      let pages : length v.0 / P ≡ 1 = ap (λ (n : ℕ). n / P) is ∙ mul-div_cancel 1 some in
-      let rest : length v.0 % P ≡ 0 = ap (λ (n : ℕ). n % P) is ∙ mul-mod_left 1 P in
-      omega (arith, pages, rest)
-]
+-- a tip of less than a page takes as many pages as its value does
+tip_pages : (P : ℕ) (found : Option (List ℕ × ActiveChecksum)) → length (tip_of found) < P → div_ceil (length (tip_of found)) P ≤ partial_pages found
+tip_pages P None short = omega (arith, div-eq_of_lt short, mod-eq_of_lt short)
+tip_pages P (Some v) short = omega (arith, div-eq_of_lt short)
 
 -- a writer behind pages that fit fits too
-pub fits_prefix : (P size : ℕ) (p : Prefix) → 0 < P → length (tip_of p.partial) ≤ P → prefix_pages p * (P + 12) ≤ size → size < 2 ^ 64 → FitsBlob P p.full_pages (length (tip_of p.partial))
-fits_prefix P size p some tip reach small =
-    let le : p.full_pages + div_ceil (length (tip_of p.partial)) P ≤ prefix_pages p = omega (arith, tip_pages P p.partial some tip) in
+pub fits_prefix : (P size : ℕ) (p : Prefix) → length (tip_of p.partial) < P → prefix_pages p * (P + 12) ≤ size → size < 2 ^ 64 → FitsBlob P p.full_pages (length (tip_of p.partial))
+fits_prefix P size p tip reach small =
+    let le : p.full_pages + div_ceil (length (tip_of p.partial)) P ≤ prefix_pages p = omega (arith, tip_pages P p.partial tip) in
     let more : (P + 12) * (p.full_pages + div_ceil (length (tip_of p.partial)) P) ≤ (P + 12) * prefix_pages p = mul-le-mul_left (P + 12) le in
     omega arith
 
@@ -272,15 +264,3 @@ ended_cause kept s old mid new e clean le syncs cuts =
 -- fewer pages than there are
 pub fewer_bytes : (P size k n : ℕ) → k ≤ n → size ≡ n * (P + 12) → k * (P + 12) ≤ size
 fewer_bytes P size k n le is = let more : (P + 12) * k ≤ (P + 12) * n = mul-le-mul_left (P + 12) le in omega (arith, more)
-
--- a writer's state, field by field
-pub state_at : (P P_is id id_is room room_is : ℕ) (p : Prefix) (tip : List ℕ) (slot : Option ActiveChecksum) → P ≡ P_is → id ≡ id_is → room ≡ room_is → tip ≡ tip_of p.partial → slot ≡ slot_of_tip p.partial
-    → record { page_size = P; id = id; capacity = room; full_pages = p.full_pages; tip = tip; flushed = slot; durable = slot; sync = Clean } ≡ at_prefix P_is id_is room_is p Clean
-state_at P P_is id id_is room room_is p tip slot size same capacity tip_is slot_is =
-    λ i. record { page_size = size i; id = same i; capacity = capacity i; full_pages = p.full_pages; tip = tip_is i; flushed = slot_is i; durable = slot_is i; sync = Clean }
-
--- it fits, with the numbers that a program has
-pub fits_at : (P P_is size : ℕ) (p : Prefix) (tip : List ℕ) → P ≡ P_is → tip ≡ tip_of p.partial → 0 < P_is → length (tip_of p.partial) ≤ P_is → prefix_pages p * (P_is + 12) ≤ size → size < 2 ^ 64 → FitsBlob P p.full_pages (length tip)
-fits_at P P_is size p tip same tip_is some fits reach small =
-    let f : FitsBlob P_is p.full_pages (length (tip_of p.partial)) = fits_prefix P_is size p some fits reach small in
-    subst (λ (n : ℕ). FitsBlob n p.full_pages (length tip)) (sym same) (subst (λ (l : List ℕ). FitsBlob P_is p.full_pages (length l)) (sym tip_is) f)

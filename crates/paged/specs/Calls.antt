@@ -1,5 +1,5 @@
 -- What each public call of a writer does, by cases on its answer.
-use Rattle.std.specs.Prelude.{◌≡◌, ◌⊎◌, ◌<◌, ◌≤◌, ◌+◌, ◌^◌, ◌++◌, ℕ, List, [], length, true, if◌then◌else◌, Result, Ok, Err}
+use Rattle.std.specs.Prelude.{◌≡◌, ◌⊎◌, ◌<◌, ◌≤◌, ◌+◌, ◌*◌, ◌^◌, ◌++◌, ℕ, Bool, List, [], length, nat_lt, true, if◌then◌else◌, Option, Some, None, Result, Ok, Err}
 use Rattle.disk.specs.Disk.{Life, failures}
 use Rattle.disk.specs.declared.error.Error.{Error}
 use Rattle.disk.specs.declared.error.Error.TheVariants.{ReadFailed, WriteFailed, ResizeFailed, SyncFailed, OffsetOverflow, OutOfMemory}
@@ -8,7 +8,7 @@ use Rattle.crash.specs.WriterState.SyncState.{Clean, Dirty}
 use Rattle.crash.specs.Sound.{IsSound, content}
 use Rattle.crash.specs.Stays.{StaysThrough}
 use Rattle.crash.specs.Built.{kept_len}
-use Rattle.paged.specs.Writer.{physical_size}
+use Rattle.paged.specs.Writer.{physical_size, FitsBlob}
 use Rattle.paged.specs.Flush.{has_work, synced}
 
 -- why a call that asked the device may answer this error: the device failed in the call, or memory was refused
@@ -40,6 +40,10 @@ sync_calls w = (if has_work w true then 1 else 0) + settle_calls w.sync
 -- what is buffered is within the capacity, or less than a page
 abbrev pub IsBounded : WriterState → Type 0
 IsBounded w = (length w.tip ≤ w.capacity) ⊎ (length w.tip < w.page_size)
+
+-- what is buffered is within the capacity
+abbrev pub HoldsWithin : WriterState → Type 0
+HoldsWithin w = length w.tip ≤ w.capacity
 
 -- the writer is the same but for its pages and what it buffers
 pub record IsSameWriter (old new : WriterState) : Type 0 where
@@ -87,3 +91,24 @@ abbrev pub Appends : (List ℕ → ℕ) → WriterState → List ℕ → Life �
 Appends sum w bytes old new (Ok r) = (r.1 ≡ length (content w old.present.readable)) × GoesOn sum w old bytes r.0 new
 Appends sum w bytes old new (Err OffsetOverflow) = (new ≡ old) × (2 ^ 64 ≤ physical_size w.page_size w.full_pages (length w.tip + length bytes))
 Appends sum w bytes old new (Err e) = Refuses sum w.page_size (content w old.present.readable ++ bytes) old new e
+
+-- bytes are buffered, and nothing is asked of the device: whether what is buffered is more than the capacity now
+abbrev pub Buffers : WriterState → List ℕ → WriterState → Result Bool Error → Type 0
+Buffers w bytes now (Ok passed) = FitsBlob w.page_size w.full_pages (length w.tip + length bytes) × (now ≡ record w { tip = w.tip ++ bytes }) × (passed ≡ nat_lt w.capacity (length w.tip + length bytes))
+Buffers w bytes now (Err OffsetOverflow) = (2 ^ 64 ≤ physical_size w.page_size w.full_pages (length w.tip + length bytes)) × (now ≡ w)
+Buffers w bytes now (Err OutOfMemory) = FitsBlob w.page_size w.full_pages (length w.tip + length bytes) × (now ≡ w)
+Buffers w bytes now (Err _) = ⊥
+
+-- an append within the capacity, for which nothing is asked of the device: it answers the size until now, or that the bytes
+-- don't fit what is buffered
+abbrev pub TryAppends : WriterState → List ℕ → WriterState → Result (Option ℕ) Error → Type 0
+TryAppends w bytes now (Ok (Some at)) = FitsBlob w.page_size w.full_pages (length w.tip + length bytes) × (length w.tip + length bytes ≤ w.capacity) × (at ≡ w.full_pages * w.page_size + length w.tip) × (now ≡ record w { tip = w.tip ++ bytes })
+TryAppends w bytes now (Ok None) = FitsBlob w.page_size w.full_pages (length w.tip + length bytes) × (w.capacity < length w.tip + length bytes) × (now ≡ w)
+TryAppends w bytes now (Err OffsetOverflow) = (2 ^ 64 ≤ physical_size w.page_size w.full_pages (length w.tip + length bytes)) × (now ≡ w)
+TryAppends w bytes now (Err OutOfMemory) = FitsBlob w.page_size w.full_pages (length w.tip + length bytes) × (length w.tip + length bytes ≤ w.capacity) × (now ≡ w)
+TryAppends w bytes now (Err _) = ⊥
+
+-- bytes that were buffered are an append, whatever the blob over which the writer is sound
+abbrev pub BuffersOver : (List ℕ → ℕ) → WriterState → List ℕ → WriterState → Result (Option ℕ) Error → Type 0
+BuffersOver sum w bytes now (Ok (Some at)) = (life : Life) → IsSound sum w life.present → Appends sum w bytes life life (Ok (now, at))
+BuffersOver sum w bytes now _ = Unit {0}

@@ -1,11 +1,12 @@
 -- What a flush writes, and what the writer is after it.
-use Rattle.std.specs.Prelude.{ℕ, ◌+◌, ◌*◌, ◌/◌, ◌%◌, ◌==◌, ◌&&◌, ◌||◌, Bool, not, nat_le, true, false, List, [], length, drop, Option, Result, Ok, Err}
+use Rattle.std.specs.Prelude.{ℕ, ◌+◌, ◌*◌, ◌/◌, ◌%◌, ◌==◌, ◌&&◌, ◌||◌, ◌++◌, Bool, not, nat_le, true, false, List, [], ◌∷◌, length, take, drop, Option, None, Result, Ok, Err}
 use Rattle.disk.specs.declared.error.Error.{Error}
 use Rattle.page.specs.declared.slot.ActiveChecksum.{ActiveChecksum}
 use Rattle.crash.specs.WriterState.{WriterState, SyncState}
 use Rattle.crash.specs.WriterState.SyncState.{Clean}
 use Rattle.crash.specs.Sound.{guard_slot}
-use Rattle.crash.specs.Built.{kept_len, durable_after, page_of, built, written_pages}
+use Rattle.page.specs.Page.{slot_bytes}
+use Rattle.crash.specs.Built.{kept_slot, kept_len, kept_bytes, footer, durable_after, page_of, built, written_pages}
 
 -- how many full pages the tip has
 abbrev pub full_in : WriterState → ℕ
@@ -49,6 +50,16 @@ flush_bytes sum w rest = built sum w.page_size w.durable (written_pages (full_in
 abbrev pub rest_bytes : (List ℕ → ℕ) → WriterState → Bool → List ℕ
 rest_bytes sum w false = []
 rest_bytes sum w true = page_of sum w.page_size (durable_after w.durable (full_in w)) (rest_of w)
+
+-- the footers of full pages, joined, of which the first repeats the durable slot
+abbrev pub footers_of : (List ℕ → ℕ) → Option ActiveChecksum → List (List ℕ) → List ℕ
+footers_of sum durable [] = []
+footers_of sum durable (page ∷ pages) = footer (kept_slot durable) (kept_bytes durable) (slot_bytes (length page) (sum page)) ++ footers_of sum None pages
+
+-- pages with twelve of these bytes behind each
+abbrev pub with_footers : List (List ℕ) → List ℕ → List ℕ
+with_footers [] footers = []
+with_footers (page ∷ pages) footers = page ++ take 12 footers ++ with_footers pages (drop 12 footers)
 
 -- an answer without its value
 abbrev pub outcome : {A : Type 0} → Result A Error → Result (Unit {0}) Error

@@ -1,14 +1,14 @@
 // Appending.
-ghost use Rattle.std.specs.Prelude.{◌≡◌, ◌⊎◌, ◌↔◌, ◌+◌, ◌^◌, ◌≤◌, ◌++◌, length, IsTrue, IfOk, IfErr, Err};
+ghost use Rattle.std.specs.Prelude.{◌≡◌, ◌↔◌, ◌+◌, ◌^◌, ◌≤◌, ◌++◌, length, IsTrue, IfOk, Err};
 ghost use Rattle.crash.specs.Sound.{IsSound, content};
 ghost use Rattle.crash.specs.Stays.{KeepsFloors, LeavesOnly};
 ghost use Rattle.paged.specs.Writer.{physical_size, FitsBlob};
-ghost use Rattle.paged.specs.Calls.{AsksAtMost, IsBounded, Appends, Flushes};
+ghost use Rattle.paged.specs.Calls.{AsksAtMost, IsBounded, HoldsWithin, Appends, Buffers, TryAppends, BuffersOver};
 
 use crate::Writer;
 use cache::CacheRef;
 use disk::{Blob, Error};
-use page::{CHECKSUM_SIZE, Sum};
+use page::{CHECKSUM_SIZE, EncodeSize, Sum, Write};
 
 impl<B, H, Phase> Writer<B, H, Phase> {
     /// Whether the blob has places for so many bytes more.
@@ -16,26 +16,21 @@ impl<B, H, Phase> Writer<B, H, Phase> {
         ensures { IsTrue result ↔ FitsBlob self.now.page_size self.now.full_pages (length self.now.tip + more) }
     {
         let page_size = u64::from(self.page_size.get());
-        let Some(len) = (self.tip.len() as u64).checked_add(more as u64) else {
+        let greatest_size = u64::MAX / (page_size + CHECKSUM_SIZE) * page_size;
+        let Some(size) = self.size().checked_add(more as u64) else {
             return false;
         };
-        let Some(pages) = self.full_pages.checked_add(len.div_ceil(page_size)) else {
-            return false;
-        };
-        pages.checked_mul(page_size + CHECKSUM_SIZE).is_some()
+        size <= greatest_size
     }
 
-    /// Adds bytes to the tip.
-    fn buffer(mut self, bytes: &[u8]) -> Result<Self, Error>
-        ensures ok { IfOk result (λ w. w ≡ record self { tip = self.tip ++ bytes.now }) }
-        ensures overflow { 2 ^ 64 ≤ physical_size self.page_size self.full_pages (length self.tip + length bytes.now) → result ≡ Err Error.OffsetOverflow }
-        ensures err { IfErr result (λ e. ((e ≡ Error.OffsetOverflow) × (2 ^ 64 ≤ physical_size self.page_size self.full_pages (length self.tip + length bytes.now))) ⊎ (e ≡ Error.OutOfMemory)) }
+    /// Adds bytes to the tip, and answers whether it then holds more than its capacity. An error changes nothing.
+    fn buffer(&mut self, bytes: &[u8]) -> Result<bool, Error>
+        ensures { Buffers self.old bytes.now self.new result }
     {
         if !self.fits(bytes.len()) {
             return Err(Error::OffsetOverflow);
         }
-        self.tip.extend_from_slice(bytes)?;
-        Ok(self)
+        self.tip.append(bytes)
     }
 }
 
@@ -55,6 +50,7 @@ impl<B: Blob, H: Sum, Phase> Writer<B, H, Phase> {
         ensures appends { Appends H.sum_of self bytes.now (B.life blob.old) (B.life blob.new) result }
         ensures overflow { 2 ^ 64 ≤ physical_size self.page_size self.full_pages (length self.tip + length bytes.now) → result ≡ Err Error.OffsetOverflow }
         ensures bounded { IfOk result (λ r. IsBounded r.0) }
+        ensures within { IfOk result (λ r. HoldsWithin r.0) }
         ensures buffered { length self.tip + length bytes.now ≤ self.capacity → B.life blob.new ≡ B.life blob.old }
         ensures calls { AsksAtMost 1 (B.life blob.old) (B.life blob.new) }
 
@@ -66,31 +62,51 @@ impl<B: Blob, H: Sum, Phase> Writer<B, H, Phase> {
     }
 
     /// The same, but for the cache.
-    fn append_bytes(self, blob: &mut B, bytes: &[u8]) -> Result<(Self, u64), Error>
+    fn append_bytes(mut self, blob: &mut B, bytes: &[u8]) -> Result<(Self, u64), Error>
         requires sound { IsSound H.sum_of self (B.life blob.old).present }
         ensures appends { Appends H.sum_of self bytes.now (B.life blob.old) (B.life blob.new) result }
         ensures overflow { 2 ^ 64 ≤ physical_size self.page_size self.full_pages (length self.tip + length bytes.now) → result ≡ Err Error.OffsetOverflow }
-        ensures bounded { IfOk result (λ r. IsBounded r.0) }
+        ensures within { IfOk result (λ r. HoldsWithin r.0) }
         ensures buffered { length self.tip + length bytes.now ≤ self.capacity → B.life blob.new ≡ B.life blob.old }
         ensures calls { AsksAtMost 1 (B.life blob.old) (B.life blob.new) }
     {
         let at = self.size();
-        let writer = self.buffer(bytes)?;
-        let writer = writer.write_full_pages(blob)?;
-        Ok((writer, at))
+        if self.buffer(bytes)? {
+            let flushed = self.flush(blob)?;
+            return Ok((flushed, at));
+        }
+        Ok((self, at))
     }
 
-    /// Writes the full pages out where the buffer holds more than its capacity.
-    fn write_full_pages(self, blob: &mut B) -> Result<Self, Error>
-        requires sound { IsSound H.sum_of self (B.life blob.old).present }
-        ensures flushes { Flushes H.sum_of self (B.life blob.old) (B.life blob.new) result }
-        ensures bounded { IfOk result (λ w. IsBounded w) }
-        ensures buffered { length self.tip ≤ self.capacity → B.life blob.new ≡ B.life blob.old }
-        ensures calls { AsksAtMost 1 (B.life blob.old) (B.life blob.new) }
+    /// Appends bytes where they fit what is buffered, and answers the logical place of the first: the size until now.
+    /// `None` exactly where what is buffered would then hold more than its capacity. No device is asked.
+    ///
+    /// `OffsetOverflow`, before anything else, where the new size or the physical size that it needs passes the
+    /// greatest `u64`; `OutOfMemory`. After `None` or an error the writer is as it was.
+    pub fn try_append(&mut self, bytes: &[u8]) -> Result<Option<u64>, Error>
+        ensures tries { TryAppends self.old bytes.now self.new result }
+        ensures appends { BuffersOver H.sum_of self.old bytes.now self.new result }
     {
-        if self.tip.len() <= self.capacity {
-            return Ok(self);
+        if !self.fits(bytes.len()) {
+            return Err(Error::OffsetOverflow);
         }
-        self.flush(blob)
+        self.tip.try_append(bytes)
+    }
+
+    /// Appends a value's encoded bytes in the same way. A value that doesn't fit isn't encoded.
+    ///
+    /// `OffsetOverflow`, before anything else, where the new size or the physical size that it needs passes the
+    /// greatest `u64`; `OutOfMemory`. After `None` or an error the writer is as it was.
+    pub fn try_append_value<T: EncodeSize + Write>(
+        &mut self,
+        value: &T,
+    ) -> Result<Option<u64>, Error>
+        ensures tries { TryAppends self.old (T.encoded value.now) self.new result }
+        ensures appends { BuffersOver H.sum_of self.old (T.encoded value.now) self.new result }
+    {
+        if !self.fits(value.encode_size()) {
+            return Err(Error::OffsetOverflow);
+        }
+        self.tip.try_append_value(value)
     }
 }

@@ -1,12 +1,19 @@
 // The bytes of a flush: physical pages, of which the first repeats the durable slot.
-ghost use Rattle.std.specs.Prelude.{◌≡◌, ◌<◌, ◌≤◌, ◌^◌, ◌/◌, ◌%◌, ◌++◌, ◌+◌, length, replicate, IfOk, OnOk, IsOkUnless};
+ghost use Rattle.std.specs.Prelude.{◌≡◌, ◌<◌, ◌≤◌, ◌^◌, ◌*◌, ◌++◌, ◌+◌, length, replicate, All, IfOk, OnOk, IsOkUnless};
+ghost use Rattle.std.specs.List.{concat};
 ghost use Rattle.page.specs.Slot.{other};
 ghost use Rattle.page.specs.Page.{slot_bytes};
 ghost use Rattle.page.specs.Footer.{footer_bytes};
-ghost use Rattle.crash.specs.Built.{kept_slot, kept_bytes, footer, page_of, built};
+ghost use Rattle.crash.specs.Built.{kept_slot, kept_bytes, footer, page_of};
+ghost use Rattle.paged.specs.Flush.{footers_of, with_footers};
 
-use disk::Error;
-use page::{ActiveChecksum, Checksum, Slot, Sum};
+use bytes::Bytes;
+use disk::{Error, IoBuf, IoBufs};
+use page::{ActiveChecksum, CHECKSUM_SIZE, Checksum, Slot, Sum};
+use std::alloc::Global;
+
+/// The bytes of a footer.
+const FOOTER: usize = CHECKSUM_SIZE as usize;
 
 /// The slot that a page with these bytes gets: the one that isn't kept.
 fn new_slot<H: Sum>(durable: Option<ActiveChecksum>, chunk: &[u8]) -> ActiveChecksum
@@ -75,24 +82,53 @@ pub(crate) fn push_page<H: Sum>(
     Ok(new)
 }
 
-/// Adds full pages, of which the first repeats the durable slot. `OutOfMemory` alone.
-pub(crate) fn push_pages<H: Sum>(
-    out: &mut Vec<u8>,
-    page_size: usize,
+/// The footers of full pages, joined; the first repeats the durable slot. `OutOfMemory` alone.
+fn footers_of<H: Sum>(
+    alloc: Global,
     mut durable: Option<ActiveChecksum>,
-    mut bytes: &[u8],
-) -> Result<(), Error>
-    requires some { 0 < page_size }
-    requires small { page_size < 2 ^ 16 }
-    requires whole { length bytes.now % page_size ≡ 0 }
-    ensures pages { OnOk result (out.new.items ≡ out.old.items ++ built H.sum_of page_size durable (length bytes.now / page_size) bytes.now) }
+    pages: &[IoBuf],
+) -> Result<Vec<u8>, Error>
+    requires { All (λ page. length page < 2 ^ 16) pages.now }
+    ensures footers { IfOk result (λ out. out.items ≡ footers_of H.sum_of durable pages.now) }
     ensures err { IsOkUnless result Error.OutOfMemory }
 {
-    while !bytes.is_empty() {
-        let (chunk, rest) = bytes.split_at(page_size);
-        push_page::<H>(out, page_size, durable, chunk)?;
+    let mut out = Vec::with_capacity(alloc, pages.len().saturating_mul(FOOTER))?;
+    for page in pages {
+        let new = new_slot::<H>(durable, page.as_ref());
+        out.extend_from_slice(&footer_with(durable, new).to_bytes())?;
         durable = None;
-        bytes = rest;
     }
-    Ok(())
+    Ok(out)
+}
+
+/// Each page with its part of the footers behind it. The pages aren't copied. `OutOfMemory` alone.
+fn with_footers(alloc: Global, pages: Vec<IoBuf>, footers: &IoBuf) -> Result<IoBufs, Error>
+    requires all { length footers.now ≡ 12 * length pages.items }
+    requires small { length footers.now < 2 ^ 64 }
+    ensures bytes { IfOk result (λ bufs. concat bufs ≡ with_footers pages.items footers.now) }
+    ensures err { IsOkUnless result Error.OutOfMemory }
+{
+    let mut bufs = IoBufs::new(alloc);
+    let mut at = 0;
+    for page in pages {
+        bufs.append(page)?;
+        bufs.append(footers.slice(at, at + FOOTER)?)?;
+        at += FOOTER;
+    }
+    Ok(bufs)
+}
+
+/// The physical pages of full pages, of which the first repeats the durable slot. The pages aren't copied, and their
+/// footers are parts of one buffer. `OutOfMemory` alone.
+pub(crate) fn physical_pages<H: Sum>(
+    alloc: Global,
+    durable: Option<ActiveChecksum>,
+    pages: Vec<IoBuf>,
+) -> Result<IoBufs, Error>
+    requires { All (λ page. length page < 2 ^ 16) pages.items }
+    ensures bytes { IfOk result (λ bufs. concat bufs ≡ with_footers pages.items (footers_of H.sum_of durable pages.items)) }
+    ensures err { IsOkUnless result Error.OutOfMemory }
+{
+    let footers = footers_of::<H>(alloc, durable, &pages)?;
+    with_footers(alloc, pages, &IoBuf::from(Bytes::from_vec(footers)?))
 }

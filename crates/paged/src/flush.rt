@@ -1,30 +1,23 @@
 // Writing the tip out, and syncing.
-ghost use Rattle.std.specs.Prelude.{◌≡◌, ◌+◌, ◌*◌, ◌<◌, ◌^◌, ◌++◌, IfOk, OnOk, IsOkUnless, IsErrOf, Ok, not, ◌==◌, ◌%◌, length, true, false, [], drop, vec_len, ◌≤◌};
+ghost use Rattle.std.specs.Prelude.{◌≡◌, ◌+◌, ◌*◌, ◌<◌, ◌^◌, ◌++◌, IfOk, OnOk, IsOkUnless, IsErrOf, Ok, not, ◌==◌, ◌%◌, ◌≤◌, length, All, true, false, [], take};
 ghost use Rattle.std.specs.List.{concat};
 ghost use Rattle.disk.specs.Disk.{WriteGoes, SyncGoes};
 ghost use Rattle.crash.specs.WriterState.SyncState.{Clean, Dirty};
 ghost use Rattle.crash.specs.Built.{after_write, durable_after, rest_written};
 ghost use Rattle.crash.specs.Sound.{CanWrite, IsSound, content};
 ghost use Rattle.crash.specs.Stays.{KeepsAll, KeepsFloors, LeavesOnly};
-ghost use Rattle.paged.specs.Calls.{AsksAtMost, settle_calls, sync_calls, Flushes, Settles, Syncs};
-ghost use Rattle.paged.specs.Writer.{state_of};
+ghost use Rattle.paged.specs.Calls.{AsksAtMost, HoldsWithin, settle_calls, sync_calls, Flushes, Settles, Syncs};
+ghost use Rattle.page.specs.Tip.{ArePages};
+ghost use Rattle.paged.specs.Writer.{FitsBlob};
 ghost use Rattle.paged.specs.Flush.{full_in, rest_of, rest_bytes, has_work, carried, advanced, place_of, flush_bytes, synced, outcome};
 
 use crate::Writer;
-use crate::build::{push_page, push_pages};
+use crate::build::{physical_pages, push_page};
 use crate::writer::SyncState;
 use bytes::Bytes;
 use cache::CacheRef;
 use disk::{Blob, Error, IoBuf, IoBufs, WriteOptions};
-use page::{ActiveChecksum, CHECKSUM_SIZE, Sum};
-
-/// Drops so many bytes at the front.
-fn drop_front(bytes: &mut Vec<u8>, count: usize)
-    requires { count ≤ vec_len bytes.old }
-    ensures { bytes.new.items ≡ drop count bytes.old.items }
-{
-    bytes.drain(..count);
-}
+use page::{ActiveChecksum, CHECKSUM_SIZE, Sum, split_pages};
 
 impl<B, H, Phase> Writer<B, H, Phase> {
     /// The bytes of a physical page.
@@ -37,7 +30,8 @@ impl<B, H, Phase> Writer<B, H, Phase> {
     /// Whether a flush has something to write: a full page, or, with `rest`, a partial page that isn't written at
     /// its present length.
     pub(crate) fn has_flush_work(&self, rest: bool) -> bool
-        ensures { result ≡ has_work self.now rest }
+        ensures work { result ≡ has_work self.now rest }
+        ensures room { self.now.page_size ≤ self.now.capacity }
     {
         let page_size = usize::from(self.page_size.get());
         let partial = self.tip.len() % page_size;
@@ -66,93 +60,102 @@ impl<B, H, Phase> Writer<B, H, Phase> {
         self
     }
 
-    /// The writer once the tip's full pages are written, and this slot of the rest.
-    fn advance(mut self, flushed: Option<ActiveChecksum>, sync_state: SyncState) -> Self
-        ensures { result ≡ advanced self flushed (state_of sync_state) }
+    /// Where a flush writes.
+    fn place(&self) -> u64
+        ensures place { result ≡ place_of self.now }
+        ensures fits { FitsBlob self.now.page_size self.now.full_pages (length self.now.tip) }
+    {
+        self.full_pages() * self.physical_page_size()
+    }
+
+    /// The tip's full pages, which are taken out of it. `OutOfMemory` alone.
+    fn drain(&mut self) -> Result<Vec<IoBuf>, Error>
+        ensures bytes { IfOk result (λ pages. concat pages.items ≡ take (full_in self.old * self.old.page_size) self.old.tip) }
+        ensures pages { IfOk result (λ pages. ArePages self.old.page_size pages.items) }
+        ensures small { IfOk result (λ pages. All (λ page. length page < 2 ^ 16) pages.items) }
+        ensures state { OnOk result (self.new ≡ advanced self.old self.old.flushed self.old.sync) }
+        ensures err { IsOkUnless result Error.OutOfMemory }
     {
         let page_size = usize::from(self.page_size.get());
-        let full_pages = self.tip.len() / page_size;
-        if full_pages != 0 {
-            drop_front(&mut self.tip, full_pages * page_size);
-            self.full_pages += full_pages as u64;
+        let chunks = self.tip.drain_full_pages()?;
+        let pages = split_pages(self.alloc, &chunks, page_size)?;
+        if !pages.is_empty() {
             self.durable = None;
         }
-        self.flushed = flushed;
-        self.sync_state = sync_state;
-        self
+        Ok(pages)
     }
 }
 
 impl<B, H: Sum, Phase> Writer<B, H, Phase> {
-    /// Adds the physical page of the bytes behind the tip's full pages, where asked, and answers the slot that tells it.
-    fn push_rest(&self, out: &mut Vec<u8>, rest: bool) -> Result<Option<ActiveChecksum>, Error>
-        ensures bytes { OnOk result (out.new.items ≡ out.old.items ++ rest_bytes H.sum_of self.now rest) }
-        ensures slot { IfOk result (λ slot. slot ≡ rest_written H.sum_of (durable_after self.now.durable (full_in self.now)) (rest_of self.now) rest) }
+    /// Adds the physical page of the bytes of a tip without full pages, where asked, and answers the slot that tells
+    /// them. `OutOfMemory` alone.
+    fn push_rest(&self, bufs: &mut IoBufs, rest: bool) -> Result<Option<ActiveChecksum>, Error>
+        requires { length self.now.tip < self.now.page_size }
+        ensures bytes { OnOk result (concat bufs.new ≡ concat bufs.old ++ rest_bytes H.sum_of self.now rest) }
+        ensures slot { IfOk result (λ slot. slot ≡ rest_written H.sum_of self.now.durable self.now.tip rest) }
         ensures err { IsOkUnless result Error.OutOfMemory }
     {
         if !rest {
             return Ok(None);
         }
         let page_size = usize::from(self.page_size.get());
-        let full_pages = self.tip.len() / page_size;
-        let durable = if full_pages == 0 { self.durable } else { None };
-        let (_, partial) = self.tip.split_at(full_pages * page_size);
-        let slot = push_page::<H>(out, page_size, durable, partial)?;
+        let mut page = Vec::with_capacity(self.alloc, self.physical_page_size() as usize)?;
+        let slot = push_page::<H>(&mut page, page_size, self.durable, self.tip.partial())?;
+        bufs.append(IoBuf::from(Bytes::from_vec(page)?))?;
         Ok(Some(slot))
     }
 
-    /// The physical pages of the tip's full pages, and of the rest where asked, and then the slot that tells the rest.
-    fn built_pages(&self, rest: bool) -> Result<(IoBufs, Option<ActiveChecksum>), Error>
-        ensures bytes { IfOk result (λ r. concat r.0 ≡ flush_bytes H.sum_of self.now rest) }
-        ensures slot { IfOk result (λ r. r.1 ≡ rest_written H.sum_of (durable_after self.now.durable (full_in self.now)) (rest_of self.now) rest) }
+    /// Takes the tip's full pages out of it, and answers the physical pages of these and of the rest where asked: the
+    /// writer stands then as once they are written. `OutOfMemory` alone.
+    fn take_pages(&mut self, rest: bool) -> Result<IoBufs, Error>
+        ensures bytes { IfOk result (λ bufs. concat bufs ≡ flush_bytes H.sum_of self.old rest) }
+        ensures state { OnOk result (self.new ≡ advanced self.old (rest_written H.sum_of (durable_after self.old.durable (full_in self.old)) (rest_of self.old) rest) self.old.sync) }
         ensures err { IsOkUnless result Error.OutOfMemory }
     {
-        let page_size = usize::from(self.page_size.get());
-        let (full, _) = self.tip.split_at(self.tip.len() / page_size * page_size);
-        let room = self.tip.len().div_ceil(page_size) as u64 * self.physical_page_size();
-        let mut out = Vec::with_capacity(self.alloc, room as usize)?;
-        push_pages::<H>(&mut out, page_size, self.durable, full)?;
-        let flushed = self.push_rest(&mut out, rest)?;
-        let mut bufs = IoBufs::new(self.alloc);
-        bufs.append(IoBuf::from(Bytes::from_vec(out)?))?;
-        Ok((bufs, flushed))
+        let durable = self.durable;
+        let pages = self.drain()?;
+        let mut bufs = physical_pages::<H>(self.alloc, durable, pages)?;
+        self.flushed = self.push_rest(&mut bufs, rest)?;
+        Ok(bufs)
     }
 }
 
 impl<B: Blob, H: Sum, Phase> Writer<B, H, Phase> {
     /// Writes the tip's full pages, and the rest where asked, in one write that no sync covers yet.
-    fn write_pages(self, blob: &mut B, rest: bool) -> Result<Self, Error>
+    fn write_pages(mut self, blob: &mut B, rest: bool) -> Result<Self, Error>
         requires can { CanWrite self.page_size self.tip (full_in self) rest }
         ensures fits { IsErrOf result Error.OffsetOverflow → ⊥ }
         ensures goes { WriteGoes (place_of self) (flush_bytes H.sum_of self rest) false (B.life blob.old) (B.life blob.new) (outcome result) }
         ensures state { IfOk result (λ w. w ≡ after_write H.sum_of self (full_in self) rest) }
     {
-        let (bufs, flushed) = self.built_pages(rest)?;
-        let place = self.full_pages * self.physical_page_size();
+        let place = self.place();
+        let bufs = self.take_pages(rest)?;
         let options = WriteOptions {
             sync: false,
             dont_cache: true,
         };
         blob.write_at(place, &bufs, options)?;
-        Ok(self.advance(flushed, SyncState::Dirty))
+        self.sync_state = SyncState::Dirty;
+        Ok(self)
     }
 
     /// The same in one write that is durable; nothing is unsynced before it.
-    fn write_pages_durably(self, blob: &mut B, rest: bool) -> Result<Self, Error>
+    fn write_pages_durably(mut self, blob: &mut B, rest: bool) -> Result<Self, Error>
         requires can { CanWrite self.page_size self.tip (full_in self) rest }
         requires settled { (B.life blob.old).present.since ≡ [] }
         ensures fits { IsErrOf result Error.OffsetOverflow → ⊥ }
         ensures goes { WriteGoes (place_of self) (flush_bytes H.sum_of self rest) true (B.life blob.old) (B.life blob.new) (outcome result) }
         ensures state { IfOk result (λ w. w ≡ synced (after_write H.sum_of self (full_in self) rest)) }
     {
-        let (bufs, flushed) = self.built_pages(rest)?;
-        let place = self.full_pages * self.physical_page_size();
+        let place = self.place();
+        let bufs = self.take_pages(rest)?;
         let options = WriteOptions {
             sync: true,
             dont_cache: true,
         };
         blob.write_at(place, &bufs, options)?;
-        Ok(self.advance(flushed, SyncState::Clean))
+        self.sync_state = SyncState::Clean;
+        Ok(self)
     }
 
     /// Syncs the blob.
@@ -170,7 +173,7 @@ impl<B: Blob, H: Sum, Phase> Writer<B, H, Phase> {
         requires sound { IsSound H.sum_of self (B.life blob.old).present }
         ensures flushes { Flushes H.sum_of self (B.life blob.old) (B.life blob.new) result }
         ensures calls { AsksAtMost 1 (B.life blob.old) (B.life blob.new) }
-        ensures short { IfOk result (λ w. length w.tip < w.page_size) }
+        ensures within { IfOk result (λ w. HoldsWithin w) }
     {
         if !self.has_flush_work(false) {
             return Ok(self);
@@ -185,6 +188,7 @@ impl<B: Blob, H: Sum, Phase> Writer<B, H, Phase> {
     pub fn sync(self, blob: &mut B, _cache: &mut CacheRef) -> Result<Self, Error>
         requires sound { IsSound H.sum_of self (B.life blob.old).present }
         ensures syncs { Syncs H.sum_of self (B.life blob.old) (B.life blob.new) result }
+        ensures within { IfOk result (λ w. HoldsWithin w) }
         ensures calls { AsksAtMost (sync_calls self) (B.life blob.old) (B.life blob.new) }
         ensures idle { sync_calls self ≡ 0 → (result ≡ Ok self) × (B.life blob.new ≡ B.life blob.old) }
 
@@ -202,6 +206,7 @@ impl<B: Blob, H: Sum, Phase> Writer<B, H, Phase> {
     fn sync_all(self, blob: &mut B) -> Result<Self, Error>
         requires sound { IsSound H.sum_of self (B.life blob.old).present }
         ensures syncs { Syncs H.sum_of self (B.life blob.old) (B.life blob.new) result }
+        ensures within { IfOk result (λ w. HoldsWithin w) }
         ensures calls { AsksAtMost (sync_calls self) (B.life blob.old) (B.life blob.new) }
         ensures idle { sync_calls self ≡ 0 → (result ≡ Ok self) × (B.life blob.new ≡ B.life blob.old) }
     {

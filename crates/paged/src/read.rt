@@ -37,9 +37,9 @@ impl<B, H, Phase> Writer<B, H, Phase> {
         if end <= at {
             return Ok(());
         }
-        let below = self.full_pages * u64::from(self.page_size.get());
-        let bytes = &self.tip[(at - below) as usize..(end - below) as usize];
-        bufs.append(IoBuf::copy_from_slice(self.alloc, bytes)?)
+        let below = self.tip.offset();
+        self.tip
+            .read_into(bufs, (at - below) as usize, (end - below) as usize)
     }
 }
 
@@ -120,7 +120,7 @@ impl<B: Blob, H: Sum, Phase> Writer<B, H, Phase> {
         if end > self.size() {
             return Err(Error::BlobInsufficientLength);
         }
-        let below = self.full_pages * u64::from(self.page_size.get());
+        let below = self.tip.offset();
         let mut bufs = IoBufs::new(self.alloc);
         self.read_below(blob, &mut bufs, offset, end.min(below))?;
         self.read_tip(&mut bufs, offset.max(below), end)?;

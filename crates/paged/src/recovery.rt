@@ -1,9 +1,10 @@
 // Opening and recovering a blob.
-ghost use Rattle.std.specs.Prelude.{◌≡◌, ◌+◌, ◌*◌, ◌≤◌, ◌<◌, ◌^◌, length, IfOk, IsOkUnless, OnOk, OnErr};
+ghost use Rattle.std.specs.Prelude.{◌≡◌, ◌+◌, ◌*◌, ◌%◌, ◌≤◌, ◌<◌, ◌^◌, length, IfOk, OnOk};
 ghost use Rattle.std.specs.Int.NonZero.{non_zero_u16_get};
 ghost use Rattle.crash.specs.WriterState.SyncState.{Clean};
 ghost use Rattle.paged.specs.Prefix.{prefix_pages, at_prefix, tip_of, slot_of_tip};
 ghost use Rattle.paged.specs.Writer.{state_of, FitsBlob};
+ghost use Rattle.paged.specs.Calls.{HoldsWithin};
 ghost use Rattle.paged.specs.Recovery.{Opens, Recovers, IsDurable, Cuts, CutsBack, TrimsTo, Stands, SyncsIn, Keeps, EndsAt, slot_pages, opened_size, cache_after, GivesId, KeepsText, LeavesText};
 ghost use Rattle.page.specs.Page.{text};
 ghost use Rattle.crash.specs.Stays.{KeepsAll, StaysThrough};
@@ -14,7 +15,7 @@ use crate::writer::SyncState;
 use crate::{Recovery, Writer};
 use cache::CacheRef;
 use disk::{Blob, Error};
-use page::{ActiveChecksum, Sum, adjusted_capacity};
+use page::{ActiveChecksum, Buffer, Sum, adjusted_capacity};
 use std::alloc::Global;
 use std::marker::PhantomData;
 use std::num::NonZeroUsize;
@@ -50,15 +51,14 @@ fn sync_dirty<B: Blob>(blob: &mut B, sync_state: SyncState) -> Result<(), Error>
     }
 }
 
-/// The bytes that a writer buffers whose tip's page has this value, and the slot that tells it. `OutOfMemory` alone.
-fn tip_and_slot(alloc: Global, partial: Partial) -> Result<(Vec<u8>, Option<ActiveChecksum>), Error>
-    ensures tip { IfOk result (λ t. t.0.items ≡ tip_of partial) }
-    ensures slot { IfOk result (λ t. t.1 ≡ slot_of_tip partial) }
-    ensures err { IsOkUnless result Error.OutOfMemory }
+/// The bytes that a writer buffers whose tip's page has this value, and the slot that tells it.
+fn tip_and_slot(partial: &Partial) -> (&[u8], Option<ActiveChecksum>)
+    ensures tip { result.0.now ≡ tip_of partial.now }
+    ensures slot { result.1 ≡ slot_of_tip partial.now }
 {
     match partial {
-        None => Ok((Vec::new(alloc), None)),
-        Some((value, slot)) => Ok((value.as_ref().to_vec(alloc)?, Some(slot))),
+        None => (&[], None),
+        Some((value, slot)) => (value.as_ref(), Some(*slot)),
     }
 }
 
@@ -72,22 +72,22 @@ impl<B, H> Recovery<B, H> {
         prefix: Prefix,
         sync_state: SyncState,
     ) -> Result<Self, Error>
+        requires room { cache.old.page_size ≤ capacity }
+        requires whole { capacity % cache.old.page_size ≡ 0 }
         requires fits { FitsBlob cache.old.page_size prefix.full_pages (length (tip_of prefix.partial)) }
+        requires short { length (tip_of prefix.partial) < cache.old.page_size }
         ensures stands { Stands cache.old capacity prefix (state_of sync_state) result }
         ensures ids { cache.new ≡ cache_after result cache.old }
     {
-        let Prefix {
-            full_pages,
-            partial,
-        } = prefix;
-        let (tip, slot) = tip_and_slot(alloc, partial)?;
+        let (bytes, slot) = tip_and_slot(&prefix.partial);
+        let page_size = cache.page_size();
+        let offset = prefix.full_pages * u64::from(page_size.get());
+        let tip = Buffer::from(alloc, offset, bytes, capacity, usize::from(page_size.get()))?;
         let id = cache.next_id()?;
         Ok(Writer {
             alloc,
             id,
-            page_size: cache.page_size(),
-            capacity,
-            full_pages,
+            page_size,
             tip,
             flushed: slot,
             durable: slot,
@@ -103,8 +103,8 @@ impl<B, H> Recovery<B, H> {
         ensures { result ≡ self.now.full_pages + slot_pages self.now.flushed }
     {
         match self.flushed {
-            None => self.full_pages,
-            Some(_) => self.full_pages + 1,
+            None => self.full_pages(),
+            Some(_) => self.full_pages() + 1,
         }
     }
 }
@@ -126,6 +126,7 @@ impl<B: Blob, H: Sum> Recovery<B, H> {
     ) -> Result<Self, Error>
         requires length { size ≡ length (B.life blob.old).present.readable }
         ensures opens { Opens H.sum_of cache.old capacity (B.life blob.old) (B.life blob.new) result }
+        ensures within { IfOk result (λ w. HoldsWithin w) }
         ensures ids { cache.new ≡ cache_after result cache.old }
 
         // Where all was durable, at each moment since the call began, and at every answer.
@@ -166,16 +167,16 @@ impl<B: Blob, H: Sum> Recovery<B, H> {
         requires size { length (B.life blob.old).present.readable ≡ pages * (self.page_size + 12) }
         requires small { pages * (self.page_size + 12) < 2 ^ 64 }
         requires within { prefix_pages prefix ≤ pages }
-        requires tip { length (tip_of prefix.partial) ≤ self.page_size }
+        requires short { length (tip_of prefix.partial) < self.page_size }
         ensures keeps { Keeps self prefix (B.life blob.old) (B.life blob.new) result }
         ensures ends { EndsAt (prefix_pages prefix * (self.page_size + 12)) (B.life blob.old) (B.life blob.new) }
     {
         sync_dirty(blob, self.sync_state)?;
         let size = self.physical_page_size();
         cut_back(blob, pages * size, pages_of(&prefix) * size)?;
-        let (tip, slot) = tip_and_slot(self.alloc, prefix.partial)?;
-        self.full_pages = prefix.full_pages;
-        self.tip = tip;
+        let (bytes, slot) = tip_and_slot(&prefix.partial);
+        let offset = prefix.full_pages * u64::from(self.page_size.get());
+        self.tip.replace(offset, bytes)?;
         self.flushed = slot;
         self.durable = slot;
         self.sync_state = SyncState::Clean;
@@ -201,6 +202,7 @@ pub fn recover<B: Blob, H: Sum>(
     requires length { size ≡ length (B.life blob.old).present.readable }
     requires durable { IsDurable (B.life blob.old).present }
     ensures recovers { Recovers H.sum_of cache.old capacity (B.life blob.old) (B.life blob.new) result }
+    ensures within { IfOk result (λ w. HoldsWithin w) }
     ensures ids { GivesId result cache.old cache.new }
 
     // From then on every image keeps the whole text.

@@ -1,7 +1,8 @@
 // The writer.
 ghost use Rattle.std.specs.Prelude.{◌≡◌, ◌+◌, ◌*◌, length};
+ghost use Rattle.paged.specs.Writer.{FitsBlob};
 
-use page::ActiveChecksum;
+use page::{ActiveChecksum, Buffer};
 use std::alloc::Global;
 use std::marker::{Model, PhantomData};
 use std::num::NonZeroU16;
@@ -29,9 +30,8 @@ pub struct Writer<B, H, Phase = Append> {
     pub(crate) alloc: Global,
     pub(crate) id: u64,
     pub(crate) page_size: NonZeroU16,
-    pub(crate) capacity: usize,
-    pub(crate) full_pages: u64,
-    pub(crate) tip: Vec<u8>,
+    /// The bytes behind the full pages.
+    pub(crate) tip: Buffer,
     /// Of the page in which the tip begins: the slot that was written last.
     pub(crate) flushed: Option<ActiveChecksum>,
     /// Of the same page: the slot that was durable when it was last written. A rewrite repeats it.
@@ -41,16 +41,16 @@ pub struct Writer<B, H, Phase = Append> {
 }
 
 impl<B, H, Phase> Model for Writer<B, H, Phase> {
-    ghost use Rattle.std.specs.Prelude.{length};
+    ghost use Rattle.std.specs.Prelude.{◌/◌};
     ghost use Rattle.std.specs.Int.NonZero.{non_zero_u16_get};
     ghost use Rattle.crash.specs.WriterState.{WriterState};
-    ghost use Rattle.paged.specs.Writer.{state_of, FitsBlob};
+    ghost use Rattle.paged.specs.Writer.{state_of, IsWriter};
 
     ghost Value = { WriterState };
 
-    ghost view = { λ w. record { page_size = non_zero_u16_get w.page_size; id = w.id; capacity = w.capacity; full_pages = w.full_pages; tip = w.tip.items; flushed = w.flushed; durable = w.durable; sync = state_of w.sync_state } };
+    ghost view = { λ w. record { page_size = non_zero_u16_get w.page_size; id = w.id; capacity = w.tip.capacity; full_pages = w.tip.offset / non_zero_u16_get w.page_size; tip = w.tip.bytes; flushed = w.flushed; durable = w.durable; sync = state_of w.sync_state } };
 
-    ghost invariant = { λ w. FitsBlob (non_zero_u16_get w.page_size) w.full_pages (length w.tip.items) };
+    ghost invariant = { λ w. IsWriter (non_zero_u16_get w.page_size) w.tip };
 }
 
 /// A writer whose blob is still being recovered.
@@ -73,8 +73,6 @@ impl<B, H, Phase> Writer<B, H, Phase> {
             alloc,
             id,
             page_size,
-            capacity,
-            full_pages,
             tip,
             flushed,
             durable,
@@ -85,8 +83,6 @@ impl<B, H, Phase> Writer<B, H, Phase> {
             alloc,
             id,
             page_size,
-            capacity,
-            full_pages,
             tip,
             flushed,
             durable,
@@ -99,6 +95,14 @@ impl<B, H, Phase> Writer<B, H, Phase> {
     pub fn size(&self) -> u64
         ensures { result ≡ self.now.full_pages * self.now.page_size + length self.now.tip }
     {
-        self.full_pages * u64::from(self.page_size.get()) + self.tip.len() as u64
+        self.tip.size()
+    }
+
+    /// How many full pages the blob has.
+    pub(crate) fn full_pages(&self) -> u64
+        ensures value { result ≡ self.now.full_pages }
+        ensures fits { FitsBlob self.now.page_size self.now.full_pages (length self.now.tip) }
+    {
+        self.tip.offset() / u64::from(self.page_size.get())
     }
 }

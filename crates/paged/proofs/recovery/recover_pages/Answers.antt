@@ -5,7 +5,7 @@ use Rattle.page.specs.Page.{pieces}
 use Rattle.paged.specs.Prefix.{HasBytes, prefix_of}
 use Rattle.paged.proofs.Looking.{looked_readable}
 use Rattle.paged.proofs.Recoveries.{opened_size_le}
-use Rattle.paged.proofs.Recovered.{counted_length, opened_length, found_is, found_within, opened_page_size, opened_durable, looked_durable, recovers_end}
+use Rattle.paged.proofs.Recovered.{counted_length, opened_length, found_is, found_within, found_short, opened_page_size, opened_durable, looked_durable, recovers_end}
 use Rattle.paged.proofs.Trims.{opens_stay, scanned_stay, recovers_stay, finds_looked}
 use Rattle.paged.proofs.recovery.recover_pages.Goals as goal
 
@@ -70,12 +70,12 @@ keep-requires-clause-small g c =
 
 pub keep-requires-clause-within : goal.keep-requires-clause-within
 keep-requires-clause-within g c =
-    (found_within g.H.Sum.sum_of (non_zero_u16_get c.recovery.inside.page_size) c.flushed_pages-pages.result (g.B.Blob.life c.open_pages.new.blob).present.readable c.in_ok-prefix.prefix c.in_ok-prefix.ensures.finds.0).0
+    found_within g.H.Sum.sum_of (non_zero_u16_get c.recovery.inside.page_size) c.flushed_pages-pages.result (g.B.Blob.life c.open_pages.new.blob).present.readable c.in_ok-prefix.prefix c.in_ok-prefix.ensures.finds.0
 
-pub keep-requires-clause-tip : goal.keep-requires-clause-tip
-keep-requires-clause-tip g c =
-    let within = found_within g.H.Sum.sum_of (non_zero_u16_get c.recovery.inside.page_size) c.flushed_pages-pages.result (g.B.Blob.life c.open_pages.new.blob).present.readable c.in_ok-prefix.prefix c.in_ok-prefix.ensures.finds.0 in
-    omega (arith, within.1, ap (λ (x : WriterState). x.page_size) c.recovery.view_is)
+pub keep-requires-clause-short : goal.keep-requires-clause-short
+keep-requires-clause-short g c =
+    let short = found_short g.H.Sum.sum_of (non_zero_u16_get c.recovery.inside.page_size) c.flushed_pages-pages.result (g.B.Blob.life c.open_pages.new.blob).present.readable c.in_ok-prefix.prefix c.recovery.inside.page_size.ok c.in_ok-prefix.ensures.finds.0 in
+    omega (arith, short, ap (λ (x : WriterState). x.page_size) c.recovery.view_is)
 
 pub returns-clause-recovers : goal.returns-clause-recovers
 returns-clause-recovers g c =

@@ -1,4 +1,4 @@
-use Rattle.std.proofs.Common.{◌≡◌, ◌*◌, ℕ, length, ◌∙◌, ap, arith, inl, refl, subst}
+use Rattle.std.proofs.Common.{◌≡◌, ◌*◌, ◌%◌, ◌<◌, ℕ, length, ◌∙◌, ap, arith, inl, refl, subst}
 use Rattle.std.proofs.lemmas.Result.{err_from_is_err_and}
 use Rattle.std.specs.Int.NonZero.{non_zero_u16_get}
 use Rattle.std.specs.Prelude.{Err, Ok}
@@ -7,6 +7,7 @@ use Rattle.paged.specs.Prefix.{HasBytes}
 use Rattle.paged.specs.Recovery.{opened_size, CutsBack}
 use Rattle.paged.proofs.Looking.{looked_refl}
 use Rattle.paged.proofs.Recoveries.{opened_is, opened_last, opened_reach, opened_kept, opened_size_le, pages_count, fits_prefix, opens_end, opens_cause, back_cause, kept_back, trims_back}
+use Rattle.paged.proofs.Places.{adjusted_whole, adjusted_room}
 use Rattle.paged.proofs.recovery.Recovery+B+H.open_pages.Goals as goal
 
 pub returns-in_err-capacity-clause-trims : goal.returns-in_err-capacity-clause-trims
@@ -67,7 +68,15 @@ at_prefix-requires g c =
     let p = c.in_ok-last.last in
     let last = opened_last sum P Q c.args.size physical readable p c.page_size-page_size.ensures c.physical_size-physical_size.ensures c.requires.length c.in_ok-last.ensures.finds.0 in
     let reach = opened_reach sum P Q c.args.size physical readable p c.page_size-page_size.ensures c.physical_size-physical_size.ensures c.requires.length c.in_ok-last.ensures.finds.0 in
-    record { fits = fits_prefix P (length readable) p (omega arith) last.tip reach (omega arith) }
+    let size : c.from.result ≡ P = c.from.ensures ∙ c.get.ensures.value ∙ c.page_size-page_size.ensures in
+    let some : 0 < P = omega (arith, c.get.ensures.nonzero, c.get.ensures.value, c.page_size-page_size.ensures) in
+    let room : c.in_ok-capacity.capacity ≡ adjusted c.args.capacity P = c.in_ok-capacity.ensures.capacity.1 ∙ ap (λ (n : ℕ). adjusted c.args.capacity n) size in
+    record {
+      room = omega (arith, room, adjusted_room c.args.capacity P);
+      whole = ap (λ (n : ℕ). n % P) room ∙ adjusted_whole c.args.capacity P some;
+      fits = fits_prefix P (length readable) p (last.tip some) reach (omega arith);
+      short = last.tip some;
+    }
 
 pub returns-clause-opens : goal.returns-clause-opens
 returns-clause-opens g c =

@@ -10,8 +10,8 @@ returns-clause-reads g c =
     let w = c.args.self.now in
     let readable = (g.B.Blob.life c.args.blob.now).present.readable in
     let end = c.in_ok-end.end in
-    let below = c.self.inside.full_pages * c.from.result in
-    let is : below ≡ w.full_pages * w.page_size = ap (λ n. c.self.inside.full_pages * n) (c.from.ensures ∙ c.get.ensures.value) ∙ ap (λ s. s.full_pages * s.page_size) c.self.view_is in
+    let below = c.offset-below.result in
+    let is : below ≡ w.full_pages * w.page_size = c.offset-below.ensures ∙ c.self.invariant.whole ∙ ap (λ s. s.full_pages * s.page_size) c.self.view_is in
     let ends : end ≡ c.args.offset + c.args.len = grind arith in
     let first : concat c.read_below.new.bufs ≡ take (min end below - c.args.offset) (drop c.args.offset (content w readable)) =
     c.in_ok-read_below.ensures.ok ∙ ap (λ b. concat b ++ take (c.min.result - c.args.offset) (drop c.args.offset (content w readable))) c.new-bufs.ensures ∙ ap (λ n. take (n - c.args.offset) (drop c.args.offset (content w readable))) c.min.ensures in

@@ -1,18 +1,15 @@
-use Rattle.std.proofs.Common.{◌≡◌, ◌*◌, ◌<◌, ap, arith, length, false}
+use Rattle.std.proofs.Common.{◌≡◌, ap, arith, length, false}
 use Rattle.std.specs.List.{concat}
 use Rattle.std.proofs.lemmas.Result.{err_from_is_err_and}
-use Rattle.paged.specs.Writer.{FitsBlob}
-use Rattle.paged.specs.Flush.{place_of, flush_bytes}
+use Rattle.paged.specs.Flush.{flush_bytes}
 use Rattle.paged.proofs.Causes.{no_overflow}
-use Rattle.paged.proofs.Flushing.{flush_fits}
+use Rattle.paged.proofs.Flushing.{can_some, flush_fits}
 use Rattle.paged.proofs.writer.Writer.write_pages.Goals as goal
 
 pub returns-in_err-write_at-clause-fits : goal.returns-in_err-write_at-clause-fits
 returns-in_err-write_at-clause-fits g c =
     let w = c.args.self in
-    let some : 0 < w.page_size = grind arith in
-    let fits : FitsBlob w.page_size w.full_pages (length w.tip) = rw (← c.self.view_is) c.self.invariant in
-    let place : c.self.inside.full_pages * c.physical_page_size.result ≡ place_of w = grind arith in
     let bytes : length (concat c.in_ok-bufs.bufs) ≡ length (flush_bytes g.H.Sum.sum_of w c.args.rest) = ap length c.in_ok-bufs.ensures.bytes in
+    let fits = flush_fits g.H.Sum.sum_of w c.args.rest (can_some w c.args.rest c.requires.can) c.requires.can c.place-place.ensures.fits in
     let p = err_from_is_err_and c.from_residual-in_err-write_at.result c.from_residual-in_err-write_at.ensures.1 in
-    rw (p.1, p.2) (λ is. no_overflow _ _ false _ _ c.in_err-write_at.field-0.0 c.in_err-write_at.ensures.goes (omega (arith, flush_fits g.H.Sum.sum_of w c.args.rest some c.requires.can fits, place, bytes)) cc)
+    rw (p.1, p.2) (λ is. no_overflow _ _ false _ _ c.in_err-write_at.field-0.0 c.in_err-write_at.ensures.goes (omega (arith, fits, c.place-place.ensures.place, bytes)) cc)

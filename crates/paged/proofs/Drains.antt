@@ -1,0 +1,72 @@
+-- A tip without its full pages.
+use Rattle.std.proofs.Common.{◌≡◌, ℕ, suc, zero, ◌+◌, ◌-◌, ◌*◌, ◌/◌, ◌<◌, List, length, take, drop, refl, sym, ap, ◌∙◌, subst, arith, length-drop}
+use Rattle.std.specs.Prelude.{Option, None, false, true, ◌==◌}
+use Rattle.std.specs.List.{concat}
+use Rattle.std.proofs.Math.Nat.{mul-div_cancel, add-mul, div-mul-le_self}
+use Rattle.std.proofs.lemmas.Bool.Decides.{nat_tests}
+use Rattle.std.proofs.lemmas.List.{length-take-le}
+use Rattle.page.specs.Tip.{Tip, ArePages, full_len, drained}
+use Rattle.page.specs.declared.slot.ActiveChecksum.{ActiveChecksum}
+use Rattle.crash.specs.WriterState.{WriterState, SyncState}
+use Rattle.crash.specs.Built.{durable_after}
+use Rattle.paged.specs.Writer.{physical_size, IsWriter}
+use Rattle.paged.specs.Flush.{advanced}
+use Rattle.paged.proofs.Flushing.{fits-rest}
+use Rattle.paged.proofs.Footers.{length-pages}
+
+-- the bytes of a tip's full pages
+length-full : (P : ℕ) (old : Tip) → old.page_size ≡ P → full_len old ≡ length old.bytes / P * P
+length-full P old size = ap (λ p. length old.bytes / p * p) size
+
+-- its offset without them
+offset-drained : (P : ℕ) (old : Tip) → IsWriter P old → (drained old).offset ≡ (old.offset / P + length old.bytes / P) * P
+offset-drained P old is = omega (arith, is.whole, length-full P old is.page_size, add-mul (old.offset / P) (length old.bytes / P) P)
+
+-- the full pages before it
+full_pages-drained : (P : ℕ) (old : Tip) → 0 < P → IsWriter P old → (drained old).offset / P ≡ old.offset / P + length old.bytes / P
+full_pages-drained P old some is = ap (λ place. place / P) (offset-drained P old is) ∙ mul-div_cancel (old.offset / P + length old.bytes / P) some
+
+-- what is left of its bytes
+rest-drained : (P : ℕ) (old : Tip) → old.page_size ≡ P → (drained old).bytes ≡ drop (length old.bytes / P * P) old.bytes
+rest-drained P old size = ap (λ n. drop n old.bytes) (length-full P old size)
+
+-- it is a writer's tip still
+pub is_writer_drained : (P : ℕ) (old new : Tip) → 0 < P → IsWriter P old → new ≡ drained old → IsWriter P new
+is_writer_drained P old new some is goes =
+    let full = full_pages-drained P old some is in
+    let rest : length (drained old).bytes ≡ length old.bytes - length old.bytes / P * P = ap length (rest-drained P old is.page_size) ∙ length-drop (length old.bytes / P * P) old.bytes in
+    let same : physical_size P ((drained old).offset / P) (length (drained old).bytes) ≡ physical_size P (old.offset / P) (length old.bytes) = ap (λ n. physical_size P n (length (drained old).bytes)) full
+    ∙ fits-rest P (old.offset / P) (length old.bytes) (length (drained old).bytes) some rest in
+    subst (λ (t : Tip). IsWriter P t) (sym goes) (record {
+      page_size = is.page_size;
+      whole = offset-drained P old is ∙ ap (λ n. n * P) (sym full);
+      room = is.room;
+      fits = omega (arith, same, is.fits);
+    })
+
+-- so many pages were drained
+pub pages_drained : (P : ℕ) (old : Tip) (pages : List (List ℕ)) → 0 < P → old.page_size ≡ P → ArePages P pages → concat pages ≡ take (full_len old) old.bytes → length pages ≡ length old.bytes / P
+pages_drained P old pages some size are is =
+    let full = length-full P old size in
+    let bytes : length (concat pages) ≡ length old.bytes / P * P = ap length is ∙ length-take-le (full_len old) old.bytes (omega (arith, full, div-mul-le_self (length old.bytes) P)) ∙ full in
+    sym (mul-div_cancel (length pages) some) ∙ ap (λ n. n / P) (sym (length-pages P pages are) ∙ bytes) ∙ mul-div_cancel (length old.bytes / P) some
+
+-- the durable slot, where there were some, and where there was none
+pub durable_some : (durable : Option ActiveChecksum) (n k : ℕ) → n ≡ k → false ≡ (n == 0) → None ≡ durable_after durable k
+durable_some durable n zero is more = absurd (grind (arith, nat_tests, is, more))
+durable_some durable n (suc k) is more = refl
+
+pub durable_none : (durable : Option ActiveChecksum) (n k : ℕ) → n ≡ k → true ≡ (n == 0) → durable ≡ durable_after durable k
+durable_none durable n zero is none = refl
+durable_none durable n (suc k) is none = absurd (grind (arith, nat_tests, is, none))
+
+-- the writer then
+pub drained_state : (P id : ℕ) (old new : Tip) (flushed durable durable_now : Option ActiveChecksum) (sync : SyncState) (w : WriterState) → 0 < P → IsWriter P old → new ≡ drained old
+    → record { page_size = P; id = id; capacity = old.capacity; full_pages = old.offset / P; tip = old.bytes; flushed = flushed; durable = durable; sync = sync } ≡ w
+    → durable_now ≡ durable_after durable (length old.bytes / P)
+    → record { page_size = P; id = id; capacity = new.capacity; full_pages = new.offset / P; tip = new.bytes; flushed = flushed; durable = durable_now; sync = sync } ≡ advanced w w.flushed w.sync
+drained_state P id old new flushed durable durable_now sync w some is goes view slot =
+    let full : new.offset / P ≡ old.offset / P + length old.bytes / P = ap (λ (t : Tip). t.offset / P) goes ∙ full_pages-drained P old some is in
+    let rest : new.bytes ≡ drop (length old.bytes / P * P) old.bytes = ap (λ (t : Tip). t.bytes) goes ∙ rest-drained P old is.page_size in
+    let room : new.capacity ≡ old.capacity = ap (λ (t : Tip). t.capacity) goes in
+    (λ i. record { page_size = P; id = id; capacity = room i; full_pages = full i; tip = rest i; flushed = flushed; durable = slot i; sync = sync }) ∙ ap (λ (v : WriterState). advanced v v.flushed v.sync) view
