@@ -1,14 +1,17 @@
 -- Examples of what a run says.
-use Rattle.std.proofs.Common.{◌≡◌, ℕ, List, [], ◌∷◌, length, take, refl, sym, ap, ◌∙◌, inl, arith, true, false}
-use Rattle.disk.specs.declared.error.Error.TheVariants.{SyncFailed, BlobInsufficientLength, OffsetOverflow}
+use Rattle.std.proofs.Common.{◌≡◌, ℕ, Vec, List, [], ◌∷◌, length, take, refl, sym, ap, ◌∙◌, inl, arith, true, false}
+use Rattle.std.specs.declared.alloc.Global.{Global}
+use Rattle.disk.specs.Disk.{Disk}
+use Rattle.disk.specs.declared.error.Error.TheVariants.{WriteFailed, SyncFailed, BlobInsufficientLength, OffsetOverflow}
 use Rattle.page.specs.Page.{text}
 use Rattle.page.specs.Sums.{add_sum}
 use Rattle.crash.specs.Kept.{AllOnly}
 use Rattle.crash.proofs.CutLaws.{rest_only}
 use Rattle.crash.proofs.Examples.{durable, six, all_keep}
-use Rattle.pagedctl.specs.declared.step.Step.TheVariants.{Sync, Size, Read}
-use Rattle.pagedctl.specs.declared.step.Reply.TheVariants.{Length}
-use Rattle.pagedctl.specs.Run.{Standing, accepted, refused, Replies, HasCause, Ran}
+use Rattle.pagedctl.specs.declared.step.Step.{Step}
+use Rattle.pagedctl.specs.declared.step.Step.TheVariants.{Append, TryAppend, Sync, Size, Read}
+use Rattle.pagedctl.specs.declared.step.Reply.TheVariants.{At, Nothing, Length}
+use Rattle.pagedctl.specs.Run.{Standing, accepted, refused, Replies, HasCause, Answers, Ran}
 
 -- a writer of "abcdef", all of which every crash keeps
 abbrev pub six_stand : Standing
@@ -30,6 +33,10 @@ a_refused_sync = refl
 pub a_refused_read : refused (Read 4 3) six_stand ≡ six_stand
 a_refused_read = refl
 
+-- nor does a refused try
+pub a_refused_try : (bytes : Vec ℕ Global) → refused (TryAppend bytes) six_stand ≡ six_stand
+a_refused_try bytes = refl
+
 pub a_size_reply : Replies Size six (Length 6)
 a_size_reply = refl
 
@@ -40,6 +47,26 @@ a_read_past_the_end = (omega arith, omega arith)
 -- one within the size doesn't
 pub no_end_within : HasCause 4 (Read 4 2) six durable durable BlobInsufficientLength → ⊥
 no_end_within cause = omega (arith, cause.1)
+
+-- bytes that fit what is buffered stand behind the content
+pub a_try : (bytes : Vec ℕ Global) → Answers 4 (TryAppend bytes) (At 6) durable durable six_stand (accepted (TryAppend bytes) six_stand)
+a_try bytes = (refl, refl, refl)
+
+-- those that don't fit change nothing
+pub a_try_that_does_not_fit : (bytes : Vec ℕ Global) → Answers 4 (TryAppend bytes) Nothing durable durable six_stand six_stand
+a_try_that_does_not_fit bytes = (refl, refl)
+
+-- no other step is answered so
+pub nothing_is_of_a_try : (P : ℕ) (step : Step) (from to : Disk) (before behind : Standing) → Answers P step Nothing from to before behind → (bytes : Vec ℕ Global) × (step ≡ TryAppend bytes)
+nothing_is_of_a_try P (TryAppend bytes) from to before behind answers = (bytes, refl)
+nothing_is_of_a_try P (Append bytes) from to before behind answers = absurd answers.1
+nothing_is_of_a_try P Sync from to before behind answers = absurd answers.1
+nothing_is_of_a_try P Size from to before behind answers = absurd answers.1
+nothing_is_of_a_try P (Read offset len) from to before behind answers = absurd answers.1
+
+-- a try has no device's error, since it asks nothing
+pub no_device_in_a_try : (bytes : Vec ℕ Global) → HasCause 4 (TryAppend bytes) six durable durable WriteFailed → ⊥
+no_device_in_a_try bytes cause = cause
 
 -- where the log gained no failure, no device fault is answered
 pub no_fault_of_its_own : HasCause 4 Sync six durable durable SyncFailed → ⊥

@@ -8,12 +8,13 @@ use Rattle.std.specs.Int.NonZero.{non_zero_u64_get}
 use Rattle.std.proofs.lemmas.Fmt.{decimal_injective}
 use Rattle.pagedctl.specs.declared.script.Line.{Line}
 use Rattle.pagedctl.specs.declared.script.Line.TheVariants.{Step, Fail, Crash, Recover, Dump}
-use Rattle.pagedctl.specs.declared.step.Step.TheVariants.{Append, Sync, Size, Read}
+use Rattle.pagedctl.specs.declared.step.Step.TheVariants.{Append, TryAppend, Sync, Size, Read}
 use Rattle.pagedctl.specs.Script.{IsLine, line_words, parts_of}
 
 -- no line fails the call of number 0
 pub no_fail_zero : (word : List ℕ) (n : ℕ) → word ≡ decimal n → n ≡ 0 → (v : Line) → IsLine v → codes "fail" ∷ word ∷ [] ≢ line_words v
 no_fail_zero word n written zero (Step (Append bytes)) is same = cc
+no_fail_zero word n written zero (Step (TryAppend bytes)) is same = cc
 no_fail_zero word n written zero (Step Sync) is same = cc
 no_fail_zero word n written zero (Step Size) is same = cc
 no_fail_zero word n written zero (Step (Read offset len)) is same = cc

@@ -15,19 +15,19 @@ use Rattle.crash.specs.Looks.{SameButLog, Looked}
 use Rattle.crash.proofs.Moments.{each_then, each_last, through_end, keeps_longer, keeps_shorter, stays_itself, stays_alike}
 use Rattle.crash.proofs.Soundness.{alike_sound}
 use Rattle.paged.specs.Writer.{physical_size}
-use Rattle.paged.specs.Calls.{HasCause as CallCause, Appends, Syncs}
+use Rattle.paged.specs.Calls.{HasCause as CallCause, GoesOn, Appends, TryAppends, Syncs}
 use Rattle.paged.proofs.Appends.{size_is_length}
 use Rattle.paged.proofs.Flushes.{begins}
 use Rattle.paged.specs.Reads.{Reads, size_of}
-use Rattle.page.specs.Page.{pages}
+use Rattle.page.specs.Page.{pages, text}
 use Rattle.crash.specs.Full.{AreFull}
 use Rattle.paged.proofs.Halves.{appends_stay, syncs_stay, sync_keeps_all}
 use Rattle.pagedctl.specs.declared.step.Step.{Step}
-use Rattle.pagedctl.specs.declared.step.Step.TheVariants.{Append, Sync, Size, Read}
+use Rattle.pagedctl.specs.declared.step.Step.TheVariants.{Append, TryAppend, Sync, Size, Read}
 use Rattle.pagedctl.specs.declared.step.Reply.{Reply}
-use Rattle.pagedctl.specs.declared.step.Reply.TheVariants.{At, Done, Length, Bytes, Fault, Closed}
+use Rattle.pagedctl.specs.declared.step.Reply.TheVariants.{At, Nothing, Done, Length, Bytes, Fault, Closed}
 use Rattle.pagedctl.specs.Run.{Standing, content_after, accepted, refused, HasCause, last, Answers, Asks, WriterStandsFor, StandsFor, IsReady}
-use Rattle.pagedctl.specs.Calls.{IsClosed, Appended, Synced, Sized, ReadsBytes, DidRead, Stepped, StepsAlways, Takes}
+use Rattle.pagedctl.specs.Calls.{IsClosed, Appended, TriedAppend, Synced, Sized, ReadsBytes, DidRead, Stepped, StepsAlways, Takes}
 
 -- the present after some moments is the last of them
 pub last_is : (life : Life) (ds : List Disk) → (after life ds).present ≡ last life.present ds
@@ -117,19 +117,14 @@ append_halves : (sum : List ℕ → ℕ) (P : ℕ) (w : WriterState) (bytes : Li
 append_halves sum P w bytes old new before stands through =
     halves sum P before.content (before.content ++ bytes) before.floor old new (begins before.content bytes) (omega (arith, length-append before.content bytes)) stands.fits.floor through stands.kept
 
--- an append that is done
-pub append_steps : (sum : List ℕ → ℕ) (w v : WriterState) (bytes : Vec ℕ Global) (n : ℕ) (old new : Life) → IsSound sum w old.present → Appends sum w bytes.items old new (Ok (v, n))
-    → StepsAlways sum (Append bytes) (At n) (Some w) (Some v) old new
-append_steps sum w v bytes n old new sound appends = λ P before stands.
+-- what a session stands for once bytes are appended
+appended_stands : (sum : List ℕ → ℕ) (P : ℕ) (w v : WriterState) (bytes : Vec ℕ Global) (old new : Life) (before : Standing) → StandsFor sum P (Some w) before old.present → GoesOn sum w old bytes.items v new
+    → AllKeep sum P before.content before.floor new.present → Stays sum P (before.content ++ bytes.items) old.present new.present → StandsFor sum P (Some v) (accepted (Append bytes) before) new.present
+appended_stands sum P w v bytes old new before stands goes kept stays =
     let fits = stands.fits in
-    let goes = appends.1 in
     let longer = before.content ++ bytes.items in
     let more : length before.content ≤ length longer = omega (arith, length-append before.content bytes.items) in
-    let through = append_through sum P w bytes.items old new (Ok (v, n)) before sound appends stands in
-    let h = append_halves sum P w bytes.items old new before stands through in
-    let kept : AllKeep sum P before.content before.floor new.present = each_end (AllKeep sum P before.content before.floor) old new through.moments h.goes h.kept in
-    stepped sum P (Append bytes) (At n) (Some v) old new before (accepted (Append bytes) before) through.moments fits.has_writer h tt (fits.has_writer, appends.0 ∙ ap length (sym fits.content), refl)
-    (stands_now sum P v old new (accepted (Append bytes) before)
+    stands_now sum P v old new (accepted (Append bytes) before)
     (record {
       page_size = goes.same.page_size ∙ fits.page_size;
       has_writer = fits.has_writer;
@@ -137,7 +132,18 @@ append_steps sum w v bytes n old new sound appends = λ P before stands.
       otherwise = refl;
       floor = omega (arith, fits.floor, more);
     })
-    (keeps_longer sum P before.content longer before.floor new.present (begins before.content bytes.items) fits.floor kept) h.stays)
+    (keeps_longer sum P before.content longer before.floor new.present (begins before.content bytes.items) fits.floor kept) stays
+
+-- an append that is done
+pub append_steps : (sum : List ℕ → ℕ) (w v : WriterState) (bytes : Vec ℕ Global) (n : ℕ) (old new : Life) → IsSound sum w old.present → Appends sum w bytes.items old new (Ok (v, n))
+    → StepsAlways sum (Append bytes) (At n) (Some w) (Some v) old new
+append_steps sum w v bytes n old new sound appends = λ P before stands.
+    let fits = stands.fits in
+    let through = append_through sum P w bytes.items old new (Ok (v, n)) before sound appends stands in
+    let h = append_halves sum P w bytes.items old new before stands through in
+    let kept : AllKeep sum P before.content before.floor new.present = each_end (AllKeep sum P before.content before.floor) old new through.moments h.goes h.kept in
+    stepped sum P (Append bytes) (At n) (Some v) old new before (accepted (Append bytes) before) through.moments fits.has_writer h tt (fits.has_writer, appends.0 ∙ ap length (sym fits.content), refl)
+    (appended_stands sum P w v bytes old new before stands appends.1 kept h.stays)
 
 -- the places of a blob by its pages, and by the size of its content
 pub physical_by_size : (P full n : ℕ) → 0 < P → physical_size P full n ≡ physical_size P 0 (full * P + n)
@@ -160,6 +166,15 @@ append_cause sum w bytes P content old new OffsetOverflow places goes = omega (a
 append_cause sum w bytes P content old new OutOfMemory places goes = tt
 append_cause sum w bytes P content old new IdsExhausted places goes = goes.cause
 
+-- the places that the blob needs, of a writer and of what it stands for
+needed_places : (sum : List ℕ → ℕ) (P : ℕ) (w : WriterState) (more : ℕ) (life : Life) (before : Standing) → IsSound sum w life.present → StandsFor sum P (Some w) before life.present
+    → physical_size w.page_size w.full_pages (length w.tip + more) ≡ physical_size P 0 (length before.content + more)
+needed_places sum P w more life before sound stands =
+    let size : w.full_pages * w.page_size + length w.tip ≡ length before.content = size_is_length sum w life sound ∙ ap length (sym stands.fits.content) in
+    physical_by_size w.page_size w.full_pages (length w.tip + more) sound.stands.some
+    ∙ ap (λ (n : ℕ). physical_size w.page_size 0 n) (let is : w.full_pages * w.page_size + (length w.tip + more) ≡ length before.content + more = omega (arith, size) in is)
+    ∙ ap (λ (n : ℕ). physical_size n 0 (length before.content + more)) stands.fits.page_size
+
 -- an append that is refused
 pub append_refused_steps : (sum : List ℕ → ℕ) (w : WriterState) (bytes : Vec ℕ Global) (e : Error) (old new : Life) → IsSound sum w old.present → Appends sum w bytes.items old new (Err e)
     → StepsAlways sum (Append bytes) (Fault e) (Some w) None old new
@@ -167,11 +182,7 @@ append_refused_steps sum w bytes e old new sound appends = λ P before stands.
     let fits = stands.fits in
     let through = append_through sum P w bytes.items old new (Err e) before sound appends stands in
     let h = append_halves sum P w bytes.items old new before stands through in
-    let size : w.full_pages * w.page_size + length w.tip ≡ length before.content = size_is_length sum w old sound ∙ ap length (sym fits.content) in
-    let places : physical_size w.page_size w.full_pages (length w.tip + length bytes.items) ≡ physical_size P 0 (length before.content + length bytes.items) =
-    physical_by_size w.page_size w.full_pages (length w.tip + length bytes.items) sound.stands.some
-    ∙ ap (λ (n : ℕ). physical_size w.page_size 0 n) (let is : w.full_pages * w.page_size + (length w.tip + length bytes.items) ≡ length before.content + length bytes.items = omega (arith, size) in is)
-    ∙ ap (λ (n : ℕ). physical_size n 0 (length before.content + length bytes.items)) fits.page_size in
+    let places = needed_places sum P w (length bytes.items) old before sound stands in
     stepped sum P (Append bytes) (Fault e) None old new before (refused (Append bytes) before) through.moments fits.has_writer h tt
     (fits.has_writer, append_cause sum w bytes P before.content old new e places appends, refl)
     (record {
@@ -179,6 +190,74 @@ append_refused_steps sum w bytes e old new sound appends = λ P before stands.
       kept = each_end (AllKeep sum P before.content before.floor) old new through.moments h.goes h.kept;
       only = each_end (AllOnly sum P before.content (before.content ++ bytes.items)) old new through.moments h.goes h.only;
     })
+
+-- a step by a session with a writer that asks the device nothing
+unasked : (sum : List ℕ → ℕ) (P : ℕ) (w : WriterState) (step : Step) (reply : Reply) (now : Option WriterState) (life : Life) (before behind : Standing) → StandsFor sum P (Some w) before life.present → Asks true step life.present []
+    → Answers P step reply life.present life.present before behind → StandsFor sum P now behind life.present → Stepped sum P step reply now life life before
+unasked sum P w step reply now life before behind stands asks answers after =
+    let has = stands.fits.has_writer in
+    let only : AllOnly sum P before.content (content_after step before.content) life.present = λ image is_image free.
+    elim (stands.only image is_image free) [
+      | inl starts ↦ inl starts
+      | inr starts ↦ inl (subst (λ (l : List ℕ). text sum P image ≡ take (length (text sum P image)) l) stands.fits.otherwise starts)
+    ] in
+    record {
+      moments = [];
+      goes = refl;
+      behind = behind;
+      did = record {
+        answer = answers;
+        asks = subst (λ (b : Bool). Asks b step life.present []) (sym has) asks;
+        kept = (stands.kept, tt);
+        only = (subst (λ (b : Bool). AllOnly sum P before.content (if b then content_after step before.content else before.otherwise) life.present) (sym has) only, tt);
+      };
+      stands = after;
+    }
+
+-- a try whose bytes are buffered
+try_steps : (sum : List ℕ → ℕ) (w v : WriterState) (bytes : Vec ℕ Global) (n : ℕ) (life : Life) → IsSound sum w life.present → Appends sum w bytes.items life life (Ok (v, n))
+    → StepsAlways sum (TryAppend bytes) (At n) (Some w) (Some v) life life
+try_steps sum w v bytes n life sound appends = λ P before stands.
+    let fits = stands.fits in
+    let through = append_through sum P w bytes.items life life (Ok (v, n)) before sound appends stands in
+    unasked sum P w (TryAppend bytes) (At n) (Some v) life before (accepted (TryAppend bytes) before) stands refl (fits.has_writer, appends.0 ∙ ap length (sym fits.content), refl)
+    (appended_stands sum P w v bytes life life before stands appends.1 stands.kept through.start)
+
+-- a try whose bytes don't fit
+try_nothing_steps : (sum : List ℕ → ℕ) (w : WriterState) (bytes : Vec ℕ Global) (life : Life) → StepsAlways sum (TryAppend bytes) Nothing (Some w) (Some w) life life
+try_nothing_steps sum w bytes life = λ P before stands. unasked sum P w (TryAppend bytes) Nothing (Some w) life before before stands refl (stands.fits.has_writer, refl) stands
+
+-- why a try is refused
+try_cause : (w v : WriterState) (bytes : Vec ℕ Global) (P : ℕ) (content : List ℕ) (from to : Disk) (e : Error) → physical_size w.page_size w.full_pages (length w.tip + length bytes.items) ≡ physical_size P 0 (length content + length bytes.items)
+    → TryAppends w bytes.items v (Err e) → HasCause P (TryAppend bytes) content from to e
+try_cause w v bytes P content from to ReadFailed places tries = tries
+try_cause w v bytes P content from to WriteFailed places tries = tries
+try_cause w v bytes P content from to ResizeFailed places tries = tries
+try_cause w v bytes P content from to SyncFailed places tries = tries
+try_cause w v bytes P content from to InvalidChecksum places tries = tries
+try_cause w v bytes P content from to BlobInsufficientLength places tries = tries
+try_cause w v bytes P content from to OffsetOverflow places tries = omega (arith, tries.0, places)
+try_cause w v bytes P content from to OutOfMemory places tries = tt
+try_cause w v bytes P content from to IdsExhausted places tries = tries
+
+-- the writer that a refused try leaves
+try_same : (w v : WriterState) (bytes : List ℕ) (e : Error) → TryAppends w bytes v (Err e) → v ≡ w
+try_same w v bytes ReadFailed tries = absurd tries
+try_same w v bytes WriteFailed tries = absurd tries
+try_same w v bytes ResizeFailed tries = absurd tries
+try_same w v bytes SyncFailed tries = absurd tries
+try_same w v bytes InvalidChecksum tries = absurd tries
+try_same w v bytes BlobInsufficientLength tries = absurd tries
+try_same w v bytes OffsetOverflow tries = tries.1
+try_same w v bytes OutOfMemory tries = tries.2
+try_same w v bytes IdsExhausted tries = absurd tries
+
+-- a try that is refused
+try_refused_steps : (sum : List ℕ → ℕ) (w v : WriterState) (bytes : Vec ℕ Global) (e : Error) (life : Life) → IsSound sum w life.present → TryAppends w bytes.items v (Err e)
+    → StepsAlways sum (TryAppend bytes) (Fault e) (Some w) (Some w) life life
+try_refused_steps sum w v bytes e life sound tries = λ P before stands.
+    let places = needed_places sum P w (length bytes.items) life before sound stands in
+    unasked sum P w (TryAppend bytes) (Fault e) (Some w) life before before stands refl (stands.fits.has_writer, try_cause w v bytes P before.content life.present life.present e places tries, refl) stands
 
 -- what each moment of a sync owes
 sync_through : (sum : List ℕ → ℕ) (P : ℕ) (w : WriterState) (old new : Life) (result : Result WriterState Error) (before : Standing) → Syncs sum w old new result → StandsFor sum P (Some w) before old.present
@@ -298,6 +377,7 @@ read_steps sum w offset len old new (Fault e) sound reads looked = λ P before s
     looked_steps sum P w (Read offset len) (Fault e) old new before refl sound looked looked.through.each stands
     (stands.fits.has_writer, read_cause sum w P offset len before.content old new e size sound.stands.full reads, refl)
 read_steps sum w offset len old new (At n) sound reads looked = absurd reads
+read_steps sum w offset len old new Nothing sound reads looked = absurd reads
 read_steps sum w offset len old new Done sound reads looked = absurd reads
 read_steps sum w offset len old new (Length n) sound reads looked = absurd reads
 read_steps sum w offset len old new Closed sound reads looked = absurd reads
@@ -330,10 +410,25 @@ pub appended_takes : (sum : List ℕ → ℕ) (was now : Option WriterState) (by
 appended_takes sum None now bytes old new reply ready goes = closed_takes sum (Append bytes) now old new reply goes
 appended_takes sum (Some w) now bytes old new (At n) ready (v, is, goes) = goes_takes sum (Append bytes) (At n) w v now old new is goes.1.sound (append_steps sum w v bytes n old new ready goes)
 appended_takes sum (Some w) now bytes old new (Fault e) ready (is, goes) = stops_takes sum (Append bytes) (Fault e) w now old new is (append_refused_steps sum w bytes e old new ready goes)
+appended_takes sum (Some w) now bytes old new Nothing ready goes = absurd goes
 appended_takes sum (Some w) now bytes old new Done ready goes = absurd goes
 appended_takes sum (Some w) now bytes old new (Length n) ready goes = absurd goes
 appended_takes sum (Some w) now bytes old new (Bytes read) ready goes = absurd goes
 appended_takes sum (Some w) now bytes old new Closed ready goes = absurd goes
+
+-- a try by a session
+pub tried_takes : (sum : List ℕ → ℕ) (was now : Option WriterState) (bytes : Vec ℕ Global) (life : Life) (reply : Reply) → IsReady sum was life.present → TriedAppend sum was now bytes.items reply
+    → Takes sum (TryAppend bytes) reply was now life life
+tried_takes sum None now bytes life reply ready (replied, is) = closed_takes sum (TryAppend bytes) now life life reply (record { replied = replied; writer = is; life = refl })
+tried_takes sum (Some w) now bytes life (At n) ready (v, is, tries, buffers) =
+    let appends = buffers life ready in goes_takes sum (TryAppend bytes) (At n) w v now life life is appends.1.sound (try_steps sum w v bytes n life ready appends)
+tried_takes sum (Some w) now bytes life Nothing ready (v, is, tries) = goes_takes sum (TryAppend bytes) Nothing w w now life life (is ∙ ap Some tries.2) ready (try_nothing_steps sum w bytes life)
+tried_takes sum (Some w) now bytes life (Fault e) ready (v, is, tries) =
+    goes_takes sum (TryAppend bytes) (Fault e) w w now life life (is ∙ ap Some (try_same w v bytes.items e tries)) ready (try_refused_steps sum w v bytes e life ready tries)
+tried_takes sum (Some w) now bytes life Done ready tries = absurd tries
+tried_takes sum (Some w) now bytes life (Length n) ready tries = absurd tries
+tried_takes sum (Some w) now bytes life (Bytes read) ready tries = absurd tries
+tried_takes sum (Some w) now bytes life Closed ready tries = absurd tries
 
 -- a sync by a session
 pub synced_takes : (sum : List ℕ → ℕ) (was now : Option WriterState) (old new : Life) (reply : Reply) → IsReady sum was old.present → Synced sum was now old new reply → Takes sum Sync reply was now old new
@@ -341,6 +436,7 @@ synced_takes sum None now old new reply ready goes = closed_takes sum Sync now o
 synced_takes sum (Some w) now old new Done ready (v, is, goes) = goes_takes sum Sync Done w v now old new is goes.0.sound (sync_steps sum w v old new goes)
 synced_takes sum (Some w) now old new (Fault e) ready (is, goes) = stops_takes sum Sync (Fault e) w now old new is (sync_refused_steps sum w e old new goes)
 synced_takes sum (Some w) now old new (At n) ready goes = absurd goes
+synced_takes sum (Some w) now old new Nothing ready goes = absurd goes
 synced_takes sum (Some w) now old new (Length n) ready goes = absurd goes
 synced_takes sum (Some w) now old new (Bytes read) ready goes = absurd goes
 synced_takes sum (Some w) now old new Closed ready goes = absurd goes

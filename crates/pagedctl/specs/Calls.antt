@@ -5,11 +5,11 @@ use Rattle.disk.specs.Disk.{Disk, Life, after}
 use Rattle.disk.specs.declared.error.Error.TheVariants.{OutOfMemory}
 use Rattle.crash.specs.WriterState.{WriterState}
 use Rattle.crash.specs.Looks.{Looked}
-use Rattle.paged.specs.Calls.{Appends, Syncs}
+use Rattle.paged.specs.Calls.{Appends, TryAppends, BuffersOver, Syncs}
 use Rattle.paged.specs.Reads.{Reads, size_of}
 use Rattle.pagedctl.specs.declared.step.Step.{Step}
 use Rattle.pagedctl.specs.declared.step.Reply.{Reply}
-use Rattle.pagedctl.specs.declared.step.Reply.TheVariants.{At, Done, Length, Bytes, Fault, Closed}
+use Rattle.pagedctl.specs.declared.step.Reply.TheVariants.{At, Nothing, Done, Length, Bytes, Fault, Closed}
 use Rattle.pagedctl.specs.Run.{Standing, Did, StandsFor, IsReady}
 
 -- a session with no writer
@@ -24,6 +24,14 @@ Appended sum None now bytes old new reply = IsClosed now old new reply
 Appended sum (Some w) now bytes old new (At n) = (v : WriterState) × (now ≡ Some v) × Appends sum w bytes old new (Ok (v, n))
 Appended sum (Some w) now bytes old new (Fault e) = (now ≡ None) × Appends sum w bytes old new (Err e)
 Appended sum (Some w) now bytes old new _ = ⊥
+
+-- an append within the capacity, which keeps the writer: it has buffered the bytes, which is an append, or is as it was
+abbrev pub TriedAppend : (List ℕ → ℕ) → Option WriterState → Option WriterState → List ℕ → Reply → Type 0
+TriedAppend sum None now bytes reply = (reply ≡ Closed) × (now ≡ None)
+TriedAppend sum (Some w) now bytes (At n) = (v : WriterState) × (now ≡ Some v) × TryAppends w bytes v (Ok (Some n)) × BuffersOver sum w bytes v (Ok (Some n))
+TriedAppend sum (Some w) now bytes Nothing = (v : WriterState) × (now ≡ Some v) × TryAppends w bytes v (Ok None)
+TriedAppend sum (Some w) now bytes (Fault e) = (v : WriterState) × (now ≡ Some v) × TryAppends w bytes v (Err e)
+TriedAppend sum (Some w) now bytes _ = ⊥
 
 -- a sync
 abbrev pub Synced : (List ℕ → ℕ) → Option WriterState → Option WriterState → Life → Life → Reply → Type 0

@@ -9,9 +9,9 @@ use Rattle.crash.specs.WriterState.{WriterState}
 use Rattle.crash.specs.Sound.{IsSound, content as content_of}
 use Rattle.paged.specs.Writer.{physical_size}
 use Rattle.pagedctl.specs.declared.step.Step.{Step}
-use Rattle.pagedctl.specs.declared.step.Step.TheVariants.{Append, Sync, Size, Read}
+use Rattle.pagedctl.specs.declared.step.Step.TheVariants.{Append, TryAppend, Sync, Size, Read}
 use Rattle.pagedctl.specs.declared.step.Reply.{Reply}
-use Rattle.pagedctl.specs.declared.step.Reply.TheVariants.{At, Done, Length, Bytes, Fault, Closed}
+use Rattle.pagedctl.specs.declared.step.Reply.TheVariants.{At, Nothing, Done, Length, Bytes, Fault, Closed}
 
 -- what a session stands for: whether it has a writer, the content, how much of it every crash keeps, and the content that a
 -- refused step would have left, which is the content itself while there is a writer
@@ -24,6 +24,7 @@ pub record Standing : Type 0 where
 -- the content that the step leaves where it is accepted
 abbrev pub content_after : Step → List ℕ → List ℕ
 content_after (Append bytes) content = content ++ bytes.items
+content_after (TryAppend bytes) content = content ++ bytes.items
 content_after Sync content = content
 content_after Size content = content
 content_after (Read offset len) content = content
@@ -31,6 +32,7 @@ content_after (Read offset len) content = content
 -- the standing after an accepted step
 abbrev pub accepted : Step → Standing → Standing
 accepted (Append bytes) s = record s { content = s.content ++ bytes.items; otherwise = s.content ++ bytes.items }
+accepted (TryAppend bytes) s = record s { content = s.content ++ bytes.items; otherwise = s.content ++ bytes.items }
 accepted Sync s = record s { floor = length s.content }
 accepted Size s = s
 accepted (Read offset len) s = s
@@ -38,6 +40,7 @@ accepted (Read offset len) s = s
 -- the reply to an accepted step
 abbrev pub Replies : Step → List ℕ → Reply → Type 0
 Replies (Append bytes) content (At n) = n ≡ length content
+Replies (TryAppend bytes) content (At n) = n ≡ length content
 Replies Sync content Done = Unit {0}
 Replies Size content (Length n) = n ≡ length content
 Replies (Read offset len) content (Bytes bytes) = (offset + len ≤ length content) × (bytes.items ≡ take len (drop offset content))
@@ -46,6 +49,7 @@ Replies _ content _ = ⊥
 -- whether a refused step takes the writer with it
 abbrev pub takes_writer : Step → Bool
 takes_writer (Append bytes) = true
+takes_writer (TryAppend bytes) = false
 takes_writer Sync = true
 takes_writer Size = false
 takes_writer (Read offset len) = false
@@ -67,6 +71,9 @@ HasCause P (Read offset len) content from to BlobInsufficientLength = (offset + 
 HasCause P (Read offset len) content from to OffsetOverflow = 2 ^ 64 ≤ offset + len
 HasCause P (Read offset len) content from to OutOfMemory = Unit {0}
 HasCause P (Read offset len) content from to _ = ⊥
+HasCause P (TryAppend bytes) content from to OffsetOverflow = 2 ^ 64 ≤ physical_size P 0 (length content + length bytes.items)
+HasCause P (TryAppend bytes) content from to OutOfMemory = Unit {0}
+HasCause P (TryAppend bytes) content from to _ = ⊥
 HasCause P (Append bytes) content from to OffsetOverflow = 2 ^ 64 ≤ physical_size P 0 (length content + length bytes.items)
 HasCause P step content from to ReadFailed = HasFailed from to
 HasCause P step content from to WriteFailed = HasFailed from to
@@ -80,20 +87,22 @@ abbrev pub last : Disk → List Disk → Disk
 last d [] = d
 last d (e ∷ es) = last e es
 
--- a step's reply, and the standing after it
+-- a step's reply, and the standing after it: bytes that don't fit what is buffered change nothing
 abbrev pub Answers : ℕ → Step → Reply → Disk → Disk → Standing → Standing → Type 0
 Answers P step Closed from to before behind = (before.has_writer ≡ false) × (behind ≡ before)
 Answers P step (Fault e) from to before behind = (before.has_writer ≡ true) × HasCause P step before.content from to e × (behind ≡ refused step before)
+Answers P (TryAppend bytes) Nothing from to before behind = (before.has_writer ≡ true) × (behind ≡ before)
 Answers P step reply from to before behind = (before.has_writer ≡ true) × Replies step before.content reply × (behind ≡ accepted step before)
 
 -- the other content that a step may leave
 abbrev pub other_content : Step → Standing → List ℕ
 other_content step s = if s.has_writer then content_after step s.content else s.otherwise
 
--- what a step asks of the device: nothing where there is no writer, nor for the size, and a read changes only the log
+-- what a step asks of the device: nothing where there is no writer, nor for a try or the size, and a read changes only the log
 abbrev pub Asks : Bool → Step → Disk → List Disk → Type 0
 Asks false step from moments = moments ≡ []
 Asks true (Append bytes) from moments = Unit {0}
+Asks true (TryAppend bytes) from moments = moments ≡ []
 Asks true Sync from moments = Unit {0}
 Asks true Size from moments = moments ≡ []
 Asks true (Read offset len) from moments = Each (SameButLog from) moments

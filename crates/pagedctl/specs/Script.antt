@@ -16,7 +16,7 @@ use Rattle.pagedctl.specs.declared.script.Start.{Start}
 use Rattle.pagedctl.specs.declared.script.SumName.{SumName}
 use Rattle.pagedctl.specs.declared.script.SumName.TheVariants.{Add, Const}
 use Rattle.pagedctl.specs.declared.step.Step as step
-use Rattle.pagedctl.specs.declared.step.Step.TheVariants.{Append, Sync, Size, Read}
+use Rattle.pagedctl.specs.declared.step.Step.TheVariants.{Append, TryAppend, Sync, Size, Read}
 use Rattle.pagedctl.specs.Text.{hex_of}
 
 -- what reading answers, where each value has a text: the value of which this is the text, or that it is the text of none
@@ -79,6 +79,7 @@ start_words start = codes "start" ∷ decimal (non_zero_u16_get start.page_size)
 -- the words of a step
 abbrev pub step_words : step.Step → List (List ℕ)
 step_words (Append bytes) = codes "append" ∷ hex_of bytes.items ∷ []
+step_words (TryAppend bytes) = codes "try" ∷ hex_of bytes.items ∷ []
 step_words Sync = codes "sync" ∷ []
 step_words Size = codes "size" ∷ []
 step_words (Read offset len) = codes "read" ∷ decimal offset ∷ decimal len ∷ []
@@ -94,6 +95,7 @@ line_words Dump = codes "dump" ∷ []
 -- the numbers and the bytes of a line are in range
 abbrev pub IsLine : Line → Type 0
 IsLine (Step (Append bytes)) = AreBytes bytes.items
+IsLine (Step (TryAppend bytes)) = AreBytes bytes.items
 IsLine (Step (Read offset len)) = IsU64 offset × IsU64 len
 IsLine (Fail number) = (0 < non_zero_u64_get number) × IsU64 (non_zero_u64_get number)
 IsLine _ = Unit {0}

@@ -4,7 +4,7 @@ use Rattle.std.specs.List.{flat_map}
 use Rattle.std.specs.Fmt.{decimal, digit_glyph}
 use Rattle.disk.specs.Error.{number_of, name_of}
 use Rattle.pagedctl.specs.declared.step.Reply.{Reply}
-use Rattle.pagedctl.specs.declared.step.Reply.TheVariants.{At, Done, Length, Bytes, Fault, Closed}
+use Rattle.pagedctl.specs.declared.step.Reply.TheVariants.{At, Nothing, Done, Length, Bytes, Fault, Closed}
 
 -- a byte as two hexadecimal digits
 abbrev pub hex_digits : ℕ → List ℕ
@@ -18,6 +18,7 @@ hex_of (byte ∷ bytes) = flat_map hex_digits (byte ∷ bytes)
 -- a reply as it is printed
 abbrev pub reply_text : Reply → List ℕ
 reply_text (At place) = codes "at " ++ decimal place
+reply_text Nothing = codes "none"
 reply_text Done = codes "ok"
 reply_text (Length size) = codes "size " ++ decimal size
 reply_text (Bytes bytes) = codes "bytes " ++ hex_of bytes.items

@@ -249,6 +249,7 @@ fn parse_two_words(alloc: Global, name: &[u8], word: &[u8]) -> Result<Line, Read
 {
     match name {
         b"append" => parse_append(alloc, word),
+        b"try" => parse_try(alloc, word),
         b"fail" => parse_fail(word),
         b"crash" => parse_crash(alloc, word),
         _ => Err(ReadError::Unreadable),
@@ -270,6 +271,13 @@ fn parse_append(alloc: Global, word: &[u8]) -> Result<Line, ReadError>
 {
     let bytes = parse_hex(alloc, word)?;
     Ok(Line::Step(Step::Append(bytes)))
+}
+
+fn parse_try(alloc: Global, word: &[u8]) -> Result<Line, ReadError>
+    ensures reads { Reads line_words IsLine (codes "try" ∷ word.now ∷ []) result }
+{
+    let bytes = parse_hex(alloc, word)?;
+    Ok(Line::Step(Step::TryAppend(bytes)))
 }
 
 fn parse_fail(word: &[u8]) -> Result<Line, ReadError>

@@ -2,7 +2,7 @@
 ghost use Rattle.std.specs.Prelude.{◌≡◌, IfOk, IsOkUnless, OnOk, OnErr};
 ghost use Rattle.std.specs.List.{concat};
 ghost use Rattle.pagedctl.specs.Run.{IsReady, RunsAlways};
-ghost use Rattle.pagedctl.specs.Calls.{Appended, Synced, Sized, DidRead, IsBytes, Takes};
+ghost use Rattle.pagedctl.specs.Calls.{Appended, TriedAppend, Synced, Sized, DidRead, IsBytes, Takes};
 
 use crate::step::{Reply, Step};
 use cache::CacheRef;
@@ -60,6 +60,7 @@ impl<B: Blob, H: Sum> Session<B, H> {
     {
         match step {
             Step::Append(bytes) => self.append(blob, cache, bytes),
+            Step::TryAppend(bytes) => self.try_append(bytes),
             Step::Sync => self.sync(blob, cache),
             Step::Size => self.size(),
             Step::Read(offset, len) => self.read(blob, cache, *offset, *len),
@@ -78,6 +79,19 @@ impl<B: Blob, H: Sum> Session<B, H> {
                 self.writer = Some(writer);
                 Reply::At(at)
             }
+            Err(error) => Reply::Fault(error),
+        }
+    }
+
+    fn try_append(&mut self, bytes: &[u8]) -> Reply
+        ensures { TriedAppend H.sum_of self.old self.new bytes.now result }
+    {
+        let Some(writer) = &mut self.writer else {
+            return Reply::Closed;
+        };
+        match writer.try_append(bytes) {
+            Ok(Some(place)) => Reply::At(place),
+            Ok(None) => Reply::Nothing,
             Err(error) => Reply::Fault(error),
         }
     }
@@ -141,8 +155,8 @@ impl<B: Blob, H: Sum> Session<B, H> {
 /// Takes the steps in order over the session's blob, and adds one reply a step to `replies`. The session's writer, if
 /// it has one, is sound over the blob, and stays so.
 ///
-/// An append or a sync that is refused ends the writer, and each step after it replies `Closed`. A size or a read that
-/// is refused changes nothing.
+/// An append or a sync that is refused ends the writer, and each step after it replies `Closed`. A try, a size or a
+/// read that is refused changes nothing, nor does a try whose bytes don't fit.
 ///
 /// Room for all the replies is made first. `OutOfMemory` where it is refused: then no step was taken.
 pub fn run<B: Blob, H: Sum>(

@@ -6,6 +6,8 @@ use disk::Error;
 pub enum Step {
     /// Appends these bytes.
     Append(Vec<u8>),
+    /// Appends these bytes where they fit what is buffered.
+    TryAppend(Vec<u8>),
     /// Makes all that was appended durable.
     Sync,
     /// Asks for the number of logical bytes.
@@ -19,6 +21,8 @@ pub enum Step {
 pub enum Reply {
     /// The logical place of the first appended byte.
     At(u64),
+    /// The bytes don't fit what is buffered.
+    Nothing,
     /// All that was appended is durable.
     Done,
     /// The number of logical bytes.

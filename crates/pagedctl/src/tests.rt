@@ -131,6 +131,64 @@ not-crashed
 }
 
 #[test]
+fn a_try_buffers_what_fits(rt: HostRuntime) -> Result<(), Fail> {
+    let script = "\
+start 4 8 4 add
+try 6162636465666768
+dump
+try 69
+size
+dump
+sync
+try -
+try 69
+read 0 9
+";
+    let out = "\
+recovered 0
+at 0
+blob -
+none
+size 8
+blob -
+ok
+at 8
+at 8
+bytes 616263646566676869
+";
+    plays(&rt, rt.alloc(), script, out)
+}
+
+#[test]
+fn a_try_asks_the_device_nothing(rt: HostRuntime) -> Result<(), Fail> {
+    let script = "\
+start 4 8 4 add
+append 6162
+fail 1
+try 636465666768
+try 69
+try 696a6b6c6d6e6f7071
+try -
+sync
+try -
+try 69
+";
+    let out = "\
+recovered 0
+at 0
+ok
+at 2
+none
+none
+at 8
+fault E2 WriteFailed
+closed
+closed
+";
+    plays(&rt, rt.alloc(), script, out)
+}
+
+#[test]
 fn a_recovery_follows_a_crash_alone(rt: HostRuntime) -> Result<(), Fail> {
     let script = "\
 start 4 8 4 add
@@ -228,7 +286,7 @@ fn a_bad_first_line_is_named(rt: HostRuntime) -> Result<(), Fail> {
 #[test]
 fn a_bad_second_line_is_named(rt: HostRuntime) -> Result<(), Fail> {
     let alloc = rt.alloc();
-    let lines: [&[u8]; 34] = [
+    let lines: [&[u8]; 36] = [
         b"",
         b" ",
         b"append",
@@ -259,7 +317,9 @@ fn a_bad_second_line_is_named(rt: HostRuntime) -> Result<(), Fail> {
         b"recover 1",
         b"dump -",
         b"owned 61",
-        b"try 61",
+        b"try",
+        b"try 6",
+        b"try 6A",
         b"truncate 0",
         b"replay 64",
         b"start 4 8 4 add",

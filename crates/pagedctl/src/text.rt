@@ -29,6 +29,7 @@ impl fmt::Display for Reply {
     fn fmt<W: fmt::Write>(&self, f: &mut fmt::Formatter<W>) -> fmt::Result {
         match self {
             Reply::At(place) => write!(f, "at {place}"),
+            Reply::Nothing => write!(f, "none"),
             Reply::Done => write!(f, "ok"),
             Reply::Length(size) => write!(f, "size {size}"),
             Reply::Bytes(bytes) => write!(f, "bytes {}", Hex(bytes)),

@@ -1,6 +1,6 @@
 use Rattle.std.proofs.Common.{ℕ, List, subst}
-use Rattle.pagedctl.specs.Calls.{Appended}
-use Rattle.pagedctl.proofs.Steps.{appended_takes, synced_takes, sized_takes, read_takes}
+use Rattle.pagedctl.specs.Calls.{Appended, TriedAppend}
+use Rattle.pagedctl.proofs.Steps.{appended_takes, tried_takes, synced_takes, sized_takes, read_takes}
 use Rattle.pagedctl.proofs.session.Session.step.Goals as goal
 
 pub returns-in-Append : goal.returns-in-Append
@@ -10,6 +10,12 @@ returns-in-Append g c =
     let new = g.B.Blob.life c.append.new.blob in
     rw c.in-Append.is (appended_takes sum c.args.self.now c.append.new.self c.in-Append.bytes old new c.append.result c.requires.ready
     (subst (λ (bytes : List ℕ). Appended sum c.args.self.now c.append.new.self bytes old new c.append.result) c.deref.ensures.value c.append.ensures))
+
+pub returns-in-TryAppend : goal.returns-in-TryAppend
+returns-in-TryAppend g c =
+    let sum = g.H.Sum.sum_of in
+    rw c.in-TryAppend.is (tried_takes sum c.args.self.now c.try_append.new.self c.in-TryAppend.bytes (g.B.Blob.life c.args.blob.now) c.try_append.result c.requires.ready
+    (subst (λ (bytes : List ℕ). TriedAppend sum c.args.self.now c.try_append.new.self bytes c.try_append.result) c.deref-in-TryAppend.ensures.value c.try_append.ensures))
 
 pub returns-in-Sync : goal.returns-in-Sync
 returns-in-Sync g c =
