@@ -15,7 +15,7 @@ use Rattle.page.specs.Tip.{Tip, TryAppendGoes}
 use Rattle.page.specs.declared.slot.ActiveChecksum.{ActiveChecksum}
 use Rattle.paged.specs.Writer.{FitsBlob, IsWriter}
 use Rattle.paged.proofs.Sizes.{size_fits}
-use Rattle.paged.specs.Calls.{GoesOn, Refuses, Appends, Buffers, TryAppends, BuffersOver}
+use Rattle.paged.specs.Calls.{GoesOn, Refuses, Appends, Buffers, TryAppends, BuffersOver, KeepsSound}
 
 -- the size of a sound writer is the length of its content
 pub size_is_length : (sum : List ℕ → ℕ) (w : WriterState) (life : Life) → IsSound sum w life.present → w.full_pages * w.page_size + length w.tip ≡ length (content w life.present.readable)
@@ -82,6 +82,20 @@ pub buffers_over : (sum : List ℕ → ℕ) (w now : WriterState) (bytes : List 
 buffers_over sum w now bytes (Ok (Some at)) tries = λ life sound. (tries.2 ∙ size_is_length sum w life sound, buffered_goes sum w now bytes life sound tries.3)
 buffers_over sum w now bytes (Ok None) tries = tt
 buffers_over sum w now bytes (Err e) tries = tt
+
+-- whatever it answers, the writer is sound where it was
+pub keeps_sound : (sum : List ℕ → ℕ) (w now : WriterState) (bytes : List ℕ) (result : Result (Option ℕ) Error) → TryAppends w bytes now result → KeepsSound sum w now
+keeps_sound sum w now bytes (Ok (Some at)) tries = λ life sound. (buffered_goes sum w now bytes life sound tries.3).sound
+keeps_sound sum w now bytes (Ok None) tries = λ life sound. subst (λ (v : WriterState). IsSound sum v life.present) (sym tries.2) sound
+keeps_sound sum w now bytes (Err OffsetOverflow) tries = λ life sound. subst (λ (v : WriterState). IsSound sum v life.present) (sym tries.1) sound
+keeps_sound sum w now bytes (Err OutOfMemory) tries = λ life sound. subst (λ (v : WriterState). IsSound sum v life.present) (sym tries.2) sound
+keeps_sound sum w now bytes (Err ReadFailed) tries = absurd tries
+keeps_sound sum w now bytes (Err WriteFailed) tries = absurd tries
+keeps_sound sum w now bytes (Err ResizeFailed) tries = absurd tries
+keeps_sound sum w now bytes (Err SyncFailed) tries = absurd tries
+keeps_sound sum w now bytes (Err InvalidChecksum) tries = absurd tries
+keeps_sound sum w now bytes (Err BlobInsufficientLength) tries = absurd tries
+keeps_sound sum w now bytes (Err IdsExhausted) tries = absurd tries
 
 -- a writer's state with this tip
 abbrev pub with_tip : (P id : ℕ) → Option ActiveChecksum → Option ActiveChecksum → SyncState → Tip → WriterState

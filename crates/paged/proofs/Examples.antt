@@ -1,17 +1,18 @@
 -- What a writer's calls are told by, at a few bytes. Pages have 4 bytes, and the checksum is their sum.
 use Rattle.std.proofs.Common.{◌≡◌, [], ◌∷◌, ◌++◌, refl, arith}
-use Rattle.std.specs.Prelude.{None, true, false}
+use Rattle.std.specs.Prelude.{None, Some, Ok, true, false}
 use Rattle.disk.specs.Disk.{Life, next, logged}
 use Rattle.disk.specs.Disk.Request.{ReadAt}
 use Rattle.disk.specs.declared.error.Error.TheVariants.{ReadFailed, InvalidChecksum}
 use Rattle.page.specs.Sums.{add_sum}
 use Rattle.page.proofs.Examples.{abcd_page, ef_page, efg_page}
 use Rattle.crash.specs.WriterState.{WriterState}
+use Rattle.crash.specs.Built.{built}
 use Rattle.crash.specs.WriterState.SyncState.{Clean, Dirty}
 use Rattle.crash.proofs.Examples.{at_rest, with_g}
 use Rattle.paged.specs.Writer.{physical_size, FitsBlob}
-use Rattle.paged.specs.Flush.{full_in, rest_of, has_work, carried, advanced, synced, place_of, flush_bytes, rest_bytes}
-use Rattle.paged.specs.Calls.{HasCause, LogGrows, IsSettled}
+use Rattle.paged.specs.Flush.{full_in, rest_of, has_work, carried, advanced, synced, place_of, flush_bytes, rest_bytes, footers_of, with_footers}
+use Rattle.paged.specs.Calls.{HasCause, LogGrows, IsSettled, TryAppends}
 use Rattle.paged.specs.Prefix.{page_at}
 use Rattle.paged.specs.Reads.{HasPages, ReadFault, size_of}
 
@@ -123,3 +124,15 @@ has_pages = omega arith
 -- it is full, so a read can't answer InvalidChecksum
 pub no_read_fault : ReadFault add_sum with_g old old InvalidChecksum → ⊥
 no_read_fault fault = fault (refl, tt)
+
+-- "h" fits behind "efg" in a buffer of eight bytes, and stands at place 7
+pub a_buffered_try : TryAppends with_g (104 ∷ []) (record with_g { tip = 101 ∷ 102 ∷ 103 ∷ 104 ∷ [] }) (Ok (Some 7))
+a_buffered_try = (omega arith, omega arith, refl, refl)
+
+-- six bytes don't
+pub a_try_that_does_not_fit : TryAppends with_g (104 ∷ 105 ∷ 106 ∷ 107 ∷ 108 ∷ 109 ∷ []) with_g (Ok None)
+a_try_that_does_not_fit = (omega arith, omega arith, refl)
+
+-- a footer behind each of two pages of one byte
+pub footers_of_two : with_footers ((97 ∷ []) ∷ (98 ∷ []) ∷ []) (footers_of add_sum None ((97 ∷ []) ∷ (98 ∷ []) ∷ [])) ≡ built add_sum 1 None 2 (97 ∷ 98 ∷ [])
+footers_of_two = refl

@@ -112,3 +112,7 @@ TryAppends w bytes now (Err _) = ⊥
 abbrev pub BuffersOver : (List ℕ → ℕ) → WriterState → List ℕ → WriterState → Result (Option ℕ) Error → Type 0
 BuffersOver sum w bytes now (Ok (Some at)) = (life : Life) → IsSound sum w life.present → Appends sum w bytes life life (Ok (now, at))
 BuffersOver sum w bytes now _ = Unit {0}
+
+-- a writer that was sound over a blob still is
+abbrev pub KeepsSound : (List ℕ → ℕ) → WriterState → WriterState → Type 0
+KeepsSound sum w now = (life : Life) → IsSound sum w life.present → IsSound sum now life.present

@@ -3,7 +3,7 @@ ghost use Rattle.std.specs.Prelude.{◌≡◌, ◌↔◌, ◌+◌, ◌^◌, ◌�
 ghost use Rattle.crash.specs.Sound.{IsSound, content};
 ghost use Rattle.crash.specs.Stays.{KeepsFloors, LeavesOnly};
 ghost use Rattle.paged.specs.Writer.{physical_size, FitsBlob};
-ghost use Rattle.paged.specs.Calls.{AsksAtMost, IsBounded, HoldsWithin, Appends, Buffers, TryAppends, BuffersOver};
+ghost use Rattle.paged.specs.Calls.{AsksAtMost, IsBounded, HoldsWithin, Appends, Buffers, TryAppends, BuffersOver, KeepsSound};
 
 use crate::Writer;
 use cache::CacheRef;
@@ -86,6 +86,7 @@ impl<B: Blob, H: Sum, Phase> Writer<B, H, Phase> {
     pub fn try_append(&mut self, bytes: &[u8]) -> Result<Option<u64>, Error>
         ensures tries { TryAppends self.old bytes.now self.new result }
         ensures appends { BuffersOver H.sum_of self.old bytes.now self.new result }
+        ensures sound { KeepsSound H.sum_of self.old self.new }
     {
         if !self.fits(bytes.len()) {
             return Err(Error::OffsetOverflow);
@@ -103,6 +104,7 @@ impl<B: Blob, H: Sum, Phase> Writer<B, H, Phase> {
     ) -> Result<Option<u64>, Error>
         ensures tries { TryAppends self.old (T.encoded value.now) self.new result }
         ensures appends { BuffersOver H.sum_of self.old (T.encoded value.now) self.new result }
+        ensures sound { KeepsSound H.sum_of self.old self.new }
     {
         if !self.fits(value.encode_size()) {
             return Err(Error::OffsetOverflow);

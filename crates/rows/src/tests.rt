@@ -5,3 +5,4 @@ mod kit;
 mod layout;
 mod openings;
 mod stops;
+mod tries;

@@ -1,0 +1,68 @@
+// Appends that are made only where they fit the buffer.
+ghost use Rattle.std.specs.Prelude.{◌++◌};
+ghost use Rattle.std.specs.Int.{w16, to_be_bytes};
+
+use super::kit::{calls_from, content, new_cache, recovered, recovered_content};
+use bytes::BufMut;
+use disk::{Call, Error, MemBlob};
+use page::{AddSum, EncodeSize, Write};
+use std::alloc::AllocError;
+use std::test::Fail;
+
+/// Two numbers, of two bytes each.
+#[derive(Clone, Copy)]
+struct Pair(u16, u16);
+
+impl EncodeSize for Pair {
+    ghost use Rattle.std.specs.Prelude.{◌++◌};
+    ghost use Rattle.std.specs.Int.{w16, to_be_bytes};
+
+    ghost encoded = { λ pair. to_be_bytes w16 pair.0 ++ to_be_bytes w16 pair.1 };
+
+    fn encode_size(&self) -> usize {
+        4
+    }
+}
+
+impl Write for Pair {
+    fn write<O: BufMut>(&self, out: &mut O) -> Result<(), AllocError> {
+        out.put_u16(self.0)?;
+        out.put_u16(self.1)
+    }
+}
+
+#[test]
+fn tries_fill_the_buffer(rt: HostRuntime) -> Result<(), Fail> {
+    let mut blob = MemBlob::new(rt.alloc());
+    let mut cache = new_cache(rt.alloc())?;
+    let mut writer = recovered::<AddSum>(rt.alloc(), &mut blob, &mut cache)?;
+    let before = blob.calls().len();
+    assert_eq!(rt; writer.try_append(b"abcdefgh"), Ok(Some(0)));
+    assert_eq!(rt; writer.try_append(b"i"), Ok(None));
+    assert_eq!(rt; writer.try_append_value(&Pair(0, 0)), Ok(None));
+    assert_eq!(rt; writer.size(), 8);
+    assert!(rt; calls_from(&blob, before).is_empty());
+    Ok(())
+}
+
+#[test]
+fn tried_bytes_are_synced(rt: HostRuntime) -> Result<(), Fail> {
+    let mut blob = MemBlob::new(rt.alloc());
+    let mut cache = new_cache(rt.alloc())?;
+    let mut writer = recovered::<AddSum>(rt.alloc(), &mut blob, &mut cache)?;
+    let before = blob.calls().len();
+    assert_eq!(rt; writer.try_append(b"abcdef"), Ok(Some(0)));
+    let mut writer = writer.sync(&mut blob, &mut cache)?;
+    assert_eq!(rt; writer.try_append_value(&Pair(0x6768, 0x696A)), Ok(Some(6)));
+    let writer = writer.sync(&mut blob, &mut cache)?;
+    assert_eq!(rt;
+        calls_from(&blob, before),
+        [Call::WriteAt(0, 32, true), Call::WriteAt(16, 32, true)].as_slice()
+    );
+    let all = content::<AddSum>(&writer, &mut blob, &mut cache)?;
+    assert_eq!(rt; all.as_ref(), b"abcdefghij".as_slice());
+    blob.crash(&[])?;
+    let content = recovered_content::<AddSum>(rt.alloc(), &mut blob)?;
+    assert_eq!(rt; content.as_ref(), b"abcdefghij".as_slice());
+    Ok(())
+}
