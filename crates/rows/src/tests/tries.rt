@@ -1,10 +1,7 @@
 // Appends that are made only where they fit the buffer.
-ghost use Rattle.std.specs.Prelude.{◌++◌};
-ghost use Rattle.std.specs.Int.{w16, to_be_bytes};
-
 use super::kit::{calls_from, content, new_cache, recovered, recovered_content};
 use bytes::BufMut;
-use disk::{Call, Error, MemBlob};
+use disk::{Call, MemBlob};
 use page::{AddSum, EncodeSize, Write};
 use std::alloc::AllocError;
 use std::test::Fail;
