@@ -10,13 +10,13 @@ use Rattle.crash.specs.WriterState.{WriterState}
 use Rattle.crash.specs.WriterState.SyncState.{Clean}
 use Rattle.crash.specs.Built.{built, after_write, written_pages}
 use Rattle.crash.specs.Stays.{Stays, StaysThrough}
-use Rattle.crash.specs.Sound.{content, guard_slot, IsSound, CanWrite}
+use Rattle.crash.specs.Sound.{content, guard_slot, Soundness, CanWrite}
 use Rattle.crash.proofs.BuiltLaws.{IsSmall}
 use Rattle.crash.proofs.FlushLaws.{flush_content}
 use Rattle.crash.proofs.Moments.{through_more, stays_through_start}
 use Rattle.crash.proofs.Soundness.{operated_sound, operated_stays, operated_settle_stays, settle_sound, settle_stays, alike_stays}
 
-module _ (sum : List ℕ → ℕ) (w : WriterState) (old : Life) (sound : IsSound sum w old.present) where
+module _ (sum : List ℕ → ℕ) (w : WriterState) (old : Life) (sound : Soundness sum w old.present) where
   -- what each moment of the call owes
   abbrev Owes : Disk → Type 0
   Owes d = Stays sum w.page_size (content w old.present.readable) old.present d
@@ -50,16 +50,16 @@ module _ (sum : List ℕ → ℕ) (w : WriterState) (old : Life) (sound : IsSoun
   sync_stays new (Err e) goes = absurd goes
 
   -- and leaves a clean writer sound
-  pub sync_sound : (new : Life) (done : Unit {0}) → IsSmall sum → SyncGoes old new (Ok done) → IsSound sum (record w { sync = Clean }) new.present
+  pub sync_sound : (new : Life) (done : Unit {0}) → IsSmall sum → SyncGoes old new (Ok done) → Soundness sum (record w { sync = Clean }) new.present
   sync_sound new done small goes =
-      subst (λ (life : Life). IsSound sum (record w { sync = Clean }) life.present) (sym goes)
+      subst (λ (life : Life). Soundness sum (record w { sync = Clean }) life.present) (sym goes)
       (settle_sound sum w old.present (settle (logged SyncAll false old.present)) sound refl small refl refl)
 
   -- that stands for the same content
   pub sync_content : (new : Life) (done : Unit {0}) → SyncGoes old new (Ok done) → content w new.present.readable ≡ content w old.present.readable
   sync_content new done goes = ap (λ (life : Life). content w life.present.readable) goes
 
-module _ (sum : List ℕ → ℕ) (w : WriterState) (old new : Life) (k : ℕ) (rest : Bool) (bytes : List ℕ) (small : IsSmall sum) (sound : IsSound sum w old.present) (carried : w.durable ≡ guard_slot w.sync w.flushed w.durable)
+module _ (sum : List ℕ → ℕ) (w : WriterState) (old new : Life) (k : ℕ) (rest : Bool) (bytes : List ℕ) (small : IsSmall sum) (sound : Soundness sum w old.present) (carried : w.durable ≡ guard_slot w.sync w.flushed w.durable)
     (can : CanWrite w.page_size w.tip k rest) (is : bytes ≡ built sum w.page_size w.durable (written_pages k rest) w.tip) where
   -- a flush that was done or failed
   operated : (sync failed : Bool) (d : Disk) → new ≡ next old d → Operated (Write (w.full_pages * (w.page_size + 12)) bytes) (WriteAt (w.full_pages * (w.page_size + 12)) (length bytes) sync) failed old.present d
@@ -70,7 +70,7 @@ module _ (sum : List ℕ → ℕ) (w : WriterState) (old new : Life) (k : ℕ) (
   plain_stays : (answer : Result (Unit {0}) Error) → WriteGoes (w.full_pages * (w.page_size + 12)) bytes false old new answer → StaysThrough sum w.page_size (content w old.present.readable) old new
   plain_stays (Ok done) goes = operated false false goes.0 goes.1 goes.2
   plain_stays (Err OffsetOverflow) goes = none_stays sum w old sound new goes.0
-  plain_stays (Err OutOfMemory) goes = none_stays sum w old sound new goes
+  plain_stays (Err OutOfMemory) goes = none_stays sum w old sound new goes.0
   plain_stays (Err e) goes = operated false true goes.1.0 goes.1.1 goes.1.2
 
   durable_stays : (answer : Result (Unit {0}) Error) → WriteGoes (w.full_pages * (w.page_size + 12)) bytes true old new answer → StaysThrough sum w.page_size (content w old.present.readable) old new
@@ -81,7 +81,7 @@ module _ (sum : List ℕ → ℕ) (w : WriterState) (old new : Life) (k : ℕ) (
       (operated_settle_stays sum w old.present d k rest bytes small sound carried can is request (settle d) goes.2 refl refl)
   durable_stays (Err WriteFailed) goes = operated true true goes.0 goes.1 goes.2
   durable_stays (Err OffsetOverflow) goes = none_stays sum w old sound new goes.0
-  durable_stays (Err OutOfMemory) goes = none_stays sum w old sound new goes
+  durable_stays (Err OutOfMemory) goes = none_stays sum w old sound new goes.0
   durable_stays (Err e) goes = absurd goes
 
   -- a flush owes nothing, durable or not, whatever the device answers
@@ -90,16 +90,16 @@ module _ (sum : List ℕ → ℕ) (w : WriterState) (old new : Life) (k : ℕ) (
   write_stays false answer goes = plain_stays answer goes
 
   -- it leaves a sound writer
-  pub write_sound : (done : Unit {0}) → WriteGoes (w.full_pages * (w.page_size + 12)) bytes false old new (Ok done) → IsSound sum (after_write sum w k rest) new.present
+  pub write_sound : (done : Unit {0}) → WriteGoes (w.full_pages * (w.page_size + 12)) bytes false old new (Ok done) → Soundness sum (after_write sum w k rest) new.present
   write_sound done goes =
-      subst (λ (life : Life). IsSound sum (after_write sum w k rest) life.present) (sym goes.1)
+      subst (λ (life : Life). Soundness sum (after_write sum w k rest) life.present) (sym goes.1)
       (operated_sound sum w old.present goes.0 k rest bytes small sound carried can is (WriteAt (w.full_pages * (w.page_size + 12)) (length bytes) false) goes.2)
 
   -- and where it is durable, a clean one
-  pub durable_write_sound : (done : Unit {0}) → WriteGoes (w.full_pages * (w.page_size + 12)) bytes true old new (Ok done) → IsSound sum (record (after_write sum w k rest) { sync = Clean }) new.present
+  pub durable_write_sound : (done : Unit {0}) → WriteGoes (w.full_pages * (w.page_size + 12)) bytes true old new (Ok done) → Soundness sum (record (after_write sum w k rest) { sync = Clean }) new.present
   durable_write_sound done goes =
       let d = goes.0 in
-      subst (λ (life : Life). IsSound sum (record (after_write sum w k rest) { sync = Clean }) life.present) (sym goes.1)
+      subst (λ (life : Life). Soundness sum (record (after_write sum w k rest) { sync = Clean }) life.present) (sym goes.1)
       (settle_sound sum (after_write sum w k rest) d (settle d)
       (operated_sound sum w old.present d k rest bytes small sound carried can is (WriteAt (w.full_pages * (w.page_size + 12)) (length bytes) true) goes.2) refl small refl refl)
 

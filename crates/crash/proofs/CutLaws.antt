@@ -9,7 +9,7 @@ use Rattle.disk.specs.declared.error.Error.{Error}
 use Rattle.disk.specs.declared.error.Error.TheVariants.{ReadFailed, WriteFailed, ResizeFailed, SyncFailed, InvalidChecksum, BlobInsufficientLength, OffsetOverflow, OutOfMemory, IdsExhausted}
 use Rattle.page.specs.Page.{pages, value, value_len, text, text_of_pages}
 use Rattle.crash.specs.Guard.{IsChanceFree}
-use Rattle.crash.specs.Kept.{AllKeep, Through}
+use Rattle.crash.specs.Kept.{AllKeep}
 use Rattle.crash.specs.Looks.{Looked, SameButLog}
 use Rattle.crash.specs.Stays.{Stays, StaysThrough}
 use Rattle.crash.proofs.Lists.{take_same, within_take, same_elements, slice_get-take, taken_element}
@@ -18,7 +18,7 @@ use Rattle.crash.proofs.Texts.{text_full, text_part, value_len_le, verified_le_v
 use Rattle.crash.proofs.Disks.{fixed_at_rest, fixed_in_image, fixed_length, fixed_stays, image_at_rest, length-applied_resize, operated_base, operated_since, resize_leaves}
 use Rattle.crash.proofs.PageFacts.{value_len_slot}
 use Rattle.crash.proofs.Promise.{guarded_is_kept, guards_at_rest, guards_below, keeps_at_rest, resize_leaves_below}
-use Rattle.crash.proofs.Moments.{kept_through, stays_alike, stays_through_joins, through_end, through_more, through_start, through_then}
+use Rattle.crash.proofs.Moments.{stays_alike, stays_through_joins, through_end, through_more, through_start, through_then}
 
 -- ---- where the text of pages ends
 
@@ -281,7 +281,7 @@ pub resize_cases : (len : ℕ) (old new : Life) (answer : Result (Unit {0}) Erro
 resize_cases len old new (Ok done) (d, goes, operated) =
     inr (d, goes, operated_base (Resize len) (ResizeTo len) false old.present d operated, operated_since (Resize len) (ResizeTo len) false old.present d operated, operated.readable)
 resize_cases len old new (Err OffsetOverflow) goes = absurd (goes.1)
-resize_cases len old new (Err OutOfMemory) goes = inl goes
+resize_cases len old new (Err OutOfMemory) goes = inl goes.0
 resize_cases len old new (Err ReadFailed) goes = failed_resize len old new ReadFailed goes
 resize_cases len old new (Err WriteFailed) goes = failed_resize len old new WriteFailed goes
 resize_cases len old new (Err ResizeFailed) goes = failed_resize len old new ResizeFailed goes
@@ -445,12 +445,6 @@ two_cuts_stay sum P j k content old one mid two new cut synced some at_rest base
     (cut_sync_stays sum P k content mid two new cut synced some done.0 done.1 within done.3 cut_says cuts_more syncs_more)
 
 -- ---- what that says of each moment
-
--- where nothing was unsynced when the call began, every image at each moment keeps the whole text
-pub all_kept_through : (sum : List ℕ → ℕ) (P : ℕ) (content : List ℕ) (old new : Life) → old.present.since ≡ [] → old.present.base ≡ old.present.readable → text sum P old.present.readable ≡ content
-    → StaysThrough sum P content old new → Through (AllKeep sum P content (length content)) old new
-all_kept_through sum P content old new at_rest base says through =
-    kept_through sum P content old new through (length content) (omega arith) (rest_keeps sum P content old.present at_rest (ap (λ (l : List ℕ). text sum P l) base ∙ says))
 
 -- what keeps the whole text, and chance aside says nothing else, says just that
 pub says_just : (sum : List ℕ → ℕ) (P : ℕ) (content image : List ℕ) → take (length content) (text sum P image) ≡ take (length content) content

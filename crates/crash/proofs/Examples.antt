@@ -20,7 +20,7 @@ use Rattle.crash.specs.Guard.{Fixed, Held, Guards, IsTruthful, IsChanceFree}
 use Rattle.crash.specs.Kept.{Keeps, AllKeep, AllOnly, Each, Through}
 use Rattle.crash.specs.Stays.{Stays, StaysThrough, KeepsFloors, LeavesOnly, KeepsAll}
 use Rattle.crash.specs.Looks.{SameButLog, Looked}
-use Rattle.crash.specs.Sound.{latest, stored, content, HasPage, Stands, guard_slot, IsSafe, IsSound}
+use Rattle.crash.specs.Sound.{latest, stored, content, HasPage, Stands, guard_slot, IsSafe, Soundness}
 use Rattle.crash.proofs.Lists.{joined_element, taken_element, slice_get-drop}
 use Rattle.crash.proofs.Disks.{torn_is_image, base_is_image, partial_whole, fixed_at_rest}
 use Rattle.crash.proofs.Promise.{keeps_at_rest, guards_at_rest, whole_is_chance_free}
@@ -206,7 +206,7 @@ has_ef : HasPage add_sum 4 1 (101 ∷ 102 ∷ 103 ∷ []) (abcd_page ++ ef_page)
 has_ef = record { size = refl; some = omega arith; there = omega arith; part = omega arith; crc = refl; value = refl; begins = refl; slot = refl }
 
 -- that writer is sound
-pub a_sound_writer : IsSound add_sum with_g durable
+pub a_sound_writer : Soundness add_sum with_g durable
 a_sound_writer = page_sound add_sum with_g durable refl refl (omega arith) (lit< tt) (refl, tt) refl small_add_sum ef_slot refl has_ef
 
 -- so it stands for what is readable
@@ -222,11 +222,11 @@ pub it_is_truthful : IsTruthful add_sum 4 seven durable
 it_is_truthful = a_sound_writer.truthful
 
 -- a writer that tells an empty tip over a page of two bytes isn't sound: it would write over them
-pub an_unsound_writer : IsSound add_sum (record with_g { tip = []; flushed = None; durable = None }) durable → ⊥
+pub an_unsound_writer : Soundness add_sum (record with_g { tip = []; flushed = None; durable = None }) durable → ⊥
 an_unsound_writer sound = let size : 32 ≡ 16 = sound.stands.tip_page in omega (arith, size)
 
 -- the writer of an empty blob is sound
-pub an_empty_writer : IsSound add_sum (record { page_size = 4; id = 0; capacity = 8; full_pages = 0; tip = []; flushed = None; durable = None; sync = Clean }) (at_rest [])
+pub an_empty_writer : Soundness add_sum (record { page_size = 4; id = 0; capacity = 8; full_pages = 0; tip = []; flushed = None; durable = None; sync = Clean }) (at_rest [])
 an_empty_writer = empty_sound add_sum (record { page_size = 4; id = 0; capacity = 8; full_pages = 0; tip = []; flushed = None; durable = None; sync = Clean }) (at_rest []) refl refl refl (omega arith) (lit< tt) refl refl refl
 
 -- ---- a flush that a crash tears
@@ -236,7 +236,7 @@ flush_is_done : Operated (Write 16 efg_page) (WriteAt 16 16 false) false durable
 flush_is_done = record { readable = partial_whole (Write 16 efg_page) (abcd_page ++ ef_page); done = λ fine. refl; rest = refl }
 
 -- the writer after it is sound
-pub a_sound_dirty_writer : IsSound add_sum (after_write add_sum with_g 0 true) rewritten
+pub a_sound_dirty_writer : Soundness add_sum (after_write add_sum with_g 0 true) rewritten
 a_sound_dirty_writer = operated_sound add_sum with_g durable rewritten 0 true efg_page small_add_sum a_sound_writer refl (omega arith, omega arith) refl (WriteAt 16 16 false) flush_is_done
 
 -- each floor that was kept before the flush is kept in the midst of it, and there is only content
@@ -269,6 +269,7 @@ at_each = (refl, (refl, tt))
 
 -- and from a life's moment on
 pub all_through : Through (λ d. length d.base ≡ 32) before behind
+unfolding Through
 all_through = record { moments = rewritten ∷ []; goes = refl; start = refl; each = (refl, tt) }
 
 -- nothing was unsynced before the flush, so it stays at its start too
@@ -277,6 +278,7 @@ stays_at_start = stays_itself add_sum 4 seven durable it_is_truthful
 
 -- at each moment of the flush
 pub it_stays_through : StaysThrough add_sum 4 seven before behind
+unfolding Through
 it_stays_through = record { moments = rewritten ∷ []; goes = refl; start = stays_at_start; each = (it_stays, tt) }
 
 -- so the flush keeps each floor up to the seven bytes that every image kept, that is to six
@@ -403,8 +405,9 @@ same_but_log = refl
 
 -- at each moment of the read
 pub a_look : Looked before (next before was_read)
+unfolding Through
 a_look = record {
   same = refl;
-  log = omega arith;
+  log = (record { request = ReadAt 0 16; failed = false } ∷ [], refl);
   through = record { moments = was_read ∷ []; goes = refl; start = refl; each = (refl, tt) };
 }

@@ -11,4 +11,7 @@ pub mod Spared
 pub mod Soundness
 pub mod CallLaws
 pub mod CutLaws
+pub mod ResizeLaws
+pub mod FloorLaws
 pub mod Examples
+pub mod LookLaws

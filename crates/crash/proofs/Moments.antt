@@ -32,10 +32,12 @@ each_last Q life (d ∷ ds) start each = each_last Q (next life d) ds each.0 eac
 
 -- no moment has passed
 pub through_start : (Q : Disk → Type 0) (life : Life) → Q life.present → Through Q life life
+unfolding Through
 through_start Q life start = record { moments = []; goes = refl; start = start; each = tt }
 
 -- one moment more
 pub through_more : (Q : Disk → Type 0) (old new : Life) (d : Disk) → Through Q old new → Q d → Through Q old (next new d)
+unfolding Through
 through_more Q old new d through holds = record {
   moments = through.moments ++ d ∷ [];
   goes = ap (λ (life : Life). next life d) through.goes ∙ sym (after-append old through.moments (d ∷ []));
@@ -45,6 +47,7 @@ through_more Q old new d through holds = record {
 
 -- one call after another
 pub through_joins : (Q : Disk → Type 0) (old mid new : Life) → Through Q old mid → Through Q mid new → Through Q old new
+unfolding Through
 through_joins Q old mid new first second = record {
   moments = first.moments ++ second.moments;
   goes = second.goes ∙ ap (λ (life : Life). after life second.moments) first.goes ∙ sym (after-append old first.moments second.moments);
@@ -54,10 +57,12 @@ through_joins Q old mid new first second = record {
 
 -- what holds at each moment holds at the end
 pub through_end : (Q : Disk → Type 0) (old new : Life) → Through Q old new → Q new.present
+unfolding Through
 through_end Q old new through = subst (λ (life : Life). Q life.present) (sym through.goes) (each_last Q old through.moments through.start through.each)
 
 -- what follows from it holds at each moment too
 pub through_then : (Q R : Disk → Type 0) (old new : Life) → ((d : Disk) → Q d → R d) → Through Q old new → Through R old new
+unfolding Through
 through_then Q R old new then through = record {
   moments = through.moments;
   goes = through.goes;
@@ -182,6 +187,7 @@ stays_longer sum P content longer d e begins before stays = record {
 
 -- at each moment
 pub stays_through_longer : (sum : List ℕ → ℕ) (P : ℕ) (content longer : List ℕ) (old new : Life) → content ≡ take (length content) longer → StaysThrough sum P content old new → StaysThrough sum P longer old new
+unfolding Through
 stays_through_longer sum P content longer old new begins through =
     through_then (Stays sum P content old.present) (Stays sum P longer old.present) old new (λ d stays. stays_longer sum P content longer old.present d begins through.start stays) through
 

@@ -18,7 +18,7 @@ use Rattle.crash.specs.Built.{kept_len, built, durable_after, after_write, writt
 use Rattle.crash.specs.Kept.{AllKeep}
 use Rattle.crash.specs.Stays.{Stays, StaysThrough}
 use Rattle.crash.specs.Looks.{SameButLog, Looked}
-use Rattle.crash.specs.Sound.{latest, stored, content, HasPage, TipPage, StateFits, Stands, guard_slot, TipGuard, IsSafe, IsSound, CanWrite}
+use Rattle.crash.specs.Sound.{latest, stored, content, HasPage, TipPage, StateFits, Stands, guard_slot, TipGuard, IsSafe, Soundness, CanWrite}
 use Rattle.crash.proofs.Lists.{take_past, take_same}
 use Rattle.crash.proofs.Pages.{length-stored, pages_at, page_fits, page_is, pages_fit, length-pages}
 use Rattle.crash.proofs.Texts.{text_exact, text_of_part, value_at, verified_le_value, verified_len_le}
@@ -240,7 +240,7 @@ place_after : (full k : ℕ) (durable : Option ActiveChecksum) → (full < full 
 place_after full zero durable = inr (omega arith, refl)
 place_after full (suc k) durable = inl (omega arith)
 
-module _ (sum : List ℕ → ℕ) (w : WriterState) (d e : Disk) (k : ℕ) (rest : Bool) (bytes : List ℕ) (small : IsSmall sum) (sound : IsSound sum w d) (carried : w.durable ≡ guard_slot w.sync w.flushed w.durable)
+module _ (sum : List ℕ → ℕ) (w : WriterState) (d e : Disk) (k : ℕ) (rest : Bool) (bytes : List ℕ) (small : IsSmall sum) (sound : Soundness sum w d) (carried : w.durable ≡ guard_slot w.sync w.flushed w.durable)
     (can : CanWrite w.page_size w.tip k rest) (is : bytes ≡ built sum w.page_size w.durable (written_pages k rest) w.tip) where
   behind : drop (w.full_pages * w.page_size) (content w d.readable) ≡ w.tip
   behind =
@@ -301,7 +301,7 @@ module _ (sum : List ℕ → ℕ) (w : WriterState) (d e : Disk) (k : ℕ) (rest
       sound.truthful
 
   -- a flush that is done keeps soundness
-  pub operated_sound : (request : Request) → Operated (Write (w.full_pages * (w.page_size + 12)) bytes) request false d e → IsSound sum (after_write sum w k rest) e
+  pub operated_sound : (request : Request) → Operated (Write (w.full_pages * (w.page_size + 12)) bytes) request false d e → Soundness sum (after_write sum w k rest) e
   operated_sound request done =
       let o : Operation = Write (w.full_pages * (w.page_size + 12)) bytes in
       let base = operated_base o request false d e done in
@@ -329,9 +329,9 @@ module _ (sum : List ℕ → ℕ) (w : WriterState) (d e : Disk) (k : ℕ) (rest
 
 -- ---- the same bytes in another state
 
-module _ (sum : List ℕ → ℕ) (w : WriterState) (d e : Disk) (sound : IsSound sum w d) (same : e.readable ≡ d.readable) where
+module _ (sum : List ℕ → ℕ) (w : WriterState) (d e : Disk) (sound : Soundness sum w d) (same : e.readable ≡ d.readable) where
   -- a sync that is done keeps soundness, and leaves the writer clean
-  pub settle_sound : IsSmall sum → e.base ≡ d.readable → e.since ≡ [] → IsSound sum (record w { sync = Clean }) e
+  pub settle_sound : IsSmall sum → e.base ≡ d.readable → e.since ≡ [] → Soundness sum (record w { sync = Clean }) e
   settle_sound small base since =
       let stands = settle_stands sum w d e sound.stands same base since in
       let at_rest : e.base ≡ e.readable = base ∙ sym same in
@@ -348,7 +348,7 @@ module _ (sum : List ℕ → ℕ) (w : WriterState) (d e : Disk) (sound : IsSoun
       stays_settled sum w.page_size (content w d.readable) d d e (base ∙ sound.stands.done) since (stays_itself sum w.page_size (content w d.readable) d sound.truthful)
 
   -- a disk with the same bytes, base and operations, as after a read, is as sound
-  pub alike_sound : e.base ≡ d.base → e.since ≡ d.since → IsSound sum w e
+  pub alike_sound : e.base ≡ d.base → e.since ≡ d.since → Soundness sum w e
   alike_sound base since =
       let safe = sound.safe in
       let now : content w d.readable ≡ content w e.readable = sym (alike_content sum w d e sound.stands same) in
@@ -372,7 +372,7 @@ module _ (sum : List ℕ → ℕ) (w : WriterState) (d e : Disk) (sound : IsSoun
 
 -- ---- what a crash keeps
 
-module _ (sum : List ℕ → ℕ) (w : WriterState) (d : Disk) (sound : IsSound sum w d) (clean : w.sync ≡ Clean) where
+module _ (sum : List ℕ → ℕ) (w : WriterState) (d : Disk) (sound : Soundness sum w d) (clean : w.sync ≡ Clean) where
   at_rest : (d.since ≡ []) × (d.base ≡ d.readable)
   at_rest = subst (λ (s : SyncState). StateFits d s) clean sound.stands.state
 
@@ -410,9 +410,9 @@ carried_stands : (sum : List ℕ → ℕ) (w : WriterState) (d : Disk) (s : Sync
 carried_stands sum w d Clean stands = carry_stands sum w d stands
 carried_stands sum w d Dirty stands = stands
 
-module _ (sum : List ℕ → ℕ) (w : WriterState) (d : Disk) (sound : IsSound sum w d) where
+module _ (sum : List ℕ → ℕ) (w : WriterState) (d : Disk) (sound : Soundness sum w d) where
   -- a longer tip keeps soundness
-  pub longer_sound : (more : List ℕ) → IsSound sum (record w { tip = w.tip ++ more }) d
+  pub longer_sound : (more : List ℕ) → Soundness sum (record w { tip = w.tip ++ more }) d
   longer_sound more =
       let P = w.page_size in
       let all = content w d.readable in
@@ -434,7 +434,7 @@ module _ (sum : List ℕ → ℕ) (w : WriterState) (d : Disk) (sound : IsSound 
       }
 
   -- so does a durable slot that is brought up to date: a flush may repeat it
-  pub carry_sound : IsSound sum (record w { durable = guard_slot w.sync w.flushed w.durable }) d
+  pub carry_sound : Soundness sum (record w { durable = guard_slot w.sync w.flushed w.durable }) d
   carry_sound =
       let safe = sound.safe in
       record {
@@ -463,7 +463,7 @@ module _ (sum : List ℕ → ℕ) (w : WriterState) (d : Disk) (since : d.since 
   repeats Dirty = sym carried
 
   -- with nothing unsynced a writer is sound that knows the blob's pages
-  pub settled_sound : IsSmall sum → TipPage sum w.page_size w.full_pages w.tip d.readable w.flushed → IsSound sum w d
+  pub settled_sound : IsSmall sum → TipPage sum w.page_size w.full_pages w.tip d.readable w.flushed → Soundness sum w d
   settled_sound small_sum tip_page = record {
     stands = settled_stands sum w d since base some small full carried tip_page;
     safe = safe_at_rest sum w d since base full tip_page some (guard_written sum w d since base full tip_page small_sum small) (repeats w.sync);
@@ -471,7 +471,7 @@ module _ (sum : List ℕ → ℕ) (w : WriterState) (d : Disk) (since : d.since 
   }
 
   -- the blob ends with a full page
-  pub exact_sound : w.flushed ≡ None → length d.readable ≡ w.full_pages * (w.page_size + 12) → IsSound sum w d
+  pub exact_sound : w.flushed ≡ None → length d.readable ≡ w.full_pages * (w.page_size + 12) → Soundness sum w d
   exact_sound none size =
       let tip_page : TipPage sum w.page_size w.full_pages w.tip d.readable w.flushed = subst (λ (f : Option ActiveChecksum). TipPage sum w.page_size w.full_pages w.tip d.readable f) (sym none) size in
       record {
@@ -482,11 +482,11 @@ module _ (sum : List ℕ → ℕ) (w : WriterState) (d : Disk) (since : d.since 
       }
 
   -- the blob ends with the tip's page
-  pub page_sound : IsSmall sum → (a : ActiveChecksum) → w.flushed ≡ Some a → HasPage sum w.page_size w.full_pages w.tip d.readable a → IsSound sum w d
+  pub page_sound : IsSmall sum → (a : ActiveChecksum) → w.flushed ≡ Some a → HasPage sum w.page_size w.full_pages w.tip d.readable a → Soundness sum w d
   page_sound small_sum a is has = settled_sound small_sum (subst (λ (f : Option ActiveChecksum). TipPage sum w.page_size w.full_pages w.tip d.readable f) (sym is) has)
 
 -- a writer over an empty blob is sound
-pub empty_sound : (sum : List ℕ → ℕ) (w : WriterState) (d : Disk) → d.readable ≡ [] → d.base ≡ [] → d.since ≡ [] → 0 < w.page_size → w.page_size < 2 ^ 16 → w.full_pages ≡ 0 → w.flushed ≡ None → w.durable ≡ None → IsSound sum w d
+pub empty_sound : (sum : List ℕ → ℕ) (w : WriterState) (d : Disk) → d.readable ≡ [] → d.base ≡ [] → d.since ≡ [] → 0 < w.page_size → w.page_size < 2 ^ 16 → w.full_pages ≡ 0 → w.flushed ≡ None → w.durable ≡ None → Soundness sum w d
 empty_sound sum w d readable base since some small full flushed durable =
     exact_sound sum w d since (base ∙ sym readable) some small
     (subst (λ (n : ℕ). AreFull sum w.page_size (take n (pages w.page_size d.readable))) (sym full) tt)
@@ -499,9 +499,9 @@ empty_sound sum w d readable base since some small full flushed durable =
 same_parts : (d e : Disk) → SameButLog d e → (e.readable ≡ d.readable) × (e.base ≡ d.base) × (e.since ≡ d.since)
 same_parts d e is = (ap (λ (x : Disk). x.readable) is, ap (λ (x : Disk). x.base) is, ap (λ (x : Disk). x.since) is)
 
-module _ (sum : List ℕ → ℕ) (w : WriterState) (old new : Life) (sound : IsSound sum w old.present) (looked : Looked old new) where
+module _ (sum : List ℕ → ℕ) (w : WriterState) (old new : Life) (sound : Soundness sum w old.present) (looked : Looked old new) where
   -- a call that only reads keeps soundness
-  pub looked_sound : IsSound sum w new.present
+  pub looked_sound : Soundness sum w new.present
   looked_sound = let same = same_parts old.present new.present looked.same in alike_sound sum w old.present new.present sound same.0 same.1 same.2
 
   -- and the content

@@ -1,5 +1,6 @@
 -- The bytes of a flush: physical pages, of which the first carries the durable slot.
-use Rattle.std.specs.Prelude.{ℕ, zero, suc, ◌+◌, ◌-◌, ◌*◌, List, [], ◌∷◌, ◌++◌, take, drop, length, replicate, Option, Some, None, Bool, true, false}
+use Rattle.std.specs.Prelude.{ℕ, zero, suc, ◌+◌, ◌-◌, ◌*◌, List, [], ◌∷◌, ◌++◌, take, drop, length}
+use Rattle.std.specs.Prelude.{replicate, Option, Some, None, Bool, true, false}
 use Rattle.page.specs.Slot.{other}
 use Rattle.page.specs.Page.{slot_bytes}
 use Rattle.page.specs.declared.slot.Slot.{Slot}
@@ -30,17 +31,21 @@ footer Second kept new = new ++ kept
 
 -- a physical page: its bytes, padded with zeros, and the footer
 abbrev pub page_of : (List ℕ → ℕ) → ℕ → Option ActiveChecksum → List ℕ → List ℕ
-page_of sum P durable chunk = chunk ++ replicate (P - length chunk) 0 ++ footer (kept_slot durable) (kept_bytes durable) (slot_bytes (length chunk) (sum chunk))
+page_of sum P durable chunk =
+    chunk ++ replicate (P - length chunk) 0 ++
+    footer (kept_slot durable) (kept_bytes durable) (slot_bytes (length chunk) (sum chunk))
 
 -- the first m pages of some bytes
 abbrev pub built_pages : (List ℕ → ℕ) → ℕ → Option ActiveChecksum → ℕ → List ℕ → List (List ℕ)
 built_pages sum P durable zero bytes = []
-built_pages sum P durable (suc m) bytes = page_of sum P durable (take P bytes) ∷ built_pages sum P None m (drop P bytes)
+built_pages sum P durable (suc m) bytes =
+    page_of sum P durable (take P bytes) ∷ built_pages sum P None m (drop P bytes)
 
 -- those pages joined
 abbrev pub built : (List ℕ → ℕ) → ℕ → Option ActiveChecksum → ℕ → List ℕ → List ℕ
 built sum P durable zero bytes = []
-built sum P durable (suc m) bytes = page_of sum P durable (take P bytes) ++ built sum P None m (drop P bytes)
+built sum P durable (suc m) bytes =
+    page_of sum P durable (take P bytes) ++ built sum P None m (drop P bytes)
 
 -- the durable slot of the tip's page, once k pages went out before it
 abbrev pub durable_after : Option ActiveChecksum → ℕ → Option ActiveChecksum
@@ -48,9 +53,11 @@ durable_after durable zero = durable
 durable_after durable (suc k) = None
 
 -- what is flushed of the tip's page, where the rest is written too
-abbrev pub rest_written : (List ℕ → ℕ) → Option ActiveChecksum → List ℕ → Bool → Option ActiveChecksum
+abbrev pub rest_written : (List ℕ → ℕ) → Option ActiveChecksum → List ℕ → Bool →
+    Option ActiveChecksum
 rest_written sum durable rest false = None
-rest_written sum durable rest true = Some (record { slot = other (kept_slot durable); len = length rest; crc = sum rest })
+rest_written sum durable rest true =
+    Some (record { slot = other (kept_slot durable); len = length rest; crc = sum rest })
 
 -- the writer after k full pages were written, and the rest where asked
 abbrev pub after_write : (List ℕ → ℕ) → WriterState → ℕ → Bool → WriterState

@@ -1,14 +1,18 @@
--- Why a crash keeps what was synced: what every image of a disk holds, and what each whole state says.
-use Rattle.std.specs.Prelude.{◌≡◌, ◌≤◌, ◌<◌, ◌*◌, ◌+◌, ◌-◌, ℕ, List, [], take, drop, length, slice_get, Some, min}
+-- Why a crash keeps what was synced: what every image of a disk holds, and what each whole state
+-- says.
+use Rattle.std.specs.Prelude.{◌≡◌, ◌≤◌, ◌<◌, ◌*◌, ◌+◌, ◌-◌, ℕ, List, [], take, drop, length}
+use Rattle.std.specs.Prelude.{slice_get, Some, min}
 use Rattle.disk.specs.Disk.{Disk, IsWhole, SomeWrites}
 use Rattle.page.specs.Slot.{slot_offset}
 use Rattle.page.specs.Page.{slot_len, slot_crc, pages, verified_len}
 use Rattle.page.specs.declared.slot.Slot.{Slot}
 
--- the bytes stand at this place in the base, each write since repeats them, and no whole state ends before their end
+-- the bytes stand at this place in the base, each write since repeats them, and no whole state ends
+-- before their end
 pub record Fixed (d : Disk) (place : ℕ) (bytes : List ℕ) : Type 0 where
   pub base : (i byte : ℕ) → slice_get bytes i ≡ Some byte → slice_get d.base (place + i) ≡ Some byte
-  pub repeated : (i byte other : ℕ) → slice_get bytes i ≡ Some byte → SomeWrites d.since (place + i) other → other ≡ byte
+  pub repeated : (i byte other : ℕ) → slice_get bytes i ≡ Some byte →
+      SomeWrites d.since (place + i) other → other ≡ byte
   pub within : (whole : List ℕ) → IsWhole d.base d.since whole → place + length bytes ≤ length whole
 
 -- six bytes that say this length and the checksum of these bytes
@@ -18,7 +22,8 @@ pub record IsSlotFor (sum : List ℕ → ℕ) (bytes slot : List ℕ) : Type 0 w
   pub crc : slot_crc slot ≡ sum bytes
 
 -- these bytes begin page p, and one of its slots verifies over them, whatever a crash leaves
-pub record Held (sum : List ℕ → ℕ) (P : ℕ) (d : Disk) (p : ℕ) (s : Slot) (slot bytes : List ℕ) : Type 0 where
+pub record Held (sum : List ℕ → ℕ) (P : ℕ) (d : Disk) (p : ℕ) (s : Slot) (slot bytes : List ℕ) :
+    Type 0 where
   pub some : 0 < length bytes
   pub fits : length bytes ≤ P
   pub payload : Fixed d (p * (P + 12)) bytes
@@ -27,7 +32,8 @@ pub record Held (sum : List ℕ → ℕ) (P : ℕ) (d : Disk) (p : ℕ) (s : Slo
   pub end : Fixed d ((p + 1) * (P + 12)) []
 
 -- a page's part of the content, held as far as the floor goes
-pub record IsGuarded (sum : List ℕ → ℕ) (P : ℕ) (content : List ℕ) (floor : ℕ) (d : Disk) (p : ℕ) : Type 0 where
+pub record IsGuarded (sum : List ℕ → ℕ) (P : ℕ) (content : List ℕ) (floor : ℕ) (d : Disk) (p : ℕ) :
+    Type 0 where
   pub slot : Slot
   pub bytes : List ℕ
   pub len : ℕ
@@ -41,8 +47,17 @@ Guards sum P content floor d = (p : ℕ) → p * P < floor → IsGuarded sum P c
 
 -- each slot that verifies in a whole state does so over bytes of the content
 abbrev pub IsTruthful : (List ℕ → ℕ) → ℕ → List ℕ → Disk → Type 0
-IsTruthful sum P content d = (whole : List ℕ) → IsWhole d.base d.since whole → (p : ℕ) (page : List ℕ) → slice_get (pages P whole) p ≡ Some page → (s : Slot) → take (verified_len sum P s page) page ≡ take (verified_len sum P s page) (drop (p * P) content)
+IsTruthful sum P content d =
+    (whole : List ℕ) → IsWhole d.base d.since whole → (p : ℕ) (page : List ℕ) →
+    slice_get (pages P whole) p ≡ Some page → (s : Slot) →
+    take (verified_len sum P s page) page ≡ take (verified_len sum P s page) (drop (p * P) content)
 
--- each slot of the image that verifies did so in a whole state, in the same place over the same bytes
+-- each slot of the image that verifies did so in a whole state, in the same place over the same
+-- bytes
 abbrev pub IsChanceFree : (List ℕ → ℕ) → ℕ → Disk → List ℕ → Type 0
-IsChanceFree sum P d image = (p : ℕ) (page : List ℕ) → slice_get (pages P image) p ≡ Some page → (s : Slot) → 0 < verified_len sum P s page → (whole held : List ℕ) × IsWhole d.base d.since whole × (slice_get (pages P whole) p ≡ Some held) × (verified_len sum P s held ≡ verified_len sum P s page) × (take (verified_len sum P s page) held ≡ take (verified_len sum P s page) page)
+IsChanceFree sum P d image =
+    (p : ℕ) (page : List ℕ) → slice_get (pages P image) p ≡ Some page → (s : Slot) →
+    0 < verified_len sum P s page → (whole held : List ℕ) × IsWhole d.base d.since whole ×
+    (slice_get (pages P whole) p ≡ Some held) ×
+    (verified_len sum P s held ≡ verified_len sum P s page) ×
+    (take (verified_len sum P s page) held ≡ take (verified_len sum P s page) page)

@@ -1,5 +1,6 @@
 -- What holds between a writer and its blob between two calls.
-use Rattle.std.specs.Prelude.{◌≡◌, ◌⊎◌, ◌≤◌, ◌<◌, ◌*◌, ◌+◌, ◌^◌, ℕ, List, [], ◌∷◌, ◌++◌, take, drop, length, Some, None, Option, Bool, true, false}
+use Rattle.std.specs.Prelude.{◌≡◌, ◌⊎◌, ◌≤◌, ◌<◌, ◌*◌, ◌+◌, ◌^◌, ℕ, List, [], ◌∷◌, ◌++◌, take, drop}
+use Rattle.std.specs.Prelude.{length, Some, None, Option, Bool, true, false}
 use Rattle.std.specs.List.{flat_map}
 use Rattle.disk.specs.Disk.{Disk, Operation, applied}
 use Rattle.page.specs.Page.{slot_of, slot_bytes, text, pages, value_len}
@@ -24,7 +25,8 @@ abbrev pub content : WriterState → List ℕ → List ℕ
 content w readable = stored w.page_size w.full_pages readable ++ w.tip
 
 -- the tip's page, of which something was written
-pub record HasPage (sum : List ℕ → ℕ) (P full : ℕ) (tip readable : List ℕ) (f : ActiveChecksum) : Type 0 where
+pub record HasPage (sum : List ℕ → ℕ) (P full : ℕ) (tip readable : List ℕ) (f : ActiveChecksum) :
+    Type 0 where
   pub size : length readable ≡ (full + 1) * (P + 12)
   pub some : 0 < f.len
   pub there : f.len ≤ length tip
@@ -32,10 +34,13 @@ pub record HasPage (sum : List ℕ → ℕ) (P full : ℕ) (tip readable : List 
   pub crc : f.crc ≡ sum (take f.len tip)
   pub value : value_len sum P (take (P + 12) (drop (full * (P + 12)) readable)) ≡ f.len
   pub begins : take f.len (drop (full * (P + 12)) readable) ≡ take f.len tip
-  pub slot : slot_of P f.slot (take (P + 12) (drop (full * (P + 12)) readable)) ≡ slot_bytes f.len f.crc
+  pub slot :
+      slot_of P f.slot (take (P + 12) (drop (full * (P + 12)) readable)) ≡ slot_bytes f.len f.crc
 
--- the tip's page as the blob has it: nothing of it was written, or its value is a beginning of the tip
-abbrev pub TipPage : (List ℕ → ℕ) → (P full : ℕ) (tip readable : List ℕ) → Option ActiveChecksum → Type 0
+-- the tip's page as the blob has it: nothing of it was written, or its value is a beginning of the
+-- tip
+abbrev pub TipPage : (List ℕ → ℕ) → (P full : ℕ) (tip readable : List ℕ) → Option ActiveChecksum →
+    Type 0
 TipPage sum P full tip readable None = length readable ≡ full * (P + 12)
 TipPage sum P full tip readable (Some f) = HasPage sum P full tip readable f
 
@@ -58,14 +63,17 @@ pub record Stands (sum : List ℕ → ℕ) (w : WriterState) (d : Disk) : Type 0
   pub carries : (kept_len w.durable ≤ w.page_size) × (kept_len w.durable ≤ length w.tip)
 
 -- the slot of the tip's page that is durable now
-abbrev pub guard_slot : SyncState → Option ActiveChecksum → Option ActiveChecksum → Option ActiveChecksum
+abbrev pub guard_slot : SyncState → Option ActiveChecksum → Option ActiveChecksum →
+    Option ActiveChecksum
 guard_slot Clean flushed durable = flushed
 guard_slot Dirty flushed durable = durable
 
 -- this slot of page full stays whatever a crash does, and the bytes under it
-pub record SlotGuard (sum : List ℕ → ℕ) (P : ℕ) (content : List ℕ) (d : Disk) (full : ℕ) (f : ActiveChecksum) : Type 0 where
+pub record SlotGuard (sum : List ℕ → ℕ) (P : ℕ) (content : List ℕ) (d : Disk) (full : ℕ)
+    (f : ActiveChecksum) : Type 0 where
   pub there : full * P + f.len ≤ length content
-  pub held : Held sum P d full f.slot (slot_bytes f.len f.crc) (take f.len (drop (full * P) content))
+  pub held :
+      Held sum P d full f.slot (slot_bytes f.len f.crc) (take f.len (drop (full * P) content))
 
 -- so does this one, if there is one
 abbrev pub TipGuard : (List ℕ → ℕ) → ℕ → List ℕ → Disk → ℕ → Option ActiveChecksum → Type 0
@@ -81,15 +89,21 @@ pub record IsSafe (sum : List ℕ → ℕ) (w : WriterState) (content : List ℕ
   pub guard : TipGuard sum w.page_size content d full tip
   -- the base's text goes no further
   pub base : length (text sum w.page_size d.base) ≤ full * w.page_size + kept_len tip
-  -- that page lies below the writer's tip, or it is the tip's page, and the slot the one that a flush is to repeat
-  pub place : (full < w.full_pages) ⊎ ((full ≡ w.full_pages) × (tip ≡ guard_slot w.sync w.flushed w.durable))
+  -- that page lies below the writer's tip, or it is the tip's page, and the slot the one that a
+  -- flush is to repeat
+  pub place : (full < w.full_pages) ⊎
+      ((full ≡ w.full_pages) × (tip ≡ guard_slot w.sync w.flushed w.durable))
 
--- the writer of a blob, between two calls: it stands for what is readable, a crash keeps what was synced, and no whole
--- state says anything but the content
-pub record IsSound (sum : List ℕ → ℕ) (w : WriterState) (d : Disk) : Type 0 where
+-- the writer of a blob, between two calls: it stands for what is readable, a crash keeps what was
+-- synced, and no whole state says anything but the content
+pub record Soundness (sum : List ℕ → ℕ) (w : WriterState) (d : Disk) : Type 0 where
   pub stands : Stands sum w d
   pub safe : IsSafe sum w (content w d.readable) d
   pub truthful : IsTruthful sum w.page_size (content w d.readable) d
+
+-- the word for it in contracts: a caller hands it from call to call, and has no need to see into it
+unfoldable pub IsSound : (List ℕ → ℕ) → WriterState → Disk → Type 0
+IsSound sum w d = Soundness sum w d
 
 -- a flush of k full pages, and of the rest where asked, is one write
 abbrev pub CanWrite : ℕ → List ℕ → ℕ → Bool → Type 0

@@ -7,8 +7,9 @@ pub data SyncState : Type 0 where
   Clean : SyncState
   Dirty : SyncState
 
--- a writer: its blob's id in the cache, the full pages in the blob, the bytes behind them that it buffers, and of the
--- page in which those begin the slot that was written last and the slot that was durable then
+-- a writer: its blob's id in the cache, the full pages in the blob, the bytes behind them that it
+-- buffers, and of the page in which those begin the slot that was written last and the slot that
+-- was durable then
 pub record WriterState : Type 0 where
   pub page_size : ℕ
   pub id : ℕ

@@ -3,3 +3,4 @@ pub mod Writes
 pub mod Torn
 pub mod Histories
 pub mod Device
+pub mod Logs

@@ -1,7 +1,11 @@
 -- A disk: what a read gives, what is durable, what isn't synced yet, and what a crash may leave.
-use Rattle.std.specs.Prelude.{◌≡◌, ◌⊎◌, ◌^◌, ℕ, ◌+◌, ◌-◌, ◌<◌, ◌≤◌, List, [], ◌∷◌, ◌++◌, length, take, drop, replicate, Bool, true, false, slice_get, Some, None, Result, Ok, Err, map, All, if◌then◌else◌, nat_lt}
+use Rattle.std.specs.Prelude.{◌≡◌, ◌⊎◌, ◌^◌, ℕ, ◌+◌, ◌-◌, ◌<◌, ◌≤◌, List, [], ◌∷◌, ◌++◌, length}
+use Rattle.std.specs.Prelude.{take, drop, replicate, Bool, true, false, slice_get, Some, None}
+use Rattle.std.specs.Prelude.{Result, Ok, Err, map, All, if◌then◌else◌, nat_lt}
 use Rattle.disk.specs.declared.error.Error.{Error}
-use Rattle.disk.specs.declared.error.Error.TheVariants.{ReadFailed, WriteFailed, ResizeFailed, SyncFailed, BlobInsufficientLength, OffsetOverflow, OutOfMemory}
+use Rattle.disk.specs.declared.error.Error.TheVariants.{ReadFailed, WriteFailed, ResizeFailed}
+use Rattle.disk.specs.declared.error.Error.TheVariants.{SyncFailed, BlobInsufficientLength}
+use Rattle.disk.specs.declared.error.Error.TheVariants.{OffsetOverflow, OutOfMemory}
 
 -- a write or a resize
 pub data Operation : Type 0 where
@@ -10,7 +14,8 @@ pub data Operation : Type 0 where
 
 -- the bytes after an operation that is done whole; a gap is filled with zeros
 abbrev pub applied : Operation → List ℕ → List ℕ
-applied (Write place bytes) old = take place old ++ replicate (place - length old) 0 ++ bytes ++ drop (place + length bytes) old
+applied (Write place bytes) old =
+    take place old ++ replicate (place - length old) 0 ++ bytes ++ drop (place + length bytes) old
 applied (Resize len) old = take len old ++ replicate (len - length old) 0
 
 -- one of the states in which each operation is whole or not begun, none before its turn
@@ -44,7 +49,8 @@ pub record Entry : Type 0 where
   pub request : Request
   pub failed : Bool
 
--- a started sync: how many operations of the blob's life it covers, and what was readable when it started
+-- a started sync: how many operations of the blob's life it covers, and what was readable when it
+-- started
 pub record Started : Type 0 where
   pub covers : ℕ
   pub bytes : List ℕ
@@ -61,16 +67,43 @@ pub record Disk : Type 0 where
   pub started : List Started
   pub log : List Entry
 
--- what a crash may leave: each byte is the base's, or was written there since, or is a zero past the end of a whole state
+-- what a crash may leave: each byte is the base's, or was written there since, or is a zero past
+-- the end of a whole state
 pub record IsImage (d : Disk) (image : List ℕ) : Type 0 where
   pub no_shorter : (bytes : List ℕ) × IsWhole d.base d.since bytes × (length bytes ≤ length image)
   pub no_longer : (bytes : List ℕ) × IsWhole d.base d.since bytes × (length image ≤ length bytes)
-  pub each : (at byte : ℕ) → slice_get image at ≡ Some byte → (slice_get d.base at ≡ Some byte) ⊎ SomeWrites d.since at byte ⊎ ((byte ≡ 0) × ((bytes : List ℕ) × IsWhole d.base d.since bytes × (length bytes ≤ at)))
+  pub each : (at byte : ℕ) → slice_get image at ≡ Some byte → (slice_get d.base at ≡ Some byte) ⊎
+      SomeWrites d.since at byte ⊎
+      ((byte ≡ 0) × ((bytes : List ℕ) × IsWhole d.base d.since bytes × (length bytes ≤ at)))
 
 -- how many device calls failed
 abbrev pub failures : List Entry → ℕ
 failures [] = 0
 failures (e ∷ es) = (if e.failed then 1 else 0) + failures es
+
+-- the error of a device call that failed
+abbrev pub fault_of : Request → Error
+fault_of (ReadAt place len) = ReadFailed
+fault_of (ReadMany ranges) = ReadFailed
+fault_of (StartReadMany ranges) = ReadFailed
+fault_of (WriteAt place len sync) = WriteFailed
+fault_of (ResizeTo len) = ResizeFailed
+fault_of SyncAll = SyncFailed
+fault_of StartSync = SyncFailed
+fault_of (WaitSync name) = SyncFailed
+
+-- one of these calls failed, and this is its error
+abbrev pub SomeFailed : Error → List Entry → Type 0
+SomeFailed fault [] = ⊥
+SomeFailed fault (e ∷ es) = ((e.failed ≡ true) × (fault_of e.request ≡ fault)) ⊎ SomeFailed fault es
+
+-- the log goes on: it keeps its entries
+abbrev pub LogGrows : Disk → Disk → Type 0
+LogGrows from to = (more : List Entry) × (to.log ≡ from.log ++ more)
+
+-- between these moments a device call failed whose error is this one
+abbrev pub HasFailed : Error → Disk → Disk → Type 0
+HasFailed fault from to = (more : List Entry) × (to.log ≡ from.log ++ more) × SomeFailed fault more
 
 -- a blob's life: the disk now, and at each moment before, the newest first
 pub record Life : Type 0 where
@@ -86,14 +119,18 @@ abbrev pub after : Life → List Disk → Life
 after life [] = life
 after life (d ∷ ds) = after (next life d) ds
 
--- what an operation that may have been cut short leaves readable: each byte is the old one or that of the whole operation, and the length lies between
+-- what an operation that may have been cut short leaves readable: each byte is the old one or that
+-- of the whole operation, and the length lies between
 pub record IsPartial (o : Operation) (old new : List ℕ) : Type 0 where
-  pub length : ((length old ≤ length new) × (length new ≤ length (applied o old))) ⊎ ((length (applied o old) ≤ length new) × (length new ≤ length old))
-  pub each : (at byte : ℕ) → slice_get new at ≡ Some byte → (slice_get old at ≡ Some byte) ⊎ (slice_get (applied o old) at ≡ Some byte)
+  pub length : ((length old ≤ length new) × (length new ≤ length (applied o old))) ⊎
+      ((length (applied o old) ≤ length new) × (length new ≤ length old))
+  pub each : (at byte : ℕ) → slice_get new at ≡ Some byte → (slice_get old at ≡ Some byte) ⊎
+      (slice_get (applied o old) at ≡ Some byte)
 
 -- the disk with one more call in its log
 abbrev pub logged : Request → Bool → Disk → Disk
-logged request failed d = record d { log = d.log ++ record { request = request; failed = failed } ∷ [] }
+logged request failed d =
+    record d { log = d.log ++ record { request = request; failed = failed } ∷ [] }
 
 -- the device was asked this, and nothing else changed
 abbrev pub AskedOnce : Request → Bool → Life → Life → Type 0
@@ -104,11 +141,20 @@ abbrev pub PassesEnd : Operation → Type 0
 PassesEnd (Write place bytes) = 2 ^ 64 ≤ place + length bytes
 PassesEnd (Resize len) = ⊥
 
--- a plain write or resize was asked for: it is done, or it failed and may be cut short, and it isn't durable
-pub record Operated (o : Operation) (request : Request) (failed : Bool) (old new : Disk) : Type 0 where
+-- it doesn't
+abbrev pub HasPlace : Operation → Type 0
+HasPlace (Write place bytes) = place + length bytes < 2 ^ 64
+HasPlace (Resize len) = Unit {0}
+
+-- a plain write or resize was asked for: it is done, or it failed and may be cut short, and it
+-- isn't durable
+pub record Operated (o : Operation) (request : Request) (failed : Bool) (old new : Disk) :
+    Type 0 where
   pub readable : IsPartial o old.readable new.readable
   pub done : failed ≡ false → new.readable ≡ applied o old.readable
-  pub rest : new ≡ record old { readable = new.readable; since = old.since ++ o ∷ []; log = old.log ++ record { request = request; failed = failed } ∷ [] }
+  pub rest :
+      new ≡ record old { readable = new.readable; since = old.since ++ o ∷ []; log = old.log ++
+      record { request = request; failed = failed } ∷ [] }
 
 -- all that is readable is durable
 abbrev pub settle : Disk → Disk
@@ -116,7 +162,8 @@ settle d = record d { base = d.readable; since = []; settled = d.settled + lengt
 
 -- what a started sync covers is durable, if it isn't yet
 abbrev pub settle_started : Started → Disk → Disk
-settle_started s d = if nat_lt d.settled s.covers then record d { base = s.bytes; since = drop (s.covers - d.settled) d.since; settled = s.covers } else d
+settle_started s d =
+    if nat_lt d.settled s.covers then record d { base = s.bytes; since = drop (s.covers - d.settled) d.since; settled = s.covers } else d
 
 -- whether this sync had failed when it started, or a wait for it
 abbrev pub had_failed : List Started → ℕ → Bool
@@ -124,37 +171,54 @@ had_failed started name = elim (slice_get started name) [ None ↦ true | Some s
 
 -- what each call of a blob does to its life, by what it answers
 
--- a read of len bytes at a place: these bytes, or a failed device, or a range past the end, or no memory
+-- a read of len bytes at a place: these bytes, or a failed device, or a range past the end, or no
+-- memory for one that is within
 abbrev pub ReadGoes : ℕ → ℕ → Life → Life → Result (List ℕ) Error → Type 0
-ReadGoes place len old new (Ok bytes) = (place + len ≤ length old.present.readable) × (bytes ≡ take len (drop place old.present.readable)) × AskedOnce (ReadAt place len) false old new
+ReadGoes place len old new (Ok bytes) =
+    (place + len ≤ length old.present.readable) ×
+    (bytes ≡ take len (drop place old.present.readable)) ×
+    AskedOnce (ReadAt place len) false old new
 ReadGoes place len old new (Err ReadFailed) = AskedOnce (ReadAt place len) true old new
-ReadGoes place len old new (Err BlobInsufficientLength) = (new ≡ old) × (length old.present.readable < place + len)
-ReadGoes place len old new (Err OutOfMemory) = new ≡ old
+ReadGoes place len old new (Err BlobInsufficientLength) =
+    (new ≡ old) × (length old.present.readable < place + len)
+ReadGoes place len old new (Err OutOfMemory) =
+    (new ≡ old) × (place + len ≤ length old.present.readable)
 ReadGoes place len old new (Err _) = ⊥
 
 -- a plain write or resize
-abbrev pub OperationGoes : Operation → Request → Error → Life → Life → Result (Unit {0}) Error → Type 0
-OperationGoes o request fault old new (Ok _) = (d : Disk) × (new ≡ next old d) × Operated o request false old.present d
+abbrev pub OperationGoes : Operation → Request → Error → Life → Life → Result (Unit {0}) Error →
+    Type 0
+OperationGoes o request fault old new (Ok _) =
+    (d : Disk) × (new ≡ next old d) × Operated o request false old.present d
 OperationGoes o request fault old new (Err OffsetOverflow) = (new ≡ old) × PassesEnd o
-OperationGoes o request fault old new (Err OutOfMemory) = new ≡ old
-OperationGoes o request fault old new (Err e) = (e ≡ fault) × ((d : Disk) × (new ≡ next old d) × Operated o request true old.present d)
+OperationGoes o request fault old new (Err OutOfMemory) = (new ≡ old) × HasPlace o
+OperationGoes o request fault old new (Err e) =
+    (e ≡ fault) × ((d : Disk) × (new ≡ next old d) × Operated o request true old.present d)
 
--- a write that is durable when it answers Ok; nothing is unsynced before it. Between the two moments it may be torn.
+-- a write that is durable when it answers Ok; nothing is unsynced before it. Between the two
+-- moments it may be torn.
 abbrev pub DurableWriteGoes : ℕ → List ℕ → Life → Life → Result (Unit {0}) Error → Type 0
-DurableWriteGoes place bytes old new (Ok _) = (d : Disk) × (new ≡ next (next old d) (settle d)) × Operated (Write place bytes) (WriteAt place (length bytes) true) false old.present d
-DurableWriteGoes place bytes old new (Err WriteFailed) = (d : Disk) × (new ≡ next old d) × Operated (Write place bytes) (WriteAt place (length bytes) true) true old.present d
-DurableWriteGoes place bytes old new (Err OffsetOverflow) = (new ≡ old) × PassesEnd (Write place bytes)
-DurableWriteGoes place bytes old new (Err OutOfMemory) = new ≡ old
+DurableWriteGoes place bytes old new (Ok _) =
+    (d : Disk) × (new ≡ next (next old d) (settle d)) ×
+    Operated (Write place bytes) (WriteAt place (length bytes) true) false old.present d
+DurableWriteGoes place bytes old new (Err WriteFailed) =
+    (d : Disk) × (new ≡ next old d) ×
+    Operated (Write place bytes) (WriteAt place (length bytes) true) true old.present d
+DurableWriteGoes place bytes old new (Err OffsetOverflow) =
+    (new ≡ old) × PassesEnd (Write place bytes)
+DurableWriteGoes place bytes old new (Err OutOfMemory) = (new ≡ old) × HasPlace (Write place bytes)
 DurableWriteGoes place bytes old new (Err _) = ⊥
 
 -- a write, durable or not
 abbrev pub WriteGoes : ℕ → List ℕ → Bool → Life → Life → Result (Unit {0}) Error → Type 0
 WriteGoes place bytes true old new result = DurableWriteGoes place bytes old new result
-WriteGoes place bytes false old new result = OperationGoes (Write place bytes) (WriteAt place (length bytes) false) WriteFailed old new result
+WriteGoes place bytes false old new result =
+    OperationGoes (Write place bytes) (WriteAt place (length bytes) false) WriteFailed old new result
 
 -- a resize
 abbrev pub ResizeGoes : ℕ → Life → Life → Result (Unit {0}) Error → Type 0
-ResizeGoes len old new result = OperationGoes (Resize len) (ResizeTo len) ResizeFailed old new result
+ResizeGoes len old new result =
+    OperationGoes (Resize len) (ResizeTo len) ResizeFailed old new result
 
 -- a sync
 abbrev pub SyncGoes : Life → Life → Result (Unit {0}) Error → Type 0
@@ -173,10 +237,21 @@ bytes_of ranges bytes = map (λ r. take r.1 (drop r.0 bytes)) ranges
 
 -- a sync is started; its name is its number
 abbrev pub starts : Bool → Disk → Disk
-starts failed d = record d { started = d.started ++ record { covers = d.settled + length d.since; bytes = d.readable; failed = failed } ∷ []; log = d.log ++ record { request = StartSync; failed = failed } ∷ [] }
+starts failed d =
+    record d { started = d.started ++
+    record { covers = d.settled + length d.since; bytes = d.readable; failed = failed } ∷ []; log =
+    d.log ++ record { request = StartSync; failed = failed } ∷ [] }
 
 abbrev pub WaitGoes : ℕ → Life → Life → Result (Unit {0}) Error → Type 0
-WaitGoes name old new (Ok _) = (s : Started) × (slice_get old.present.started name ≡ Some s) × (s.failed ≡ false) × (new ≡ next old (logged (WaitSync name) false (settle_started s old.present)))
-WaitGoes name old new (Err SyncFailed) = (d : Disk) × (new ≡ next old d) × (d ≡ record old.present { started = d.started; log = d.log }) × (length d.started ≡ length old.present.started) × ((failed : Bool) × (d.log ≡ old.present.log ++ record { request = WaitSync name; failed = failed } ∷ []) × ((failed ≡ true) ⊎ (had_failed old.present.started name ≡ true)))
+WaitGoes name old new (Ok _) =
+    (s : Started) × (slice_get old.present.started name ≡ Some s) × (s.failed ≡ false) ×
+    (new ≡ next old (logged (WaitSync name) false (settle_started s old.present)))
+WaitGoes name old new (Err SyncFailed) =
+    (d : Disk) × (new ≡ next old d) ×
+    (d ≡ record old.present { started = d.started; log = d.log }) ×
+    (length d.started ≡ length old.present.started) ×
+    ((failed : Bool) ×
+    (d.log ≡ old.present.log ++ record { request = WaitSync name; failed = failed } ∷ []) ×
+    ((failed ≡ true) ⊎ (had_failed old.present.started name ≡ true)))
 WaitGoes name old new (Err OutOfMemory) = new ≡ old
 WaitGoes name old new (Err _) = ⊥

@@ -1,7 +1,10 @@
 -- The errors' numbers and names.
 use Rattle.std.specs.Prelude.{ℕ, List, codes}
 use Rattle.disk.specs.declared.error.Error.{Error}
-use Rattle.disk.specs.declared.error.Error.TheVariants.{ReadFailed, WriteFailed, ResizeFailed, SyncFailed, InvalidChecksum, BlobInsufficientLength, OffsetOverflow, OutOfMemory, IdsExhausted}
+use Rattle.disk.specs.declared.error.Error.TheVariants.{ReadFailed, WriteFailed, ResizeFailed}
+use Rattle.disk.specs.declared.error.Error.TheVariants.{SyncFailed, InvalidChecksum}
+use Rattle.disk.specs.declared.error.Error.TheVariants.{BlobInsufficientLength, OffsetOverflow}
+use Rattle.disk.specs.declared.error.Error.TheVariants.{OutOfMemory, IdsExhausted}
 
 -- the number of an error
 abbrev pub number_of : Error → ℕ

@@ -1,6 +1,8 @@
 -- A blob's life, told by what its device was asked for.
-use Rattle.std.specs.Prelude.{◌≡◌, ℕ, ◌-◌, ◌==◌, List, [], ◌∷◌, ◌++◌, length, Bool, true, false, if◌then◌else◌}
-use Rattle.disk.specs.Disk.{Operation, Write, Resize, applied, Disk, Life, Entry, Request, ReadAt, WriteAt, ResizeTo, SyncAll, next, logged, settle}
+use Rattle.std.specs.Prelude.{◌≡◌, ℕ, ◌-◌, ◌==◌, List, [], ◌∷◌, ◌++◌, length, Bool, true, false}
+use Rattle.std.specs.Prelude.{if◌then◌else◌}
+use Rattle.disk.specs.Disk.{Operation, Write, Resize, applied, Disk, Life, Entry, Request, ReadAt}
+use Rattle.disk.specs.Disk.{WriteAt, ResizeTo, SyncAll, next, logged, settle}
 use Rattle.disk.specs.Torn.{torn}
 use Rattle.disk.specs.declared.action.Action.{Action}
 use Rattle.disk.specs.declared.action.Action.TheVariants as actions
@@ -43,9 +45,12 @@ operation_of (actions.Write place bytes sync) = Write place bytes ∷ []
 operation_of (actions.Resize len) = Resize len ∷ []
 operation_of actions.Sync = []
 
--- the disk after a write or a resize that is done, or that failed and left all readable bytes as they were
+-- the disk after a write or a resize that is done, or that failed and left all readable bytes as
+-- they were
 abbrev pub operated : Operation → Request → Bool → Disk → Disk
-operated o request failed d = record d { readable = if failed then d.readable else applied o d.readable; since = d.since ++ o ∷ []; log = d.log ++ record { request = request; failed = failed } ∷ [] }
+operated o request failed d =
+    record d { readable = if failed then d.readable else applied o d.readable; since = d.since ++
+    o ∷ []; log = d.log ++ record { request = request; failed = failed } ∷ [] }
 
 -- the bytes after an event
 abbrev pub redone : Event → List ℕ → List ℕ
@@ -63,11 +68,15 @@ operations_of (e ∷ es) = operation_of e.action ++ operations_of es
 
 -- a life goes on by one action, done or failed
 abbrev pub lives : Action → Bool → Life → Life
-lives (actions.Read place len) failed life = next life (logged (ReadAt place len) failed life.present)
-lives (actions.Write place bytes false) failed life = next life (operated (Write place bytes) (WriteAt place (length bytes) false) failed life.present)
-lives (actions.Write place bytes true) true life = next life (operated (Write place bytes) (WriteAt place (length bytes) true) true life.present)
+lives (actions.Read place len) failed life =
+    next life (logged (ReadAt place len) failed life.present)
+lives (actions.Write place bytes false) failed life =
+    next life (operated (Write place bytes) (WriteAt place (length bytes) false) failed life.present)
+lives (actions.Write place bytes true) true life =
+    next life (operated (Write place bytes) (WriteAt place (length bytes) true) true life.present)
 lives (actions.Write place bytes true) false life = let d = operated (Write place bytes) (WriteAt place (length bytes) true) false life.present in next (next life d) (settle d)
-lives (actions.Resize len) failed life = next life (operated (Resize len) (ResizeTo len) failed life.present)
+lives (actions.Resize len) failed life =
+    next life (operated (Resize len) (ResizeTo len) failed life.present)
 lives actions.Sync true life = next life (logged SyncAll true life.present)
 lives actions.Sync false life = next life (settle (logged SyncAll false life.present))
 
@@ -78,7 +87,8 @@ goes_on life (e ∷ es) = goes_on (lives e.action e.failed life) es
 
 -- a life that begins with these bytes, all durable, and the log of the lives before
 abbrev pub begun : List ℕ → List Entry → Life
-begun bytes log = record { present = record { readable = bytes; base = bytes; since = []; settled = 0; started = []; log = log }; past = [] }
+begun bytes log =
+    record { present = record { readable = bytes; base = bytes; since = []; settled = 0; started = []; log = log }; past = [] }
 
 -- what a blob in memory is
 pub record History : Type 0 where
@@ -97,8 +107,11 @@ life_of h = goes_on (begun h.first h.earlier) h.events
 
 -- one action more, which fails if it is the one that is to fail
 abbrev pub told : Action → History → History
-told action h = record h { events = h.events ++ record { action = action; failed = h.failing == 1 } ∷ []; failing = h.failing - 1 }
+told action h =
+    record h { events = h.events ++
+    record { action = action; failed = h.failing == 1 } ∷ []; failing = h.failing - 1 }
 
 -- what these flags leave of an action that isn't durable, and the flags behind them
 abbrev pub TornBy : Action → List Bool → List Bool → List ℕ → List ℕ → Type 0
-TornBy action keep rest old new = (os : List Operation) → torn keep (operation_of action ++ os) old ≡ torn rest os new
+TornBy action keep rest old new =
+    (os : List Operation) → torn keep (operation_of action ++ os) old ≡ torn rest os new

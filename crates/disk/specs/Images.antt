@@ -1,25 +1,33 @@
 -- Laws of what a crash may leave.
-use Rattle.std.specs.Prelude.{◌≡◌, ◌⊎◌, ℕ, suc, zero, ◌+◌, ◌-◌, ◌<◌, ◌≤◌, List, [], ◌∷◌, ◌++◌, length, take, drop, replicate, slice_get, Some, min}
-use Rattle.std.proofs.Common.{get_or, inl, inr, refl, sym, ap, ◌∙◌, arith, length-append, length-take, length-drop}
+use Rattle.std.specs.Prelude.{◌≡◌, ◌⊎◌, ℕ, suc, zero, ◌+◌, ◌-◌, ◌<◌, ◌≤◌, List, [], ◌∷◌, ◌++◌}
+use Rattle.std.specs.Prelude.{length, take, drop, replicate, slice_get, Some, min}
+use Rattle.std.proofs.Common.{get_or, inl, inr, refl, sym, ap, ◌∙◌, arith, length-append}
+use Rattle.std.proofs.Common.{length-take, length-drop}
 use Rattle.std.proofs.lemmas.List.{length-replicate, ext_get_or}
 use Rattle.std.proofs.lemmas.Bool.{cases_lt}
 use Rattle.std.proofs.lemmas.Option.{slice_get_within, slice_get-get_or, get_or_from_slice_get}
-use Rattle.disk.specs.Disk.{Operation, Write, Resize, applied, Disk, IsImage, IsWhole, Writes, SomeWrites, IsPartial}
+use Rattle.disk.specs.Disk.{Operation, Write, Resize, applied, Disk, IsImage, IsWhole, Writes}
+use Rattle.disk.specs.Disk.{SomeWrites, IsPartial}
 
--- what a crash may leave of an operation of which it did some bytes alone: each byte is the old one, or one that the operation writes, or a zero past the old end; the length lies between
+-- what a crash may leave of an operation of which it did some bytes alone: each byte is the old
+-- one, or one that the operation writes, or a zero past the old end; the length lies between
 pub record IsTorn (o : Operation) (old new : List ℕ) : Type 0 where
-  pub len : ((length old ≤ length new) × (length new ≤ length (applied o old))) ⊎ ((length (applied o old) ≤ length new) × (length new ≤ length old))
-  pub each : (at byte : ℕ) → slice_get new at ≡ Some byte → (slice_get old at ≡ Some byte) ⊎ Writes o at byte ⊎ ((byte ≡ 0) × (length old ≤ at))
+  pub len : ((length old ≤ length new) × (length new ≤ length (applied o old))) ⊎
+      ((length (applied o old) ≤ length new) × (length new ≤ length old))
+  pub each : (at byte : ℕ) → slice_get new at ≡ Some byte → (slice_get old at ≡ Some byte) ⊎
+      Writes o at byte ⊎ ((byte ≡ 0) × (length old ≤ at))
 
 -- an element of two joined lists is one of the first, or one of the second
-slice_get_append : (xs ys : List ℕ) (at byte : ℕ) → slice_get (xs ++ ys) at ≡ Some byte → (slice_get xs at ≡ Some byte) ⊎ ((length xs ≤ at) × (slice_get ys (at - length xs) ≡ Some byte))
+slice_get_append : (xs ys : List ℕ) (at byte : ℕ) → slice_get (xs ++ ys) at ≡ Some byte →
+    (slice_get xs at ≡ Some byte) ⊎ ((length xs ≤ at) × (slice_get ys (at - length xs) ≡ Some byte))
 slice_get_append [] ys at byte h = inr (omega arith, let e : at - 0 ≡ at = omega arith in rw e h)
 slice_get_append (x ∷ xs) ys zero byte h = inl h
 slice_get_append (x ∷ xs) ys (suc at) byte h =
     elim (slice_get_append xs ys at byte h) [ inl a ↦ inl a | inr b ↦ inr (omega arith, let e : suc at - suc (length xs) ≡ at - length xs = omega arith in rw e b.1) ]
 
 -- an element of a beginning is one of the list
-slice_get_take : (n : ℕ) (xs : List ℕ) (at byte : ℕ) → slice_get (take n xs) at ≡ Some byte → slice_get xs at ≡ Some byte
+slice_get_take : (n : ℕ) (xs : List ℕ) (at byte : ℕ) → slice_get (take n xs) at ≡ Some byte →
+    slice_get xs at ≡ Some byte
 slice_get_take zero xs at byte h = cc
 slice_get_take (suc n) [] at byte h = h
 slice_get_take (suc n) (x ∷ xs) zero byte h = h
@@ -38,11 +46,13 @@ slice_get_zeros (suc n) zero byte h = (cc, omega arith)
 slice_get_zeros (suc n) (suc at) byte h = ((slice_get_zeros n at byte h).0, omega arith)
 
 -- what stands before the bytes of a write is as long as their place
-length_front : (place : ℕ) (old : List ℕ) → length (take place old ++ replicate (place - length old) 0) ≡ place
+length_front : (place : ℕ) (old : List ℕ) →
+    length (take place old ++ replicate (place - length old) 0) ≡ place
 length_front place old = simp (length-append, length-take, length-replicate) (omega arith)
 
 -- the length after a write
-pub length_write : (place : ℕ) (bytes old : List ℕ) → length (applied (Write place bytes) old) ≡ place + length bytes + (length old - (place + length bytes))
+pub length_write : (place : ℕ) (bytes old : List ℕ) →
+    length (applied (Write place bytes) old) ≡ place + length bytes + (length old - (place + length bytes))
 length_write place bytes old = simp (length-append, length-take, length-drop, length-replicate) (omega arith)
 
 -- the length after a resize
@@ -50,7 +60,9 @@ length_resize : (len : ℕ) (old : List ℕ) → length (applied (Resize len) ol
 length_resize len old = simp (length-append, length-take, length-replicate) (omega arith)
 
 -- a byte after a beginning with zeros behind it: an old one, or a zero past the old end
-front_byte : (n : ℕ) (old : List ℕ) (at byte : ℕ) → slice_get (take n old ++ replicate (n - length old) 0) at ≡ Some byte → (slice_get old at ≡ Some byte) ⊎ ((byte ≡ 0) × (length old ≤ at))
+front_byte : (n : ℕ) (old : List ℕ) (at byte : ℕ) →
+    slice_get (take n old ++ replicate (n - length old) 0) at ≡ Some byte →
+    (slice_get old at ≡ Some byte) ⊎ ((byte ≡ 0) × (length old ≤ at))
 front_byte n old at byte h =
     elim (slice_get_append (take n old) (replicate (n - length old) 0) at byte h) [
       | inl there ↦ inl (slice_get_take n old at byte there)
@@ -62,7 +74,9 @@ front_byte n old at byte h =
     ]
 
 -- a byte after an operation: an old one, or one that it writes, or a zero past the old end
-pub applied_byte : (o : Operation) (old : List ℕ) (at byte : ℕ) → slice_get (applied o old) at ≡ Some byte → (slice_get old at ≡ Some byte) ⊎ Writes o at byte ⊎ ((byte ≡ 0) × (length old ≤ at))
+pub applied_byte : (o : Operation) (old : List ℕ) (at byte : ℕ) →
+    slice_get (applied o old) at ≡ Some byte → (slice_get old at ≡ Some byte) ⊎ Writes o at byte ⊎
+    ((byte ≡ 0) × (length old ≤ at))
 applied_byte (Write place bytes) old at byte h =
     let front : List ℕ = take place old ++ replicate (place - length old) 0 in
     let f : length front ≡ place = length_front place old in
@@ -84,29 +98,34 @@ base_whole base [] = refl
 base_whole base (o ∷ os) = inl refl
 
 -- a whole state is one after more operations
-whole_more : (base : List ℕ) (os more : List Operation) (whole : List ℕ) → IsWhole base os whole → IsWhole base (os ++ more) whole
+whole_more : (base : List ℕ) (os more : List Operation) (whole : List ℕ) → IsWhole base os whole →
+    IsWhole base (os ++ more) whole
 whole_more base [] more whole h = rw h (base_whole base more)
 whole_more base (o ∷ os) more whole (inl h) = inl h
 whole_more base (o ∷ os) more whole (inr h) = inr (whole_more (applied o base) os more whole h)
 
 -- the last operation makes a whole state
-whole_last : (base : List ℕ) (os : List Operation) (o : Operation) → (old : List ℕ) × IsWhole base (os ++ o ∷ []) (applied o old)
+whole_last : (base : List ℕ) (os : List Operation) (o : Operation) → (old : List ℕ) ×
+    IsWhole base (os ++ o ∷ []) (applied o old)
 whole_last base [] o = (base, inr refl)
 whole_last base (p ∷ os) o = let r = whole_last (applied p base) os o in (r.0, inr r.1)
 
 -- what was written is, after more operations
-written_more : (os more : List Operation) (at byte : ℕ) → SomeWrites os at byte → SomeWrites (os ++ more) at byte
+written_more : (os more : List Operation) (at byte : ℕ) → SomeWrites os at byte →
+    SomeWrites (os ++ more) at byte
 written_more [] more at byte h = absurd h
 written_more (o ∷ os) more at byte (inl h) = inl h
 written_more (o ∷ os) more at byte (inr h) = inr (written_more os more at byte h)
 
 -- what the last operation writes was written
-written_last : (os : List Operation) (o : Operation) (at byte : ℕ) → Writes o at byte → SomeWrites (os ++ o ∷ []) at byte
+written_last : (os : List Operation) (o : Operation) (at byte : ℕ) → Writes o at byte →
+    SomeWrites (os ++ o ∷ []) at byte
 written_last [] o at byte h = inl h
 written_last (p ∷ os) o at byte h = inr (written_last os o at byte h)
 
 -- whether something is an image depends on the base and the operations since alone
-pub same_image : (d e : Disk) (image : List ℕ) → e.base ≡ d.base → e.since ≡ d.since → IsImage d image → IsImage e image
+pub same_image : (d e : Disk) (image : List ℕ) → e.base ≡ d.base → e.since ≡ d.since →
+    IsImage d image → IsImage e image
 same_image d e image base since i = record {
   no_shorter = rw (base, since) i.no_shorter;
   no_longer = rw (base, since) i.no_longer;
@@ -121,8 +140,10 @@ base_is_image d = record {
   each = λ at byte h. inl h;
 }
 
--- no list is longer than what a write leaves of it, unless it was longer; and a resize leaves one length
-longest : (o : Operation) (old other : List ℕ) → (length (applied o old) ≤ length old) ⊎ (length (applied o old) ≤ length (applied o other))
+-- no list is longer than what a write leaves of it, unless it was longer; and a resize leaves one
+-- length
+longest : (o : Operation) (old other : List ℕ) → (length (applied o old) ≤ length old) ⊎
+    (length (applied o old) ≤ length (applied o other))
 longest (Write place bytes) old other =
     let a = length_write place bytes old in
     let b = length_write place bytes other in
@@ -130,7 +151,8 @@ longest (Write place bytes) old other =
 longest (Resize len) old other = inr (omega (arith, length_resize len old, length_resize len other))
 
 -- a write leaves no list shorter; and a resize leaves one length
-shortest : (o : Operation) (old other : List ℕ) → (length old ≤ length (applied o old)) ⊎ (length (applied o other) ≤ length (applied o old))
+shortest : (o : Operation) (old other : List ℕ) → (length old ≤ length (applied o old)) ⊎
+    (length (applied o other) ≤ length (applied o old))
 shortest (Write place bytes) old other = inl (omega (arith, length_write place bytes old))
 shortest (Resize len) old other = inr (omega (arith, length_resize len old, length_resize len other))
 
@@ -139,13 +161,17 @@ record Follows (d e : Disk) (o : Operation) : Type 0 where
   base : e.base ≡ d.base
   since : e.since ≡ d.since ++ o ∷ []
 
-still_whole : (d e : Disk) (o : Operation) (whole : List ℕ) → Follows d e o → IsWhole d.base d.since whole → IsWhole e.base e.since whole
+still_whole : (d e : Disk) (o : Operation) (whole : List ℕ) → Follows d e o →
+    IsWhole d.base d.since whole → IsWhole e.base e.since whole
 still_whole d e o whole f h = rw (f.base, f.since) (whole_more d.base d.since (o ∷ []) whole h)
 
-new_whole : (d e : Disk) (o : Operation) → Follows d e o → (old : List ℕ) × IsWhole e.base e.since (applied o old)
+new_whole : (d e : Disk) (o : Operation) → Follows d e o → (old : List ℕ) ×
+    IsWhole e.base e.since (applied o old)
 new_whole d e o f = let r = whole_last d.base d.since o in (r.0, rw (f.base, f.since) r.1)
 
-torn_no_shorter : (d e : Disk) (o : Operation) (old new : List ℕ) → Follows d e o → IsTorn o old new → IsImage d old → (bytes : List ℕ) × IsWhole e.base e.since bytes × (length bytes ≤ length new)
+torn_no_shorter : (d e : Disk) (o : Operation) (old new : List ℕ) → Follows d e o →
+    IsTorn o old new → IsImage d old → (bytes : List ℕ) × IsWhole e.base e.since bytes ×
+    (length bytes ≤ length new)
 torn_no_shorter d e o old new f torn i =
     let w = i.no_shorter in
     let v = new_whole d e o f in
@@ -155,7 +181,9 @@ torn_no_shorter d e o old new f torn i =
       | inr b ↦ elim (shortest o old v.0) [ inl a ↦ kept (omega (arith, b.0)) | inr c ↦ (applied o v.0, v.1, omega (arith, b.0)) ]
     ]
 
-torn_no_longer : (d e : Disk) (o : Operation) (old new : List ℕ) → Follows d e o → IsTorn o old new → IsImage d old → (bytes : List ℕ) × IsWhole e.base e.since bytes × (length new ≤ length bytes)
+torn_no_longer : (d e : Disk) (o : Operation) (old new : List ℕ) → Follows d e o →
+    IsTorn o old new → IsImage d old → (bytes : List ℕ) × IsWhole e.base e.since bytes ×
+    (length new ≤ length bytes)
 torn_no_longer d e o old new f torn i =
     let w = i.no_longer in
     let v = new_whole d e o f in
@@ -167,14 +195,19 @@ torn_no_longer d e o old new f torn i =
 
 -- where a byte of an image comes from
 abbrev Source : Disk → ℕ → ℕ → Type 0
-Source d at byte = (slice_get d.base at ≡ Some byte) ⊎ SomeWrites d.since at byte ⊎ ((byte ≡ 0) × ((bytes : List ℕ) × IsWhole d.base d.since bytes × (length bytes ≤ at)))
+Source d at byte =
+    (slice_get d.base at ≡ Some byte) ⊎ SomeWrites d.since at byte ⊎
+    ((byte ≡ 0) × ((bytes : List ℕ) × IsWhole d.base d.since bytes × (length bytes ≤ at)))
 
-same_source : (d e : Disk) (o : Operation) (at byte : ℕ) → Follows d e o → Source d at byte → Source e at byte
+same_source : (d e : Disk) (o : Operation) (at byte : ℕ) → Follows d e o → Source d at byte →
+    Source e at byte
 same_source d e o at byte f (inl h) = inl (rw f.base h)
 same_source d e o at byte f (inr (inl h)) = inr (inl (rw f.since (written_more d.since (o ∷ []) at byte h)))
-same_source d e o at byte f (inr (inr h)) = inr (inr (h.0, (h.1.0, still_whole d e o h.1.0 f h.1.1, h.1.2)))
+same_source d e o at byte f (inr (inr h)) =
+    inr (inr (h.0, (h.1.0, still_whole d e o h.1.0 f h.1.1, h.1.2)))
 
-torn_each : (d e : Disk) (o : Operation) (old new : List ℕ) → Follows d e o → IsTorn o old new → IsImage d old → (at byte : ℕ) → slice_get new at ≡ Some byte → Source e at byte
+torn_each : (d e : Disk) (o : Operation) (old new : List ℕ) → Follows d e o → IsTorn o old new →
+    IsImage d old → (at byte : ℕ) → slice_get new at ≡ Some byte → Source e at byte
 torn_each d e o old new f torn i at byte h =
     let w = i.no_shorter in
     let from_old : slice_get old at ≡ Some byte → Source e at byte = λ k. same_source d e o at byte f (i.each at byte k) in
@@ -186,7 +219,8 @@ torn_each d e o old new f torn i at byte h =
     ]
 
 -- an image stays one through an operation that is done, failed or torn
-pub torn_image : (d e : Disk) (o : Operation) (old new : List ℕ) → e.base ≡ d.base → e.since ≡ d.since ++ o ∷ [] → IsTorn o old new → IsImage d old → IsImage e new
+pub torn_image : (d e : Disk) (o : Operation) (old new : List ℕ) → e.base ≡ d.base →
+    e.since ≡ d.since ++ o ∷ [] → IsTorn o old new → IsImage d old → IsImage e new
 torn_image d e o old new same more torn i =
     let f : Follows d e o = record { base = same; since = more } in
     record {
@@ -203,8 +237,10 @@ partial_is_torn o old new p = record {
 }
 
 -- an image stays one through an operation that is done, failed or cut short
-pub partial_image : (d e : Disk) (o : Operation) (old new : List ℕ) → e.base ≡ d.base → e.since ≡ d.since ++ o ∷ [] → IsPartial o old new → IsImage d old → IsImage e new
-partial_image d e o old new same more p i = torn_image d e o old new same more (partial_is_torn o old new p) i
+pub partial_image : (d e : Disk) (o : Operation) (old new : List ℕ) → e.base ≡ d.base →
+    e.since ≡ d.since ++ o ∷ [] → IsPartial o old new → IsImage d old → IsImage e new
+partial_image d e o old new same more p i =
+    torn_image d e o old new same more (partial_is_torn o old new p) i
 
 -- an operation may be done whole
 pub done_is_partial : (o : Operation) (old : List ℕ) → IsPartial o old (applied o old)
@@ -221,11 +257,13 @@ same_is_partial o old = record {
 }
 
 -- a whole state of a disk with nothing unsynced is the base
-settled_whole : (d : Disk) (whole : List ℕ) → d.since ≡ [] → IsWhole d.base d.since whole → whole ≡ d.base
+settled_whole : (d : Disk) (whole : List ℕ) → d.since ≡ [] → IsWhole d.base d.since whole →
+    whole ≡ d.base
 settled_whole d whole settled h = let same : IsWhole d.base [] whole = rw settled at h in same
 
 -- each byte of an image is then the base's
-settled_byte : (d : Disk) (image : List ℕ) (at byte : ℕ) → d.since ≡ [] → IsImage d image → slice_get image at ≡ Some byte → slice_get d.base at ≡ Some byte
+settled_byte : (d : Disk) (image : List ℕ) (at byte : ℕ) → d.since ≡ [] → IsImage d image →
+    slice_get image at ≡ Some byte → slice_get d.base at ≡ Some byte
 settled_byte d image at byte settled i h =
     let long = ap length (settled_whole d i.no_longer.0 settled i.no_longer.1) in
     let within : at < length image = slice_get_within image at byte h in

@@ -1,7 +1,9 @@
 -- What is readable in a life that events tell is an image.
 use Rattle.std.specs.Prelude.{List, [], ◌∷◌, length, Bool, true, false, refl}
-use Rattle.disk.specs.Disk.{Operation, Write, Resize, applied, Disk, IsImage, Life, Request, ReadAt, WriteAt, ResizeTo, SyncAll, logged, settle}
-use Rattle.disk.specs.Images.{same_image, base_is_image, partial_image, done_is_partial, same_is_partial}
+use Rattle.disk.specs.Disk.{Operation, Write, Resize, applied, Disk, IsImage, Life, Request, ReadAt}
+use Rattle.disk.specs.Disk.{WriteAt, ResizeTo, SyncAll, logged, settle}
+use Rattle.disk.specs.Images.{same_image, base_is_image, partial_image, done_is_partial}
+use Rattle.disk.specs.Images.{same_is_partial}
 use Rattle.disk.specs.declared.action.Action.{Action}
 use Rattle.disk.specs.declared.action.Action.TheVariants as actions
 use Rattle.disk.specs.declared.action.Event.{Event}
@@ -12,29 +14,42 @@ abbrev pub ReadsImage : Disk → Type 0
 ReadsImage d = IsImage d d.readable
 
 -- the log plays no part in it
-logged_reads : (request : Request) (failed : Bool) (d : Disk) → ReadsImage d → ReadsImage (logged request failed d)
+logged_reads : (request : Request) (failed : Bool) (d : Disk) → ReadsImage d →
+    ReadsImage (logged request failed d)
 logged_reads request failed d i = same_image d (logged request failed d) d.readable refl refl i
 
-operated_reads : (o : Operation) (request : Request) (failed : Bool) (d : Disk) → ReadsImage d → ReadsImage (operated o request failed d)
-operated_reads o request true d i = partial_image d (operated o request true d) o d.readable d.readable refl refl (same_is_partial o d.readable) i
-operated_reads o request false d i = partial_image d (operated o request false d) o d.readable (applied o d.readable) refl refl (done_is_partial o d.readable) i
+operated_reads : (o : Operation) (request : Request) (failed : Bool) (d : Disk) → ReadsImage d →
+    ReadsImage (operated o request failed d)
+operated_reads o request true d i =
+    partial_image d (operated o request true d) o d.readable d.readable refl refl (same_is_partial o d.readable) i
+operated_reads o request false d i =
+    partial_image d (operated o request false d) o d.readable (applied o d.readable) refl refl (done_is_partial o d.readable) i
 
 settled_reads : (d : Disk) → ReadsImage (settle d)
 settled_reads d = base_is_image (settle d)
 
-lives_reads : (action : Action) (failed : Bool) (life : Life) → ReadsImage life.present → ReadsImage (lives action failed life).present
-lives_reads (actions.Read place len) failed life i = logged_reads (ReadAt place len) failed life.present i
-lives_reads (actions.Write place bytes false) failed life i = operated_reads (Write place bytes) (WriteAt place (length bytes) false) failed life.present i
-lives_reads (actions.Write place bytes true) true life i = operated_reads (Write place bytes) (WriteAt place (length bytes) true) true life.present i
-lives_reads (actions.Write place bytes true) false life i = settled_reads (operated (Write place bytes) (WriteAt place (length bytes) true) false life.present)
-lives_reads (actions.Resize len) failed life i = operated_reads (Resize len) (ResizeTo len) failed life.present i
+lives_reads : (action : Action) (failed : Bool) (life : Life) → ReadsImage life.present →
+    ReadsImage (lives action failed life).present
+lives_reads (actions.Read place len) failed life i =
+    logged_reads (ReadAt place len) failed life.present i
+lives_reads (actions.Write place bytes false) failed life i =
+    operated_reads (Write place bytes) (WriteAt place (length bytes) false) failed life.present i
+lives_reads (actions.Write place bytes true) true life i =
+    operated_reads (Write place bytes) (WriteAt place (length bytes) true) true life.present i
+lives_reads (actions.Write place bytes true) false life i =
+    settled_reads (operated (Write place bytes) (WriteAt place (length bytes) true) false life.present)
+lives_reads (actions.Resize len) failed life i =
+    operated_reads (Resize len) (ResizeTo len) failed life.present i
 lives_reads actions.Sync true life i = logged_reads SyncAll true life.present i
 lives_reads actions.Sync false life i = settled_reads (logged SyncAll false life.present)
 
-goes_on_reads : (es : List Event) (life : Life) → ReadsImage life.present → ReadsImage (goes_on life es).present
+goes_on_reads : (es : List Event) (life : Life) → ReadsImage life.present →
+    ReadsImage (goes_on life es).present
 goes_on_reads [] life i = i
-goes_on_reads (e ∷ es) life i = goes_on_reads es (lives e.action e.failed life) (lives_reads e.action e.failed life i)
+goes_on_reads (e ∷ es) life i =
+    goes_on_reads es (lives e.action e.failed life) (lives_reads e.action e.failed life i)
 
 -- what is readable in such a life is an image
 pub life_reads : (h : History) → IsImage (life_of h).present (life_of h).present.readable
-life_reads h = goes_on_reads h.events (begun h.first h.earlier) (base_is_image (begun h.first h.earlier).present)
+life_reads h =
+    goes_on_reads h.events (begun h.first h.earlier) (base_is_image (begun h.first h.earlier).present)

@@ -6,7 +6,8 @@ use Rattle.disk.specs.Disk.{Operation, Write, Resize, applied}
 abbrev pub torn_write : List Bool → ℕ → List ℕ → List ℕ → List ℕ
 torn_write [] place bytes image = image
 torn_write (flag ∷ keep) place [] image = image
-torn_write (flag ∷ keep) place (byte ∷ bytes) image = torn_write keep (place + 1) bytes (if flag then applied (Write place (byte ∷ [])) image else image)
+torn_write (flag ∷ keep) place (byte ∷ bytes) image =
+    torn_write keep (place + 1) bytes (if flag then applied (Write place (byte ∷ [])) image else image)
 
 -- a resize where its flag is true
 abbrev pub torn_resize : List Bool → ℕ → List ℕ → List ℕ
@@ -16,5 +17,6 @@ torn_resize (flag ∷ keep) len image = if flag then applied (Resize len) image 
 -- operations in order, each with its flags: one for each byte of a write, one for a resize
 abbrev pub torn : List Bool → List Operation → List ℕ → List ℕ
 torn keep [] image = image
-torn keep (Write place bytes ∷ os) image = torn (drop (length bytes) keep) os (torn_write keep place bytes image)
+torn keep (Write place bytes ∷ os) image =
+    torn (drop (length bytes) keep) os (torn_write keep place bytes image)
 torn keep (Resize len ∷ os) image = torn (drop 1 keep) os (torn_resize keep len image)

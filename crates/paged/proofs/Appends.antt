@@ -1,5 +1,5 @@
 -- What an append owes.
-use Rattle.std.proofs.Common.{◌≡◌, ℕ, ◌+◌, ◌*◌, ◌/◌, ◌<◌, List, [], ◌++◌, length, refl, sym, ap, arith, ◌∙◌, subst, append-nil, Ok, Err, Result}
+use Rattle.std.proofs.Common.{◌≡◌, ℕ, ◌+◌, ◌/◌, ◌<◌, List, [], ◌++◌, length, refl, sym, ap, arith, ◌∙◌, subst, append-nil, Ok, Err, Result}
 use Rattle.std.specs.Prelude.{Option, Some, None}
 use Rattle.disk.specs.Disk.{Life}
 use Rattle.disk.specs.declared.error.Error.{Error}
@@ -7,29 +7,27 @@ use Rattle.disk.specs.declared.error.Error.TheVariants.{ReadFailed, WriteFailed,
 use Rattle.crash.specs.WriterState.{WriterState, SyncState}
 use Rattle.crash.specs.Sound.{IsSound, content}
 use Rattle.crash.specs.Stays.{StaysThrough}
-use Rattle.crash.proofs.FlushLaws.{tip_reach, length-content, longer_content}
+use Rattle.crash.proofs.FlushLaws.{longer_content}
 use Rattle.crash.proofs.Moments.{stays_through_start, stays_through_longer}
-use Rattle.paged.proofs.Flushes.{begins, goes_on_same}
+use Rattle.paged.proofs.Flushes.{begins, size_is_length, goes_on_same}
 use Rattle.crash.proofs.Soundness.{longer_sound}
 use Rattle.page.specs.Tip.{Tip, TryAppendGoes}
 use Rattle.page.specs.declared.slot.ActiveChecksum.{ActiveChecksum}
 use Rattle.paged.specs.Writer.{FitsBlob, IsWriter}
 use Rattle.paged.proofs.Sizes.{size_fits}
-use Rattle.paged.specs.Calls.{GoesOn, Refuses, Appends, Buffers, TryAppends, BuffersOver, KeepsSound}
-
--- the size of a sound writer is the length of its content
-pub size_is_length : (sum : List ℕ → ℕ) (w : WriterState) (life : Life) → IsSound sum w life.present → w.full_pages * w.page_size + length w.tip ≡ length (content w life.present.readable)
-size_is_length sum w life sound = sym (length-content w life.present.readable ((tip_reach sum w.page_size w.full_pages w.tip life.present.readable w.flushed sound.stands.tip_page).0))
+use Rattle.paged.specs.Calls.{GoesOn, Refuses, Appends, Buffers, TryAppends, BuffersOver, KeepsSound, KeepsPages}
 
 -- bytes are buffered, and what is written then leaves the content
 pub append_goes : (sum : List ℕ → ℕ) (w v now : WriterState) (old new : Life) (bytes : List ℕ) → IsSound sum w old.present → v ≡ record w { tip = w.tip ++ bytes }
     → GoesOn sum v old [] now new → GoesOn sum w old bytes now new
+unfolding IsSound
 append_goes sum w v now old new bytes sound is goes =
     let h : GoesOn sum (record w { tip = w.tip ++ bytes }) old [] now new = subst (λ v. GoesOn sum v old [] now new) is goes in
     let longer = append-nil (content (record w { tip = w.tip ++ bytes }) old.present.readable) ∙ longer_content sum w old.present sound.stands bytes in
     record {
       sound = h.sound;
       content = h.content ∙ longer;
+      size = h.size;
       same = record { page_size = h.same.page_size; id = h.same.id; capacity = h.same.capacity };
       log = h.log;
       stays = subst (λ c. StaysThrough sum w.page_size c old new) longer h.stays;
@@ -38,12 +36,14 @@ append_goes sum w v now old new bytes sound is goes =
 -- or is refused
 pub append_refused : (sum : List ℕ → ℕ) (w v : WriterState) (old new : Life) (bytes : List ℕ) (e : Error) → IsSound sum w old.present → v ≡ record w { tip = w.tip ++ bytes }
     → Refuses sum v.page_size (content v old.present.readable) old new e → Refuses sum w.page_size (content w old.present.readable ++ bytes) old new e
+unfolding IsSound
 append_refused sum w v old new bytes e sound is refused =
     let h : Refuses sum w.page_size (content (record w { tip = w.tip ++ bytes }) old.present.readable) old new e = subst (λ (v : WriterState). Refuses sum v.page_size (content v old.present.readable) old new e) is refused in
     record { cause = h.cause; stays = subst (λ c. StaysThrough sum w.page_size c old new) (longer_content sum w old.present sound.stands bytes) h.stays }
 
 -- memory is refused before the device is asked
 pub append_unasked : (sum : List ℕ → ℕ) (w : WriterState) (life : Life) (bytes : List ℕ) → IsSound sum w life.present → StaysThrough sum w.page_size (content w life.present.readable ++ bytes) life life
+unfolding IsSound
 append_unasked sum w life bytes sound =
     stays_through_longer sum w.page_size (content w life.present.readable) (content w life.present.readable ++ bytes) life life (begins (content w life.present.readable) bytes)
     (stays_through_start sum w.page_size (content w life.present.readable) life sound.truthful)
@@ -74,6 +74,7 @@ append_fails sum w bytes old new IdsExhausted refused = refused
 
 -- bytes that are buffered are an append
 pub buffered_goes : (sum : List ℕ → ℕ) (w now : WriterState) (bytes : List ℕ) (life : Life) → IsSound sum w life.present → now ≡ record w { tip = w.tip ++ bytes } → GoesOn sum w life bytes now life
+unfolding IsSound
 buffered_goes sum w now bytes life sound is =
     append_goes sum w now now life life bytes sound is (goes_on_same sum now life (subst (λ (v : WriterState). IsSound sum v life.present) (sym is) (longer_sound sum w life.present sound bytes)))
 
@@ -85,10 +86,10 @@ buffers_over sum w now bytes (Err e) tries = tt
 
 -- whatever it answers, the writer is sound where it was
 pub keeps_sound : (sum : List ℕ → ℕ) (w now : WriterState) (bytes : List ℕ) (result : Result (Option ℕ) Error) → TryAppends w bytes now result → KeepsSound sum w now
-keeps_sound sum w now bytes (Ok (Some at)) tries = λ life sound. (buffered_goes sum w now bytes life sound tries.3).sound
-keeps_sound sum w now bytes (Ok None) tries = λ life sound. subst (λ (v : WriterState). IsSound sum v life.present) (sym tries.2) sound
-keeps_sound sum w now bytes (Err OffsetOverflow) tries = λ life sound. subst (λ (v : WriterState). IsSound sum v life.present) (sym tries.1) sound
-keeps_sound sum w now bytes (Err OutOfMemory) tries = λ life sound. subst (λ (v : WriterState). IsSound sum v life.present) (sym tries.2) sound
+keeps_sound sum w now bytes (Ok (Some at)) tries = λ d sound. (buffered_goes sum w now bytes (record { present = d; past = [] }) sound tries.3).sound
+keeps_sound sum w now bytes (Ok None) tries = λ d sound. subst (λ (v : WriterState). IsSound sum v d) (sym tries.2) sound
+keeps_sound sum w now bytes (Err OffsetOverflow) tries = λ d sound. subst (λ (v : WriterState). IsSound sum v d) (sym tries.1) sound
+keeps_sound sum w now bytes (Err OutOfMemory) tries = λ d sound. subst (λ (v : WriterState). IsSound sum v d) (sym tries.2) sound
 keeps_sound sum w now bytes (Err ReadFailed) tries = absurd tries
 keeps_sound sum w now bytes (Err WriteFailed) tries = absurd tries
 keeps_sound sum w now bytes (Err ResizeFailed) tries = absurd tries
@@ -96,6 +97,20 @@ keeps_sound sum w now bytes (Err SyncFailed) tries = absurd tries
 keeps_sound sum w now bytes (Err InvalidChecksum) tries = absurd tries
 keeps_sound sum w now bytes (Err BlobInsufficientLength) tries = absurd tries
 keeps_sound sum w now bytes (Err IdsExhausted) tries = absurd tries
+
+-- whatever it answers, the pages below the tip stay the same
+pub keeps_pages : (w now : WriterState) (bytes : List ℕ) (result : Result (Option ℕ) Error) → TryAppends w bytes now result → KeepsPages w now
+keeps_pages w now bytes (Ok (Some at)) tries = (ap (λ (v : WriterState). v.page_size) tries.3, ap (λ (v : WriterState). v.full_pages) tries.3)
+keeps_pages w now bytes (Ok None) tries = (ap (λ (v : WriterState). v.page_size) tries.2, ap (λ (v : WriterState). v.full_pages) tries.2)
+keeps_pages w now bytes (Err OffsetOverflow) tries = (ap (λ (v : WriterState). v.page_size) tries.1, ap (λ (v : WriterState). v.full_pages) tries.1)
+keeps_pages w now bytes (Err OutOfMemory) tries = (ap (λ (v : WriterState). v.page_size) tries.2, ap (λ (v : WriterState). v.full_pages) tries.2)
+keeps_pages w now bytes (Err ReadFailed) tries = absurd tries
+keeps_pages w now bytes (Err WriteFailed) tries = absurd tries
+keeps_pages w now bytes (Err ResizeFailed) tries = absurd tries
+keeps_pages w now bytes (Err SyncFailed) tries = absurd tries
+keeps_pages w now bytes (Err InvalidChecksum) tries = absurd tries
+keeps_pages w now bytes (Err BlobInsufficientLength) tries = absurd tries
+keeps_pages w now bytes (Err IdsExhausted) tries = absurd tries
 
 -- a writer's state with this tip
 abbrev pub with_tip : (P id : ℕ) → Option ActiveChecksum → Option ActiveChecksum → SyncState → Tip → WriterState

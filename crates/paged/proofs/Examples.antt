@@ -1,9 +1,9 @@
 -- What a writer's calls are told by, at a few bytes. Pages have 4 bytes, and the checksum is their sum.
-use Rattle.std.proofs.Common.{◌≡◌, [], ◌∷◌, ◌++◌, refl, arith}
+use Rattle.std.proofs.Common.{◌≡◌, ℕ, zero, suc, [], ◌∷◌, ◌++◌, refl, sym, subst, inl, inr, arith}
 use Rattle.std.specs.Prelude.{None, Some, Ok, true, false}
-use Rattle.disk.specs.Disk.{Life, next, logged}
+use Rattle.disk.specs.Disk.{Life, LogGrows, SomeFailed, next, logged}
 use Rattle.disk.specs.Disk.Request.{ReadAt}
-use Rattle.disk.specs.declared.error.Error.TheVariants.{ReadFailed, InvalidChecksum}
+use Rattle.disk.specs.declared.error.Error.TheVariants.{ReadFailed, SyncFailed, InvalidChecksum}
 use Rattle.page.specs.Sums.{add_sum}
 use Rattle.page.proofs.Examples.{abcd_page, ef_page, efg_page}
 use Rattle.crash.specs.WriterState.{WriterState}
@@ -12,9 +12,10 @@ use Rattle.crash.specs.WriterState.SyncState.{Clean, Dirty}
 use Rattle.crash.proofs.Examples.{at_rest, with_g}
 use Rattle.paged.specs.Writer.{physical_size, FitsBlob}
 use Rattle.paged.specs.Flush.{full_in, rest_of, has_work, carried, advanced, synced, place_of, flush_bytes, rest_bytes, footers_of, with_footers}
-use Rattle.paged.specs.Calls.{HasCause, LogGrows, IsSettled, TryAppends}
+use Rattle.paged.specs.Recovery.{RecoveryCause}
+use Rattle.paged.specs.Calls.{IsSettled, TryAppends}
 use Rattle.paged.specs.Prefix.{page_at}
-use Rattle.paged.specs.Reads.{HasPages, ReadFault, size_of}
+use Rattle.paged.specs.Reads.{HasPages, Touches, ReadFault, size_of}
 
 -- one full page and five bytes more take three pages of 16 bytes
 pub a_physical_size : physical_size 4 1 5 ≡ 48
@@ -102,16 +103,20 @@ abbrev pub failed_read : Life
 failed_read = next old (logged (ReadAt 0 16) true old.present)
 
 -- so a call may answer ReadFailed
-pub a_cause : HasCause old failed_read ReadFailed
-a_cause = omega arith
+pub a_cause : RecoveryCause old failed_read ReadFailed
+a_cause = (record { request = ReadAt 0 16; failed = true } ∷ [], refl, inl (refl, refl))
 
 -- but not where no call failed
-pub no_cause : HasCause old (next old (logged (ReadAt 0 16) false old.present)) ReadFailed → ⊥
-no_cause cause = omega (arith, cause)
+pub no_cause : RecoveryCause old (next old (logged (ReadAt 0 16) false old.present)) ReadFailed → ⊥
+no_cause (more, is, some) = elim (subst (λ entries. SomeFailed ReadFailed entries) (sym is) some) [ inl failed ↦ absurd (cc (failed.0)) | inr none ↦ none ]
 
--- its log has one failure more
-pub the_log_grows : LogGrows old failed_read
-the_log_grows = omega arith
+-- nor where another call failed
+pub no_other_cause : RecoveryCause old failed_read SyncFailed → ⊥
+no_other_cause (more, is, some) = elim (subst (λ entries. SomeFailed SyncFailed entries) (sym is) some) [ inl failed ↦ absurd (cc (failed.1)) | inr none ↦ none ]
+
+-- its log goes on
+pub the_log_grows : LogGrows old.present failed_read.present
+the_log_grows = (record { request = ReadAt 0 16; failed = true } ∷ [], refl)
 
 -- the second physical page
 pub second_page : page_at 4 1 (abcd_page ++ ef_page) ≡ ef_page
@@ -121,9 +126,18 @@ second_page = refl
 pub has_pages : HasPages with_g old
 has_pages = omega arith
 
+-- a read from place 3 on touches it
+pub it_is_touched : Touches with_g 3 5 0
+it_is_touched = (omega arith, omega arith, omega arith, omega arith)
+
+-- one from place 4 on doesn't
+pub not_touched : Touches with_g 4 5 0 → ⊥
+not_touched touches = omega (arith, touches.2)
+
 -- it is full, so a read can't answer InvalidChecksum
-pub no_read_fault : ReadFault add_sum with_g old old InvalidChecksum → ⊥
-no_read_fault fault = fault (refl, tt)
+pub no_read_fault : (from to : ℕ) → ReadFault add_sum with_g from to old old InvalidChecksum → ⊥
+no_read_fault from to (zero, touches, bad) = bad refl
+no_read_fault from to (suc page, touches, bad) = omega (arith, touches.0)
 
 -- "h" fits behind "efg" in a buffer of eight bytes, and stands at place 7
 pub a_buffered_try : TryAppends with_g (104 ∷ []) (record with_g { tip = 101 ∷ 102 ∷ 103 ∷ 104 ∷ [] }) (Ok (Some 7))

@@ -7,11 +7,12 @@ use Rattle.std.proofs.lemmas.Option.{same_Some}
 use Rattle.std.proofs.lemmas.Bool.{cases_eq, cases_lt}
 use Rattle.page.specs.Page.{pages, pieces, active, value_len, text_of_pages, text}
 use Rattle.page.specs.declared.slot.ActiveChecksum.{ActiveChecksum}
+use Rattle.crash.specs.Built.{kept_len}
 use Rattle.crash.specs.Full.{AreFull}
 use Rattle.crash.proofs.Pages.{length-pages, pages_at, pages_fit, pages_reach, take-pieces, pieces_of_take}
-use Rattle.crash.proofs.Texts.{active_none, text_full, text_part, value_len_le}
+use Rattle.crash.proofs.Texts.{active_is, active_none, text_full, text_part, value_len_le}
 use Rattle.paged.specs.declared.prefix.Prefix.{Prefix}
-use Rattle.paged.specs.Prefix.{page_at, behind, value_and_slot, prefix_of, prefix_pages, partial_pages, tip_of}
+use Rattle.paged.specs.Prefix.{page_at, behind, value_and_slot, prefix_of, prefix_pages, partial_pages, tip_of, slot_of_tip}
 use Rattle.paged.specs.Recovery.{opened_prefix, opened_size}
 use Rattle.paged.proofs.Prefixes.{partial_pages_le, active_zero, one_page, prefix_full, prefix_part, tip_short, last_is}
 
@@ -27,6 +28,14 @@ module _ (sum : List ℕ → ℕ) (P : ℕ) where
     pub tip : 0 < P → length (tip_of p.partial) < P
     pub full : AreFull sum P (take p.full_pages some)
     pub behind : Behind some p.full_pages p.partial
+
+  -- a page's value is as long as its slot says
+  pub told_len : (some : List (List ℕ)) (full : ℕ) (found : Option (List ℕ × ActiveChecksum)) → ((page : List ℕ) → slice_get some full ≡ Some page → P ≤ length page) → Behind some full found
+      → kept_len (slot_of_tip found) ≡ length (tip_of found)
+  told_len some full None long is = refl
+  told_len some full (Some v) long is =
+      let told = active_is sum P is.0 v.1 is.2 in
+      sym (ap length is.3 ∙ length-take-le v.1.len is.0 (omega (arith, told.fits, long is.0 is.1)))
 
   -- the first page isn't full
   behind_first : (page : List ℕ) (rest : List (List ℕ)) (slot : Option ActiveChecksum) → value_len sum P page ≢ P → active sum P page ≡ slot → Behind (page ∷ rest) 0 (value_and_slot slot page)

@@ -1,5 +1,5 @@
 -- From what a device call did to what a flush and a sync owe.
-use Rattle.std.proofs.Common.{◌≡◌, ℕ, ◌%◌, ◌<◌, ◌≤◌, List, [], ◌++◌, length, take, refl, sym, ap, ◌∙◌, subst, arith, append-nil, Bool, true, false, Result, Ok, Err, inl}
+use Rattle.std.proofs.Common.{◌≡◌, ℕ, ◌+◌, ◌*◌, ◌%◌, ◌<◌, ◌≤◌, List, [], ◌++◌, length, take, refl, sym, ap, ◌∙◌, subst, arith, append-nil, Bool, true, false, Result, Ok, Err}
 use Rattle.std.specs.Prelude.{IfOk, IsErrOf, not, ◌==◌, if◌then◌else◌}
 use Rattle.std.proofs.lemmas.List.{take_at}
 use Rattle.std.proofs.lemmas.Bool.Decides.{nat_tests}
@@ -13,18 +13,24 @@ use Rattle.crash.specs.Built.{after_write}
 use Rattle.crash.specs.Sound.{IsSound, CanWrite, content, guard_slot}
 use Rattle.crash.specs.Stays.{StaysThrough}
 use Rattle.crash.proofs.BuiltLaws.{IsSmall}
-use Rattle.crash.proofs.FlushLaws.{flushed_fits}
+use Rattle.crash.proofs.FlushLaws.{flushed_fits, tip_reach, length-content}
 use Rattle.crash.proofs.Moments.{stays_through_start, stays_through_joins}
 use Rattle.crash.proofs.Soundness.{carry_sound, guard_slot-again}
 use Rattle.crash.proofs.CallLaws.{sync_stays, sync_sound, sync_content, write_stays, write_sound, durable_write_sound, write_content}
+use Rattle.disk.proofs.Logs.{grows_same, grows_once, grows_joins}
 use Rattle.paged.proofs.Flushing.{length-rest}
-use Rattle.paged.proofs.Causes.{write_cause, sync_cause, cause_later, log_more, sync_asks}
-use Rattle.paged.specs.Flush.{full_in, has_work, carried, synced, place_of, flush_bytes, outcome}
-use Rattle.paged.specs.Calls.{AsksAtMost, settle_calls, sync_calls, IsBounded, HoldsWithin, IsSameWriter, GoesOn, Flushes, Syncs, Settles, IsSettled}
+use Rattle.paged.proofs.Causes.{write_cause, sync_cause, cause_later, sync_asks}
+use Rattle.paged.specs.Flush.{full_in, rest_of, has_work, carried, synced, written, place_of, flush_bytes, outcome}
+use Rattle.paged.specs.Calls.{AsksAtMost, settle_calls, sync_calls, HoldsWithin, IsSameWriter, GoesOn, Flushes, Syncs, Settles, IsSettled}
 
 -- a content is the beginning of a longer one
 pub begins : (xs ys : List ℕ) → xs ≡ take (length xs) (xs ++ ys)
 begins xs ys = sym (take_at xs ys (length xs) refl)
+
+-- the size of a sound writer is the length of its content
+pub size_is_length : (sum : List ℕ → ℕ) (w : WriterState) (life : Life) → IsSound sum w life.present → w.full_pages * w.page_size + length w.tip ≡ length (content w life.present.readable)
+unfolding IsSound
+size_is_length sum w life sound = sym (length-content w life.present.readable ((tip_reach sum w.page_size w.full_pages w.tip life.present.readable w.flushed sound.stands.tip_page).0))
 
 -- promises over a content are promises over that content and no bytes more
 stays_nil : (sum : List ℕ → ℕ) (P : ℕ) (content : List ℕ) (old new : Life) → StaysThrough sum P content old new → StaysThrough sum P (content ++ []) old new
@@ -34,11 +40,13 @@ stays_nil sum P content old new stays = subst (λ c. StaysThrough sum P c old ne
 pub flush_goes : (sum : List ℕ → ℕ) (w : WriterState) (rest : Bool) (old new : Life) (result : Result WriterState Error) → IsSmall sum → IsSound sum w old.present
     → w.durable ≡ guard_slot w.sync w.flushed w.durable → CanWrite w.page_size w.tip (full_in w) rest → WriteGoes (place_of w) (flush_bytes sum w rest) false old new (outcome result)
     → IfOk result (λ now. now ≡ after_write sum w (full_in w) rest) → (IsErrOf result OffsetOverflow → ⊥) → Flushes sum w old new result
+unfolding IsSound
 flush_goes sum w rest old new (Ok now) small sound is can goes state fits = record {
   sound = subst (λ n. IsSound sum n new.present) (sym state) (write_sound sum w old new (full_in w) rest (flush_bytes sum w rest) small sound is can refl tt goes);
+  size = size_is_length sum now new (subst (λ n. IsSound sum n new.present) (sym state) (write_sound sum w old new (full_in w) rest (flush_bytes sum w rest) small sound is can refl tt goes));
   content = ap (λ n. content n new.present.readable) state ∙ write_content sum w old new (full_in w) rest (flush_bytes sum w rest) small sound is can refl false tt goes ∙ sym (append-nil (content w old.present.readable));
   same = subst (λ n. IsSameWriter w n) (sym state) (record { page_size = refl; id = refl; capacity = refl });
-  log = log_more old.present.log new.present.log (WriteAt (place_of w) (length (flush_bytes sum w rest)) false) false (ap (λ l. l.present.log) goes.1 ∙ ap (λ e. e.log) goes.2.rest);
+  log = grows_once (WriteAt (place_of w) (length (flush_bytes sum w rest)) false) false old.present new.present (ap (λ l. l.present.log) goes.1 ∙ ap (λ e. e.log) goes.2.rest);
   stays = stays_nil sum w.page_size (content w old.present.readable) old new (write_stays sum w old new (full_in w) rest (flush_bytes sum w rest) small sound is can refl false (Ok tt) goes);
 }
 flush_goes sum w rest old new (Err e) small sound is can goes state fits = record {
@@ -48,7 +56,7 @@ flush_goes sum w rest old new (Err e) small sound is can goes state fits = recor
 
 -- going on from a writer whose durable slot was brought up to date is going on from the writer
 carried_goes_on : (sum : List ℕ → ℕ) (w now : WriterState) (old new : Life) → GoesOn sum (carried w) old [] now new → GoesOn sum w old [] now new
-carried_goes_on sum w now old new h = record { sound = h.sound; content = h.content; same = record { page_size = h.same.page_size; id = h.same.id; capacity = h.same.capacity }; log = h.log; stays = h.stays }
+carried_goes_on sum w now old new h = record { sound = h.sound; content = h.content; size = h.size; same = record { page_size = h.same.page_size; id = h.same.id; capacity = h.same.capacity }; log = h.log; stays = h.stays }
 
 flushes_carried : (sum : List ℕ → ℕ) (w : WriterState) (old new : Life) (result : Result WriterState Error) → Flushes sum (carried w) old new result → Flushes sum w old new result
 flushes_carried sum w old new (Ok now) h = carried_goes_on sum w now old new h
@@ -58,6 +66,7 @@ flushes_carried sum w old new (Err e) h = record { cause = h.cause; stays = h.st
 pub flush_call : (sum : List ℕ → ℕ) (w v : WriterState) (rest : Bool) (old new : Life) (result : Result WriterState Error) → IsSmall sum → IsSound sum w old.present → v ≡ carried w
     → CanWrite v.page_size v.tip (full_in v) rest → WriteGoes (place_of v) (flush_bytes sum v rest) false old new (outcome result)
     → IfOk result (λ now. now ≡ after_write sum v (full_in v) rest) → (IsErrOf result OffsetOverflow → ⊥) → Flushes sum w old new result
+unfolding IsSound
 flush_call sum w v rest old new result small sound is =
     subst (λ v. CanWrite v.page_size v.tip (full_in v) rest → WriteGoes (place_of v) (flush_bytes sum v rest) false old new (outcome result)
     → IfOk result (λ now. now ≡ after_write sum v (full_in v) rest) → (IsErrOf result OffsetOverflow → ⊥) → Flushes sum w old new result) (sym is)
@@ -67,9 +76,10 @@ flush_call sum w v rest old new result small sound is =
 pub goes_on_more : (sum : List ℕ → ℕ) (w m n : WriterState) (old mid new : Life) → GoesOn sum w old [] m mid → GoesOn sum m mid [] n new → GoesOn sum w old [] n new
 goes_on_more sum w m n old mid new first second = record {
   sound = second.sound;
+  size = second.size;
   content = second.content ∙ append-nil (content m mid.present.readable) ∙ first.content;
   same = record { page_size = second.same.page_size ∙ first.same.page_size; id = second.same.id ∙ first.same.id; capacity = second.same.capacity ∙ first.same.capacity };
-  log = omega (arith, first.log, second.log);
+  log = grows_joins old.present mid.present new.present first.log second.log;
   stays = stays_through_joins sum w.page_size (content w old.present.readable ++ []) old mid new first.stays
       (subst (λ P. StaysThrough sum P (content w old.present.readable ++ []) mid new) first.same.page_size
       (subst (λ c. StaysThrough sum m.page_size c mid new) (append-nil (content m mid.present.readable) ∙ first.content) second.stays));
@@ -77,26 +87,31 @@ goes_on_more sum w m n old mid new first second = record {
 
 -- no call at all
 pub goes_on_same : (sum : List ℕ → ℕ) (w : WriterState) (life : Life) → IsSound sum w life.present → GoesOn sum w life [] w life
+unfolding IsSound
 goes_on_same sum w life sound = record {
   sound = sound;
+  size = size_is_length sum w life sound;
   content = sym (append-nil (content w life.present.readable));
   same = record { page_size = refl; id = refl; capacity = refl };
-  log = omega arith;
+  log = grows_same life.present life.present refl;
   stays = stays_nil sum w.page_size (content w life.present.readable) life life (stays_through_start sum w.page_size (content w life.present.readable) life sound.truthful);
 }
 
 -- a sync of the blob
 settle_ok : (sum : List ℕ → ℕ) (w now : WriterState) (old new : Life) → IsSmall sum → IsSound sum w old.present → SyncGoes old new (Ok tt) → now ≡ synced w → GoesOn sum w old [] now new
+unfolding IsSound
 settle_ok sum w now old new small sound goes state = record {
   sound = subst (λ n. IsSound sum n new.present) (sym state) (sync_sound sum w old sound new tt small goes);
+  size = size_is_length sum now new (subst (λ n. IsSound sum n new.present) (sym state) (sync_sound sum w old sound new tt small goes));
   content = ap (λ n. content n new.present.readable) state ∙ sync_content sum w old sound new tt goes ∙ sym (append-nil (content w old.present.readable));
   same = subst (λ n. IsSameWriter w n) (sym state) (record { page_size = refl; id = refl; capacity = refl });
-  log = log_more old.present.log new.present.log SyncAll false (ap (λ l. l.present.log) goes);
+  log = grows_once SyncAll false old.present new.present (ap (λ l. l.present.log) goes);
   stays = stays_nil sum w.page_size (content w old.present.readable) old new (sync_stays sum w old sound new (Ok tt) goes);
 }
 
 pub settle_goes : (sum : List ℕ → ℕ) (w : WriterState) (old new : Life) (result : Result WriterState Error) → IsSmall sum → IsSound sum w old.present → SyncGoes old new (outcome result)
     → IfOk result (λ now. now ≡ synced w) → Settles sum w old new result
+unfolding IsSound
 settle_goes sum w old new (Ok now) small sound goes state = (settle_ok sum w now old new small sound goes state, state)
 settle_goes sum w old new (Err e) small sound goes state = record { cause = sync_cause old new e goes; stays = sync_stays sum w old sound new (Err e) goes }
 
@@ -122,12 +137,14 @@ sync_durably : (sum : List ℕ → ℕ) (w : WriterState) (rest : Bool) (old new
     → w.durable ≡ guard_slot w.sync w.flushed w.durable → rest ≡ not (length w.tip % w.page_size == 0) → CanWrite w.page_size w.tip (full_in w) rest
     → WriteGoes (place_of w) (flush_bytes sum w rest) true old new (outcome result)
     → IfOk result (λ now. now ≡ synced (after_write sum w (full_in w) rest)) → (IsErrOf result OffsetOverflow → ⊥) → Syncs sum w old new result
+unfolding IsSound
 sync_durably sum w rest old new (Ok now) small sound is rests can goes state fits = (
   record {
     sound = subst (λ n. IsSound sum n new.present) (sym state) (durable_write_sound sum w old new (full_in w) rest (flush_bytes sum w rest) small sound is can refl tt goes);
+    size = size_is_length sum now new (subst (λ n. IsSound sum n new.present) (sym state) (durable_write_sound sum w old new (full_in w) rest (flush_bytes sum w rest) small sound is can refl tt goes));
     content = ap (λ n. content n new.present.readable) state ∙ write_content sum w old new (full_in w) rest (flush_bytes sum w rest) small sound is can refl true tt goes ∙ sym (append-nil (content w old.present.readable));
     same = subst (λ n. IsSameWriter w n) (sym state) (record { page_size = refl; id = refl; capacity = refl });
-    log = log_more old.present.log new.present.log (WriteAt (place_of w) (length (flush_bytes sum w rest)) true) false (ap (λ l. l.present.log) goes.1 ∙ ap (λ e. e.log) goes.2.rest);
+    log = grows_once (WriteAt (place_of w) (length (flush_bytes sum w rest)) true) false old.present new.present (ap (λ l. l.present.log) goes.1 ∙ ap (λ e. e.log) goes.2.rest);
     stays = stays_nil sum w.page_size (content w old.present.readable) old new (write_stays sum w old new (full_in w) rest (flush_bytes sum w rest) small sound is can refl true (Ok tt) goes);
   },
   subst IsSettled (sym state) (settled_after sum w rest sound.stands.some rests),
@@ -145,6 +162,7 @@ syncs_carried sum w old new (Err e) h = record { cause = h.cause; stays = h.stay
 pub sync_write : (sum : List ℕ → ℕ) (w v : WriterState) (rest : Bool) (old new : Life) (result : Result WriterState Error) → IsSmall sum → IsSound sum w old.present → v ≡ carried w
     → rest ≡ not (length w.tip % w.page_size == 0) → CanWrite v.page_size v.tip (full_in v) rest → WriteGoes (place_of v) (flush_bytes sum v rest) true old new (outcome result)
     → IfOk result (λ now. now ≡ synced (after_write sum v (full_in v) rest)) → (IsErrOf result OffsetOverflow → ⊥) → Syncs sum w old new result
+unfolding IsSound
 sync_write sum w v rest old new result small sound is rests =
     subst (λ v. CanWrite v.page_size v.tip (full_in v) rest → WriteGoes (place_of v) (flush_bytes sum v rest) true old new (outcome result)
     → IfOk result (λ now. now ≡ synced (after_write sum v (full_in v) rest)) → (IsErrOf result OffsetOverflow → ⊥) → Syncs sum w old new result) (sym is)
@@ -158,6 +176,7 @@ dirty_carried w dirty = ap (λ s. guard_slot s w.flushed w.durable) (sym dirty)
 pub sync_second : (sum : List ℕ → ℕ) (w now : WriterState) (rest : Bool) (old mid new : Life) (result : Result WriterState Error) → IsSmall sum → IsSound sum w old.present → w.sync ≡ Dirty
     → rest ≡ not (length w.tip % w.page_size == 0) → CanWrite w.page_size w.tip (full_in w) rest → WriteGoes (place_of w) (flush_bytes sum w rest) false old mid (Ok tt)
     → now ≡ after_write sum w (full_in w) rest → SyncGoes mid new (outcome result) → IfOk result (λ n. n ≡ synced now) → Syncs sum w old new result
+unfolding IsSound
 sync_second sum w now rest old mid new (Ok n) small sound dirty rests can goes state synced_blob last =
     let first : GoesOn sum w old [] now mid = flush_goes sum w rest old mid (Ok now) small sound (dirty_carried w dirty) can goes state (λ is. cc) in (
       goes_on_more sum w now n old mid new first (settle_ok sum now n mid new small first.sound synced_blob last),
@@ -175,6 +194,7 @@ sync_second sum w now rest old mid new (Err e) small sound dirty rests can goes 
 
 -- a writer that has nothing to write has written all
 idle_settled : (sum : List ℕ → ℕ) (w : WriterState) (d : Disk) → IsSound sum w d → has_work w true ≡ false → IsSettled (synced w)
+unfolding IsSound
 idle_settled sum w d sound idle =
     let short : length w.tip < w.page_size = grind (arith, nat_tests, idle) in
     let same : length w.tip % w.page_size ≡ length w.tip = mod-eq_of_lt short in
@@ -190,28 +210,29 @@ pub sync_settles : (sum : List ℕ → ℕ) (w : WriterState) (old new : Life) (
 sync_settles sum w old new (Ok now) sound idle (goes, state) = (goes, subst IsSettled (sym state) (idle_settled sum w old.present sound idle))
 sync_settles sum w old new (Err e) sound idle refused = refused
 
--- after a flush less than a page is buffered, and so no more than the capacity
-pub flush_within : (sum : List ℕ → ℕ) (w v : WriterState) (result : Result WriterState Error) → 0 < w.page_size → w.page_size ≤ w.capacity → v ≡ carried w → IfOk result (λ now. now ≡ after_write sum v (full_in v) false)
-    → IfOk result (λ now. HoldsWithin now)
-flush_within sum w v (Ok now) some room is state =
-    let page : 0 < v.page_size = omega (arith, some, ap (λ (s : WriterState). s.page_size) is) in
-    let fits : v.page_size ≤ v.capacity = omega (arith, room, ap (λ (s : WriterState). s.page_size) is, ap (λ (s : WriterState). s.capacity) is) in
-    subst (λ (n : WriterState). HoldsWithin n) (sym state) (omega (arith, length-rest v, mod-lt (length v.tip) page, fits))
-flush_within sum w v (Err e) some room is state = tt
+-- after a flush less than a page is buffered
+pub flush_short : (sum : List ℕ → ℕ) (w v : WriterState) (result : Result WriterState Error) → 0 < w.page_size → v ≡ carried w → IfOk result (λ now. now ≡ written sum v false false)
+    → IfOk result (λ now. length now.tip < w.page_size)
+flush_short sum w v (Ok now) some is state =
+    let same : v.page_size ≡ w.page_size = ap (λ (s : WriterState). s.page_size) is in
+    let tip : length now.tip ≡ length (rest_of v) = ap (λ (s : WriterState). length s.tip) state in
+    omega (arith, length-rest v, mod-lt (length v.tip) (let page : 0 < v.page_size = omega (arith, some, same) in page), same, tip)
+flush_short sum w v (Err e) some is state = tt
 
 -- and where no full page is
-pub idle_within : (w : WriterState) → w.page_size ≤ w.capacity → has_work w false ≡ false → HoldsWithin w
-idle_within w room idle = let short : length w.tip < w.page_size = grind (arith, nat_tests, idle) in omega (arith, short, room)
+pub idle_short : (w : WriterState) → has_work w false ≡ false → length w.tip < w.page_size
+idle_short w idle = grind (arith, nat_tests, idle)
 
--- the same after a sync
+-- so what is buffered is within the capacity
+pub short_within : {A : Type 0} (state : A → WriterState) (P capacity : ℕ) (result : Result A Error) → P ≤ capacity → IfOk result (λ a. length (state a).tip < P) → IfOk result (λ a. (state a).capacity ≡ capacity)
+    → IfOk result (λ a. HoldsWithin (state a))
+short_within state P capacity (Ok a) room short same = omega (arith, room, short, same)
+short_within state P capacity (Err e) room short same = tt
+
+-- less than a page is buffered after a sync
 pub sync_within : (sum : List ℕ → ℕ) (w : WriterState) (old new : Life) (result : Result WriterState Error) → w.page_size ≤ w.capacity → Syncs sum w old new result → IfOk result (λ now. HoldsWithin now)
 sync_within sum w old new (Ok now) room syncs = omega (arith, syncs.1.short, syncs.0.same.page_size, syncs.0.same.capacity, room)
 sync_within sum w old new (Err e) room syncs = tt
-
--- what is within the capacity is within bounds
-pub within_bounded : {A : Type 0} (state : A → WriterState) (result : Result A Error) → IfOk result (λ a. HoldsWithin (state a)) → IfOk result (λ a. IsBounded (state a))
-within_bounded state (Ok a) within = inl within
-within_bounded state (Err e) within = tt
 
 -- what is written is made durable in one call, or none
 pub settle_asks : (w : WriterState) (old new : Life) (result : Result WriterState Error) → w.sync ≡ Dirty → SyncGoes old new (outcome result) → AsksAtMost (settle_calls w.sync) old new

@@ -5,7 +5,7 @@ use Rattle.disk.specs.Disk.{Life}
 use Rattle.disk.specs.declared.error.Error.{Error}
 use Rattle.disk.specs.declared.error.Error.TheVariants.{ReadFailed, WriteFailed, ResizeFailed, SyncFailed, InvalidChecksum, BlobInsufficientLength, OffsetOverflow, OutOfMemory, IdsExhausted}
 use Rattle.crash.specs.WriterState.{WriterState}
-use Rattle.crash.specs.Sound.{IsSound, content}
+use Rattle.crash.specs.Sound.{IsSound, Soundness, content}
 use Rattle.crash.specs.Stays.{StaysThrough, KeepsAll, KeepsFloors, LeavesOnly}
 use Rattle.crash.proofs.Moments.{kept_through, only_through, only_behind, kept_through_longer}
 use Rattle.crash.proofs.Soundness.{settle_keeps}
@@ -20,6 +20,7 @@ syncs_stay sum w old new (Err e) refused = refused.stays
 
 -- what was synced is kept
 pub sync_keeps_all : (sum : List ℕ → ℕ) (w : WriterState) (old new : Life) (result : Result WriterState Error) → Syncs sum w old new result → OnOk result (KeepsAll sum w.page_size (content w old.present.readable) new)
+unfolding IsSound
 sync_keeps_all sum w old new (Ok now) (goes, settled) =
     let same : content now new.present.readable ≡ content w old.present.readable = goes.content ∙ append-nil (content w old.present.readable) in
     subst (λ P. KeepsAll sum P (content w old.present.readable) new) goes.same.page_size
@@ -27,8 +28,9 @@ sync_keeps_all sum w old new (Ok now) (goes, settled) =
 sync_keeps_all sum w old new (Err e) refused = tt
 
 -- whatever an append answers
-pub appends_stay : (sum : List ℕ → ℕ) (w : WriterState) (bytes : List ℕ) (old new : Life) (result : Result (WriterState × ℕ) Error) → IsSound sum w old.present → Appends sum w bytes old new result
+pub appends_stay : (sum : List ℕ → ℕ) (w : WriterState) (bytes : List ℕ) (old new : Life) (result : Result (WriterState × ℕ) Error) → Soundness sum w old.present → Appends sum w bytes old new result
     → StaysThrough sum w.page_size (content w old.present.readable ++ bytes) old new
+unfolding IsSound
 appends_stay sum w bytes old new (Ok r) sound (at, goes) = goes.stays
 appends_stay sum w bytes old new (Err ReadFailed) sound refused = refused.stays
 appends_stay sum w bytes old new (Err WriteFailed) sound refused = refused.stays
@@ -54,3 +56,22 @@ keeps_floors_before sum P content bytes old new stays = λ floor enough kept. ke
 
 pub leaves_only_behind : (sum : List ℕ → ℕ) (P : ℕ) (content bytes : List ℕ) (old new : Life) → StaysThrough sum P (content ++ bytes) old new → LeavesOnly sum P content (content ++ bytes) old new
 leaves_only_behind sum P content bytes old new stays = only_behind sum P content (content ++ bytes) old new stays
+
+-- so an append keeps floors, whatever it answers, and leaves only content
+pub append_keeps : (sum : List ℕ → ℕ) (w : WriterState) (bytes : List ℕ) (old new : Life) (result : Result (WriterState × ℕ) Error) → IsSound sum w old.present → Appends sum w bytes old new result
+    → KeepsFloors sum w.page_size (content w old.present.readable) old new
+unfolding IsSound
+append_keeps sum w bytes old new result sound appends = keeps_floors_before sum w.page_size (content w old.present.readable) bytes old new (appends_stay sum w bytes old new result sound appends)
+
+pub append_leaves : (sum : List ℕ → ℕ) (w : WriterState) (bytes : List ℕ) (old new : Life) (result : Result (WriterState × ℕ) Error) → IsSound sum w old.present → Appends sum w bytes old new result
+    → LeavesOnly sum w.page_size (content w old.present.readable) (content w old.present.readable ++ bytes) old new
+unfolding IsSound
+append_leaves sum w bytes old new result sound appends = leaves_only_behind sum w.page_size (content w old.present.readable) bytes old new (appends_stay sum w bytes old new result sound appends)
+
+-- and a sync does
+pub sync_keeps : (sum : List ℕ → ℕ) (w : WriterState) (old new : Life) (result : Result WriterState Error) → Syncs sum w old new result → KeepsFloors sum w.page_size (content w old.present.readable) old new
+sync_keeps sum w old new result syncs = keeps_floors sum w.page_size (content w old.present.readable) old new (syncs_stay sum w old new result syncs)
+
+pub sync_leaves : (sum : List ℕ → ℕ) (w : WriterState) (old new : Life) (result : Result WriterState Error) → Syncs sum w old new result
+    → LeavesOnly sum w.page_size (content w old.present.readable) (content w old.present.readable) old new
+sync_leaves sum w old new result syncs = leaves_only sum w.page_size (content w old.present.readable) old new (syncs_stay sum w old new result syncs)

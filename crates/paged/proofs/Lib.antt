@@ -6,7 +6,6 @@ pub mod Drains
 pub mod Causes
 pub mod Flushes
 pub mod Appends
-pub mod Looks
 pub mod Reading
 pub mod Halves
 pub mod Prefixes
@@ -15,7 +14,10 @@ pub mod Recoveries
 pub mod Firsts
 pub mod Places
 pub mod Standing
+pub mod Searching
 pub mod Recovered
+pub mod Opened
 pub mod Trims
 pub mod Examples
 pub mod RecoveryExamples
+pub mod There

@@ -17,8 +17,8 @@ use Rattle.crash.specs.WriterState.SyncState.{Clean}
 use Rattle.paged.specs.declared.prefix.Prefix.{Prefix}
 use Rattle.paged.specs.Writer.{physical_size, FitsBlob, IsWriter}
 use Rattle.paged.specs.Prefix.{prefix_of, tip_of, slot_of_tip, at_prefix}
-use Rattle.paged.specs.Calls.{HasCause, HoldsWithin}
-use Rattle.paged.specs.Recovery.{Opens, Recovers, opened_prefix}
+use Rattle.paged.specs.Calls.{HoldsWithin}
+use Rattle.paged.specs.Recovery.{RecoveryCause, Opens, Recovers, opened_prefix}
 use Rattle.paged.proofs.Prefixes.{last_is}
 use Rattle.paged.proofs.Firsts.{prefix_is}
 
@@ -94,7 +94,7 @@ module _ (sum : List ℕ → ℕ) (cache : CacheState) (capacity : ℕ) (some : 
   recovers_within (Err e) recovered = tt
 
 -- why another tip behind pages that fit isn't set
-pub replace_cause : (old now : Tip) (place : ℕ) (bytes : List ℕ) (start new : Life) (e : Error) → place + length bytes < 2 ^ 64 → ReplaceGoes old place bytes now (Err e) → HasCause start new e
+pub replace_cause : (old now : Tip) (place : ℕ) (bytes : List ℕ) (start new : Life) (e : Error) → place + length bytes < 2 ^ 64 → ReplaceGoes old place bytes now (Err e) → RecoveryCause start new e
 replace_cause old now place bytes start new OffsetOverflow small goes = absurd (omega (arith, small, goes.0))
 replace_cause old now place bytes start new OutOfMemory small goes = tt
 replace_cause old now place bytes start new ReadFailed small goes = absurd goes

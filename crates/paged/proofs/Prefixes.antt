@@ -45,10 +45,6 @@ pieces_from n k size bytes lt =
     ap (λ (m : ℕ). pieces m size (drop (k * size) bytes)) count
     ∙ ap (λ (l : List ℕ). take size (drop (k * size) bytes) ∷ pieces (n - (k + 1)) size l) (drop-drop size (k * size) bytes ∙ ap (λ (m : ℕ). drop m bytes) place)
 
--- there is no piece behind the last
-pub pieces_ended : (n size : ℕ) (bytes : List ℕ) → pieces (n - n) size bytes ≡ []
-pieces_ended n size bytes = ap (λ (m : ℕ). pieces m size bytes) (let e : n - n ≡ 0 = omega arith in e)
-
 -- a value takes one page at most
 pub partial_pages_le : (found : Option (List ℕ × ActiveChecksum)) → partial_pages found ≤ 1
 partial_pages_le None = omega arith
@@ -125,12 +121,6 @@ module _ (sum : List ℕ → ℕ) (P : ℕ) where
       ∙ ap (λ (q : Prefix). behind k q) (prefix_part (page_at P k bytes) (pieces (n - (k + 1)) (P + 12) (drop ((k + 1) * (P + 12)) bytes)) part)
       ∙ ap (λ (m : ℕ). record { full_pages = m; partial = value_and_slot (active sum P (page_at P k bytes)) (page_at P k bytes) }) (let e : k + 0 ≡ k = omega arith in e)
 
-  -- all pages are full
-  pub stands_last : (p : Prefix) (n : ℕ) (bytes : List ℕ) → StandsAt p n n bytes → p ≡ record { full_pages = n; partial = None }
-  stands_last p n bytes is =
-      is ∙ ap (λ (l : List (List ℕ)). behind n (prefix_of sum P l)) (pieces_ended n (P + 12) (drop (n * (P + 12)) bytes))
-      ∙ ap (λ (m : ℕ). record { full_pages = m; partial = None }) (let e : n + 0 ≡ n = omega arith in e)
-
   -- what was told of a page, with the numbers that a program has
   pub told_at : (size k : ℕ) (seen bytes : List ℕ) (slot : Option ActiveChecksum) → size ≡ P + 12 → seen ≡ bytes → slot ≡ active sum (size - 12) (take size (drop (k * size) seen)) → slot ≡ active sum P (page_at P k bytes)
   told_at size k seen bytes slot is same told =
@@ -179,15 +169,15 @@ module _ (sum : List ℕ → ℕ) (P : ℕ) where
   found_none page found is none = none_told page (active sum P page) refl (ap (λ (f : Option (List ℕ × ActiveChecksum)). is_some f) (sym is) ∙ none)
 
   -- the last page has no value
-  last_none_suc : (n : ℕ) (bytes : List ℕ) → value_len sum P (page_at P n bytes) ≡ 0 → last_prefix sum P (suc n) bytes ≡ last_prefix sum P n bytes
+  pub last_none_suc : (n : ℕ) (bytes : List ℕ) → value_len sum P (page_at P n bytes) ≡ 0 → last_prefix sum P (suc n) bytes ≡ last_prefix sum P n bytes
   last_none_suc n bytes none = cond-true (value_len sum P (page_at P n bytes) == 0) _ _ (eq-eqb _ _ none)
 
   -- the last page is full
-  last_full_suc : (n : ℕ) (bytes : List ℕ) → value_len sum P (page_at P n bytes) ≢ 0 → value_len sum P (page_at P n bytes) ≡ P → last_prefix sum P (suc n) bytes ≡ record { full_pages = n + 1; partial = None }
+  pub last_full_suc : (n : ℕ) (bytes : List ℕ) → value_len sum P (page_at P n bytes) ≢ 0 → value_len sum P (page_at P n bytes) ≡ P → last_prefix sum P (suc n) bytes ≡ record { full_pages = n + 1; partial = None }
   last_full_suc n bytes some full = cond-false (value_len sum P (page_at P n bytes) == 0) _ _ (ne_eqb _ _ some) ∙ cond-true (value_len sum P (page_at P n bytes) == P) _ _ (eq-eqb _ _ full)
 
   -- the last page has a value that isn't full
-  last_part_suc : (n : ℕ) (bytes : List ℕ) → value_len sum P (page_at P n bytes) ≢ 0 → value_len sum P (page_at P n bytes) ≢ P
+  pub last_part_suc : (n : ℕ) (bytes : List ℕ) → value_len sum P (page_at P n bytes) ≢ 0 → value_len sum P (page_at P n bytes) ≢ P
       → last_prefix sum P (suc n) bytes ≡ record { full_pages = n; partial = value_and_slot (active sum P (page_at P n bytes)) (page_at P n bytes) }
   last_part_suc n bytes some part = cond-false (value_len sum P (page_at P n bytes) == 0) _ _ (ne_eqb _ _ some) ∙ cond-false (value_len sum P (page_at P n bytes) == P) _ _ (ne_eqb _ _ part)
 

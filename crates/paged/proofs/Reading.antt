@@ -1,10 +1,10 @@
 -- Reads of pages and of ranges.
-use Rattle.std.proofs.Common.{◌≡◌, ℕ, ◌+◌, ◌*◌, ◌-◌, ◌/◌, ◌%◌, ◌<◌, ◌≤◌, List, [], ◌++◌, length, take, drop, min, max, sym, ap, ◌∙◌, subst, arith, append_assoc, inl, inr, Ok, Err, Result}
+use Rattle.std.proofs.Common.{refl, ◌≡◌, ℕ, ◌+◌, ◌*◌, ◌-◌, ◌/◌, ◌%◌, ◌<◌, ◌≤◌, List, [], ◌++◌, length, take, drop, min, max, sym, ap, ◌∙◌, subst, arith, append_assoc, inl, inr, Ok, Err, Result}
 use Rattle.std.proofs.lemmas.Bool.{cases_lt}
 use Rattle.std.specs.Prelude.{Some, None}
-use Rattle.std.proofs.Math.Nat.{div-add-mod', suc-mul, mul-le-mul_right}
+use Rattle.std.proofs.Math.Nat.{div-add-mod', mod-lt, suc-mul, mul-le-mul_right}
 use Rattle.std.proofs.lemmas.List.{take-append-drop, drop-drop, take-take, drop-take}
-use Rattle.disk.specs.Disk.{Life, ReadGoes}
+use Rattle.disk.specs.Disk.{Life, ReadAt, ReadGoes}
 use Rattle.disk.specs.declared.error.Error.{Error}
 use Rattle.disk.specs.declared.error.Error.TheVariants.{ReadFailed, WriteFailed, ResizeFailed, SyncFailed, InvalidChecksum, BlobInsufficientLength, OffsetOverflow, OutOfMemory, IdsExhausted}
 use Rattle.page.specs.Page.{value_len, active}
@@ -12,14 +12,14 @@ use Rattle.crash.specs.Looks.{Looked}
 use Rattle.crash.specs.WriterState.{WriterState}
 use Rattle.crash.specs.Sound.{content}
 use Rattle.crash.proofs.FlushLaws.{content_in_page, content_in_tip}
-use Rattle.crash.proofs.Texts.{AreFull_page, active_is, active_none}
+use Rattle.crash.proofs.Texts.{active_is, active_none}
 use Rattle.crash.proofs.Lists.{within_take}
 use Rattle.std.proofs.lemmas.Nat.{div_below}
 use Rattle.std.specs.Prelude.{slice_range, IfOk, IsOkUnless}
 use Rattle.page.specs.declared.slot.ActiveChecksum.{ActiveChecksum}
 use Rattle.paged.specs.Prefix.{page_at}
-use Rattle.paged.specs.Reads.{ReadsPage, ReadFault, HasPages}
-use Rattle.paged.proofs.Causes.{log_marked}
+use Rattle.paged.specs.Reads.{ReadsPage, ReadFault, HasPages, Touches, AreTouchedFull}
+use Rattle.disk.proofs.Logs.{failed_once, failed_later}
 
 -- a page that is there can be read
 page_reach : (P page full n : ℕ) → page < full → full * (P + 12) ≤ n → page * (P + 12) + (P + 12) ≤ n
@@ -30,7 +30,7 @@ page_reach P page full n below there =
 -- why the read of a page that is there answers an error
 pub page_fault : (sum : List ℕ → ℕ) (P page skip len full : ℕ) (old new : Life) (e : Error) → page < full → full * (P + 12) ≤ length old.present.readable
     → ReadGoes (page * (P + 12)) (P + 12) old new (Err e) → ReadsPage sum P page skip len old new (Err e)
-page_fault sum P page skip len full old new ReadFailed below there goes = log_marked old.present.log new.present.log _ (ap (λ l. l.present.log) goes)
+page_fault sum P page skip len full old new ReadFailed below there goes = failed_once (ReadAt (page * (P + 12)) (P + 12)) old.present new.present (ap (λ l. l.present.log) goes)
 page_fault sum P page skip len full old new WriteFailed below there goes = goes
 page_fault sum P page skip len full old new ResizeFailed below there goes = goes
 page_fault sum P page skip len full old new SyncFailed below there goes = goes
@@ -63,24 +63,35 @@ within_page P page skip len bytes readable is fits =
     ∙ ap (λ b. take len b) (drop-drop skip (page * (P + 12)) readable)
 
 -- the bytes that are cut out of a page
-pub slice_reads : (sum : List ℕ → ℕ) (P page skip len : ℕ) (old new : Life) (bytes : List ℕ) (result : Result (List ℕ) Error) → bytes ≡ take (P + 12) (drop (page * (P + 12)) old.present.readable) → skip + len ≤ P
+pub slice_reads : (sum : List ℕ → ℕ) (P page skip len : ℕ) (old new : Life) (bytes : List ℕ) (result : Result (List ℕ) Error) → bytes ≡ take (P + 12) (drop (page * (P + 12)) old.present.readable) → value_len sum P bytes ≡ P → skip + len ≤ P
     → IfOk result (λ b. b ≡ slice_range bytes skip (skip + len)) → IsOkUnless result OutOfMemory → ReadsPage sum P page skip len old new result
-slice_reads sum P page skip len old new bytes (Ok b) is fits ok err = ok ∙ within_page P page skip len bytes old.present.readable is fits
-slice_reads sum P page skip len old new bytes (Err e) is fits ok err = subst (λ e. ReadsPage sum P page skip len old new (Err e)) (sym err) tt
+slice_reads sum P page skip len old new bytes (Ok b) is full fits ok err = (ok ∙ within_page P page skip len bytes old.present.readable is fits, sym (ap (λ l. value_len sum P l) is) ∙ full)
+slice_reads sum P page skip len old new bytes (Err e) is full fits ok err = subst (λ e. ReadsPage sum P page skip len old new (Err e)) (sym err) tt
 
--- why a read of a range answers an error
-pub read_fault : (sum : List ℕ → ℕ) (w : WriterState) (page skip len : ℕ) (old mid new : Life) (e : Error) → HasPages w old → page < w.full_pages → Looked old mid
-    → ReadsPage sum w.page_size page skip len mid new (Err e) → ReadFault sum w old new e
-read_fault sum w page skip len old mid new ReadFailed there below looked cause = omega (arith, looked.log, cause)
-read_fault sum w page skip len old mid new WriteFailed there below looked cause = cause
-read_fault sum w page skip len old mid new ResizeFailed there below looked cause = cause
-read_fault sum w page skip len old mid new SyncFailed there below looked cause = cause
-read_fault sum w page skip len old mid new InvalidChecksum there below looked cause = λ full.
-    cause (ap (λ d. value_len sum w.page_size (page_at w.page_size page d.readable)) looked.same ∙ AreFull_page sum w.page_size w.full_pages page old.present.readable full there below)
-read_fault sum w page skip len old mid new BlobInsufficientLength there below looked cause = cause
-read_fault sum w page skip len old mid new OffsetOverflow there below looked cause = cause
-read_fault sum w page skip len old mid new OutOfMemory there below looked cause = tt
-read_fault sum w page skip len old mid new IdsExhausted there below looked cause = cause
+-- why a read of a range answers an error, where the read of a page that it touches answers it
+pub read_fault : (sum : List ℕ → ℕ) (w : WriterState) (page skip len from to : ℕ) (old mid new : Life) (e : Error) → Touches w from to page → Looked old mid
+    → ReadsPage sum w.page_size page skip len mid new (Err e) → ReadFault sum w from to old new e
+read_fault sum w page skip len from to old mid new ReadFailed touches looked cause = failed_later ReadFailed old.present mid.present new.present looked.log cause
+read_fault sum w page skip len from to old mid new WriteFailed touches looked cause = cause
+read_fault sum w page skip len from to old mid new ResizeFailed touches looked cause = cause
+read_fault sum w page skip len from to old mid new SyncFailed touches looked cause = cause
+read_fault sum w page skip len from to old mid new InvalidChecksum touches looked cause =
+    (page, touches, λ full. cause (ap (λ d. value_len sum w.page_size (page_at w.page_size page d.readable)) looked.same ∙ full))
+read_fault sum w page skip len from to old mid new BlobInsufficientLength touches looked cause = cause
+read_fault sum w page skip len from to old mid new OffsetOverflow touches looked cause = cause
+read_fault sum w page skip len from to old mid new OutOfMemory touches looked cause = tt
+read_fault sum w page skip len from to old mid new IdsExhausted touches looked cause = cause
+
+-- the page of a place below the tip is touched
+pub touched_here : (w : WriterState) (from at to : ℕ) → 0 < w.page_size → from ≤ at → at < to → to ≤ w.full_pages * w.page_size → Touches w from to (at / w.page_size)
+touched_here w from at to some begins ends below =
+    let whole : at / w.page_size * w.page_size + at % w.page_size ≡ at = div-add-mod' at w.page_size in
+    let short : at % w.page_size < w.page_size = mod-lt at some in (
+      div_below at w.page_size w.full_pages some (omega (arith, ends, below)),
+      omega (arith, whole, ends),
+      omega (arith, whole, short, begins, suc-mul (at / w.page_size) w.page_size),
+      omega (arith, begins, ends),
+    )
 
 -- the pages below the tip stay in the blob while it is read
 pub has_pages_later : (w : WriterState) (old mid : Life) → HasPages w old → Looked old mid → HasPages w mid
@@ -156,3 +167,27 @@ range_joins w offset len end below readable first all there is ends front back =
     ∙ ap (λ b. take len1 (drop offset (content w readable)) ++ b) (tip_part w offset end below readable there is (omega arith))
     ∙ sym (range_more (content w readable) offset len1 end (omega arith))
     ∙ ap (λ n. take n (drop offset (content w readable))) (omega arith)
+
+-- a page that a place of page q, and one up to its end, lies in is q
+same_page : (P p q at end : ℕ) → 0 < P → q ≡ at / P → p * P < end → end ≤ (q + 1) * P → at < (p + 1) * P → p ≡ q
+same_page P p q at end some is before ends behind =
+    let below : at / P < p + 1 = div_below at P (p + 1) some behind in
+    elim (cases_lt p (q + 1)) [
+      | inl h ↦ omega (arith, h, below, is)
+      | inr h ↦ absurd (let more : (q + 1) * P ≤ p * P = mul-le-mul_right P h in omega (arith, more, before, ends))
+    ]
+
+-- one page more
+pub touched_more : (sum : List ℕ → ℕ) (w : WriterState) (from at len : ℕ) (readable : List ℕ) → 0 < w.page_size → AreTouchedFull sum w from at readable
+    → value_len sum w.page_size (page_at w.page_size (at / w.page_size) readable) ≡ w.page_size → at + len ≤ (at / w.page_size + 1) * w.page_size → AreTouchedFull sum w from (at + len) readable
+touched_more sum w from at len readable some before full fits = λ p (below, reaches, begins, more).
+    elim (cases_lt at ((p + 1) * w.page_size)) [
+      | inl h ↦ let same = same_page w.page_size p (at / w.page_size) at (at + len) some refl reaches fits h in subst (λ q. value_len sum w.page_size (page_at w.page_size q readable) ≡ w.page_size) (sym same) full
+      | inr h ↦ before p (below, (let less : p * w.page_size < (p + 1) * w.page_size = omega (arith, suc-mul p w.page_size, some) in omega (arith, less, h)), begins, omega (arith, h, begins))
+    ]
+
+-- the places behind the pages below the tip touch none of them
+pub touched_below : (sum : List ℕ → ℕ) (w : WriterState) (from end below : ℕ) (readable : List ℕ) → 0 < w.page_size → below ≡ w.full_pages * w.page_size → AreTouchedFull sum w from (min end below) readable → AreTouchedFull sum w from end readable
+touched_below sum w from end below readable some is before = λ p (inside, reaches, begins, more).
+    let h : (p + 1) * w.page_size ≤ w.full_pages * w.page_size = mul-le-mul_right w.page_size (omega (arith, inside)) in
+    before p (inside, omega (arith, reaches, h, is, some, suc-mul p w.page_size), begins, omega (arith, begins, h, is, more))

@@ -13,20 +13,22 @@ use Rattle.crash.specs.WriterState.{WriterState, SyncState}
 use Rattle.crash.specs.WriterState.SyncState.{Clean}
 use Rattle.crash.specs.Looks.{Looked}
 use Rattle.crash.specs.Sound.{IsSound, content}
-use Rattle.crash.proofs.Pages.{pages_whole, length-pieces}
+use Rattle.crash.proofs.Pages.{pages_whole, length-page, length-pieces}
 use Rattle.paged.specs.declared.prefix.Prefix.{Prefix}
 use Rattle.paged.specs.Prefix.{prefix_of, prefix_pages, partial_pages, slot_of_tip, tip_of, at_prefix, HasBytes}
-use Rattle.paged.specs.Calls.{HasCause}
-use Rattle.paged.specs.Recovery.{IsDurable, IsKept, IsOpened, Keeps, IsRecovered, Recovers, slot_pages, opened_prefix, opened_size}
+use Rattle.paged.specs.Calls.{IsSettled}
+use Rattle.paged.specs.Recovery.{RecoveryCause, IsDurable, IsKept, IsOpened, Keeps, IsRecovered, Recovers, slot_pages, opened_prefix, opened_size}
 use Rattle.paged.specs.Recovery.IsKept.{whole, cut}
-use Rattle.paged.proofs.Looking.{looked_readable}
-use Rattle.paged.proofs.Firsts.{prefix_is, prefix_of_beginning, text_of_beginning, first_size_le}
+use Rattle.disk.proofs.Logs.{grows_joins}
+use Rattle.crash.proofs.LookLaws.{looked_readable}
+use Rattle.paged.proofs.Firsts.{IsFirst, told_len, prefix_is, prefix_of_beginning, text_of_beginning, first_size_le}
 use Rattle.crash.proofs.BuiltLaws.{IsSmall}
+use Rattle.paged.proofs.Flushes.{size_is_length}
 use Rattle.paged.proofs.Standing.{stands_first}
 use Rattle.paged.proofs.Recoveries.{cause_later, opened_size_le}
 
 -- what is kept is readable
-kept_readable : (old new : Life) (kept : ℕ) (s : SyncState) → IsKept old new kept s → new.present.readable ≡ take kept old.present.readable
+pub kept_readable : (old new : Life) (kept : ℕ) (s : SyncState) → IsKept old new kept s → new.present.readable ≡ take kept old.present.readable
 kept_readable old new kept s (whole all looked) = looked_readable old new looked ∙ sym (take_all kept old.present.readable (omega (arith, all)))
 kept_readable old new kept s (cut more readable durable) = readable
 
@@ -42,6 +44,11 @@ looked_durable old new looked durable = record {
   base = ap (λ (d : Disk). d.base) looked.same ∙ durable.base ∙ sym (looked_readable old new looked);
 }
 
+-- so it is durable, where all was before
+pub opened_stays_durable : (old new : Life) (kept : ℕ) (s : SyncState) → IsKept old new kept s → IsDurable old.present → IsDurable new.present
+opened_stays_durable old new kept s (whole all looked) durable = looked_durable old new looked durable
+opened_stays_durable old new kept s (cut more readable is) durable = is
+
 -- a value's slot takes as many pages as it does
 slot_pages_is : (found : Option (List ℕ × ActiveChecksum)) → slot_pages (slot_of_tip found) ≡ partial_pages found
 slot_pages_is None = refl
@@ -51,6 +58,10 @@ module _ (sum : List ℕ → ℕ) (cache : CacheState) (capacity : ℕ) (old mid
   -- the page size is the cache's
   pub opened_page_size : w.page_size ≡ cache.page_size
   opened_page_size = ap (λ (x : WriterState). x.page_size) opened.state
+
+  -- which isn't zero
+  pub opened_positive : (page_size : ℕ) → 0 < page_size → page_size ≡ w.page_size → 0 < cache.page_size
+  opened_positive page_size some is = omega (arith, some, is, opened_page_size)
 
   -- the writer knows how many pages the blob has
   pub opened_count : w.full_pages + slot_pages w.flushed ≡ prefix_pages (opened_prefix sum cache.page_size old.present.readable)
@@ -91,9 +102,19 @@ found_within sum P count bytes p is = omega (arith, (prefix_is sum P (pieces cou
 pub found_short : (sum : List ℕ → ℕ) (P count : ℕ) (bytes : List ℕ) (p : Prefix) → 0 < P → p ≡ prefix_of sum P (pieces count (P + 12) bytes) → length (tip_of p.partial) < P
 found_short sum P count bytes p some is = omega (arith, (prefix_is sum P (pieces count (P + 12) bytes)).tip some, ap (λ (q : Prefix). length (tip_of q.partial)) is)
 
+-- a clean writer behind them is settled
+settled_first : (sum : List ℕ → ℕ) (P id room : ℕ) (bytes : List ℕ) (p : Prefix) (now : WriterState) → 0 < P → p ≡ prefix_of sum P (pages P bytes) → now ≡ at_prefix P id room p Clean → IsSettled now
+settled_first sum P id room bytes p now positive is state =
+    let first : IsFirst sum P (pages P bytes) p = subst (λ (q : Prefix). IsFirst sum P (pages P bytes) q) (sym is) (prefix_is sum P (pages P bytes)) in
+    subst IsSettled (sym state) (record {
+      clean = refl;
+      short = first.tip positive;
+      flushed = told_len sum P (pages P bytes) p.full_pages p.partial (λ page there. omega (arith, length-page P p.full_pages bytes page there)) first.behind;
+    })
+
 module _ (sum : List ℕ → ℕ) (cache : CacheState) (capacity : ℕ) (old new : Life) where
   -- a recovery that isn't done
-  pub recovers_cause : (e : Error) → HasCause old new e → Recovers sum cache capacity old new (Err e)
+  pub recovers_cause : (e : Error) → RecoveryCause old new e → Recovers sum cache capacity old new (Err e)
   recovers_cause ReadFailed cause = cause
   recovers_cause WriteFailed cause = cause
   recovers_cause ResizeFailed cause = cause
@@ -122,6 +143,7 @@ module _ (sum : List ℕ → ℕ) (cache : CacheState) (capacity : ℕ) (old mid
       ∙ text_of_beginning sum P (opened_size sum P bytes) bytes positive (opened_size_le sum P bytes) (first_size_le sum P bytes positive)
 
   recovered : (now : WriterState) → Keeps w p mid_then new (Ok now) → IsRecovered sum cache capacity old new now
+  unfolding IsSound
   recovered now keeps =
       let P = cache.page_size in
       let bytes = old.present.readable in
@@ -143,10 +165,13 @@ module _ (sum : List ℕ → ℕ) (cache : CacheState) (capacity : ℕ) (old mid
             ∙ take-take (prefix_pages p * (P + 12)) (opened_size sum P bytes) bytes le
             ∙ ap (λ (x : Prefix). take (prefix_pages x * (P + 12)) bytes) first_is;
         durable = keeps.2;
-        log = omega (arith, opened.log, looked.log, keeps.3);
+        page_size = ap (λ (x : WriterState). x.page_size) state;
+        size = size_is_length sum now new (subst (λ (x : WriterState). IsSound sum x new.present) (sym state) stands.0);
+        settled = settled_first sum P w.id w.capacity mid.present.readable p now positive is state;
+        log = grows_joins old.present mid_then.present new.present (grows_joins old.present mid.present mid_then.present opened.log looked.log) keeps.3;
       }
 
   -- the ending of a recovery
   pub recovers_end : (answer : Result WriterState Error) → Keeps w p mid_then new answer → Recovers sum cache capacity old new answer
   recovers_end (Ok now) keeps = recovered now keeps
-  recovers_end (Err e) keeps = recovers_cause sum cache capacity old new e (cause_later old mid_then new e (omega (arith, opened.log, looked.log)) keeps)
+  recovers_end (Err e) keeps = recovers_cause sum cache capacity old new e (cause_later old mid_then new e (grows_joins old.present mid.present mid_then.present opened.log looked.log) keeps)

@@ -1,18 +1,16 @@
 -- What opening and recovering leave of a blob.
-use Rattle.std.proofs.Common.{◌≡◌, ◌⊎◌, inl, inr, ℕ, ◌+◌, ◌*◌, ◌/◌, ◌^◌, ◌<◌, ◌≤◌, List, length, take, refl, sym, ◌∙◌, ap, subst, arith, true, false, Bool}
-use Rattle.std.specs.Prelude.{Result, Ok, Err, Option, Some, None, if◌then◌else◌}
+use Rattle.std.proofs.Common.{◌≡◌, ◌⊎◌, inl, inr, ℕ, ◌+◌, ◌*◌, ◌/◌, ◌^◌, ◌<◌, ◌≤◌, List, length, take, refl, sym, ◌∙◌, ap, subst, arith, false}
+use Rattle.std.specs.Prelude.{Result, Ok, Err, Option, Some, None}
 use Rattle.std.specs.Int.{div_ceil}
 use Rattle.std.proofs.Math.Nat.{div-eq_of_lt, mod-eq_of_lt, mul-le-mul_left}
 use Rattle.std.proofs.lemmas.List.{take_all}
-use Rattle.page.specs.Geometry.{adjusted}
 use Rattle.page.specs.declared.slot.ActiveChecksum.{ActiveChecksum}
-use Rattle.disk.specs.Disk.{Disk, Life, Request, Operation, Operated, failures, logged, settle, ResizeGoes, SyncGoes}
-use Rattle.disk.specs.Disk.Operation.{Resize}
+use Rattle.disk.specs.Disk.{Disk, Life, LogGrows, logged, settle, ResizeGoes, SyncGoes}
 use Rattle.disk.specs.Disk.Request.{ResizeTo, SyncAll}
 use Rattle.disk.specs.declared.error.Error.{Error}
 use Rattle.disk.specs.declared.error.Error.TheVariants.{ReadFailed, WriteFailed, ResizeFailed, SyncFailed, InvalidChecksum, BlobInsufficientLength, OffsetOverflow, OutOfMemory, IdsExhausted}
 use Rattle.cache.specs.CacheState.{CacheState}
-use Rattle.crash.specs.WriterState.{WriterState, SyncState}
+use Rattle.crash.specs.WriterState.{SyncState}
 use Rattle.crash.specs.WriterState.SyncState.{Clean, Dirty}
 use Rattle.crash.specs.Looks.{Looked}
 use Rattle.crash.proofs.Pages.{cut_is, pages_reach}
@@ -20,33 +18,29 @@ use Rattle.paged.specs.declared.prefix.Prefix.{Prefix}
 use Rattle.paged.specs.declared.writer.SyncState.TheVariants.{Clean as IsClean, Dirty as IsDirty}
 use Rattle.paged.specs.declared.writer.SyncState.{SyncState as State}
 use Rattle.paged.specs.Writer.{state_of, FitsBlob}
-use Rattle.paged.specs.Prefix.{last_prefix, prefix_pages, partial_pages, tip_of, at_prefix, HasBytes}
-use Rattle.paged.specs.Calls.{HasCause, LogGrows}
-use Rattle.paged.specs.Recovery.{Finds, IsDurable, Cuts, CutsBack, IsKept, Stands, TrimsTo, SyncsIn, EndsAt, Opens, opened_prefix, opened_size}
+use Rattle.paged.specs.Prefix.{last_prefix, prefix_pages, partial_pages, tip_of}
+use Rattle.paged.specs.Recovery.{RecoveryCause, Finds, IsDurable, Cuts, CutsBack, IsKept, SyncsIn, EndsAt, Opens, opened_prefix, opened_size}
 use Rattle.paged.specs.Recovery.IsKept.{whole, cut}
 use Rattle.paged.proofs.Prefixes.{IsLast, last_is}
-use Rattle.paged.proofs.Looking.{failures_asked, looked_readable}
+use Rattle.disk.proofs.Logs.{grows_same, grows_once, grows_joins, failed_once, failed_later}
+use Rattle.crash.proofs.LookLaws.{looked_readable}
 
 -- ---- the device's calls
 
--- the log of a plain operation
-failures_operated : (o : Operation) (request : Request) (failed : Bool) (old new : Disk) → Operated o request failed old new → failures new.log ≡ failures old.log + (if failed then 1 else 0)
-failures_operated o request failed old new operated = ap (λ (d : Disk). failures d.log) operated.rest ∙ failures_asked request failed old
-
 -- a resize that cuts, done
-pub resize_done : (kept : ℕ) (old new : Life) → kept ≤ length old.present.readable → ResizeGoes kept old new (Ok tt) → (new.present.readable ≡ take kept old.present.readable) × LogGrows old new
+pub resize_done : (kept : ℕ) (old new : Life) → kept ≤ length old.present.readable → ResizeGoes kept old new (Ok tt) → (new.present.readable ≡ take kept old.present.readable) × LogGrows old.present new.present
 resize_done kept old new le goes =
     let now : new.present ≡ goes.0 = ap (λ (l : Life). l.present) goes.1 in (
       ap (λ (d : Disk). d.readable) now ∙ goes.2.done refl ∙ cut_is kept old.present.readable le,
-      omega (arith, ap (λ (d : Disk). failures d.log) now, failures_operated (Resize kept) (ResizeTo kept) false old.present goes.0 goes.2),
+      grows_once (ResizeTo kept) false old.present new.present (ap (λ (d : Disk). d.log) now ∙ ap (λ (d : Disk). d.log) goes.2.rest),
     )
 
 -- a resize that isn't done
-pub resize_cause : (kept : ℕ) (old new : Life) (e : Error) → ResizeGoes kept old new (Err e) → HasCause old new e
+pub resize_cause : (kept : ℕ) (old new : Life) (e : Error) → ResizeGoes kept old new (Err e) → RecoveryCause old new e
 resize_cause kept old new ReadFailed goes = absurd (cc (goes.0))
 resize_cause kept old new WriteFailed goes = absurd (cc (goes.0))
 resize_cause kept old new ResizeFailed goes =
-    omega (arith, ap (λ (l : Life). failures l.present.log) goes.1.1, failures_operated (Resize kept) (ResizeTo kept) true old.present goes.1.0 goes.1.2)
+    failed_once (ResizeTo kept) old.present new.present (ap (λ (l : Life). l.present.log) goes.1.1 ∙ ap (λ (d : Disk). d.log) goes.1.2.rest)
 resize_cause kept old new SyncFailed goes = absurd (cc (goes.0))
 resize_cause kept old new InvalidChecksum goes = absurd (cc (goes.0))
 resize_cause kept old new BlobInsufficientLength goes = absurd (cc (goes.0))
@@ -55,20 +49,20 @@ resize_cause kept old new OutOfMemory goes = tt
 resize_cause kept old new IdsExhausted goes = absurd (cc (goes.0))
 
 -- a sync, done
-pub sync_done : (old new : Life) → SyncGoes old new (Ok tt) → (new.present.readable ≡ old.present.readable) × IsDurable new.present × LogGrows old new
+pub sync_done : (old new : Life) → SyncGoes old new (Ok tt) → (new.present.readable ≡ old.present.readable) × IsDurable new.present × LogGrows old.present new.present
 sync_done old new goes =
     let now : new.present ≡ settle (logged SyncAll false old.present) = ap (λ (l : Life). l.present) goes in (
       ap (λ (d : Disk). d.readable) now,
       record { since = ap (λ (d : Disk). d.since) now; base = ap (λ (d : Disk). d.base) now ∙ sym (ap (λ (d : Disk). d.readable) now) },
-      omega (arith, ap (λ (d : Disk). failures d.log) now, failures_asked SyncAll false old.present),
+      grows_once SyncAll false old.present new.present (ap (λ (d : Disk). d.log) now),
     )
 
 -- a sync that isn't done
-pub sync_cause : (old new : Life) (e : Error) → SyncGoes old new (Err e) → HasCause old new e
+pub sync_cause : (old new : Life) (e : Error) → SyncGoes old new (Err e) → RecoveryCause old new e
 sync_cause old new ReadFailed goes = absurd goes
 sync_cause old new WriteFailed goes = absurd goes
 sync_cause old new ResizeFailed goes = absurd goes
-sync_cause old new SyncFailed goes = omega (arith, ap (λ (l : Life). failures l.present.log) goes, failures_asked SyncAll true old.present)
+sync_cause old new SyncFailed goes = failed_once SyncAll old.present new.present (ap (λ (l : Life). l.present.log) goes)
 sync_cause old new InvalidChecksum goes = absurd goes
 sync_cause old new BlobInsufficientLength goes = absurd goes
 sync_cause old new OffsetOverflow goes = absurd goes
@@ -76,11 +70,11 @@ sync_cause old new OutOfMemory goes = tt
 sync_cause old new IdsExhausted goes = absurd goes
 
 -- what fails in a later part of a call fails in it
-pub cause_later : (old mid new : Life) (e : Error) → LogGrows old mid → HasCause mid new e → HasCause old new e
-cause_later old mid new ReadFailed grows cause = omega arith
-cause_later old mid new WriteFailed grows cause = omega arith
-cause_later old mid new ResizeFailed grows cause = omega arith
-cause_later old mid new SyncFailed grows cause = omega arith
+pub cause_later : (old mid new : Life) (e : Error) → LogGrows old.present mid.present → RecoveryCause mid new e → RecoveryCause old new e
+cause_later old mid new ReadFailed grows cause = failed_later ReadFailed old.present mid.present new.present grows cause
+cause_later old mid new WriteFailed grows cause = cause
+cause_later old mid new ResizeFailed grows cause = failed_later ResizeFailed old.present mid.present new.present grows cause
+cause_later old mid new SyncFailed grows cause = failed_later SyncFailed old.present mid.present new.present grows cause
 cause_later old mid new InvalidChecksum grows cause = cause
 cause_later old mid new BlobInsufficientLength grows cause = cause
 cause_later old mid new OffsetOverflow grows cause = cause
@@ -88,21 +82,21 @@ cause_later old mid new OutOfMemory grows cause = tt
 cause_later old mid new IdsExhausted grows cause = cause
 
 -- a cut that is done
-pub cut_done : (kept : ℕ) (old new : Life) → kept ≤ length old.present.readable → Cuts kept old new (Ok tt) → (new.present.readable ≡ take kept old.present.readable) × IsDurable new.present × LogGrows old new
+pub cut_done : (kept : ℕ) (old new : Life) → kept ≤ length old.present.readable → Cuts kept old new (Ok tt) → (new.present.readable ≡ take kept old.present.readable) × IsDurable new.present × LogGrows old.present new.present
 cut_done kept old new le cuts =
     let first = resize_done kept old cuts.0 le cuts.1 in
     let second = sync_done cuts.0 new cuts.2 in
-    (second.0 ∙ first.0, second.1, omega (arith, first.1, second.2))
+    (second.0 ∙ first.0, second.1, grows_joins old.present cuts.0.present new.present first.1 second.2)
 
 -- a cut that isn't done
-pub cut_cause : (kept : ℕ) (old new : Life) (e : Error) → kept ≤ length old.present.readable → Cuts kept old new (Err e) → HasCause old new e
+pub cut_cause : (kept : ℕ) (old new : Life) (e : Error) → kept ≤ length old.present.readable → Cuts kept old new (Err e) → RecoveryCause old new e
 cut_cause kept old new e le cuts = elim cuts [
   | inl first ↦ resize_cause kept old new e first
   | inr second ↦ cause_later old second.0 new e (resize_done kept old second.0 le second.1).1 (sync_cause second.0 new e second.2)
 ]
 
 -- a search that isn't answered
-pub finds_cause : (p : Prefix) (old new : Life) (e : Error) → Finds p old new (Err e) → HasCause old new e
+pub finds_cause : (p : Prefix) (old new : Life) (e : Error) → Finds p old new (Err e) → RecoveryCause old new e
 finds_cause p old new ReadFailed finds = finds.0
 finds_cause p old new WriteFailed finds = absurd finds
 finds_cause p old new ResizeFailed finds = absurd finds
@@ -159,6 +153,10 @@ module _ (sum : List ℕ → ℕ) (P Q size physical : ℕ) (readable : List ℕ
       ∙ ap (λ (n : ℕ). prefix_pages p * n) (whole_page ∙ ap (λ (n : ℕ). n + 12) same)
       ∙ ap (λ (x : Prefix). prefix_pages x * (P + 12)) opened_is
 
+-- the blob was only read, and then cut to so many bytes at most once
+abbrev pub TrimsTo : ℕ → Life → Life → Type 0
+TrimsTo kept old new = (mid : Life) × Looked old mid × ((new ≡ mid) ⊎ ((answer : Result (Unit {0}) Error) × Cuts kept mid new answer))
+
 -- a look, and then a cut where there is more
 pub trims_back : (kept : ℕ) (old mid new : Life) (answer : Result State Error) → Looked old mid → CutsBack kept mid new answer → TrimsTo kept old new
 trims_back kept old mid new (Ok IsDirty) looked cuts = (mid, looked, inl cuts.1)
@@ -166,21 +164,21 @@ trims_back kept old mid new (Ok IsClean) looked cuts = (mid, looked, inr (Ok tt,
 trims_back kept old mid new (Err e) looked cuts = (mid, looked, inr (Err e, cuts))
 
 -- the same, done
-pub kept_back : (kept : ℕ) (old mid new : Life) (s : State) → Looked old mid → kept ≤ length old.present.readable → CutsBack kept mid new (Ok s) → IsKept old new kept (state_of s) × LogGrows old new
+pub kept_back : (kept : ℕ) (old mid new : Life) (s : State) → Looked old mid → kept ≤ length old.present.readable → CutsBack kept mid new (Ok s) → IsKept old new kept (state_of s) × LogGrows old.present new.present
 kept_back kept old mid new IsDirty looked le cuts =
-    (whole (cuts.0 ∙ ap length (looked_readable old mid looked)) (subst (λ (l : Life). Looked old l) (sym cuts.1) looked), omega (arith, looked.log, ap (λ (l : Life). failures l.present.log) cuts.1))
+    (whole (cuts.0 ∙ ap length (looked_readable old mid looked)) (subst (λ (l : Life). Looked old l) (sym cuts.1) looked), subst (λ (l : Life). LogGrows old.present l.present) (sym cuts.1) looked.log)
 kept_back kept old mid new IsClean looked le cuts =
     let same = looked_readable old mid looked in
     let done = cut_done kept mid new (omega (arith, ap length same)) cuts.1 in
-    (cut (λ is. cuts.0 (is ∙ sym (ap length same))) (done.0 ∙ ap (λ (l : List ℕ). take kept l) same) done.1, omega (arith, looked.log, done.2))
+    (cut (λ is. cuts.0 (is ∙ sym (ap length same))) (done.0 ∙ ap (λ (l : List ℕ). take kept l) same) done.1, grows_joins old.present mid.present new.present looked.log done.2)
 
 -- the same, not done
-pub back_cause : (kept : ℕ) (old mid new : Life) (e : Error) → Looked old mid → kept ≤ length old.present.readable → CutsBack kept mid new (Err e) → HasCause old new e
+pub back_cause : (kept : ℕ) (old mid new : Life) (e : Error) → Looked old mid → kept ≤ length old.present.readable → CutsBack kept mid new (Err e) → RecoveryCause old new e
 back_cause kept old mid new e looked le cuts = cause_later old mid new e looked.log (cut_cause kept mid new e (omega (arith, ap length (looked_readable old mid looked))) cuts)
 
 module _ (sum : List ℕ → ℕ) (cache : CacheState) (capacity : ℕ) (old new : Life) where
   -- opening that isn't done
-  pub opens_cause : (e : Error) → HasCause old new e → Opens sum cache capacity old new (Err e)
+  pub opens_cause : (e : Error) → RecoveryCause old new e → Opens sum cache capacity old new (Err e)
   opens_cause ReadFailed cause = cause
   opens_cause WriteFailed cause = cause
   opens_cause ResizeFailed cause = cause
@@ -191,28 +189,6 @@ module _ (sum : List ℕ → ℕ) (cache : CacheState) (capacity : ℕ) (old new
   opens_cause OutOfMemory cause = tt
   opens_cause IdsExhausted cause = absurd cause
 
-  -- a writer stands behind what was kept, or has no id
-  pub opens_end : (s : State) (room : ℕ) (p : Prefix) (answer : Result WriterState Error) → room ≡ adjusted capacity cache.page_size → p ≡ opened_prefix sum cache.page_size old.present.readable
-      → HasBytes cache.page_size p.full_pages old.present.readable p.partial → IsKept old new (opened_size sum cache.page_size old.present.readable) (state_of s) × LogGrows old new
-      → Stands cache room p (state_of s) answer → Opens sum cache capacity old new answer
-  opens_end s room p (Ok w) room_is is bytes kept stands = record {
-    sync = state_of s;
-    state = stands ∙ ap (λ (r : ℕ). at_prefix cache.page_size cache.ids_given r p (state_of s)) room_is ∙ ap (λ (q : Prefix). at_prefix cache.page_size cache.ids_given (adjusted capacity cache.page_size) q (state_of s)) is;
-    kept = kept.0;
-    bytes = subst (λ (n : ℕ). HasBytes cache.page_size n old.present.readable (opened_prefix sum cache.page_size old.present.readable).partial) (ap (λ (q : Prefix). q.full_pages) (sym is) ∙ sym (ap (λ (x : WriterState). x.full_pages) stands))
-        (subst (λ (q : Prefix). HasBytes cache.page_size q.full_pages old.present.readable q.partial) is bytes);
-    log = kept.1;
-  }
-  opens_end s room p (Err ReadFailed) room_is is bytes kept stands = absurd stands
-  opens_end s room p (Err WriteFailed) room_is is bytes kept stands = absurd stands
-  opens_end s room p (Err ResizeFailed) room_is is bytes kept stands = absurd stands
-  opens_end s room p (Err SyncFailed) room_is is bytes kept stands = absurd stands
-  opens_end s room p (Err InvalidChecksum) room_is is bytes kept stands = absurd stands
-  opens_end s room p (Err BlobInsufficientLength) room_is is bytes kept stands = absurd stands
-  opens_end s room p (Err OffsetOverflow) room_is is bytes kept stands = absurd stands
-  opens_end s room p (Err OutOfMemory) room_is is bytes kept stands = tt
-  opens_end s room p (Err IdsExhausted) room_is is bytes kept stands = (stands, state_of s, kept.0)
-
 -- ---- ending a recovery
 
 -- the sync of a writer's blob, where it is needed
@@ -221,13 +197,13 @@ synced_once Clean old new answer syncs = inl syncs.1
 synced_once Dirty old new answer syncs = inr (answer, syncs)
 
 -- the same, done
-pub synced_done : (s : SyncState) (old new : Life) → (s ≡ Clean → IsDurable old.present) → SyncsIn s old new (Ok tt) → (new.present.readable ≡ old.present.readable) × IsDurable new.present × LogGrows old new
+pub synced_done : (s : SyncState) (old new : Life) → (s ≡ Clean → IsDurable old.present) → SyncsIn s old new (Ok tt) → (new.present.readable ≡ old.present.readable) × IsDurable new.present × LogGrows old.present new.present
 synced_done Clean old new clean syncs =
-    (ap (λ (l : Life). l.present.readable) syncs.1, subst (λ (l : Life). IsDurable l.present) (sym syncs.1) (clean refl), omega (arith, ap (λ (l : Life). failures l.present.log) syncs.1))
+    (ap (λ (l : Life). l.present.readable) syncs.1, subst (λ (l : Life). IsDurable l.present) (sym syncs.1) (clean refl), grows_same old.present new.present (ap (λ (l : Life). l.present.log) syncs.1))
 synced_done Dirty old new clean syncs = sync_done old new syncs
 
 -- the same, not done
-pub synced_cause : (s : SyncState) (old new : Life) (e : Error) → SyncsIn s old new (Err e) → HasCause old new e
+pub synced_cause : (s : SyncState) (old new : Life) (e : Error) → SyncsIn s old new (Err e) → RecoveryCause old new e
 synced_cause Clean old new e syncs = absurd (cc (syncs.0))
 synced_cause Dirty old new e syncs = sync_cause old new e syncs
 
@@ -243,20 +219,20 @@ ends_back kept s old mid new (Err e) syncs cuts = (mid, synced_once s old mid (O
 
 -- the same, done
 pub ended : (kept : ℕ) (s : SyncState) (t : State) (old mid new : Life) → (s ≡ Clean → IsDurable old.present) → kept ≤ length old.present.readable → SyncsIn s old mid (Ok tt) → CutsBack kept mid new (Ok t)
-    → (new.present.readable ≡ take kept old.present.readable) × IsDurable new.present × LogGrows old new
+    → (new.present.readable ≡ take kept old.present.readable) × IsDurable new.present × LogGrows old.present new.present
 ended kept s IsDirty old mid new clean le syncs cuts =
     let first = synced_done s old mid clean syncs in (
       ap (λ (l : Life). l.present.readable) cuts.1 ∙ first.0 ∙ sym (take_all kept old.present.readable (omega (arith, cuts.0, ap length first.0))),
       subst (λ (l : Life). IsDurable l.present) (sym cuts.1) first.1,
-      omega (arith, first.2, ap (λ (l : Life). failures l.present.log) cuts.1),
+      subst (λ (l : Life). LogGrows old.present l.present) (sym cuts.1) first.2,
     )
 ended kept s IsClean old mid new clean le syncs cuts =
     let first = synced_done s old mid clean syncs in
     let second = cut_done kept mid new (omega (arith, ap length first.0)) cuts.1 in
-    (second.0 ∙ ap (λ (l : List ℕ). take kept l) first.0, second.1, omega (arith, first.2, second.2))
+    (second.0 ∙ ap (λ (l : List ℕ). take kept l) first.0, second.1, grows_joins old.present mid.present new.present first.2 second.2)
 
 -- the same, not done
-pub ended_cause : (kept : ℕ) (s : SyncState) (old mid new : Life) (e : Error) → (s ≡ Clean → IsDurable old.present) → kept ≤ length old.present.readable → SyncsIn s old mid (Ok tt) → CutsBack kept mid new (Err e) → HasCause old new e
+pub ended_cause : (kept : ℕ) (s : SyncState) (old mid new : Life) (e : Error) → (s ≡ Clean → IsDurable old.present) → kept ≤ length old.present.readable → SyncsIn s old mid (Ok tt) → CutsBack kept mid new (Err e) → RecoveryCause old new e
 ended_cause kept s old mid new e clean le syncs cuts =
     let first = synced_done s old mid clean syncs in
     cause_later old mid new e first.2 (cut_cause kept mid new e (omega (arith, ap length first.0)) cuts)

@@ -1,18 +1,26 @@
 -- What opening and recovering a blob keep, at a few bytes. Pages have 4 bytes, and the checksum is their sum.
-use Rattle.std.proofs.Common.{◌≡◌, ℕ, List, [], ◌∷◌, ◌++◌, refl, arith}
+use Rattle.std.proofs.Common.{◌≡◌, inr, ℕ, List, [], ◌∷◌, ◌++◌, map, Ok, false, refl, sym, subst, lit<, arith, rules}
 use Rattle.std.specs.Prelude.{Some, None}
+use Rattle.disk.specs.Disk.{Life, Entry, ReadAt, ResizeTo, SyncAll, next, settle, logged}
 use Rattle.page.specs.Page.{pages, text}
-use Rattle.page.specs.Sums.{add_sum}
+use Rattle.page.specs.Sums.{add_sum, small_add_sum}
 use Rattle.page.proofs.Examples.{abcd_page, ef_page}
 use Rattle.page.specs.declared.slot.Slot.TheVariants.{First}
 use Rattle.page.specs.declared.slot.ActiveChecksum.{ActiveChecksum}
-use Rattle.crash.specs.WriterState.SyncState.{Clean}
-use Rattle.crash.specs.Stays.{StaysThrough}
+use Rattle.crash.specs.WriterState.SyncState.{Clean, Dirty}
+use Rattle.crash.specs.Stays.{KeepsFloors}
 use Rattle.crash.proofs.CutLaws.{rest_through_start}
-use Rattle.crash.proofs.Examples.{durable, before, behind}
+use Rattle.crash.proofs.Disks.{whole_is_image}
+use Rattle.crash.proofs.FloorLaws.{ReadsImage, floors_none, floors_sync}
+use Rattle.crash.proofs.LookLaws.{looked_start}
+use Rattle.crash.proofs.Texts.{bytes_from_all}
+use Rattle.crash.proofs.Examples.{durable, rewritten, seven, before, behind}
 use Rattle.paged.specs.Prefix.{prefix_of, last_prefix, prefix_pages, at_prefix}
-use Rattle.paged.specs.Calls.{AsksAtMost}
-use Rattle.paged.specs.Recovery.{IsDurable, KeepsText, LeavesText, opened_prefix, opened_size}
+use Rattle.paged.specs.Calls.{AsksAtMost, IsSettled}
+use Rattle.paged.specs.Recovery.{IsDurable, KeepsText, LeavesText, SoundWhereFull, opened_prefix, opened_size}
+use Rattle.paged.specs.Recovery.IsKept.{whole}
+use Rattle.paged.specs.Searches.{AreWithin, FallFrom, ReadsWithin, ReadsBack, scan_bytes}
+use Rattle.paged.proofs.Opened.{opened_sound}
 use Rattle.paged.proofs.Trims.{keeps_text, leaves_text}
 
 -- the slot of "ef"
@@ -57,15 +65,61 @@ pub all_durable : IsDurable durable
 all_durable = record { since = refl; base = refl }
 
 -- a call that does nothing keeps the text "abcdef"
-stays : IsDurable durable → StaysThrough add_sum 4 (text add_sum 4 durable.readable) before before
-stays rests = rest_through_start add_sum 4 (text add_sum 4 durable.readable) before rests.since rests.base refl
-
 pub a_kept_text : KeepsText add_sum 4 before before
-a_kept_text = keeps_text add_sum 4 before before stays
+a_kept_text = keeps_text add_sum 4 before before (floors_none add_sum 4 (text add_sum 4 durable.readable) before before refl)
 
 -- and leaves no other
 pub no_other_text : LeavesText add_sum 4 before before
-no_other_text = leaves_text add_sum 4 before before stays
+no_other_text = leaves_text add_sum 4 before before (λ rests. rest_through_start add_sum 4 (text add_sum 4 durable.readable) before rests.since rests.base refl)
+
+-- "abcdefg" is readable, and its last page unsynced: what is readable is one of the things that a crash may leave
+unsynced_image : ReadsImage behind
+unsynced_image = whole_is_image rewritten rewritten.readable (inr refl)
+
+-- a sync of it, as a recovery makes, keeps each floor: "abcdef" among them
+pub floors_of_a_sync : KeepsFloors add_sum 4 seven behind (next behind (settle (logged SyncAll false rewritten)))
+floors_of_a_sync = floors_sync add_sum 4 seven behind (next behind (settle (logged SyncAll false rewritten))) (Ok tt) unsynced_image refl
+
+-- the recovered writer is settled
+pub a_settled_recovery : IsSettled (at_prefix 4 0 8 (opened_prefix add_sum 4 (abcd_page ++ ef_page ++ no_page)) Clean)
+a_settled_recovery = record { clean = refl; short = omega arith; flushed = refl }
+
+-- opening the durable blob leaves it as it is; its page below the tip is full, so the writer is sound
+pub a_sound_opening : SoundWhereFull add_sum 4 before before (at_prefix 4 0 8 (opened_prefix add_sum 4 durable.readable) Dirty)
+a_sound_opening = opened_sound add_sum 4 before before Dirty (whole refl (looked_start before)) 0 8 small_add_sum (omega arith) (lit< tt) (bytes_from_all ef_page (search rules))
+
+-- ---- which reads are made
+
+-- the life that goes on by these calls
+abbrev reads : List Entry → Life
+reads entries = next before (record durable { log = entries })
+
+abbrev read : ℕ → ℕ → Entry
+read place len = record { request = ReadAt place len; failed = false }
+
+-- the second page, and then the first
+pub read_back : ReadsBack 16 before (reads (read 16 16 ∷ read 0 16 ∷ []))
+read_back = (read 16 16 ∷ read 0 16 ∷ [], refl, (refl, omega arith, (refl, omega arith, tt)))
+
+-- not the first page twice
+pub not_twice : ReadsBack 16 before (reads (read 0 16 ∷ read 0 16 ∷ [])) → ⊥
+not_twice (more, is, fall) = let here : FallFrom 16 32 (ReadAt 0 16 ∷ ReadAt 0 16 ∷ []) = subst (λ (l : List Entry). FallFrom 16 32 (map (λ e. e.request) l)) (sym is) fall in omega (arith, here.2.1)
+
+-- nor both in one read
+pub not_both : ReadsBack 16 before (reads (read 0 32 ∷ [])) → ⊥
+not_both (more, is, fall) = let here : FallFrom 16 32 (ReadAt 0 32 ∷ []) = subst (λ (l : List Entry). FallFrom 16 32 (map (λ e. e.request) l)) (sym is) fall in omega (arith, here.0)
+
+-- 40 bytes have room for two pages of 16, and 8 for none: then a read is of one
+pub bytes_of_a_scan : scan_bytes 4 40 ∷ scan_bytes 4 8 ∷ [] ≡ 32 ∷ 16 ∷ []
+bytes_of_a_scan = refl
+
+-- both in one read, and a cut
+pub reads_within : ReadsWithin 32 before (reads (read 0 32 ∷ record { request = ResizeTo 16; failed = false } ∷ []))
+reads_within = (read 0 32 ∷ record { request = ResizeTo 16; failed = false } ∷ [], refl, (omega arith, tt))
+
+-- which is too long a read for 16 bytes
+pub not_within : ReadsWithin 16 before (reads (read 0 32 ∷ [])) → ⊥
+not_within (more, is, within) = let here : AreWithin 16 (ReadAt 0 32 ∷ []) = subst (λ (l : List Entry). AreWithin 16 (map (λ e. e.request) l)) (sym is) within in omega (arith, here.0)
 
 -- one write is one device call
 pub one_call : AsksAtMost 1 before behind

@@ -7,7 +7,7 @@ use Rattle.page.specs.Page.{pages, active, value_len, text}
 use Rattle.page.specs.declared.slot.ActiveChecksum.{ActiveChecksum}
 use Rattle.crash.specs.WriterState.SyncState.{Clean}
 use Rattle.crash.specs.Full.{AreFull}
-use Rattle.crash.specs.Sound.{IsSound, HasPage, content}
+use Rattle.crash.specs.Sound.{Soundness, HasPage, content}
 use Rattle.crash.proofs.Lists.{within_take}
 use Rattle.crash.proofs.Pages.{pages_at, pages_reach, page_is, page_fits, length-pages}
 use Rattle.crash.proofs.Texts.{AreBytes, AreFull_same, active_is, text_cut, text_cut_part}
@@ -22,7 +22,7 @@ use Rattle.paged.proofs.Firsts.{Behind, IsFirst, prefix_is}
 module _ (sum : List ℕ → ℕ) (small_sum : IsSmall sum) (P id capacity : ℕ) (bytes : List ℕ) (d : Disk) (positive : 0 < P) (small : P < 2 ^ 16) (durable : IsDurable d) where
   -- it is sound, and stands for what the bytes say
   abbrev pub StandsFor : Prefix → Type 0
-  StandsFor p = IsSound sum (at_prefix P id capacity p Clean) d × (content (at_prefix P id capacity p Clean) d.readable ≡ text sum P bytes)
+  StandsFor p = Soundness sum (at_prefix P id capacity p Clean) d × (content (at_prefix P id capacity p Clean) d.readable ≡ text sum P bytes)
 
   -- behind full pages alone
   stands_none : (full : ℕ) → full ≤ length (pages P bytes) → AreFull sum P (take full (pages P bytes)) → Behind sum P (pages P bytes) full None → d.readable ≡ take (full * (P + 12)) bytes
@@ -68,7 +68,7 @@ module _ (sum : List ℕ → ℕ) (small_sum : IsSmall sum) (P id capacity : ℕ
             ∙ text_cut_part sum P full bytes are fits less,
       )
 
-  stands_behind : (full : ℕ) (found : Option (List ℕ × ActiveChecksum)) → full + partial_pages found ≤ length (pages P bytes) → AreFull sum P (take full (pages P bytes)) → Behind sum P (pages P bytes) full found → HasBytes P full bytes found
+  pub stands_behind : (full : ℕ) (found : Option (List ℕ × ActiveChecksum)) → full + partial_pages found ≤ length (pages P bytes) → AreFull sum P (take full (pages P bytes)) → Behind sum P (pages P bytes) full found → HasBytes P full bytes found
       → d.readable ≡ take ((full + partial_pages found) * (P + 12)) bytes → StandsFor (record { full_pages = full; partial = found })
   stands_behind full None within are behind has cut =
       let e : full + 0 ≡ full = omega arith in

@@ -1,4 +1,4 @@
--- What each moment of opening and recovering a blob owes to the first, where that one was durable.
+-- What each moment of opening and recovering a blob owes to the first.
 use Rattle.std.proofs.Common.{◌≡◌, ◌⊎◌, inl, inr, ℕ, ◌+◌, ◌*◌, ◌<◌, ◌≤◌, List, length, take, refl, sym, ◌∙◌, ap, subst, arith, Result, Ok, Err}
 use Rattle.disk.specs.declared.error.Error.TheVariants.{ReadFailed, WriteFailed, ResizeFailed, SyncFailed, InvalidChecksum, BlobInsufficientLength, OffsetOverflow, OutOfMemory, IdsExhausted}
 use Rattle.page.specs.Page.{text, pages}
@@ -9,15 +9,18 @@ use Rattle.cache.specs.CacheState.{CacheState}
 use Rattle.crash.specs.WriterState.{WriterState, SyncState}
 use Rattle.crash.specs.Looks.{Looked}
 use Rattle.crash.proofs.Pages.{pages_reach, length-pages}
-use Rattle.crash.specs.Stays.{StaysThrough, KeepsAll}
-use Rattle.crash.proofs.Moments.{stays_through_joins, only_through}
-use Rattle.crash.proofs.CutLaws.{all_kept_through, rest_keeps, resize_stays, cut_sync_stays, rest_through_start, rest_looked_stays, rest_looked_rests, rest_sync_stays, rest_sync_rests}
+use Rattle.crash.specs.Kept.{AllOnly}
+use Rattle.crash.specs.Stays.{StaysThrough, KeepsAll, KeepsFloors}
+use Rattle.crash.proofs.Moments.{stays_through_joins, only_through, through_joins}
+use Rattle.crash.proofs.FloorLaws.{ReadsImage, floors_none, floors_joins, floors_looked, floors_sync, floors_resize, floors_cut, looked_image, sync_image, sync_readable}
+use Rattle.crash.proofs.LookLaws.{looked_readable}
+use Rattle.crash.proofs.CutLaws.{cut_few, rest_keeps, resize_stays, cut_sync_stays, rest_through_start, rest_looked_stays, rest_looked_rests, rest_sync_stays, rest_sync_rests}
 use Rattle.paged.specs.declared.prefix.Prefix.{Prefix}
 use Rattle.paged.specs.Prefix.{prefix_of, prefix_pages}
-use Rattle.paged.specs.Recovery.{IsDurable, Cuts, TrimsTo, EndsAt, KeepsText, LeavesText, Recovers, IsKept, Finds, opened_prefix, opened_size}
-use Rattle.paged.specs.Recovery.IsKept.{whole, cut}
+use Rattle.paged.specs.Recovery.{IsDurable, Cuts, EndsAt, KeepsText, LeavesText, Recovers, IsKept, Finds, opened_prefix, opened_size}
 use Rattle.paged.proofs.Firsts.{prefix_is, text_of_beginning, first_size_le}
-use Rattle.paged.proofs.Recoveries.{opened_size_le}
+use Rattle.paged.proofs.Recoveries.{TrimsTo, opened_size_le}
+use Rattle.paged.proofs.Recovered.{kept_readable, opened_stays_durable}
 
 -- all is durable, and says this content
 pub record AtRest (sum : List ℕ → ℕ) (P : ℕ) (content : List ℕ) (bytes : List ℕ) (d : Disk) : Type 0 where
@@ -85,25 +88,124 @@ module _ (sum : List ℕ → ℕ) (P : ℕ) (content bytes : List ℕ) (some : 0
         (once_stays k ends.0 new (sync_rests old ends.0 syncs.0 rest syncs.1) within leaves ends.2)
   ]
 
+-- ---- each floor, whatever was durable
+
+-- a cut that leaves a text leaves pages enough for it
+content_few : (sum : List ℕ → ℕ) (P k : ℕ) (content bytes : List ℕ) → k * (P + 12) ≤ length bytes → text sum P (take (k * (P + 12)) bytes) ≡ content → length content ≤ k * P
+content_few sum P k content bytes within leaves = omega (arith, cut_few sum P k bytes within, ap length leaves)
+
+module _ (sum : List ℕ → ℕ) (P k : ℕ) (content : List ℕ) (few : length content ≤ k * P) where
+  -- a cut
+  cuts_floors : (old new : Life) (answer : Result (Unit {0}) Error) → ReadsImage old → k * (P + 12) ≤ length old.present.readable → Cuts (k * (P + 12)) old new answer → KeepsFloors sum P content old new
+  cuts_floors old new (Ok u) image within cuts = floors_cut sum P content k old cuts.0 new (Ok u) (Ok u) image within few cuts.1 cuts.2
+  cuts_floors old new (Err e) image within cuts = elim cuts [
+    | inl first ↦ floors_resize sum P content k old new (Err e) image within few first
+    | inr second ↦ floors_cut sum P content k old second.0 new (Ok tt) (Err e) image within few second.1 second.2
+  ]
+
+  -- a cut at most
+  once_floors : (old new : Life) → ReadsImage old → k * (P + 12) ≤ length old.present.readable → (new ≡ old) ⊎ ((answer : Result (Unit {0}) Error) × Cuts (k * (P + 12)) old new answer) → KeepsFloors sum P content old new
+  once_floors old new image within once = elim once [
+    | inl none ↦ floors_none sum P content old new none
+    | inr cuts ↦ cuts_floors old new cuts.0 image within cuts.1
+  ]
+
+  -- a look, and then a cut at most
+  trims_floors : (old new : Life) → ReadsImage old → k * (P + 12) ≤ length old.present.readable → TrimsTo (k * (P + 12)) old new → KeepsFloors sum P content old new
+  trims_floors old new image within trims =
+      floors_joins sum P content old trims.0 new (floors_looked sum P content old trims.0 trims.1)
+      (once_floors trims.0 new (looked_image old trims.0 trims.1 image) (omega (arith, within, ap length (looked_readable old trims.0 trims.1))) trims.2)
+
+  -- a sync, and then a cut, each at most once
+  ends_floors : (old new : Life) → ReadsImage old → k * (P + 12) ≤ length old.present.readable → EndsAt (k * (P + 12)) old new → KeepsFloors sum P content old new
+  ends_floors old new image within ends = elim ends.1 [
+    | inl none ↦ floors_joins sum P content old ends.0 new (floors_none sum P content old ends.0 none)
+        (once_floors ends.0 new (subst ReadsImage (sym none) image) (subst (λ (l : Life). k * (P + 12) ≤ length l.present.readable) (sym none) within) ends.2)
+    | inr syncs ↦ floors_joins sum P content old ends.0 new (floors_sync sum P content old ends.0 syncs.0 image syncs.1)
+        (once_floors ends.0 new (sync_image old ends.0 syncs.0 syncs.1 image) (omega (arith, within, ap length (sync_readable old ends.0 syncs.0 syncs.1))) ends.2)
+  ]
+
+-- ---- what a call owes at each moment, at every answer
+
+pub record Owes (sum : List ℕ → ℕ) (P : ℕ) (old new : Life) : Type 0 where
+  pub floors : KeepsFloors sum P (text sum P old.present.readable) old new
+  pub kept : KeepsText sum P old new
+  pub only : LeavesText sum P old new
+
+-- the text at the start
+start : (sum : List ℕ → ℕ) (P : ℕ) (life : Life) → IsDurable life.present → AtRest sum P (text sum P life.present.readable) life.present.readable life.present
+start sum P life durable = record { durable = durable; readable = refl; says = refl }
+
 module _ (sum : List ℕ → ℕ) (P : ℕ) (old new : Life) where
-  -- the text at the start
-  start : IsDurable old.present → AtRest sum P (text sum P old.present.readable) old.present.readable old.present
-  start durable = record { durable = durable; readable = refl; says = refl }
-
-  -- opening
-  pub opens_stay : 0 < P → TrimsTo (opened_size sum P old.present.readable) old new → IsDurable old.present → StaysThrough sum P (text sum P old.present.readable) old new
-  opens_stay some trims durable =
-      let bytes = old.present.readable in
-      let le = opened_size_le sum P bytes in
-      trims_stay sum P (text sum P bytes) bytes some (prefix_pages (opened_prefix sum P bytes)) old new (start durable) le
-      (text_of_beginning sum P (opened_size sum P bytes) bytes some le (first_size_le sum P bytes some)) trims
-
-  -- the two halves, read off what each moment owes
-  pub keeps_text : (IsDurable old.present → StaysThrough sum P (text sum P old.present.readable) old new) → KeepsText sum P old new
-  keeps_text stays = λ durable. all_kept_through sum P (text sum P old.present.readable) old new durable.since durable.base refl (stays durable)
+  -- where all was durable the whole text is such a floor
+  pub keeps_text : KeepsFloors sum P (text sum P old.present.readable) old new → KeepsText sum P old new
+  keeps_text floors = λ durable.
+      floors (length (text sum P old.present.readable)) (omega arith) (rest_keeps sum P (text sum P old.present.readable) old.present durable.since (ap (λ (l : List ℕ). text sum P l) durable.base))
 
   pub leaves_text : (IsDurable old.present → StaysThrough sum P (text sum P old.present.readable) old new) → LeavesText sum P old new
   leaves_text stays = λ durable. only_through sum P (text sum P old.present.readable) (text sum P old.present.readable) old new (stays durable)
+
+  -- opening
+  pub opens_owe : 0 < P → ReadsImage old → TrimsTo (opened_size sum P old.present.readable) old new → Owes sum P old new
+  opens_owe some image trims =
+      let bytes = old.present.readable in
+      let k = prefix_pages (opened_prefix sum P bytes) in
+      let le = opened_size_le sum P bytes in
+      let leaves = text_of_beginning sum P (opened_size sum P bytes) bytes some le (first_size_le sum P bytes some) in
+      let floors = trims_floors sum P k (text sum P bytes) (content_few sum P k (text sum P bytes) bytes le leaves) old new image le trims in
+      record {
+        floors = floors;
+        kept = keeps_text floors;
+        only = leaves_text (λ durable. trims_stay sum P (text sum P bytes) bytes some k old new (start sum P old durable) le leaves trims);
+      }
+
+module _ (sum : List ℕ → ℕ) (P : ℕ) (old mid : Life) (some : 0 < P) (s : SyncState) (kept : IsKept old mid (opened_size sum P old.present.readable) s) (owes : Owes sum P old mid) where
+  -- what opening left has the text
+  opened_says : text sum P mid.present.readable ≡ text sum P old.present.readable
+  opened_says =
+      let bytes = old.present.readable in
+      ap (λ (l : List ℕ). text sum P l) (kept_readable old mid (opened_size sum P bytes) s kept)
+      ∙ text_of_beginning sum P (opened_size sum P bytes) bytes some (opened_size_le sum P bytes) (first_size_le sum P bytes some)
+
+  -- and is at rest, where the blob was
+  opened_rests : IsDurable old.present → AtRest sum P (text sum P old.present.readable) mid.present.readable mid.present
+  opened_rests durable = record { durable = opened_stays_durable old mid (opened_size sum P old.present.readable) s kept durable; readable = refl; says = opened_says }
+
+  -- what a later part of the call owes
+  joins_owe : (new : Life) → KeepsFloors sum P (text sum P old.present.readable) mid new → (IsDurable old.present → StaysThrough sum P (text sum P old.present.readable) mid new) → Owes sum P old new
+  joins_owe new floors stays =
+      let content = text sum P old.present.readable in
+      let all = floors_joins sum P content old mid new owes.floors floors in
+      record {
+        floors = all;
+        kept = keeps_text sum P old new all;
+        only = λ durable. through_joins (AllOnly sum P content content) old mid new (owes.only durable) (only_through sum P content content mid new (stays durable));
+      }
+
+  -- a scan of what opening left
+  pub scanned_owe : (scanned : Life) → Looked mid scanned → Owes sum P old scanned
+  scanned_owe scanned looked =
+      let content = text sum P old.present.readable in
+      joins_owe scanned (floors_looked sum P content mid scanned looked) (λ durable. looked_stays sum P content mid.present.readable some mid scanned (opened_rests durable) looked)
+
+  -- and of what is kept of it
+  pub recovers_owe : (scanned new : Life) (Q : ℕ) (p : Prefix) → ReadsImage mid → Looked mid scanned → Q ≡ P → p ≡ prefix_of sum P (pages P mid.present.readable) → EndsAt (prefix_pages p * (Q + 12)) scanned new → Owes sum P old new
+  recovers_owe scanned new Q p image looked same is ends =
+      let bytes = mid.present.readable in
+      let content = text sum P old.present.readable in
+      let k = prefix_pages (prefix_of sum P (pages P bytes)) in
+      let le : k * (P + 12) ≤ length bytes = pages_reach P k bytes (omega (arith, (prefix_is sum P (pages P bytes)).within, length-pages P bytes)) in
+      let leaves : text sum P (take (k * (P + 12)) bytes) ≡ content = text_of_beginning sum P (k * (P + 12)) bytes some le (omega arith) ∙ opened_says in
+      let place : prefix_pages p * (Q + 12) ≡ k * (P + 12) = ap (λ (n : ℕ). prefix_pages p * (n + 12)) same ∙ ap (λ (q : Prefix). prefix_pages q * (P + 12)) is in
+      let here : EndsAt (k * (P + 12)) scanned new = subst (λ (n : ℕ). EndsAt n scanned new) place ends in
+      let reach : k * (P + 12) ≤ length scanned.present.readable = omega (arith, le, ap length (looked_readable mid scanned looked)) in
+      joins_owe new
+      (floors_joins sum P content mid scanned new (floors_looked sum P content mid scanned looked)
+      (ends_floors sum P k content (content_few sum P k content bytes le leaves) scanned new (looked_image mid scanned looked image) reach here))
+      (λ durable.
+      let rest = opened_rests durable in
+      stays_through_joins sum P content mid scanned new (looked_stays sum P content bytes some mid scanned rest looked)
+      (ends_stay sum P content bytes some k scanned new (looked_rests sum P content bytes some mid scanned rest looked) le leaves here))
 
 -- a search that isn't answered looked too
 pub finds_looked : (p : Prefix) (old new : Life) (e : Error) → Finds p old new (Err e) → Looked old new
@@ -116,42 +218,6 @@ finds_looked p old new BlobInsufficientLength finds = absurd finds
 finds_looked p old new OffsetOverflow finds = absurd finds
 finds_looked p old new OutOfMemory finds = finds
 finds_looked p old new IdsExhausted finds = absurd finds
-
-module _ (sum : List ℕ → ℕ) (P : ℕ) (old mid : Life) (some : 0 < P) (durable : IsDurable old.present) where
-  -- what opening left
-  opened_rests : (s : SyncState) → IsKept old mid (opened_size sum P old.present.readable) s → AtRest sum P (text sum P old.present.readable) mid.present.readable mid.present
-  opened_rests s (whole is looked) =
-      let rests = looked_rests sum P (text sum P old.present.readable) old.present.readable some old mid (start sum P old mid durable) looked in
-      record { durable = rests.durable; readable = refl; says = ap (λ (l : List ℕ). text sum P l) rests.readable }
-  opened_rests s (cut isnt is rests) =
-      let bytes = old.present.readable in
-      record {
-        durable = rests;
-        readable = refl;
-        says = ap (λ (l : List ℕ). text sum P l) is ∙ text_of_beginning sum P (opened_size sum P bytes) bytes some (opened_size_le sum P bytes) (first_size_le sum P bytes some);
-      }
-
-  -- a scan of what opening left
-  pub scanned_stay : (s : SyncState) (scanned : Life) → TrimsTo (opened_size sum P old.present.readable) old mid → IsKept old mid (opened_size sum P old.present.readable) s → Looked mid scanned
-      → StaysThrough sum P (text sum P old.present.readable) old scanned
-  scanned_stay s scanned trims kept looked =
-      stays_through_joins sum P (text sum P old.present.readable) old mid scanned (opens_stay sum P old mid some trims durable)
-      (looked_stays sum P (text sum P old.present.readable) mid.present.readable some mid scanned (opened_rests s kept) looked)
-
-  -- and of what is kept of it
-  pub recovers_stay : (s : SyncState) (scanned new : Life) (Q : ℕ) (p : Prefix) → TrimsTo (opened_size sum P old.present.readable) old mid → IsKept old mid (opened_size sum P old.present.readable) s → Looked mid scanned
-      → Q ≡ P → p ≡ prefix_of sum P (pages P mid.present.readable) → EndsAt (prefix_pages p * (Q + 12)) scanned new → StaysThrough sum P (text sum P old.present.readable) old new
-  recovers_stay s scanned new Q p trims kept looked same is ends =
-      let bytes = mid.present.readable in
-      let content = text sum P old.present.readable in
-      let rest = opened_rests s kept in
-      let k = prefix_pages (prefix_of sum P (pages P bytes)) in
-      let le : k * (P + 12) ≤ length bytes = pages_reach P k bytes (omega (arith, (prefix_is sum P (pages P bytes)).within, length-pages P bytes)) in
-      let place : prefix_pages p * (Q + 12) ≡ k * (P + 12) = ap (λ (n : ℕ). prefix_pages p * (n + 12)) same ∙ ap (λ (q : Prefix). prefix_pages q * (P + 12)) is in
-      stays_through_joins sum P content old scanned new (scanned_stay s scanned trims kept looked)
-      (ends_stay sum P content bytes some k scanned new (looked_rests sum P content bytes some mid scanned rest looked) le
-      (text_of_beginning sum P (k * (P + 12)) bytes some le (omega arith) ∙ rest.says)
-      (subst (λ (n : ℕ). EndsAt n scanned new) place ends))
 
 -- a recovery keeps all
 pub recovers_keep_all : (sum : List ℕ → ℕ) (cache : CacheState) (capacity : ℕ) (old new : Life) (result : Result WriterState Error) → 0 < cache.page_size → Recovers sum cache capacity old new result

@@ -1,8 +1,8 @@
 -- What each public call of a writer does, by cases on its answer.
-use Rattle.std.specs.Prelude.{◌≡◌, ◌⊎◌, ◌<◌, ◌≤◌, ◌+◌, ◌*◌, ◌^◌, ◌++◌, ℕ, Bool, List, [], length, nat_lt, true, if◌then◌else◌, Option, Some, None, Result, Ok, Err}
-use Rattle.disk.specs.Disk.{Life, failures}
+use Rattle.std.specs.Prelude.{◌≡◌, ◌<◌, ◌≤◌, ◌+◌, ◌*◌, ◌^◌, ◌++◌, ℕ, Bool, List, [], length, nat_lt, true, if◌then◌else◌, Option, Some, None, Result, Ok, Err}
+use Rattle.disk.specs.Disk.{Disk, Life, LogGrows, HasFailed}
 use Rattle.disk.specs.declared.error.Error.{Error}
-use Rattle.disk.specs.declared.error.Error.TheVariants.{ReadFailed, WriteFailed, ResizeFailed, SyncFailed, OffsetOverflow, OutOfMemory}
+use Rattle.disk.specs.declared.error.Error.TheVariants.{WriteFailed, SyncFailed, OffsetOverflow, OutOfMemory}
 use Rattle.crash.specs.WriterState.{WriterState, SyncState}
 use Rattle.crash.specs.WriterState.SyncState.{Clean, Dirty}
 use Rattle.crash.specs.Sound.{IsSound, content}
@@ -11,18 +11,12 @@ use Rattle.crash.specs.Built.{kept_len}
 use Rattle.paged.specs.Writer.{physical_size, FitsBlob}
 use Rattle.paged.specs.Flush.{has_work, synced}
 
--- why a call that asked the device may answer this error: the device failed in the call, or memory was refused
+-- why an append, a flush or a sync may answer this error: a write or a sync of the device failed in it, or memory was refused
 abbrev pub HasCause : Life → Life → Error → Type 0
-HasCause old new ReadFailed = failures old.present.log < failures new.present.log
-HasCause old new WriteFailed = failures old.present.log < failures new.present.log
-HasCause old new ResizeFailed = failures old.present.log < failures new.present.log
-HasCause old new SyncFailed = failures old.present.log < failures new.present.log
+HasCause old new WriteFailed = HasFailed WriteFailed old.present new.present
+HasCause old new SyncFailed = HasFailed SyncFailed old.present new.present
 HasCause old new OutOfMemory = Unit {0}
 HasCause old new _ = ⊥
-
--- the log loses nothing
-abbrev pub LogGrows : Life → Life → Type 0
-LogGrows old new = failures old.present.log ≤ failures new.present.log
 
 -- at most so many device calls were made
 abbrev pub AsksAtMost : ℕ → Life → Life → Type 0
@@ -36,10 +30,6 @@ settle_calls Dirty = 1
 -- those of a sync: a write before it, where something isn't written
 abbrev pub sync_calls : WriterState → ℕ
 sync_calls w = (if has_work w true then 1 else 0) + settle_calls w.sync
-
--- what is buffered is within the capacity, or less than a page
-abbrev pub IsBounded : WriterState → Type 0
-IsBounded w = (length w.tip ≤ w.capacity) ⊎ (length w.tip < w.page_size)
 
 -- what is buffered is within the capacity
 abbrev pub HoldsWithin : WriterState → Type 0
@@ -56,9 +46,10 @@ pub record IsSameWriter (old new : WriterState) : Type 0 where
 pub record GoesOn (sum : List ℕ → ℕ) (w : WriterState) (old : Life) (more : List ℕ) (now : WriterState) (new : Life) : Type 0 where
   pub sound : IsSound sum now new.present
   pub stays : StaysThrough sum w.page_size (content w old.present.readable ++ more) old new
+  pub size : now.full_pages * now.page_size + length now.tip ≡ length (content now new.present.readable)
   pub content : content now new.present.readable ≡ content w old.present.readable ++ more
   pub same : IsSameWriter w now
-  pub log : LogGrows old new
+  pub log : LogGrows old.present new.present
 
 -- a call is refused: why, and what each of its moments owes
 pub record Refuses (sum : List ℕ → ℕ) (P : ℕ) (content : List ℕ) (old new : Life) (e : Error) : Type 0 where
@@ -92,6 +83,11 @@ Appends sum w bytes old new (Ok r) = (r.1 ≡ length (content w old.present.read
 Appends sum w bytes old new (Err OffsetOverflow) = (new ≡ old) × (2 ^ 64 ≤ physical_size w.page_size w.full_pages (length w.tip + length bytes))
 Appends sum w bytes old new (Err e) = Refuses sum w.page_size (content w old.present.readable ++ bytes) old new e
 
+-- an append of bytes that fit what is buffered: they are buffered, and nothing is asked of the device
+abbrev pub BuffersAll : WriterState → List ℕ → Life → Life → Result (WriterState × ℕ) Error → Type 0
+BuffersAll w bytes old new (Ok r) = (r.0 ≡ record w { tip = w.tip ++ bytes }) × (new ≡ old)
+BuffersAll w bytes old new (Err e) = new ≡ old
+
 -- bytes are buffered, and nothing is asked of the device: whether what is buffered is more than the capacity now
 abbrev pub Buffers : WriterState → List ℕ → WriterState → Result Bool Error → Type 0
 Buffers w bytes now (Ok passed) = FitsBlob w.page_size w.full_pages (length w.tip + length bytes) × (now ≡ record w { tip = w.tip ++ bytes }) × (passed ≡ nat_lt w.capacity (length w.tip + length bytes))
@@ -115,4 +111,8 @@ BuffersOver sum w bytes now _ = Unit {0}
 
 -- a writer that was sound over a blob still is
 abbrev pub KeepsSound : (List ℕ → ℕ) → WriterState → WriterState → Type 0
-KeepsSound sum w now = (life : Life) → IsSound sum w life.present → IsSound sum now life.present
+KeepsSound sum w now = (d : Disk) → IsSound sum w d → IsSound sum now d
+
+-- the pages below the tip stay the same
+abbrev pub KeepsPages : WriterState → WriterState → Type 0
+KeepsPages w now = (now.page_size ≡ w.page_size) × (now.full_pages ≡ w.full_pages)

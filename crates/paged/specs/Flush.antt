@@ -6,7 +6,8 @@ use Rattle.crash.specs.WriterState.{WriterState, SyncState}
 use Rattle.crash.specs.WriterState.SyncState.{Clean}
 use Rattle.crash.specs.Sound.{guard_slot}
 use Rattle.page.specs.Page.{slot_bytes}
-use Rattle.crash.specs.Built.{kept_slot, kept_len, kept_bytes, footer, durable_after, page_of, built, written_pages}
+use Rattle.crash.specs.Built.{kept_slot, kept_len, kept_bytes, footer, durable_after, after_write, page_of, built, written_pages}
+use Rattle.paged.specs.Writer.{state_after_write}
 
 -- how many full pages the tip has
 abbrev pub full_in : WriterState → ℕ
@@ -37,6 +38,10 @@ advanced w flushed sync = record w {
 -- the writer once nothing is unsynced
 abbrev pub synced : WriterState → WriterState
 synced w = record w { sync = Clean }
+
+-- the writer once the tip's full pages are written, and the rest where asked, durably or not
+abbrev pub written : (List ℕ → ℕ) → WriterState → (rest sync : Bool) → WriterState
+written sum w rest sync = record (after_write sum w (full_in w) rest) { sync = state_after_write sync }
 
 -- where a flush writes
 abbrev pub place_of : WriterState → ℕ

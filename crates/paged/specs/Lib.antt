@@ -4,3 +4,4 @@ pub mod Calls
 pub mod Prefix
 pub mod Recovery
 pub mod Reads
+pub mod Searches

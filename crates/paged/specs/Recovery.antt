@@ -1,9 +1,9 @@
 -- What opening and recovering a blob do, by cases on the answer.
-use Rattle.std.specs.Prelude.{◌≡◌, ◌≢◌, ◌⊎◌, ◌<◌, ◌≤◌, ◌+◌, ◌*◌, ◌/◌, ◌^◌, ℕ, List, [], length, take, Option, Some, None, Result, Ok, Err}
+use Rattle.std.specs.Prelude.{◌≡◌, ◌≢◌, ◌⊎◌, ◌≤◌, ◌+◌, ◌*◌, ◌/◌, ◌^◌, ℕ, List, [], length, take, Option, Some, None, Result, Ok, Err}
 use Rattle.page.specs.Geometry.{adjusted}
-use Rattle.disk.specs.Disk.{Disk, Life, failures, ResizeGoes, SyncGoes}
+use Rattle.disk.specs.Disk.{Disk, Life, LogGrows, HasFailed, ResizeGoes, SyncGoes}
 use Rattle.disk.specs.declared.error.Error.{Error}
-use Rattle.disk.specs.declared.error.Error.TheVariants.{ReadFailed, OffsetOverflow, OutOfMemory, IdsExhausted}
+use Rattle.disk.specs.declared.error.Error.TheVariants.{ReadFailed, ResizeFailed, SyncFailed, OffsetOverflow, OutOfMemory, IdsExhausted}
 use Rattle.page.specs.Page.{pages, text}
 use Rattle.page.specs.declared.slot.ActiveChecksum.{ActiveChecksum}
 use Rattle.cache.specs.CacheState.{CacheState}
@@ -12,17 +12,26 @@ use Rattle.crash.specs.WriterState.SyncState.{Clean, Dirty}
 use Rattle.crash.specs.Looks.{Looked}
 use Rattle.crash.specs.Sound.{IsSound, content}
 use Rattle.crash.specs.Kept.{AllKeep, Through}
+use Rattle.crash.specs.Full.{AreFull}
 use Rattle.crash.specs.Stays.{LeavesOnly}
 use Rattle.paged.specs.declared.prefix.Prefix.{Prefix}
 use Rattle.paged.specs.declared.writer.SyncState.TheVariants.{Clean as IsClean, Dirty as IsDirty}
 use Rattle.paged.specs.declared.writer.SyncState.{SyncState as State}
 use Rattle.paged.specs.Prefix.{prefix_of, last_prefix, prefix_pages, at_prefix, HasBytes}
-use Rattle.paged.specs.Calls.{HasCause, LogGrows}
+use Rattle.paged.specs.Calls.{IsSettled}
+
+-- why opening or recovering a blob may answer this error: neither writes
+abbrev pub RecoveryCause : Life → Life → Error → Type 0
+RecoveryCause old new ReadFailed = HasFailed ReadFailed old.present new.present
+RecoveryCause old new ResizeFailed = HasFailed ResizeFailed old.present new.present
+RecoveryCause old new SyncFailed = HasFailed SyncFailed old.present new.present
+RecoveryCause old new OutOfMemory = Unit {0}
+RecoveryCause old new _ = ⊥
 
 -- a search through pages: it answers this prefix, and only reads
 abbrev pub Finds : Prefix → Life → Life → Result Prefix Error → Type 0
 Finds p old new (Ok found) = (found ≡ p) × Looked old new
-Finds p old new (Err ReadFailed) = (failures old.present.log < failures new.present.log) × Looked old new
+Finds p old new (Err ReadFailed) = HasFailed ReadFailed old.present new.present × Looked old new
 Finds p old new (Err OutOfMemory) = Looked old new
 Finds p old new (Err _) = ⊥
 
@@ -62,10 +71,6 @@ opened_prefix sum P bytes = last_prefix sum P (length bytes / (P + 12)) bytes
 abbrev pub opened_size : (List ℕ → ℕ) → ℕ → List ℕ → ℕ
 opened_size sum P bytes = prefix_pages (opened_prefix sum P bytes) * (P + 12)
 
--- the blob was only read, and then cut to so many bytes at most once
-abbrev pub TrimsTo : ℕ → Life → Life → Type 0
-TrimsTo kept old new = (mid : Life) × Looked old mid × ((new ≡ mid) ⊎ ((answer : Result (Unit {0}) Error) × Cuts kept mid new answer))
-
 -- the pages that a blob has of the tip's page, by its flushed slot
 abbrev pub slot_pages : Option ActiveChecksum → ℕ
 slot_pages None = 0
@@ -78,12 +83,19 @@ SyncsIn Dirty old new answer = SyncGoes old new answer
 
 -- all that is written is made durable and what stands behind these pages is cut, durably; the writer stands there
 abbrev pub Keeps : WriterState → Prefix → Life → Life → Result WriterState Error → Type 0
-Keeps w p old new (Ok now) = (now ≡ at_prefix w.page_size w.id w.capacity p Clean) × (new.present.readable ≡ take (prefix_pages p * (w.page_size + 12)) old.present.readable) × IsDurable new.present × LogGrows old new
-Keeps w p old new (Err e) = HasCause old new e
+Keeps w p old new (Ok now) = (now ≡ at_prefix w.page_size w.id w.capacity p Clean) × (new.present.readable ≡ take (prefix_pages p * (w.page_size + 12)) old.present.readable) × IsDurable new.present × LogGrows old.present new.present
+Keeps w p old new (Err e) = RecoveryCause old new e
 
 -- the blob was synced at most once, and then cut to so many bytes at most once
 abbrev pub EndsAt : ℕ → Life → Life → Type 0
 EndsAt kept old new = (mid : Life) × ((mid ≡ old) ⊎ ((answer : Result (Unit {0}) Error) × SyncGoes old mid answer)) × ((new ≡ mid) ⊎ ((answer : Result (Unit {0}) Error) × Cuts kept mid new answer))
+
+-- where all was durable and the pages below the tip are full, a writer is sound, and its content the
+-- text
+abbrev pub SoundWhereFull : (List ℕ → ℕ) → ℕ → Life → Life → WriterState → Type 0
+SoundWhereFull sum P old new w =
+    IsDurable old.present → AreFull sum P (take w.full_pages (pages P old.present.readable))
+    → IsSound sum w new.present × (content w new.present.readable ≡ text sum P old.present.readable)
 
 -- how opening ends, where it does: the writer stands at the pages up to the last that has a value
 pub record IsOpened (sum : List ℕ → ℕ) (cache : CacheState) (capacity : ℕ) (old new : Life) (w : WriterState) : Type 0 where
@@ -91,13 +103,14 @@ pub record IsOpened (sum : List ℕ → ℕ) (cache : CacheState) (capacity : �
   pub state : w ≡ at_prefix cache.page_size cache.ids_given (adjusted capacity cache.page_size) (opened_prefix sum cache.page_size old.present.readable) sync
   pub kept : IsKept old new (opened_size sum cache.page_size old.present.readable) sync
   pub bytes : HasBytes cache.page_size w.full_pages old.present.readable (opened_prefix sum cache.page_size old.present.readable).partial
-  pub log : LogGrows old new
+  pub sound : SoundWhereFull sum cache.page_size old new w
+  pub log : LogGrows old.present new.present
 
 abbrev pub Opens : (List ℕ → ℕ) → CacheState → ℕ → Life → Life → Result WriterState Error → Type 0
 Opens sum cache capacity old new (Ok w) = IsOpened sum cache capacity old new w
 Opens sum cache capacity old new (Err OffsetOverflow) = (new ≡ old) × (2 ^ 64 ≤ adjusted capacity cache.page_size)
 Opens sum cache capacity old new (Err IdsExhausted) = (2 ^ 64 ≤ cache.ids_given) × (sync : SyncState) × IsKept old new (opened_size sum cache.page_size old.present.readable) sync
-Opens sum cache capacity old new (Err e) = HasCause old new e
+Opens sum cache capacity old new (Err e) = RecoveryCause old new e
 
 -- the cache once it was asked for an id, where the call came so far
 abbrev pub cache_after : Result WriterState Error → CacheState → CacheState
@@ -114,16 +127,19 @@ GivesId (Err e) old new = (new ≡ old) ⊎ (new ≡ record old { ids_given = ol
 pub record IsRecovered (sum : List ℕ → ℕ) (cache : CacheState) (capacity : ℕ) (old new : Life) (w : WriterState) : Type 0 where
   pub state : w ≡ at_prefix cache.page_size cache.ids_given (adjusted capacity cache.page_size) (prefix_of sum cache.page_size (pages cache.page_size old.present.readable)) Clean
   pub sound : IsSound sum w new.present
+  pub page_size : w.page_size ≡ cache.page_size
+  pub size : w.full_pages * w.page_size + length w.tip ≡ length (content w new.present.readable)
   pub content : content w new.present.readable ≡ text sum cache.page_size old.present.readable
   pub readable : new.present.readable ≡ take (prefix_pages (prefix_of sum cache.page_size (pages cache.page_size old.present.readable)) * (cache.page_size + 12)) old.present.readable
   pub durable : IsDurable new.present
-  pub log : LogGrows old new
+  pub settled : IsSettled w
+  pub log : LogGrows old.present new.present
 
 abbrev pub Recovers : (List ℕ → ℕ) → CacheState → ℕ → Life → Life → Result WriterState Error → Type 0
 Recovers sum cache capacity old new (Ok w) = IsRecovered sum cache capacity old new w
 Recovers sum cache capacity old new (Err OffsetOverflow) = (new ≡ old) × (2 ^ 64 ≤ adjusted capacity cache.page_size)
 Recovers sum cache capacity old new (Err IdsExhausted) = 2 ^ 64 ≤ cache.ids_given
-Recovers sum cache capacity old new (Err e) = HasCause old new e
+Recovers sum cache capacity old new (Err e) = RecoveryCause old new e
 
 -- where all was durable as the call began, every image at each moment since keeps the whole text
 abbrev pub KeepsText : (List ℕ → ℕ) → ℕ → Life → Life → Type 0

@@ -1,5 +1,5 @@
 -- A writer's fields as contracts see them.
-use Rattle.std.specs.Prelude.{◌≡◌, ℕ, ◌+◌, ◌*◌, ◌/◌, ◌<◌, ◌≤◌, ◌^◌, length}
+use Rattle.std.specs.Prelude.{◌≡◌, Bool, true, false, ℕ, ◌+◌, ◌*◌, ◌/◌, ◌<◌, ◌≤◌, ◌^◌, length}
 use Rattle.std.specs.Int.{div_ceil}
 use Rattle.page.specs.Tip.{Tip}
 use Rattle.crash.specs.WriterState.{SyncState}
@@ -10,6 +10,11 @@ use Rattle.paged.specs.declared.writer.SyncState.{SyncState as State}
 abbrev pub state_of : State → SyncState
 state_of IsClean = Clean
 state_of IsDirty = Dirty
+
+-- a write that is durable at once, of a blob in which nothing was unsynced, leaves nothing unsynced
+abbrev pub state_after_write : Bool → SyncState
+state_after_write true = Clean
+state_after_write false = Dirty
 
 -- the bytes of a blob whose first pages are full, and that has pages for so many bytes more
 abbrev pub physical_size : ℕ → ℕ → ℕ → ℕ

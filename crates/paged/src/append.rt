@@ -1,9 +1,10 @@
 // Appending.
-ghost use Rattle.std.specs.Prelude.{◌≡◌, ◌↔◌, ◌+◌, ◌^◌, ◌≤◌, ◌++◌, length, IsTrue, IfOk, Err};
+ghost use Rattle.std.specs.Prelude.{◌≡◌, ◌↔◌, ◌+◌, ◌^◌, ◌≤◌, ◌++◌, length, ◌<◌, IsTrue, IfOk, Err};
 ghost use Rattle.crash.specs.Sound.{IsSound, content};
 ghost use Rattle.crash.specs.Stays.{KeepsFloors, LeavesOnly};
 ghost use Rattle.paged.specs.Writer.{physical_size, FitsBlob};
-ghost use Rattle.paged.specs.Calls.{AsksAtMost, IsBounded, HoldsWithin, Appends, Buffers, TryAppends, BuffersOver, KeepsSound};
+ghost use Rattle.paged.specs.Calls.{AsksAtMost, HoldsWithin, Appends, Buffers, BuffersAll, TryAppends, BuffersOver, KeepsSound, KeepsPages};
+ghost use Rattle.paged.specs.Reads.{HasPages};
 
 use crate::Writer;
 use cache::CacheRef;
@@ -41,7 +42,7 @@ impl<B: Blob, H: Sum, Phase> Writer<B, H, Phase> {
     /// `OffsetOverflow`, before anything else, where the new size or the physical size that it needs passes the
     /// greatest `u64`; `WriteFailed` where the device failed, `OutOfMemory`. The writer is gone then.
     pub fn append(
-        self,
+        mut self,
         blob: &mut B,
         _cache: &mut CacheRef,
         bytes: &[u8],
@@ -49,26 +50,16 @@ impl<B: Blob, H: Sum, Phase> Writer<B, H, Phase> {
         requires sound { IsSound H.sum_of self (B.life blob.old).present }
         ensures appends { Appends H.sum_of self bytes.now (B.life blob.old) (B.life blob.new) result }
         ensures overflow { 2 ^ 64 ≤ physical_size self.page_size self.full_pages (length self.tip + length bytes.now) → result ≡ Err Error.OffsetOverflow }
-        ensures bounded { IfOk result (λ r. IsBounded r.0) }
+        ensures sound { IfOk result (λ r. IsSound H.sum_of r.0 (B.life blob.new).present) }
+        ensures there { IfOk result (λ r. HasPages r.0 (B.life blob.new)) }
         ensures within { IfOk result (λ r. HoldsWithin r.0) }
-        ensures buffered { length self.tip + length bytes.now ≤ self.capacity → B.life blob.new ≡ B.life blob.old }
+        ensures buffered { length self.tip + length bytes.now ≤ self.capacity → BuffersAll self bytes.now (B.life blob.old) (B.life blob.new) result }
+        ensures flushed { self.capacity < length self.tip + length bytes.now → IfOk result (λ r. length r.0.tip < self.page_size) }
         ensures calls { AsksAtMost 1 (B.life blob.old) (B.life blob.new) }
 
         // At each moment since the call began, and at every answer.
         ensures kept { KeepsFloors H.sum_of self.page_size (content self (B.life blob.old).present.readable) (B.life blob.old) (B.life blob.new) }
         ensures only { LeavesOnly H.sum_of self.page_size (content self (B.life blob.old).present.readable) (content self (B.life blob.old).present.readable ++ bytes.now) (B.life blob.old) (B.life blob.new) }
-    {
-        self.append_bytes(blob, bytes)
-    }
-
-    /// The same, but for the cache.
-    fn append_bytes(mut self, blob: &mut B, bytes: &[u8]) -> Result<(Self, u64), Error>
-        requires sound { IsSound H.sum_of self (B.life blob.old).present }
-        ensures appends { Appends H.sum_of self bytes.now (B.life blob.old) (B.life blob.new) result }
-        ensures overflow { 2 ^ 64 ≤ physical_size self.page_size self.full_pages (length self.tip + length bytes.now) → result ≡ Err Error.OffsetOverflow }
-        ensures within { IfOk result (λ r. HoldsWithin r.0) }
-        ensures buffered { length self.tip + length bytes.now ≤ self.capacity → B.life blob.new ≡ B.life blob.old }
-        ensures calls { AsksAtMost 1 (B.life blob.old) (B.life blob.new) }
     {
         let at = self.size();
         if self.buffer(bytes)? {
@@ -87,6 +78,7 @@ impl<B: Blob, H: Sum, Phase> Writer<B, H, Phase> {
         ensures tries { TryAppends self.old bytes.now self.new result }
         ensures appends { BuffersOver H.sum_of self.old bytes.now self.new result }
         ensures sound { KeepsSound H.sum_of self.old self.new }
+        ensures pages { KeepsPages self.old self.new }
     {
         if !self.fits(bytes.len()) {
             return Err(Error::OffsetOverflow);
@@ -105,6 +97,7 @@ impl<B: Blob, H: Sum, Phase> Writer<B, H, Phase> {
         ensures tries { TryAppends self.old (T.encoded value.now) self.new result }
         ensures appends { BuffersOver H.sum_of self.old (T.encoded value.now) self.new result }
         ensures sound { KeepsSound H.sum_of self.old self.new }
+        ensures pages { KeepsPages self.old self.new }
     {
         if !self.fits(value.encode_size()) {
             return Err(Error::OffsetOverflow);

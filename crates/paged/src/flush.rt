@@ -3,13 +3,14 @@ ghost use Rattle.std.specs.Prelude.{◌≡◌, ◌+◌, ◌*◌, ◌<◌, ◌^�
 ghost use Rattle.std.specs.List.{concat};
 ghost use Rattle.disk.specs.Disk.{WriteGoes, SyncGoes};
 ghost use Rattle.crash.specs.WriterState.SyncState.{Clean, Dirty};
-ghost use Rattle.crash.specs.Built.{after_write, durable_after, rest_written};
+ghost use Rattle.crash.specs.Built.{durable_after, rest_written};
 ghost use Rattle.crash.specs.Sound.{CanWrite, IsSound, content};
 ghost use Rattle.crash.specs.Stays.{KeepsAll, KeepsFloors, LeavesOnly};
 ghost use Rattle.paged.specs.Calls.{AsksAtMost, HoldsWithin, settle_calls, sync_calls, Flushes, Settles, Syncs};
+ghost use Rattle.paged.specs.Reads.{HasPages};
 ghost use Rattle.page.specs.Tip.{ArePages};
 ghost use Rattle.paged.specs.Writer.{FitsBlob};
-ghost use Rattle.paged.specs.Flush.{full_in, rest_of, rest_bytes, has_work, carried, advanced, place_of, flush_bytes, synced, outcome};
+ghost use Rattle.paged.specs.Flush.{full_in, rest_of, rest_bytes, has_work, carried, advanced, place_of, flush_bytes, synced, written, outcome};
 
 use crate::Writer;
 use crate::build::{physical_pages, push_page};
@@ -121,40 +122,23 @@ impl<B, H: Sum, Phase> Writer<B, H, Phase> {
 }
 
 impl<B: Blob, H: Sum, Phase> Writer<B, H, Phase> {
-    /// Writes the tip's full pages, and the rest where asked, in one write that no sync covers yet.
-    fn write_pages(mut self, blob: &mut B, rest: bool) -> Result<Self, Error>
+    /// Writes the tip's full pages, and the rest where asked, in one write. With `sync` it is durable at once, and nothing
+    /// is unsynced before it.
+    fn write_pages(mut self, blob: &mut B, rest: bool, sync: bool) -> Result<Self, Error>
         requires can { CanWrite self.page_size self.tip (full_in self) rest }
+        requires settled { sync ≡ true → (B.life blob.old).present.since ≡ [] }
         ensures fits { IsErrOf result Error.OffsetOverflow → ⊥ }
-        ensures goes { WriteGoes (place_of self) (flush_bytes H.sum_of self rest) false (B.life blob.old) (B.life blob.new) (outcome result) }
-        ensures state { IfOk result (λ w. w ≡ after_write H.sum_of self (full_in self) rest) }
+        ensures goes { WriteGoes (place_of self) (flush_bytes H.sum_of self rest) sync (B.life blob.old) (B.life blob.new) (outcome result) }
+        ensures state { IfOk result (λ w. w ≡ written H.sum_of self rest sync) }
     {
         let place = self.place();
         let bufs = self.take_pages(rest)?;
         let options = WriteOptions {
-            sync: false,
+            sync,
             dont_cache: true,
         };
         blob.write_at(place, &bufs, options)?;
-        self.sync_state = SyncState::Dirty;
-        Ok(self)
-    }
-
-    /// The same in one write that is durable; nothing is unsynced before it.
-    fn write_pages_durably(mut self, blob: &mut B, rest: bool) -> Result<Self, Error>
-        requires can { CanWrite self.page_size self.tip (full_in self) rest }
-        requires settled { (B.life blob.old).present.since ≡ [] }
-        ensures fits { IsErrOf result Error.OffsetOverflow → ⊥ }
-        ensures goes { WriteGoes (place_of self) (flush_bytes H.sum_of self rest) true (B.life blob.old) (B.life blob.new) (outcome result) }
-        ensures state { IfOk result (λ w. w ≡ synced (after_write H.sum_of self (full_in self) rest)) }
-    {
-        let place = self.place();
-        let bufs = self.take_pages(rest)?;
-        let options = WriteOptions {
-            sync: true,
-            dont_cache: true,
-        };
-        blob.write_at(place, &bufs, options)?;
-        self.sync_state = SyncState::Clean;
+        self.sync_state = SyncState::after_write(sync);
         Ok(self)
     }
 
@@ -173,12 +157,13 @@ impl<B: Blob, H: Sum, Phase> Writer<B, H, Phase> {
         requires sound { IsSound H.sum_of self (B.life blob.old).present }
         ensures flushes { Flushes H.sum_of self (B.life blob.old) (B.life blob.new) result }
         ensures calls { AsksAtMost 1 (B.life blob.old) (B.life blob.new) }
-        ensures within { IfOk result (λ w. HoldsWithin w) }
+        ensures short { IfOk result (λ w. length w.tip < self.page_size) }
+        ensures room { self.page_size ≤ self.capacity }
     {
         if !self.has_flush_work(false) {
             return Ok(self);
         }
-        self.carry().write_pages(blob, false)
+        self.carry().write_pages(blob, false, false)
     }
 
     /// Makes all that was appended durable. It makes two device calls at most, a write and a sync of the blob; one, a
@@ -188,9 +173,12 @@ impl<B: Blob, H: Sum, Phase> Writer<B, H, Phase> {
     pub fn sync(self, blob: &mut B, _cache: &mut CacheRef) -> Result<Self, Error>
         requires sound { IsSound H.sum_of self (B.life blob.old).present }
         ensures syncs { Syncs H.sum_of self (B.life blob.old) (B.life blob.new) result }
+        ensures sound { IfOk result (λ w. IsSound H.sum_of w (B.life blob.new).present) }
+        ensures there { IfOk result (λ w. HasPages w (B.life blob.new)) }
         ensures within { IfOk result (λ w. HoldsWithin w) }
         ensures calls { AsksAtMost (sync_calls self) (B.life blob.old) (B.life blob.new) }
         ensures idle { sync_calls self ≡ 0 → (result ≡ Ok self) × (B.life blob.new ≡ B.life blob.old) }
+        ensures unwritten { has_work self true ≡ false → self.sync ≡ Dirty → SyncGoes (B.life blob.old) (B.life blob.new) (outcome result) }
 
         // From then on every image keeps the whole content.
         ensures durable { OnOk result (KeepsAll H.sum_of self.page_size (content self (B.life blob.old).present.readable) (B.life blob.new)) }
@@ -198,17 +186,6 @@ impl<B: Blob, H: Sum, Phase> Writer<B, H, Phase> {
         // At each moment since the call began, and at every answer.
         ensures kept { KeepsFloors H.sum_of self.page_size (content self (B.life blob.old).present.readable) (B.life blob.old) (B.life blob.new) }
         ensures only { LeavesOnly H.sum_of self.page_size (content self (B.life blob.old).present.readable) (content self (B.life blob.old).present.readable) (B.life blob.old) (B.life blob.new) }
-    {
-        self.sync_all(blob)
-    }
-
-    /// The same, but for the cache.
-    fn sync_all(self, blob: &mut B) -> Result<Self, Error>
-        requires sound { IsSound H.sum_of self (B.life blob.old).present }
-        ensures syncs { Syncs H.sum_of self (B.life blob.old) (B.life blob.new) result }
-        ensures within { IfOk result (λ w. HoldsWithin w) }
-        ensures calls { AsksAtMost (sync_calls self) (B.life blob.old) (B.life blob.new) }
-        ensures idle { sync_calls self ≡ 0 → (result ≡ Ok self) × (B.life blob.new ≡ B.life blob.old) }
     {
         if self.has_flush_work(true) {
             self.sync_pages(blob)
@@ -227,8 +204,8 @@ impl<B: Blob, H: Sum, Phase> Writer<B, H, Phase> {
     {
         let rest = self.has_rest();
         match self.sync_state {
-            SyncState::Clean => self.carry().write_pages_durably(blob, rest),
-            SyncState::Dirty => self.write_pages(blob, rest)?.sync_blob(blob),
+            SyncState::Clean => self.carry().write_pages(blob, rest, true),
+            SyncState::Dirty => self.write_pages(blob, rest, false)?.sync_blob(blob),
         }
     }
 
@@ -238,6 +215,7 @@ impl<B: Blob, H: Sum, Phase> Writer<B, H, Phase> {
         ensures settles { Settles H.sum_of self (B.life blob.old) (B.life blob.new) result }
         ensures calls { AsksAtMost (settle_calls self.sync) (B.life blob.old) (B.life blob.new) }
         ensures idle { settle_calls self.sync ≡ 0 → (result ≡ Ok self) × (B.life blob.new ≡ B.life blob.old) }
+        ensures unwritten { self.sync ≡ Dirty → SyncGoes (B.life blob.old) (B.life blob.new) (outcome result) }
     {
         match self.sync_state {
             SyncState::Clean => Ok(self),

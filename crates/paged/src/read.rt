@@ -1,12 +1,13 @@
 // Reading.
-ghost use Rattle.std.specs.Prelude.{◌≡◌, ◌+◌, ◌*◌, ◌-◌, ◌<◌, ◌≤◌, ◌^◌, ◌++◌, length, take, drop, OnOk, IfErr, IsTrue, ◌↔◌, IsOkUnless};
+ghost use Rattle.std.specs.Prelude.{◌≡◌, ◌+◌, ◌*◌, ◌-◌, ◌<◌, ◌≤◌, ◌^◌, ◌++◌, length, take, drop, OnOk, Err, IfErr, IsTrue, ◌↔◌, IsOkUnless};
 ghost use Rattle.std.specs.Int.NonZero.{non_zero_u16_get};
 ghost use Rattle.disk.specs.Disk.{ReadGoes};
 ghost use Rattle.page.specs.Page.{value_len};
 ghost use Rattle.std.specs.List.{concat};
 ghost use Rattle.crash.specs.Looks.{Looked};
-ghost use Rattle.crash.specs.Sound.{content};
-ghost use Rattle.paged.specs.Reads.{ReadsPage, ReadFault, HasPages, Reads, size_of};
+ghost use Rattle.crash.specs.Sound.{content, IsSound};
+ghost use Rattle.crash.specs.Stays.{KeepsFloors, LeavesOnly};
+ghost use Rattle.paged.specs.Reads.{ReadsPage, ReadFault, HasPages, AreTouchedFull, Reads, size_of};
 
 use crate::Writer;
 use cache::CacheRef;
@@ -85,7 +86,8 @@ impl<B: Blob, H: Sum, Phase> Writer<B, H, Phase> {
         requires below { end ≤ self.now.full_pages * self.now.page_size }
         requires there { HasPages self.now (B.life blob.old) }
         ensures ok { OnOk result (concat bufs.new ≡ concat bufs.old ++ take (end - at) (drop at (content self.now (B.life blob.old).present.readable))) }
-        ensures err { IfErr result (ReadFault H.sum_of self.now (B.life blob.old) (B.life blob.new)) }
+        ensures full { OnOk result (AreTouchedFull H.sum_of self.now at end (B.life blob.old).present.readable) }
+        ensures err { IfErr result (ReadFault H.sum_of self.now at end (B.life blob.old) (B.life blob.new)) }
         ensures looked { Looked (B.life blob.old) (B.life blob.new) }
     {
         let page_size = u64::from(self.page_size.get());
@@ -114,7 +116,14 @@ impl<B: Blob, H: Sum, Phase> Writer<B, H, Phase> {
     ) -> Result<IoBufs, Error>
         requires there { HasPages self.now (B.life blob.old) }
         ensures reads { Reads H.sum_of self.now offset len (B.life blob.old) (B.life blob.new) result }
+        ensures overflow { 2 ^ 64 ≤ offset + len → result ≡ Err Error.OffsetOverflow }
+        ensures end { offset + len < 2 ^ 64 → size_of self.now < offset + len → result ≡ Err Error.BlobInsufficientLength }
         ensures looked { Looked (B.life blob.old) (B.life blob.new) }
+
+        // Of a sound writer: it stays so, and a crash at any moment of the read keeps and leaves what it did before.
+        ensures sound { IsSound H.sum_of self.now (B.life blob.old).present → IsSound H.sum_of self.now (B.life blob.new).present }
+        ensures kept { IsSound H.sum_of self.now (B.life blob.old).present → KeepsFloors H.sum_of self.now.page_size (content self.now (B.life blob.old).present.readable) (B.life blob.old) (B.life blob.new) }
+        ensures only { IsSound H.sum_of self.now (B.life blob.old).present → LeavesOnly H.sum_of self.now.page_size (content self.now (B.life blob.old).present.readable) (content self.now (B.life blob.old).present.readable) (B.life blob.old) (B.life blob.new) }
     {
         let end = offset.checked_add(len as u64).ok_or(Error::OffsetOverflow)?;
         if end > self.size() {

@@ -1,13 +1,17 @@
 // Opening and recovering a blob.
-ghost use Rattle.std.specs.Prelude.{◌≡◌, ◌+◌, ◌*◌, ◌%◌, ◌≤◌, ◌<◌, ◌^◌, length, IfOk, OnOk};
-ghost use Rattle.std.specs.Int.NonZero.{non_zero_u16_get};
+ghost use Rattle.std.specs.Prelude.{◌≡◌, ◌+◌, ◌*◌, ◌%◌, ◌≤◌, ◌<◌, ◌^◌, length, Err, IfOk, OnOk};
+ghost use Rattle.page.specs.Geometry.{adjusted};
+ghost use Rattle.std.specs.Int.NonZero.{non_zero_u16_get, non_zero_usize_get};
 ghost use Rattle.crash.specs.WriterState.SyncState.{Clean};
 ghost use Rattle.paged.specs.Prefix.{prefix_pages, at_prefix, tip_of, slot_of_tip};
 ghost use Rattle.paged.specs.Writer.{state_of, FitsBlob};
 ghost use Rattle.paged.specs.Calls.{HoldsWithin};
-ghost use Rattle.paged.specs.Recovery.{Opens, Recovers, IsDurable, Cuts, CutsBack, TrimsTo, Stands, SyncsIn, Keeps, EndsAt, slot_pages, opened_size, cache_after, GivesId, KeepsText, LeavesText};
+ghost use Rattle.paged.specs.Recovery.{Opens, Recovers, IsDurable, Cuts, CutsBack, Stands, SyncsIn, Keeps, EndsAt, slot_pages, cache_after, GivesId, KeepsText, LeavesText};
+ghost use Rattle.paged.specs.Searches.{ReadsBack, ReadsWithin, scan_bytes};
 ghost use Rattle.page.specs.Page.{text};
-ghost use Rattle.crash.specs.Stays.{KeepsAll, StaysThrough};
+ghost use Rattle.paged.specs.Reads.{HasPages};
+ghost use Rattle.crash.specs.Sound.{IsSound};
+ghost use Rattle.crash.specs.Stays.{KeepsAll, KeepsFloors};
 
 use crate::prefix::{Partial, Prefix};
 use crate::search::{last_pages, pages_of, physical_size, scan};
@@ -110,9 +114,10 @@ impl<B, H> Recovery<B, H> {
 }
 
 impl<B: Blob, H: Sum> Recovery<B, H> {
-    /// Opens a blob of `size` physical bytes, in which nothing need be sound: keeps its pages up to the last that has a
-    /// value, and cuts what follows, durably. Pages before that one aren't read. The page size is the cache's, the id
-    /// its next one; the buffer has `capacity` bytes, taken up to a multiple of the page size, and at least two pages.
+    /// Opens a blob of `size` physical bytes, in which nothing need be sound or synced: keeps its pages up to the last
+    /// that has a value, and cuts what follows, durably. Each page is read once at most, from the last one back, and
+    /// those before the last that has a value aren't. The page size is the cache's, the id its next one; the buffer has
+    /// `capacity` bytes, taken up to a multiple of the page size, and at least two pages.
     ///
     /// `OffsetOverflow` where that capacity passes `usize`: then no device was called. `ReadFailed`, `ResizeFailed` and
     /// `SyncFailed` where the device failed, `OutOfMemory`; `IdsExhausted` where the cache has no id left: the blob was
@@ -126,29 +131,20 @@ impl<B: Blob, H: Sum> Recovery<B, H> {
     ) -> Result<Self, Error>
         requires length { size ≡ length (B.life blob.old).present.readable }
         ensures opens { Opens H.sum_of cache.old capacity (B.life blob.old) (B.life blob.new) result }
+        ensures overflow { 2 ^ 64 ≤ adjusted capacity cache.old.page_size → result ≡ Err Error.OffsetOverflow }
+        ensures there { IfOk result (λ w. HasPages w (B.life blob.new)) }
         ensures within { IfOk result (λ w. HoldsWithin w) }
         ensures ids { cache.new ≡ cache_after result cache.old }
 
-        // Where all was durable, at each moment since the call began, and at every answer.
+        // At each moment since the call began, and at every answer.
+        ensures floors { KeepsFloors H.sum_of cache.old.page_size (text H.sum_of cache.old.page_size (B.life blob.old).present.readable) (B.life blob.old) (B.life blob.new) }
+
+        // The same, where all was durable.
         ensures kept { KeepsText H.sum_of cache.old.page_size (B.life blob.old) (B.life blob.new) }
         ensures only { LeavesText H.sum_of cache.old.page_size (B.life blob.old) (B.life blob.new) }
-    {
-        Self::open_pages(alloc, blob, size, capacity, cache)
-    }
 
-    /// The same.
-    fn open_pages(
-        alloc: Global,
-        blob: &mut B,
-        size: u64,
-        capacity: usize,
-        cache: &mut CacheRef,
-    ) -> Result<Self, Error>
-        requires length { size ≡ length (B.life blob.old).present.readable }
-        ensures opens { Opens H.sum_of cache.old capacity (B.life blob.old) (B.life blob.new) result }
-        ensures trims { TrimsTo (opened_size H.sum_of cache.old.page_size (B.life blob.old).present.readable) (B.life blob.old) (B.life blob.new) }
-        ensures ids { cache.new ≡ cache_after result cache.old }
-        ensures some { 0 < cache.old.page_size }
+        // Pages are read one by one, from the last back.
+        ensures reads { ReadsBack (cache.old.page_size + 12) (B.life blob.old) (B.life blob.new) }
     {
         let page_size = cache.page_size();
         let capacity = adjusted_capacity(capacity, u64::from(page_size.get()))?;
@@ -184,10 +180,10 @@ impl<B: Blob, H: Sum> Recovery<B, H> {
     }
 }
 
-/// Recovers a blob of `size` physical bytes, whatever they are, of which nothing is unsynced: the writer's content is the
-/// text of the bytes, which are the values of the pages from the first on joined while each is full, and the next
-/// page's value. What else the blob had is cut, and all of it is durable. Each read of the scan from the first page has
-/// at most as many pages as fit `buffer_size`, and at least one.
+/// Recovers a blob of `size` physical bytes, whatever they are, also where something is unsynced, as after a call that
+/// was refused: the writer's content is the text of the bytes, which are the values of the pages from the first on
+/// joined while each is full, and the next page's value. What else the blob had is cut, and all of it is durable. Each
+/// read has at most as many pages as fit `buffer_size`, and at least one.
 ///
 /// Errors are those of [`Recovery::open`]; what the blob then holds has the same text. After one the cache may have
 /// given an id.
@@ -200,8 +196,10 @@ pub fn recover<B: Blob, H: Sum>(
     buffer_size: NonZeroUsize,
 ) -> Result<Recovery<B, H>, Error>
     requires length { size ≡ length (B.life blob.old).present.readable }
-    requires durable { IsDurable (B.life blob.old).present }
     ensures recovers { Recovers H.sum_of cache.old capacity (B.life blob.old) (B.life blob.new) result }
+    ensures overflow { 2 ^ 64 ≤ adjusted capacity cache.old.page_size → result ≡ Err Error.OffsetOverflow }
+    ensures sound { IfOk result (λ w. IsSound H.sum_of w (B.life blob.new).present) }
+    ensures there { IfOk result (λ w. HasPages w (B.life blob.new)) }
     ensures within { IfOk result (λ w. HoldsWithin w) }
     ensures ids { GivesId result cache.old cache.new }
 
@@ -209,29 +207,16 @@ pub fn recover<B: Blob, H: Sum>(
     ensures durable { OnOk result (KeepsAll H.sum_of cache.old.page_size (text H.sum_of cache.old.page_size (B.life blob.old).present.readable) (B.life blob.new)) }
 
     // At each moment since the call began, and at every answer.
+    ensures floors { KeepsFloors H.sum_of cache.old.page_size (text H.sum_of cache.old.page_size (B.life blob.old).present.readable) (B.life blob.old) (B.life blob.new) }
+
+    // The same, where all was durable.
     ensures kept { KeepsText H.sum_of cache.old.page_size (B.life blob.old) (B.life blob.new) }
     ensures only { LeavesText H.sum_of cache.old.page_size (B.life blob.old) (B.life blob.new) }
-{
-    recover_pages::<B, H>(alloc, blob, size, capacity, cache, buffer_size)
-}
 
-/// The same.
-fn recover_pages<B: Blob, H: Sum>(
-    alloc: Global,
-    blob: &mut B,
-    size: u64,
-    capacity: usize,
-    cache: &mut CacheRef,
-    buffer_size: NonZeroUsize,
-) -> Result<Recovery<B, H>, Error>
-    requires length { size ≡ length (B.life blob.old).present.readable }
-    requires durable { IsDurable (B.life blob.old).present }
-    ensures recovers { Recovers H.sum_of cache.old capacity (B.life blob.old) (B.life blob.new) result }
-    ensures ids { GivesId result cache.old cache.new }
-    ensures some { 0 < cache.old.page_size }
-    ensures stays { StaysThrough H.sum_of cache.old.page_size (text H.sum_of cache.old.page_size (B.life blob.old).present.readable) (B.life blob.old) (B.life blob.new) }
+    // No read has more pages than fit `buffer_size`, but for one page.
+    ensures reads { ReadsWithin (scan_bytes cache.old.page_size (non_zero_usize_get buffer_size)) (B.life blob.old) (B.life blob.new) }
 {
-    let recovery = Recovery::<B, H>::open_pages(alloc, blob, size, capacity, cache)?;
+    let recovery = Recovery::<B, H>::open(alloc, blob, size, capacity, cache)?;
     let pages = recovery.flushed_pages();
     let prefix = scan::<B, H>(alloc, blob, recovery.page_size, pages, buffer_size)?;
     recovery.keep(blob, pages, prefix)

@@ -1,10 +1,11 @@
 // Looking through the pages of a blob.
 ghost use Rattle.std.specs.Prelude.{◌≡◌, ◌==◌, ◌+◌, ◌-◌, ◌*◌, ◌≤◌, ◌<◌, ◌^◌, ℕ, length, take, drop, slice_index, IfOk, IsOkUnless, MatchOption};
-ghost use Rattle.std.specs.Int.NonZero.{non_zero_u16_get};
+ghost use Rattle.std.specs.Int.NonZero.{non_zero_u16_get, non_zero_usize_get};
 ghost use Rattle.page.specs.Page.{active, pages, pieces};
 ghost use Rattle.crash.specs.Built.{kept_len};
 ghost use Rattle.paged.specs.Prefix.{prefix_of, last_prefix, prefix_pages, value_and_slot, HasBytes};
 ghost use Rattle.paged.specs.Recovery.{Finds};
+ghost use Rattle.paged.specs.Searches.{ReadsBack, ReadsWithin, scan_bytes};
 
 use crate::prefix::{Partial, Prefix};
 use disk::{Blob, Error, IoBuf, ReadOptions};
@@ -96,6 +97,7 @@ pub(crate) fn scan<B: Blob, H: Sum>(
     requires fits { pages * (non_zero_u16_get page_size + 12) < 2 ^ 64 }
     ensures finds { Finds (prefix_of H.sum_of (non_zero_u16_get page_size) (pieces pages (non_zero_u16_get page_size + 12) (B.life blob.old).present.readable)) (B.life blob.old) (B.life blob.new) result }
     ensures bytes { IfOk result (λ p. HasBytes (non_zero_u16_get page_size) p.full_pages (B.life blob.old).present.readable p.partial) }
+    ensures reads { ReadsWithin (scan_bytes (non_zero_u16_get page_size) (non_zero_usize_get buffer_size)) (B.life blob.old) (B.life blob.new) }
 {
     let size = physical_size(page_size);
     let most = (buffer_size.get() as u64 / size).max(1);
@@ -123,8 +125,8 @@ pub(crate) fn scan<B: Blob, H: Sum>(
     })
 }
 
-/// The first `pages` pages of a blob, which has them, up to the last that has a value. Pages before that one aren't
-/// read.
+/// The first `pages` pages of a blob, which has them, up to the last that has a value. Each is read once at most, from
+/// the last one back, and those before that one aren't.
 pub(crate) fn last_pages<B: Blob, H: Sum>(
     alloc: Global,
     blob: &mut B,
@@ -135,6 +137,7 @@ pub(crate) fn last_pages<B: Blob, H: Sum>(
     requires fits { pages * (non_zero_u16_get page_size + 12) < 2 ^ 64 }
     ensures finds { Finds (last_prefix H.sum_of (non_zero_u16_get page_size) pages (B.life blob.old).present.readable) (B.life blob.old) (B.life blob.new) result }
     ensures bytes { IfOk result (λ p. HasBytes (non_zero_u16_get page_size) p.full_pages (B.life blob.old).present.readable p.partial) }
+    ensures reads { ReadsBack (non_zero_u16_get page_size + 12) (B.life blob.old) (B.life blob.new) }
 {
     let size = physical_size(page_size);
     while pages > 0 {

@@ -1,6 +1,6 @@
 // The writer.
 ghost use Rattle.std.specs.Prelude.{◌≡◌, ◌+◌, ◌*◌, length};
-ghost use Rattle.paged.specs.Writer.{FitsBlob};
+ghost use Rattle.paged.specs.Writer.{FitsBlob, state_of, state_after_write};
 
 use page::{ActiveChecksum, Buffer};
 use std::alloc::Global;
@@ -18,6 +18,19 @@ pub struct Recovering;
 pub(crate) enum SyncState {
     Clean,
     Dirty,
+}
+
+impl SyncState {
+    /// The state after a write: clean where it was durable at once.
+    pub(crate) fn after_write(sync: bool) -> Self
+        ensures { state_of result ≡ state_after_write sync }
+    {
+        if sync {
+            SyncState::Clean
+        } else {
+            SyncState::Dirty
+        }
+    }
 }
 
 /// The one writer of a blob of the type `B`, with pages under the checksum function `H`.

@@ -3,7 +3,4 @@ pub mod HexRead
 pub mod HexText
 pub mod Lines
 pub mod Numbers
-pub mod Runs
 pub mod ScriptLines
-pub mod Steps
-pub mod Examples

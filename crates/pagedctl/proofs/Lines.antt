@@ -8,7 +8,7 @@ use Rattle.std.specs.Int.NonZero.{non_zero_u64_get}
 use Rattle.std.proofs.lemmas.Fmt.{decimal_injective}
 use Rattle.pagedctl.specs.declared.script.Line.{Line}
 use Rattle.pagedctl.specs.declared.script.Line.TheVariants.{Step, Fail, Crash, Recover, Dump}
-use Rattle.pagedctl.specs.declared.step.Step.TheVariants.{Append, TryAppend, Sync, Size, Read}
+use Rattle.session.specs.declared.steps.Step.TheVariants.{Append, TryAppend, Sync, Size, Read}
 use Rattle.pagedctl.specs.Script.{IsLine, line_words, parts_of}
 
 -- no line fails the call of number 0

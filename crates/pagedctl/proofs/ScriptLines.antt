@@ -8,7 +8,8 @@ use Rattle.pagedctl.specs.declared.script.Line.TheVariants.{Recover}
 use Rattle.std.specs.Prelude.{IfSome}
 use Rattle.pagedctl.specs.declared.script.Script.{Script}
 use Rattle.pagedctl.specs.declared.script.Start.{Start}
-use Rattle.pagedctl.specs.Script.{Reads, ReadsScript, IsLine, IsStart, IsReadable, words_of, line_words, start_words, error_at, lines_of}
+use Rattle.pagedctl.specs.Stop.{error_at}
+use Rattle.pagedctl.specs.Script.{Reads, ReadsScript, IsLine, IsStart, IsReadable, words_of, line_words, start_words, lines_of}
 use Rattle.pagedctl.specs.Play.{IsScript}
 
 -- one line more was read

@@ -10,13 +10,13 @@ use Rattle.pagedctl.specs.declared.word.ReadError.TheVariants.{Unreadable, OutOf
 use Rattle.pagedctl.specs.declared.script.Line.{Line}
 use Rattle.pagedctl.specs.declared.script.Line.TheVariants.{Step, Fail, Crash, Recover, Dump}
 use Rattle.pagedctl.specs.declared.script.Script.{Script}
-use Rattle.pagedctl.specs.declared.script.ScriptError.{ScriptError}
-use Rattle.pagedctl.specs.declared.script.ScriptError.TheVariants as script
+use Rattle.pagedctl.specs.declared.stop.Stop.{Stop}
+use Rattle.pagedctl.specs.declared.stop.Stop.TheVariants as stop
 use Rattle.pagedctl.specs.declared.script.Start.{Start}
 use Rattle.pagedctl.specs.declared.script.SumName.{SumName}
 use Rattle.pagedctl.specs.declared.script.SumName.TheVariants.{Add, Const}
-use Rattle.pagedctl.specs.declared.step.Step as step
-use Rattle.pagedctl.specs.declared.step.Step.TheVariants.{Append, TryAppend, Sync, Size, Read}
+use Rattle.session.specs.declared.steps.Step as step
+use Rattle.session.specs.declared.steps.Step.TheVariants.{Append, TryAppend, Sync, Size, Read}
 use Rattle.pagedctl.specs.Text.{hex_of}
 
 -- what reading answers, where each value has a text: the value of which this is the text, or that it is the text of none
@@ -122,14 +122,9 @@ abbrev pub IsUnreadable : ℕ → List ℕ → Type 0
 IsUnreadable zero line = (start : Start) → IsStart start → words_of line ≢ start_words start
 IsUnreadable (suc place) line = (read : Line) → IsLine read → words_of line ≢ line_words read
 
--- why a script isn't read where the line of this number isn't
-abbrev pub error_at : ℕ → ReadError → ScriptError
-error_at number Unreadable = script.Unreadable number
-error_at number OutOfMemory = script.OutOfMemory
-
 -- what reading these lines answers: the script whose lines they are, or the number of the first that can't be read, from 1
-abbrev pub ReadsScript : List (List ℕ) → Result Script ScriptError → Type 0
+abbrev pub ReadsScript : List (List ℕ) → Result Script Stop → Type 0
 ReadsScript lines (Ok script) = (map words_of lines ≡ start_words script.start ∷ map line_words script.lines.items) × IsStart script.start
-ReadsScript lines (Err (script.Unreadable number)) = (0 < number) × (number ≤ length lines) × IsUnreadable (number - 1) (slice_index_or lines (number - 1) [])
+ReadsScript lines (Err (stop.Unreadable number)) = (0 < number) × (number ≤ length lines) × IsUnreadable (number - 1) (slice_index_or lines (number - 1) [])
     × ((place : ℕ) → place + 1 < number → IsReadable place (slice_index_or lines place []))
-ReadsScript lines (Err script.OutOfMemory) = Unit {0}
+ReadsScript lines (Err stop.Failed) = Unit {0}

@@ -3,7 +3,7 @@ use Rattle.std.specs.Prelude.{◌≡◌, ℕ, List, Bool, true, Option}
 use Rattle.disk.specs.Disk.{Disk}
 use Rattle.crash.specs.WriterState.{WriterState}
 use Rattle.paged.specs.Recovery.{IsDurable}
-use Rattle.pagedctl.specs.Run.{IsReady}
+use Rattle.session.specs.Run.{IsReady}
 
 -- the session's writer, whether a recovery may follow, and the disk
 pub record StageState : Type 0 where

@@ -3,8 +3,8 @@ use Rattle.std.specs.Prelude.{ℕ, List, [], ◌∷◌, ◌++◌, ◌/◌, ◌%�
 use Rattle.std.specs.List.{flat_map}
 use Rattle.std.specs.Fmt.{decimal, digit_glyph}
 use Rattle.disk.specs.Error.{number_of, name_of}
-use Rattle.pagedctl.specs.declared.step.Reply.{Reply}
-use Rattle.pagedctl.specs.declared.step.Reply.TheVariants.{At, Nothing, Done, Length, Bytes, Fault, Closed}
+use Rattle.session.specs.declared.steps.Reply.{Reply}
+use Rattle.session.specs.declared.steps.Reply.TheVariants.{At, Nothing, Done, Length, Bytes, Fault, Closed}
 
 -- a byte as two hexadecimal digits
 abbrev pub hex_digits : ℕ → List ℕ

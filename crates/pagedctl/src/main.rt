@@ -10,9 +10,7 @@ ghost use Rattle.std.specs.Io.KnownBytes.{Keeps};
 ghost use Rattle.pagedctl.specs.Play.{Plays, IsScript, IsNoScript};
 
 mod script;
-mod session;
 mod stage;
-mod step;
 mod stop;
 #[cfg(test)]
 mod tests;

@@ -2,10 +2,11 @@
 ghost use Rattle.std.specs.Prelude.{◌≡◌, ◌<◌, [], ◌∷◌, vec_len, codes, map, IfOk, ⊤};
 ghost use Rattle.std.specs.Fmt.{decimal};
 ghost use Rattle.std.specs.Int.NonZero.{non_zero_u16_get, non_zero_usize_get};
-ghost use Rattle.pagedctl.specs.Script.{Reads, ReadsScript, IsLine, IsStart, IsPageSize, IsPages, parts_of, lines_of, words_of, error_at, without_last_feed, line_words, start_words, sum_word};
+ghost use Rattle.pagedctl.specs.Script.{Reads, ReadsScript, IsLine, IsStart, IsPageSize, IsPages, parts_of, lines_of, words_of, without_last_feed, line_words, start_words, sum_word};
 
-use crate::step::Step;
+use crate::stop::Stop;
 use crate::word::{ReadError, parse_flags, parse_hex, parse_number};
+use session::Step;
 use std::alloc::{AllocError, AllocFailed, Global};
 use std::num::{NonZeroU16, NonZeroU64, NonZeroUsize};
 
@@ -58,51 +59,8 @@ pub enum Line {
     Dump,
 }
 
-/// Why a script can't be run.
-#[derive(Clone, Copy, Debug, PartialEq, Eq)]
-pub enum ScriptError {
-    /// The line of this number can't be read, and each before it can. The first line has the number 1.
-    Unreadable(u64),
-    /// A request for memory was refused.
-    OutOfMemory,
-}
-
-impl From<AllocError> for ScriptError {
-    ghost use Rattle.std.specs.Prelude.{◌≡◌};
-    ghost use Rattle.pagedctl.specs.declared.script.ScriptError.TheVariants.{OutOfMemory};
-
-    ghost from_gives = { λ _ e. e ≡ OutOfMemory };
-
-    fn from(_: AllocError) -> Self {
-        ScriptError::OutOfMemory
-    }
-}
-
-impl<T: Drop> From<AllocFailed<T>> for ScriptError {
-    ghost use Rattle.std.specs.Prelude.{◌≡◌};
-    ghost use Rattle.pagedctl.specs.declared.script.ScriptError.TheVariants.{OutOfMemory};
-
-    ghost from_gives = { λ _ e. e ≡ OutOfMemory };
-
-    fn from(_: AllocFailed<T>) -> Self {
-        ScriptError::OutOfMemory
-    }
-}
-
-impl ScriptError {
-    // Why the line of this number isn't read.
-    fn at(number: u64, error: ReadError) -> Self
-        ensures { result ≡ error_at number error }
-    {
-        match error {
-            ReadError::Unreadable => ScriptError::Unreadable(number),
-            ReadError::OutOfMemory => ScriptError::OutOfMemory,
-        }
-    }
-}
-
 /// Reads a whole script. Its lines end in a line feed, which the last may lack.
-pub fn parse(alloc: Global, input: &[u8]) -> Result<Script, ScriptError>
+pub fn parse(alloc: Global, input: &[u8]) -> Result<Script, Stop>
     ensures reads { ReadsScript (lines_of input.now) result }
 {
     let text = without_last_feed(input);
@@ -127,18 +85,18 @@ fn parts<'a>(alloc: Global, bytes: &'a [u8], at: u8) -> Result<Vec<&'a [u8]>, Al
     bytes.split(|byte| *byte == at).collect(alloc)
 }
 
-fn parse_lines(alloc: Global, first: &[u8], others: &[&[u8]]) -> Result<Script, ScriptError>
+fn parse_lines(alloc: Global, first: &[u8], others: &[&[u8]]) -> Result<Script, Stop>
     ensures reads { ReadsScript (first.now ∷ map (λ line. line.now) others.now) result }
 {
     let start = match parse_start(alloc, first) {
         Ok(start) => start,
-        Err(error) => return Err(ScriptError::at(1, error)),
+        Err(error) => return Err(Stop::at(1, error)),
     };
     let mut lines = Vec::with_capacity(alloc, others.len())?;
     for (index, line) in others.iter().enumerate() {
         match parse_line(alloc, line) {
             Ok(line) => lines.push(line)?,
-            Err(error) => return Err(ScriptError::at(index as u64 + 2, error)),
+            Err(error) => return Err(Stop::at(index as u64 + 2, error)),
         }
     }
     Ok(Script { start, lines })

@@ -3,12 +3,11 @@ ghost use Rattle.std.specs.Prelude.{◌≡◌};
 ghost use Rattle.paged.specs.Recovery.{IsDurable};
 
 use crate::script::{Line, Start};
-use crate::session::{Session, run};
-use crate::step::{Reply, Step};
-use crate::text::Hex;
+use crate::text::{Hex, Said};
 use cache::CacheRef;
 use disk::{Error, MemBlob};
 use page::Sum;
+use session::{Reply, Session, Step, run};
 use std::alloc::Global;
 use std::io;
 use std::io::Write;
@@ -60,7 +59,7 @@ impl<H: Sum> Stage<H> {
     {
         match self.recover() {
             Ok(size) => writeln!(out, "recovered {size}"),
-            Err(error) => writeln!(out, "{}", Reply::Fault(error)),
+            Err(error) => writeln!(out, "{}", Said(&Reply::Fault(error))),
         }
     }
 
@@ -76,7 +75,7 @@ impl<H: Sum> Stage<H> {
         let size = self.blob.len();
         let capacity = self.start.capacity;
         let buffer_size = NonZeroUsize::new(capacity).unwrap_or(NonZeroUsize::MIN);
-        let recovered = paged::recover::<MemBlob, H>(
+        let recovered = Session::recover(
             self.alloc,
             &mut self.blob,
             size,
@@ -85,10 +84,8 @@ impl<H: Sum> Stage<H> {
             buffer_size,
         );
         self.cache = Some(cache);
-        let recovery = recovered?;
-        let size = recovery.size();
-        self.session = Session::new(self.alloc, recovery);
-        Ok(size)
+        self.session = recovered?;
+        Ok(self.session.size().unwrap_or(0))
     }
 
     /// Does what a line asks for, and writes the reply.
@@ -114,7 +111,7 @@ impl<H: Sum> Stage<H> {
     fn step<W: Write>(&mut self, step: Step, out: &mut W) -> io::Result<()> {
         self.crashed = false;
         let Some(cache) = &mut self.cache else {
-            return writeln!(out, "{}", Reply::Closed);
+            return writeln!(out, "{}", Said(&Reply::Closed));
         };
         let mut replies = Vec::new(self.alloc);
         match run(
@@ -125,21 +122,20 @@ impl<H: Sum> Stage<H> {
             &mut replies,
         ) {
             Ok(()) => write_all(&replies, out),
-            Err(error) => writeln!(out, "{}", Reply::Fault(error)),
+            Err(error) => writeln!(out, "{}", Said(&Reply::Fault(error))),
         }
     }
 
     // A refused crash is no crash, and a recovery can't follow it.
     fn crash<W: Write>(&mut self, keep: &[bool], out: &mut W) -> io::Result<()> {
-        match self.blob.crash(keep) {
+        match self.session.crash(&mut self.blob, keep) {
             Ok(()) => {
-                self.session = Session::closed(self.alloc);
                 self.crashed = true;
                 writeln!(out, "crashed {}", self.blob.len())
             }
             Err(error) => {
                 self.crashed = false;
-                writeln!(out, "{}", Reply::Fault(error))
+                writeln!(out, "{}", Said(&Reply::Fault(error)))
             }
         }
     }
@@ -147,7 +143,7 @@ impl<H: Sum> Stage<H> {
 
 fn write_all<W: Write>(replies: &[Reply], out: &mut W) -> io::Result<()> {
     for reply in replies {
-        writeln!(out, "{reply}")?;
+        writeln!(out, "{}", Said(reply))?;
     }
     Ok(())
 }

@@ -1,20 +1,31 @@
 // Why a script isn't played to its end.
 ghost use Rattle.std.specs.Prelude.{◌≡◌, Some};
-ghost use Rattle.pagedctl.specs.Play.{status_of, stop_text};
+ghost use Rattle.pagedctl.specs.Stop.{error_at, status_of, stop_text};
 
-use crate::script::ScriptError;
+use crate::word::ReadError;
+use std::alloc::{AllocError, AllocFailed};
 use std::{fmt, io};
 
 /// Why a script isn't played to its end.
 #[derive(Clone, Copy, Debug, PartialEq, Eq)]
 pub enum Stop {
-    /// The line of this number can't be read. Nothing is played then.
+    /// The line of this number can't be read, and each before it can. The first has the number 1. Nothing is played then.
     Unreadable(u64),
     /// The input or the output failed, or there was no memory for the script.
     Failed,
 }
 
 impl Stop {
+    /// Why a script stops whose line of this number isn't read.
+    pub fn at(number: u64, error: ReadError) -> Self
+        ensures { result ≡ error_at number error }
+    {
+        match error {
+            ReadError::Unreadable => Stop::Unreadable(number),
+            ReadError::OutOfMemory => Stop::Failed,
+        }
+    }
+
     /// The exit status.
     pub fn status(self) -> u8
         ensures { result ≡ status_of self }
@@ -47,15 +58,22 @@ impl From<io::Error> for Stop {
     }
 }
 
-impl From<ScriptError> for Stop {
-    ghost use Rattle.pagedctl.specs.Play.{stopped_by};
+impl From<AllocError> for Stop {
+    ghost use Rattle.pagedctl.specs.declared.stop.Stop.TheVariants.{Failed};
 
-    ghost from_gives = { λ error stop. stop ≡ stopped_by error };
+    ghost from_gives = { λ _ stop. stop ≡ Failed };
 
-    fn from(error: ScriptError) -> Self {
-        match error {
-            ScriptError::Unreadable(number) => Stop::Unreadable(number),
-            ScriptError::OutOfMemory => Stop::Failed,
-        }
+    fn from(_: AllocError) -> Self {
+        Stop::Failed
+    }
+}
+
+impl<T: Drop> From<AllocFailed<T>> for Stop {
+    ghost use Rattle.pagedctl.specs.declared.stop.Stop.TheVariants.{Failed};
+
+    ghost from_gives = { λ _ stop. stop ≡ Failed };
+
+    fn from(_: AllocFailed<T>) -> Self {
+        Stop::Failed
     }
 }

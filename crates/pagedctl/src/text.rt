@@ -2,7 +2,7 @@
 ghost use Rattle.std.specs.Prelude.{Some};
 ghost use Rattle.pagedctl.specs.Text.{hex_of, reply_text};
 
-use crate::step::Reply;
+use session::Reply;
 use std::fmt;
 
 /// Bytes as lower-case hexadecimal digits, two a byte, or `-` where there is none.
@@ -23,11 +23,15 @@ impl fmt::Display for Hex<'_> {
     }
 }
 
-impl fmt::Display for Reply {
-    ghost output = { λ reply. Some (reply_text reply) };
+/// A reply as a line of the output says it.
+#[derive(Clone, Copy, Debug)]
+pub struct Said<'a>(pub &'a Reply);
+
+impl fmt::Display for Said<'_> {
+    ghost output = { λ said. Some (reply_text said.0.now) };
 
     fn fmt<W: fmt::Write>(&self, f: &mut fmt::Formatter<W>) -> fmt::Result {
-        match self {
+        match self.0 {
             Reply::At(place) => write!(f, "at {place}"),
             Reply::Nothing => write!(f, "none"),
             Reply::Done => write!(f, "ok"),

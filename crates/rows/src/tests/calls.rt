@@ -1,15 +1,9 @@
 // What calls answer, and the error of each device call that fails in them.
-ghost use Rattle.std.specs.Prelude.{IfOk};
-ghost use Rattle.disk.specs.History.{life_of};
-ghost use Rattle.crash.specs.Sound.{IsSound};
-ghost use Rattle.paged.specs.Recovery.{IsDurable};
-
-use super::kit::{calls_from, new_cache, recovered, recovered_content};
-use cache::CacheRef;
-use disk::{Call, Error, IoBuf, MemBlob};
+use super::kit::{CAPACITY, Store};
+use disk::{Call, Error, IoBuf};
 use page::{AddSum, Sum};
-use paged::Writer;
 use std::alloc::Global;
+use std::process::Abort;
 use std::test::Fail;
 
 fn answers(got: &Result<IoBuf, Error>, want: Result<&[u8], Error>) -> bool {
@@ -19,32 +13,12 @@ fn answers(got: &Result<IoBuf, Error>, want: Result<&[u8], Error>) -> bool {
     }
 }
 
-/// A writer of eleven bytes: two pages are in the blob, and three bytes are buffered.
-fn a_to_k<H: Sum>(
-    alloc: Global,
-    blob: &mut MemBlob,
-    cache: &mut CacheRef,
-) -> Result<Writer<MemBlob, H>, Error>
-    requires { IsDurable (life_of blob.old).present }
-    ensures { IfOk result (λ writer. IsSound H.sum_of writer (life_of blob.new).present) }
-{
-    let writer = recovered::<H>(alloc, blob, cache)?;
-    let (writer, _) = writer.append(blob, cache, b"abcdefghi")?;
-    let (writer, _) = writer.append(blob, cache, b"jk")?;
-    Ok(writer)
-}
-
-#[tactic(auto, using(crate::proofs::Sound::has_pages))]
-fn read<H: Sum>(
-    writer: &Writer<MemBlob, H>,
-    blob: &mut MemBlob,
-    cache: &mut CacheRef,
-    place: u64,
-    len: usize,
-) -> Result<IoBuf, Error>
-    requires { IsSound H.sum_of writer.now (life_of blob.old).present }
-{
-    writer.read_at(blob, cache, place, len)?.coalesce()
+/// A store of eleven bytes: two pages are in the blob, and three bytes are buffered.
+fn a_to_k<H: Sum>(alloc: Global) -> Result<Store<H>, Error> {
+    let mut store = Store::empty(alloc)?;
+    store.append(b"abcdefghi")?;
+    store.append(b"jk")?;
+    Ok(store)
 }
 
 // A place, a number of bytes, what a read of them answers, and how many pages are read.
@@ -68,15 +42,13 @@ const READS: [(u64, usize, Result<&[u8], Error>, usize); 14] = [
 #[test]
 fn reads_cross_pages_and_the_buffer(rt: HostRuntime) -> Result<(), Fail> {
     for (place, len, want, pages) in READS {
-        let mut blob = MemBlob::new(rt.alloc());
-        let mut cache = new_cache(rt.alloc())?;
-        let writer = a_to_k::<AddSum>(rt.alloc(), &mut blob, &mut cache)?;
-        assert_eq!(rt; blob.len(), 32);
-        let before = blob.calls().len();
-        let got = read(&writer, &mut blob, &mut cache, place, len);
+        let mut store = a_to_k::<AddSum>(rt.alloc())?;
+        assert_eq!(rt; store.blob().len(), 32);
+        let before = store.blob().calls().len();
+        let got = store.read(place, len);
         assert!(rt; answers(&got, want), "{len} bytes at {place}");
         assert_eq!(rt;
-            calls_from(&blob, before).len(),
+            store.calls_from(before).len(),
             pages,
             "{len} bytes at {place}"
         );
@@ -88,47 +60,42 @@ fn reads_cross_pages_and_the_buffer(rt: HostRuntime) -> Result<(), Fail> {
 fn a_failed_read_is_told(rt: HostRuntime) -> Result<(), Fail> {
     // Pages 0 and 1 are read in turn.
     for page in 0..2u64 {
-        let mut blob = MemBlob::new(rt.alloc());
-        let mut cache = new_cache(rt.alloc())?;
-        let writer = a_to_k::<AddSum>(rt.alloc(), &mut blob, &mut cache)?;
-        blob.fail_at(page + 1);
-        let got = read(&writer, &mut blob, &mut cache, 3, 7);
+        let mut store = a_to_k::<AddSum>(rt.alloc())?;
+        store.fail_at(page + 1);
+        let got = store.read(3, 7);
         assert!(rt; answers(&got, Err(Error::ReadFailed)), "at page {page}");
-        assert_eq!(rt; blob.failures(), 1);
+        assert_eq!(rt; store.blob().failures(), 1);
     }
     Ok(())
 }
 
 #[test]
 fn an_append_may_pass_the_buffer(rt: HostRuntime) -> Result<(), Fail> {
-    let mut blob = MemBlob::new(rt.alloc());
-    let mut cache = new_cache(rt.alloc())?;
-    let writer = recovered::<AddSum>(rt.alloc(), &mut blob, &mut cache)?;
-    let before = blob.calls().len();
-    let (writer, at) = writer.append(&mut blob, &mut cache, b"abcdefghijklmnopqrstu")?;
-    assert_eq!(rt; at, 0);
-    assert_eq!(rt; writer.size(), 21);
+    let mut store = Store::<AddSum>::empty(rt.alloc())?;
+    let before = store.blob().calls().len();
+    assert_eq!(rt; store.append(b"abcdefghijklmnopqrstu"), Ok(0));
+    assert_eq!(rt; store.size(), 21);
     assert_eq!(rt;
-        calls_from(&blob, before),
+        store.calls_from(before),
         [Call::WriteAt(0, 80, false)].as_slice()
     );
-    let (writer, at) = writer.append(&mut blob, &mut cache, b"")?;
-    assert_eq!(rt; at, 21);
-    let (writer, _) = writer.append(&mut blob, &mut cache, b"vwx")?;
-    let writer = writer.sync(&mut blob, &mut cache)?;
-    assert_eq!(rt; writer.size(), 24);
-    blob.crash(&[])?;
-    let content = recovered_content::<AddSum>(rt.alloc(), &mut blob)?;
-    assert_eq!(rt; content.as_ref(), b"abcdefghijklmnopqrstuvwx".as_slice());
+    assert_eq!(rt; store.append(b""), Ok(21));
+    store.append(b"vwx")?;
+    store.sync()?;
+    assert_eq!(rt; store.size(), 24);
+    store.crash(&[])?;
+    assert!(rt; store.holds(b"abcdefghijklmnopqrstuvwx")?);
     Ok(())
 }
 
-// What is appended once "abc" is durable, whether a sync follows, and the device calls of both. The last of them fails.
+// What is appended once "abc" is durable, whether a sync follows, and the device calls of both. The last of them fails,
+// and the blob then holds the text `readable`.
 struct Row {
     bytes: &'static [u8],
     sync: bool,
     calls: &'static [Call],
     error: Error,
+    readable: &'static [u8],
 }
 
 const ROWS: [Row; 5] = [
@@ -137,18 +104,21 @@ const ROWS: [Row; 5] = [
         sync: false,
         calls: &[Call::WriteAt(0, 32, false)],
         error: Error::WriteFailed,
+        readable: b"abc",
     },
     Row {
         bytes: b"d",
         sync: true,
         calls: &[Call::WriteAt(0, 16, true)],
         error: Error::WriteFailed,
+        readable: b"abc",
     },
     Row {
         bytes: b"defghi",
         sync: true,
         calls: &[Call::WriteAt(0, 32, false), Call::WriteAt(32, 16, false)],
         error: Error::WriteFailed,
+        readable: b"abcdefgh",
     },
     Row {
         bytes: b"defghi",
@@ -159,6 +129,7 @@ const ROWS: [Row; 5] = [
             Call::Sync,
         ],
         error: Error::SyncFailed,
+        readable: b"abcdefghi",
     },
     // All of it is written by the append.
     Row {
@@ -166,42 +137,87 @@ const ROWS: [Row; 5] = [
         sync: true,
         calls: &[Call::WriteAt(0, 48, false), Call::Sync],
         error: Error::SyncFailed,
+        readable: b"abcdefghijkl",
     },
 ];
 
-// Appends, and syncs where asked. It answers the error, if any.
-fn appended<H: Sum>(
-    blob: &mut MemBlob,
-    cache: &mut CacheRef,
-    writer: Writer<MemBlob, H>,
-    row: &Row,
-) -> Result<(), Error>
-    requires { IsSound H.sum_of writer (life_of blob.old).present }
-{
-    let (writer, _) = writer.append(blob, cache, row.bytes)?;
+// Appends, and syncs where asked.
+fn change<H: Sum>(store: &mut Store<H>, row: &Row) -> Result<(), Error> {
+    store.append(row.bytes)?;
     if row.sync {
-        writer.sync(blob, cache)?;
+        store.sync()?;
     }
     Ok(())
+}
+
+/// A store in which "abc" is durable, and the row's last call is to fail.
+fn about_to_fail(alloc: Global, row: &Row) -> Result<Store<AddSum>, Error> {
+    let mut store = Store::empty(alloc)?;
+    store.append(b"abc")?;
+    store.sync()?;
+    store.fail_at(row.calls.len() as u64);
+    Ok(store)
+}
+
+/// A store whose row was refused.
+fn refused(rt: &impl Abort, alloc: Global, row: &Row) -> Result<Store<AddSum>, Error> {
+    let mut store = about_to_fail(alloc, row)?;
+    let before = store.blob().calls().len();
+    assert_eq!(rt; change(&mut store, row), Err(row.error));
+    assert_eq!(rt; store.calls_from(before), row.calls);
+    assert_eq!(rt; store.blob().failures(), 1);
+    Ok(store)
 }
 
 #[test]
 fn a_failed_call_is_told(rt: HostRuntime) -> Result<(), Fail> {
     for row in &ROWS {
-        let mut blob = MemBlob::new(rt.alloc());
-        let mut cache = new_cache(rt.alloc())?;
-        let writer = recovered::<AddSum>(rt.alloc(), &mut blob, &mut cache)?;
-        let (writer, _) = writer.append(&mut blob, &mut cache, b"abc")?;
-        let writer = writer.sync(&mut blob, &mut cache)?;
-        let before = blob.calls().len();
-        blob.fail_at((row.calls.len() as u64).max(1));
-        let answer = appended(&mut blob, &mut cache, writer, row);
-        assert_eq!(rt; answer, Err(row.error));
-        assert_eq!(rt; calls_from(&blob, before), row.calls);
-        assert_eq!(rt; blob.failures(), 1);
-        blob.crash(&[])?;
-        let content = recovered_content::<AddSum>(rt.alloc(), &mut blob)?;
-        assert_eq!(rt; content.as_ref(), b"abc".as_slice());
+        let mut store = refused(&rt, rt.alloc(), row)?;
+        store.crash(&[])?;
+        assert!(rt; store.holds(b"abc")?);
+    }
+    Ok(())
+}
+
+// No crash comes between.
+fn recover_at_once(rt: &impl Abort, alloc: Global, row: &Row, keep: bool) -> Result<(), Error> {
+    let mut store = refused(rt, alloc, row)?;
+    assert!(rt; store.holds(row.readable)?);
+    store.crash(&[keep; 48])?;
+    assert!(rt; store.holds(row.readable)?);
+    Ok(())
+}
+
+// What the blob holds is there, and a crash behind the recovery keeps that and no more, whatever it would have left of
+// the refused call.
+#[test]
+fn a_refused_call_is_recovered_at_once(rt: HostRuntime) -> Result<(), Fail> {
+    for row in &ROWS {
+        recover_at_once(&rt, rt.alloc(), row, false)?;
+        recover_at_once(&rt, rt.alloc(), row, true)?;
+    }
+    Ok(())
+}
+
+// The recovered writer goes on behind what the blob holds.
+fn go_on(rt: &impl Abort, alloc: Global, row: &Row) -> Result<(), Error> {
+    let mut store = refused(rt, alloc, row)?;
+    assert!(rt; store.holds(row.readable)?);
+    let end = row.readable.len();
+    assert_eq!(rt; store.append(b"yz"), Ok(end as u64));
+    store.sync()?;
+    store.crash(&[])?;
+    store.recover(CAPACITY)?;
+    assert_eq!(rt; store.size(), (end as u64).saturating_add(2));
+    assert!(rt; store.read(0, end)?.as_ref() == row.readable);
+    assert!(rt; store.read(end as u64, 2)?.as_ref() == b"yz".as_slice());
+    Ok(())
+}
+
+#[test]
+fn appends_go_on_behind_a_refused_call(rt: HostRuntime) -> Result<(), Fail> {
+    for row in &ROWS {
+        go_on(&rt, rt.alloc(), row)?;
     }
     Ok(())
 }

@@ -1,14 +1,10 @@
 // What the tests share: pages as they stand in a blob, and writers over blobs in memory.
-ghost use Rattle.std.specs.Prelude.{IfOk};
-ghost use Rattle.disk.specs.History.{life_of};
-ghost use Rattle.crash.specs.Sound.{IsSound};
-ghost use Rattle.paged.specs.Recovery.{IsDurable};
-
 use cache::CacheRef;
 use disk::{Call, Error, IoBuf, MemBlob};
-use page::Sum;
+use page::{EncodeSize, Sum, Write};
 use paged::{Writer, recover};
 use std::alloc::Global;
+use std::marker::Model;
 use std::num::{NonZeroU16, NonZeroUsize};
 
 pub type Page = [u8; 16];
@@ -16,6 +12,9 @@ pub type Page = [u8; 16];
 pub const PAGE_SIZE: u16 = 4;
 
 pub const CAPACITY: usize = 8;
+
+// What a call answers where there is no writer.
+const NO_WRITER: Error = Error::IdsExhausted;
 
 // The sums of the letters: 61 + 62 + 63 + 64 is 18A, and 65 + 66 is CB.
 pub const ABCD: Page = [
@@ -43,55 +42,163 @@ pub fn new_cache(alloc: Global) -> Result<CacheRef, Error> {
     CacheRef::new(alloc, page_size, NonZeroUsize::MIN)
 }
 
-/// The writer of a blob, recovered.
-pub fn recovered<H: Sum>(
+/// What a test runs over: a blob, its cache, and the writer on it, if there is one.
+///
+/// A call that takes the writer and is refused ends it. Where there is none, a call that needs one answers
+/// `IdsExhausted`, which no row expects. No call requires anything of a test, and none tells it what it did.
+#[derive(Drop)]
+pub struct Store<H: Sum> {
     alloc: Global,
-    blob: &mut MemBlob,
-    cache: &mut CacheRef,
-) -> Result<Writer<MemBlob, H>, Error>
-    requires { IsDurable (life_of blob.old).present }
-    ensures { IfOk result (λ writer. IsSound H.sum_of writer (life_of blob.new).present) }
-{
-    recovered_by::<H>(alloc, blob, cache, CAPACITY)
+    blob: MemBlob,
+    cache: CacheRef,
+    writer: Option<Writer<MemBlob, H>>,
 }
 
-/// The same, where so many bytes are read at a time.
-pub fn recovered_by<H: Sum>(
-    alloc: Global,
-    blob: &mut MemBlob,
-    cache: &mut CacheRef,
-    buffer_size: usize,
-) -> Result<Writer<MemBlob, H>, Error>
-    requires { IsDurable (life_of blob.old).present }
-    ensures { IfOk result (λ writer. IsSound H.sum_of writer (life_of blob.new).present) }
-{
-    let size = blob.len();
-    let buffer_size = NonZeroUsize::new(buffer_size).unwrap_or(NonZeroUsize::MIN);
-    let recovery = recover::<MemBlob, H>(alloc, blob, size, CAPACITY, cache, buffer_size)?;
-    Ok(Writer::from(recovery))
+impl<H: Sum> Model for Store<H> {
+    ghost use Rattle.disk.specs.History.{life_of};
+    ghost use Rattle.rows.specs.Store.{IsReady};
+
+    ghost Value = { Unit {0} };
+
+    ghost view = { λ store. tt };
+
+    ghost invariant = { λ store. IsReady H.sum_of store.writer (life_of store.blob) };
 }
 
-/// All that a writer stands for.
-#[tactic(auto, using(crate::proofs::Sound::has_pages))]
-pub fn content<H: Sum>(
-    writer: &Writer<MemBlob, H>,
-    blob: &mut MemBlob,
-    cache: &mut CacheRef,
-) -> Result<IoBuf, Error>
-    requires { IsSound H.sum_of writer.now (life_of blob.old).present }
-{
-    writer
-        .read_at(blob, cache, 0, writer.size() as usize)?
-        .coalesce()
-}
+impl<H: Sum> Store<H> {
+    /// A store of this blob, without a writer.
+    pub fn new(alloc: Global, blob: MemBlob) -> Result<Self, Error> {
+        Ok(Store {
+            alloc,
+            blob,
+            cache: new_cache(alloc)?,
+            writer: None,
+        })
+    }
 
-/// What a blob holds once it is recovered.
-pub fn recovered_content<H: Sum>(alloc: Global, blob: &mut MemBlob) -> Result<IoBuf, Error>
-    requires { IsDurable (life_of blob.old).present }
-{
-    let mut cache = new_cache(alloc)?;
-    let writer = recovered::<H>(alloc, blob, &mut cache)?;
-    content(&writer, blob, &mut cache)
+    /// A store of an empty blob, recovered.
+    pub fn empty(alloc: Global) -> Result<Self, Error> {
+        let mut store = Store::new(alloc, MemBlob::new(alloc))?;
+        store.recover(CAPACITY)?;
+        Ok(store)
+    }
+
+    /// A store of a blob with these bytes, all durable, without a writer.
+    pub fn of_bytes(alloc: Global, bytes: &[u8]) -> Result<Self, Error> {
+        Store::new(alloc, MemBlob::from_bytes(alloc, bytes)?)
+    }
+
+    /// Recovers the blob as it is, also at once after a call that was refused.
+    pub fn recover(&mut self, buffer_size: usize) -> Result<(), Error> {
+        self.writer = None;
+        let size = self.blob.len();
+        let buffer_size = NonZeroUsize::new(buffer_size).unwrap_or(NonZeroUsize::MIN);
+        let recovery = recover::<MemBlob, H>(
+            self.alloc,
+            &mut self.blob,
+            size,
+            CAPACITY,
+            &mut self.cache,
+            buffer_size,
+        )?;
+        self.writer = Some(Writer::from(recovery));
+        Ok(())
+    }
+
+    /// Appends bytes, and answers their place.
+    pub fn append(&mut self, bytes: &[u8]) -> Result<u64, Error> {
+        let writer = self.writer.take().ok_or(NO_WRITER)?;
+        let (writer, at) = writer.append(&mut self.blob, &mut self.cache, bytes)?;
+        self.writer = Some(writer);
+        Ok(at)
+    }
+
+    /// Appends bytes where they fit the buffer.
+    pub fn try_append(&mut self, bytes: &[u8]) -> Result<Option<u64>, Error> {
+        match &mut self.writer {
+            Some(writer) => writer.try_append(bytes),
+            None => Err(NO_WRITER),
+        }
+    }
+
+    /// Appends a value where it fits the buffer.
+    pub fn try_append_value<T: EncodeSize + Write>(
+        &mut self,
+        value: &T,
+    ) -> Result<Option<u64>, Error> {
+        match &mut self.writer {
+            Some(writer) => writer.try_append_value(value),
+            None => Err(NO_WRITER),
+        }
+    }
+
+    /// Makes all that was appended durable.
+    pub fn sync(&mut self) -> Result<(), Error> {
+        let writer = self.writer.take().ok_or(NO_WRITER)?;
+        self.writer = Some(writer.sync(&mut self.blob, &mut self.cache)?);
+        Ok(())
+    }
+
+    /// The bytes of a range.
+    pub fn read(&mut self, place: u64, len: usize) -> Result<IoBuf, Error> {
+        match &self.writer {
+            Some(writer) => writer
+                .read_at(&mut self.blob, &mut self.cache, place, len)?
+                .coalesce(),
+            None => Err(NO_WRITER),
+        }
+    }
+
+    /// All that the writer stands for.
+    pub fn content(&mut self) -> Result<IoBuf, Error> {
+        self.read(0, self.size() as usize)
+    }
+
+    /// Whether the writer stands for these bytes.
+    pub fn has(&mut self, want: &[u8]) -> Result<bool, Error> {
+        Ok(self.content()?.as_ref() == want)
+    }
+
+    /// Whether the blob, recovered now, holds these bytes.
+    pub fn holds(&mut self, want: &[u8]) -> Result<bool, Error> {
+        self.recover(CAPACITY)?;
+        self.has(want)
+    }
+
+    /// Whether the blob is made of these pages.
+    pub fn is_made_of(&self, pages: &[Page]) -> Result<bool, Error> {
+        let want = blob_bytes(self.alloc, pages, &[])?;
+        Ok(self.blob.bytes() == want.as_slice())
+    }
+
+    /// The logical bytes; 0 where there is no writer.
+    pub fn size(&self) -> u64 {
+        match &self.writer {
+            Some(writer) => writer.size(),
+            None => 0,
+        }
+    }
+
+    /// Crashes, with these flags for what isn't durable. The writer is gone.
+    pub fn crash(&mut self, keep: &[bool]) -> Result<(), Error> {
+        self.writer = None;
+        self.blob.crash(keep)
+    }
+
+    /// The nth device call from now on is to fail, the next one at least.
+    pub fn fail_at(&mut self, n: u64) {
+        self.blob.fail_at(n.max(1));
+    }
+
+    /// The blob.
+    pub fn blob(&self) -> &MemBlob {
+        &self.blob
+    }
+
+    /// The device calls from one on.
+    pub fn calls_from(&self, first: usize) -> &[Call] {
+        calls_from(&self.blob, first)
+    }
 }
 
 /// The device calls from one on.

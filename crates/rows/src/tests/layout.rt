@@ -1,7 +1,8 @@
 // What appends and syncs write.
-use super::kit::{ABCD, EF, Page, blob_bytes, calls_from, new_cache, recovered};
-use disk::{Call, MemBlob};
+use super::kit::{ABCD, EF, Page, Store};
+use disk::{Call, Error};
 use page::AddSum;
+use std::process::Abort;
 use std::test::Fail;
 
 const EFG: Page = [
@@ -20,78 +21,68 @@ const I: Page = [
     0x69, 0x00, 0x00, 0x00, 0x00, 0x01, 0x00, 0x00, 0x00, 0x69, 0x00, 0x00, 0x00, 0x00, 0x00, 0x00,
 ];
 
+/// Appends, which answers this place, and syncs; the blob is made of these pages then.
+fn append_and_sync(
+    rt: &impl Abort,
+    store: &mut Store<AddSum>,
+    bytes: &[u8],
+    at: u64,
+    pages: &[Page],
+) -> Result<(), Error> {
+    assert_eq!(rt; store.append(bytes), Ok(at));
+    store.sync()?;
+    assert!(rt; store.is_made_of(pages)?);
+    Ok(())
+}
+
 #[test]
 fn each_sync_takes_the_other_slot(rt: HostRuntime) -> Result<(), Fail> {
-    let mut blob = MemBlob::new(rt.alloc());
-    let mut cache = new_cache(rt.alloc())?;
-    let writer = recovered::<AddSum>(rt.alloc(), &mut blob, &mut cache)?;
-
-    let before = blob.calls().len();
-    let (writer, at) = writer.append(&mut blob, &mut cache, b"abcdef")?;
-    assert_eq!(rt; at, 0);
-    let writer = writer.sync(&mut blob, &mut cache)?;
-    assert_eq!(rt; writer.size(), 6);
+    let mut store = Store::<AddSum>::empty(rt.alloc())?;
+    let before = store.blob().calls().len();
+    append_and_sync(&rt, &mut store, b"abcdef", 0, &[ABCD, EF])?;
+    assert_eq!(rt; store.size(), 6);
     assert_eq!(rt;
-        calls_from(&blob, before),
+        store.calls_from(before),
         [Call::WriteAt(0, 32, true)].as_slice()
     );
-    let want = blob_bytes(rt.alloc(), &[ABCD, EF], &[])?;
-    assert_eq!(rt; blob.bytes(), want.as_slice());
 
-    let before = blob.calls().len();
-    let (writer, at) = writer.append(&mut blob, &mut cache, b"g")?;
-    assert_eq!(rt; at, 6);
-    let writer = writer.sync(&mut blob, &mut cache)?;
-    let want = blob_bytes(rt.alloc(), &[ABCD, EFG], &[])?;
-    assert_eq!(rt; blob.bytes(), want.as_slice());
-
-    let (writer, at) = writer.append(&mut blob, &mut cache, b"h")?;
-    assert_eq!(rt; at, 7);
-    let writer = writer.sync(&mut blob, &mut cache)?;
-    let want = blob_bytes(rt.alloc(), &[ABCD, EFGH], &[])?;
-    assert_eq!(rt; blob.bytes(), want.as_slice());
-    assert_eq!(rt; writer.size(), 8);
+    let before = store.blob().calls().len();
+    append_and_sync(&rt, &mut store, b"g", 6, &[ABCD, EFG])?;
+    append_and_sync(&rt, &mut store, b"h", 7, &[ABCD, EFGH])?;
+    assert_eq!(rt; store.size(), 8);
     let write = Call::WriteAt(16, 16, true);
-    assert_eq!(rt; calls_from(&blob, before), [write, write].as_slice());
+    assert_eq!(rt; store.calls_from(before), [write, write].as_slice());
+    Ok(())
+}
+
+/// Syncs, which makes these device calls; the blob is made of the pages that nine bytes fill then.
+fn sync_nine(rt: &impl Abort, store: &mut Store<AddSum>, calls: &[Call]) -> Result<(), Error> {
+    let before = store.blob().calls().len();
+    store.sync()?;
+    assert_eq!(rt; store.calls_from(before), calls);
+    assert_eq!(rt; store.size(), 9);
+    assert!(rt; store.is_made_of(&[ABCD, EFGH_AT_ONCE, I])?);
     Ok(())
 }
 
 #[test]
 fn a_full_buffer_is_written_without_a_sync(rt: HostRuntime) -> Result<(), Fail> {
-    let mut blob = MemBlob::new(rt.alloc());
-    let mut cache = new_cache(rt.alloc())?;
-    let writer = recovered::<AddSum>(rt.alloc(), &mut blob, &mut cache)?;
+    let mut store = Store::<AddSum>::empty(rt.alloc())?;
+    let before = store.blob().calls().len();
+    assert_eq!(rt; store.append(b"abcdefgh"), Ok(0));
+    assert_eq!(rt; store.calls_from(before), [].as_slice());
+    assert_eq!(rt; store.blob().len(), 0);
 
-    let before = blob.calls().len();
-    let (writer, at) = writer.append(&mut blob, &mut cache, b"abcdefgh")?;
-    assert_eq!(rt; at, 0);
-    assert_eq!(rt; calls_from(&blob, before), [].as_slice());
-    assert_eq!(rt; blob.len(), 0);
-
-    let (writer, at) = writer.append(&mut blob, &mut cache, b"i")?;
-    assert_eq!(rt; at, 8);
-    assert_eq!(rt; writer.size(), 9);
+    assert_eq!(rt; store.append(b"i"), Ok(8));
+    assert_eq!(rt; store.size(), 9);
     assert_eq!(rt;
-        calls_from(&blob, before),
+        store.calls_from(before),
         [Call::WriteAt(0, 32, false)].as_slice()
     );
-    let want = blob_bytes(rt.alloc(), &[ABCD, EFGH_AT_ONCE], &[])?;
-    assert_eq!(rt; blob.bytes(), want.as_slice());
+    assert!(rt; store.is_made_of(&[ABCD, EFGH_AT_ONCE])?);
 
-    // Something is unsynced, so that the sync is a call of its own.
-    let before = blob.calls().len();
-    let writer = writer.sync(&mut blob, &mut cache)?;
-    assert_eq!(rt;
-        calls_from(&blob, before),
-        [Call::WriteAt(32, 16, false), Call::Sync].as_slice()
-    );
-    let want = blob_bytes(rt.alloc(), &[ABCD, EFGH_AT_ONCE, I], &[])?;
-    assert_eq!(rt; blob.bytes(), want.as_slice());
-
-    // All is durable.
-    let before = blob.calls().len();
-    let writer = writer.sync(&mut blob, &mut cache)?;
-    assert_eq!(rt; calls_from(&blob, before), [].as_slice());
-    assert_eq!(rt; writer.size(), 9);
+    // Something is unsynced, so that the sync is a call of its own. Then all is durable.
+    sync_nine(&rt, &mut store, &[Call::WriteAt(32, 16, false), Call::Sync])?;
+    sync_nine(&rt, &mut store, &[])?;
     Ok(())
 }

@@ -1,11 +1,12 @@
 // Opening and recovering a blob, whatever it holds.
 use super::kit::{
-    ABCD, CAPACITY, EF, NO_VALUE, Page, blob_bytes, calls_from, content, error_of, new_cache,
-    recovered_by,
+    ABCD, CAPACITY, EF, NO_VALUE, Page, Store, blob_bytes, calls_from, error_of, new_cache,
 };
 use disk::{Call, Error, MemBlob};
 use page::AddSum;
 use paged::Recovery;
+use std::alloc::Global;
+use std::process::Abort;
 use std::test::Fail;
 
 // A blob, the device calls of its opening, and the size that it has then.
@@ -48,23 +49,41 @@ const ROWS: [Row; 4] = [
     },
 ];
 
+fn open(blob: &mut MemBlob, alloc: Global, capacity: usize) -> Result<u64, Error> {
+    let mut cache = new_cache(alloc)?;
+    let size = blob.len();
+    let recovery = Recovery::<MemBlob, AddSum>::open(alloc, blob, size, capacity, &mut cache)?;
+    Ok(recovery.size())
+}
+
+fn blob_of(alloc: Global, pages: &[Page], stray: &[u8]) -> Result<MemBlob, Error> {
+    let bytes = blob_bytes(alloc, pages, stray)?;
+    MemBlob::from_bytes(alloc, &bytes)
+}
+
 #[test]
 fn an_opening_cuts_what_has_no_value(rt: HostRuntime) -> Result<(), Fail> {
     for row in &ROWS {
-        let bytes = blob_bytes(rt.alloc(), row.pages, row.stray)?;
-        let mut blob = MemBlob::from_bytes(rt.alloc(), &bytes)?;
-        let mut cache = new_cache(rt.alloc())?;
-        let size = blob.len();
-        let recovery = Recovery::<MemBlob, AddSum>::open(
-            rt.alloc(),
-            &mut blob,
-            size,
-            CAPACITY,
-            &mut cache,
-        )?;
-        assert_eq!(rt; recovery.size(), row.size);
+        let mut blob = blob_of(rt.alloc(), row.pages, row.stray)?;
+        assert_eq!(rt; open(&mut blob, rt.alloc(), CAPACITY), Ok(row.size));
         assert_eq!(rt; calls_from(&blob, 0), row.calls);
     }
+    Ok(())
+}
+
+// The opening's call with this number, from 0 on, fails.
+fn fail_an_opening(
+    rt: &impl Abort,
+    alloc: Global,
+    row: &Row,
+    done: usize,
+    call: Call,
+) -> Result<(), Error> {
+    let mut blob = blob_of(alloc, row.pages, row.stray)?;
+    blob.fail_at((done as u64).saturating_add(1));
+    let answer = open(&mut blob, alloc, CAPACITY);
+    assert_eq!(rt; answer, Err(error_of(call)), "at call {done}");
+    assert_eq!(rt; blob.calls().len(), done.saturating_add(1));
     Ok(())
 }
 
@@ -72,20 +91,7 @@ fn an_opening_cuts_what_has_no_value(rt: HostRuntime) -> Result<(), Fail> {
 fn a_failed_call_of_an_opening_is_told(rt: HostRuntime) -> Result<(), Fail> {
     for row in &ROWS {
         for (done, call) in row.calls.iter().enumerate() {
-            let bytes = blob_bytes(rt.alloc(), row.pages, row.stray)?;
-            let mut blob = MemBlob::from_bytes(rt.alloc(), &bytes)?;
-            let mut cache = new_cache(rt.alloc())?;
-            let size = blob.len();
-            blob.fail_at((done as u64).saturating_add(1));
-            let answer = Recovery::<MemBlob, AddSum>::open(
-                rt.alloc(),
-                &mut blob,
-                size,
-                CAPACITY,
-                &mut cache,
-            );
-            assert_eq!(rt; answer.err(), Some(error_of(*call)), "at call {done}");
-            assert_eq!(rt; blob.calls().len(), done + 1);
+            fail_an_opening(&rt, rt.alloc(), row, done, *call)?;
         }
     }
     Ok(())
@@ -93,18 +99,9 @@ fn a_failed_call_of_an_opening_is_told(rt: HostRuntime) -> Result<(), Fail> {
 
 #[test]
 fn a_capacity_may_be_too_great(rt: HostRuntime) -> Result<(), Fail> {
-    let bytes = blob_bytes(rt.alloc(), &[ABCD, EF], &[1])?;
-    let mut blob = MemBlob::from_bytes(rt.alloc(), &bytes)?;
-    let mut cache = new_cache(rt.alloc())?;
-    let size = blob.len();
-    let answer = Recovery::<MemBlob, AddSum>::open(
-        rt.alloc(),
-        &mut blob,
-        size,
-        usize::MAX,
-        &mut cache,
-    );
-    assert_eq!(rt; answer.err(), Some(Error::OffsetOverflow));
+    let mut blob = blob_of(rt.alloc(), &[ABCD, EF], &[1])?;
+    let answer = open(&mut blob, rt.alloc(), usize::MAX);
+    assert_eq!(rt; answer, Err(Error::OffsetOverflow));
     assert_eq!(rt; calls_from(&blob, 0), [].as_slice());
     Ok(())
 }
@@ -114,16 +111,71 @@ fn a_capacity_may_be_too_great(rt: HostRuntime) -> Result<(), Fail> {
 fn a_recovery_reads_by_any_number_of_pages(rt: HostRuntime) -> Result<(), Fail> {
     for buffer_size in [1, 16, 33, usize::MAX] {
         let bytes = blob_bytes(rt.alloc(), &[ABCD, ABCD, ABCD, EF, NO_VALUE], &[1])?;
-        let mut blob = MemBlob::from_bytes(rt.alloc(), &bytes)?;
-        let mut cache = new_cache(rt.alloc())?;
-        let writer = recovered_by::<AddSum>(rt.alloc(), &mut blob, &mut cache, buffer_size)?;
-        let content = content(&writer, &mut blob, &mut cache)?;
-        assert_eq!(rt;
-            content.as_ref(),
-            b"abcdabcdabcdef".as_slice(),
-            "by {buffer_size}"
-        );
-        assert_eq!(rt; blob.len(), 64);
+        let mut store = Store::<AddSum>::of_bytes(rt.alloc(), &bytes)?;
+        store.recover(buffer_size)?;
+        assert!(rt; store.has(b"abcdabcdabcdef")?, "by {buffer_size}");
+        assert_eq!(rt; store.blob().len(), 64);
+    }
+    Ok(())
+}
+
+// The bytes that a recovery of four pages reads at a time, and its device calls: the opening reads the last page, then
+// the scan reads all of them in order, and then what was there is made durable.
+const SCANS: [(usize, &[Call]); 5] = [
+    (
+        1,
+        &[
+            Call::ReadAt(48, 16),
+            Call::ReadAt(0, 16),
+            Call::ReadAt(16, 16),
+            Call::ReadAt(32, 16),
+            Call::ReadAt(48, 16),
+            Call::Sync,
+        ],
+    ),
+    (
+        31,
+        &[
+            Call::ReadAt(48, 16),
+            Call::ReadAt(0, 16),
+            Call::ReadAt(16, 16),
+            Call::ReadAt(32, 16),
+            Call::ReadAt(48, 16),
+            Call::Sync,
+        ],
+    ),
+    (
+        33,
+        &[
+            Call::ReadAt(48, 16),
+            Call::ReadAt(0, 32),
+            Call::ReadAt(32, 32),
+            Call::Sync,
+        ],
+    ),
+    (
+        48,
+        &[
+            Call::ReadAt(48, 16),
+            Call::ReadAt(0, 48),
+            Call::ReadAt(48, 16),
+            Call::Sync,
+        ],
+    ),
+    (
+        usize::MAX,
+        &[Call::ReadAt(48, 16), Call::ReadAt(0, 64), Call::Sync],
+    ),
+];
+
+#[test]
+fn a_scan_reads_no_more_than_asked(rt: HostRuntime) -> Result<(), Fail> {
+    for (buffer_size, calls) in SCANS {
+        let bytes = blob_bytes(rt.alloc(), &[ABCD, ABCD, ABCD, EF], &[])?;
+        let mut store = Store::<AddSum>::of_bytes(rt.alloc(), &bytes)?;
+        store.recover(buffer_size)?;
+        assert_eq!(rt; store.calls_from(0), calls, "by {buffer_size}");
+        assert_eq!(rt; store.size(), 14);
     }
     Ok(())
 }

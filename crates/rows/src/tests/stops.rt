@@ -1,9 +1,9 @@
 // Recoveries that stop at one of their device calls.
-use super::kit::{
-    ABCD, EF, NO_VALUE, Page, blob_bytes, error_of, new_cache, recovered, recovered_content,
-};
-use disk::MemBlob;
+use super::kit::{ABCD, CAPACITY, EF, NO_VALUE, Page, Store, blob_bytes, error_of};
+use disk::{Call, Error};
 use page::AddSum;
+use std::alloc::Global;
+use std::process::Abort;
 use std::test::Fail;
 
 const XYZ: Page = [
@@ -58,31 +58,82 @@ const ROWS: [Row; 7] = [
     },
 ];
 
-// Each row is recovered whole, and then with each of the device calls of that recovery failing, and a crash behind it
-// that keeps nothing, or all.
+fn store_of(alloc: Global, row: &Row) -> Result<Store<AddSum>, Error> {
+    let bytes = blob_bytes(alloc, row.pages, row.stray)?;
+    Store::of_bytes(alloc, &bytes)
+}
+
+// The device calls of a recovery that is not stopped.
+fn calls_of(rt: &impl Abort, alloc: Global, row: &Row) -> Result<Vec<Call>, Error> {
+    let mut store = store_of(alloc, row)?;
+    store.recover(CAPACITY)?;
+    let calls = Vec::from_slice(alloc, store.calls_from(0))?;
+    assert!(rt; store.has(row.content)?);
+    Ok(calls)
+}
+
+// A store whose recovery was refused at this call, so many of them being done before.
+fn stopped(
+    rt: &impl Abort,
+    alloc: Global,
+    row: &Row,
+    done: usize,
+    call: Call,
+) -> Result<Store<AddSum>, Error> {
+    let mut store = store_of(alloc, row)?;
+    store.fail_at((done as u64).saturating_add(1));
+    assert_eq!(rt;
+        store.recover(CAPACITY),
+        Err(error_of(call)),
+        "at call {done}"
+    );
+    Ok(store)
+}
+
+fn stop_and_crash(
+    rt: &impl Abort,
+    alloc: Global,
+    row: &Row,
+    done: usize,
+    call: Call,
+    keep: bool,
+) -> Result<(), Error> {
+    let mut store = stopped(rt, alloc, row, done, call)?;
+    store.crash(&[keep; 4])?;
+    assert!(rt; store.holds(row.content)?, "at call {done}");
+    Ok(())
+}
+
+fn stop_and_run_again(
+    rt: &impl Abort,
+    alloc: Global,
+    row: &Row,
+    done: usize,
+    call: Call,
+) -> Result<(), Error> {
+    let mut store = stopped(rt, alloc, row, done, call)?;
+    assert!(rt; store.holds(row.content)?, "at call {done}");
+    store.crash(&[])?;
+    assert!(rt; store.holds(row.content)?, "at call {done}");
+    Ok(())
+}
+
+fn stop_at_each_call(rt: &impl Abort, alloc: Global, row: &Row) -> Result<(), Error> {
+    let calls = calls_of(rt, alloc, row)?;
+    for (done, call) in calls.iter().enumerate() {
+        stop_and_crash(rt, alloc, row, done, *call, false)?;
+        stop_and_crash(rt, alloc, row, done, *call, true)?;
+        stop_and_run_again(rt, alloc, row, done, *call)?;
+    }
+    Ok(())
+}
+
+// Each row is recovered whole, and then with each of the device calls of that recovery failing: with a crash behind it
+// that keeps nothing, or all; and with none, where the blob is recovered again at once, and a crash keeps that.
 #[test]
 fn a_recovery_may_be_stopped(rt: HostRuntime) -> Result<(), Fail> {
     for row in &ROWS {
-        let bytes = blob_bytes(rt.alloc(), row.pages, row.stray)?;
-        let mut whole = MemBlob::from_bytes(rt.alloc(), &bytes)?;
-        let content = recovered_content::<AddSum>(rt.alloc(), &mut whole)?;
-        assert_eq!(rt; content.as_ref(), row.content);
-
-        let mut whole = MemBlob::from_bytes(rt.alloc(), &bytes)?;
-        let mut cache = new_cache(rt.alloc())?;
-        recovered::<AddSum>(rt.alloc(), &mut whole, &mut cache)?;
-        for (done, call) in whole.calls().iter().enumerate() {
-            for keep in [[false; 4], [true; 4]] {
-                let mut blob = MemBlob::from_bytes(rt.alloc(), &bytes)?;
-                let mut cache = new_cache(rt.alloc())?;
-                blob.fail_at((done as u64).saturating_add(1));
-                let error = recovered::<AddSum>(rt.alloc(), &mut blob, &mut cache).err();
-                assert_eq!(rt; error, Some(error_of(*call)), "at call {done}");
-                blob.crash(&keep)?;
-                let content = recovered_content::<AddSum>(rt.alloc(), &mut blob)?;
-                assert_eq!(rt; content.as_ref(), row.content, "at call {done}");
-            }
-        }
+        stop_at_each_call(&rt, rt.alloc(), row)?;
     }
     Ok(())
 }

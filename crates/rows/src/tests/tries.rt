@@ -1,7 +1,7 @@
 // Appends that are made only where they fit the buffer.
-use super::kit::{calls_from, content, new_cache, recovered, recovered_content};
+use super::kit::Store;
 use bytes::BufMut;
-use disk::{Call, MemBlob};
+use disk::Call;
 use page::{AddSum, EncodeSize, Write};
 use std::alloc::AllocError;
 use std::test::Fail;
@@ -30,36 +30,30 @@ impl Write for Pair {
 
 #[test]
 fn tries_fill_the_buffer(rt: HostRuntime) -> Result<(), Fail> {
-    let mut blob = MemBlob::new(rt.alloc());
-    let mut cache = new_cache(rt.alloc())?;
-    let mut writer = recovered::<AddSum>(rt.alloc(), &mut blob, &mut cache)?;
-    let before = blob.calls().len();
-    assert_eq!(rt; writer.try_append(b"abcdefgh"), Ok(Some(0)));
-    assert_eq!(rt; writer.try_append(b"i"), Ok(None));
-    assert_eq!(rt; writer.try_append_value(&Pair(0, 0)), Ok(None));
-    assert_eq!(rt; writer.size(), 8);
-    assert!(rt; calls_from(&blob, before).is_empty());
+    let mut store = Store::<AddSum>::empty(rt.alloc())?;
+    let before = store.blob().calls().len();
+    assert_eq!(rt; store.try_append(b"abcdefgh"), Ok(Some(0)));
+    assert_eq!(rt; store.try_append(b"i"), Ok(None));
+    assert_eq!(rt; store.try_append_value(&Pair(0, 0)), Ok(None));
+    assert_eq!(rt; store.size(), 8);
+    assert!(rt; store.calls_from(before).is_empty());
     Ok(())
 }
 
 #[test]
 fn tried_bytes_are_synced(rt: HostRuntime) -> Result<(), Fail> {
-    let mut blob = MemBlob::new(rt.alloc());
-    let mut cache = new_cache(rt.alloc())?;
-    let mut writer = recovered::<AddSum>(rt.alloc(), &mut blob, &mut cache)?;
-    let before = blob.calls().len();
-    assert_eq!(rt; writer.try_append(b"abcdef"), Ok(Some(0)));
-    let mut writer = writer.sync(&mut blob, &mut cache)?;
-    assert_eq!(rt; writer.try_append_value(&Pair(0x6768, 0x696A)), Ok(Some(6)));
-    let writer = writer.sync(&mut blob, &mut cache)?;
+    let mut store = Store::<AddSum>::empty(rt.alloc())?;
+    let before = store.blob().calls().len();
+    assert_eq!(rt; store.try_append(b"abcdef"), Ok(Some(0)));
+    store.sync()?;
+    assert_eq!(rt; store.try_append_value(&Pair(0x6768, 0x696A)), Ok(Some(6)));
+    store.sync()?;
     assert_eq!(rt;
-        calls_from(&blob, before),
+        store.calls_from(before),
         [Call::WriteAt(0, 32, true), Call::WriteAt(16, 32, true)].as_slice()
     );
-    let all = content::<AddSum>(&writer, &mut blob, &mut cache)?;
-    assert_eq!(rt; all.as_ref(), b"abcdefghij".as_slice());
-    blob.crash(&[])?;
-    let content = recovered_content::<AddSum>(rt.alloc(), &mut blob)?;
-    assert_eq!(rt; content.as_ref(), b"abcdefghij".as_slice());
+    assert!(rt; store.has(b"abcdefghij")?);
+    store.crash(&[])?;
+    assert!(rt; store.holds(b"abcdefghij")?);
     Ok(())
 }

@@ -1,10 +1,15 @@
-use Rattle.std.proofs.Common.{◌-◌, ◌*◌, ◌<◌, length, ◌∙◌, arith, sym}
+use Rattle.std.proofs.Common.{◌-◌, ◌+◌, ◌*◌, ◌<◌, length, ◌∙◌, arith, refl, sym}
 use Rattle.std.proofs.lemmas.Result.{err_from_is_err_and}
 use Rattle.std.specs.Int.NonZero.{non_zero_u16_get}
 use Rattle.paged.specs.Prefix.{page_at, last_prefix}
 use Rattle.paged.proofs.Prefixes.{told_read, value_read, told_full, told_part, found_some, found_none, last_none, last_full, last_part, last_fits, has_bytes_read}
-use Rattle.paged.proofs.Looking.{looked_read, read_gives, finds_fault, finds_memory}
+use Rattle.crash.proofs.LookLaws.{looked_start, read_gives}
+use Rattle.paged.proofs.Looking.{looked_on, finds_fault, finds_memory}
+use Rattle.paged.proofs.Searching.{down_start, down_page, down_back}
+use Rattle.paged.specs.Searches.{ReadsBack}
+use Rattle.paged.proofs.search.last_pages.Given.{Over}
 use Rattle.paged.proofs.search.last_pages.Goals as goal
+use Rattle.paged.proofs.search.last_pages.Goals.{After-read_at}
 
 pub returns-in_err-bytes-clause-finds : goal.returns-in_err-bytes-clause-finds
 returns-in_err-bytes-clause-finds g c =
@@ -32,7 +37,7 @@ returns-then-is_full-clause-finds g c =
     let told = told_read sum P size (n - 1) c.as_ref.result.now c.in_ok-bytes.bytes readable c.slot_at-slot.result c.physical_size-size.ensures c.as_ref.ensures read c.slot_at-slot.ensures.slot in
     let full = told_full sum P (page_at P (n - 1) readable) c.slot_at-slot.result c.is_full.result told c.is_full.ensures c.if-is_full.true in (
       last_full sum P n c.args.pages readable positive c.loop-pages.invariant.same c.loop-pages-test.true full,
-      looked_read ((n - 1) * size) size old (life c.loop-pages.blob) new c.in_ok-bytes.bytes c.loop-pages.invariant.looked c.in_ok-bytes.ensures.goes,
+      looked_on ((n - 1) * size) size old (life c.loop-pages.blob) new c.in_ok-bytes.bytes c.loop-pages.invariant.looked c.in_ok-bytes.ensures.goes,
     )
 
 pub returns-in_err-partial-clause-finds : goal.returns-in_err-partial-clause-finds
@@ -42,7 +47,7 @@ returns-in_err-partial-clause-finds g c =
     let size = c.physical_size-size.result in
     let n = c.loop-pages.pages in
     let P = non_zero_u16_get c.args.page_size in
-    let looked = looked_read ((n - 1) * size) size old (life c.loop-pages.blob) (life c.read_at.new.self) c.in_ok-bytes.bytes c.loop-pages.invariant.looked c.in_ok-bytes.ensures.goes in
+    let looked = looked_on ((n - 1) * size) size old (life c.loop-pages.blob) (life c.read_at.new.self) c.in_ok-bytes.bytes c.loop-pages.invariant.looked c.in_ok-bytes.ensures.goes in
     let p = err_from_is_err_and c.from_residual-in_err-partial.result c.from_residual-in_err-partial.ensures.1 in
     rw (p.1, p.2) (finds_memory (last_prefix g.H.Sum.sum_of P c.args.pages old.present.readable) old (life c.read_at.new.self) c.in_err-partial.field-0.0 looked c.in_err-partial.ensures.err)
 
@@ -63,7 +68,7 @@ returns-then-is_some-clause-finds g c =
     let value = value_read sum P size (n - 1) c.in_ok-bytes.bytes readable c.slot_at-slot.result c.in_ok-partial.partial c.physical_size-size.ensures read told c.in_ok-partial.ensures.ok in
     let some = found_some sum P page c.in_ok-partial.partial value (sym c.is_some.ensures ∙ c.if-is_some.true) in (
       last_part sum P n c.args.pages readable c.in_ok-partial.partial c.loop-pages.invariant.same c.loop-pages-test.true value some part,
-      looked_read ((n - 1) * size) size old (life c.loop-pages.blob) new c.in_ok-bytes.bytes c.loop-pages.invariant.looked c.in_ok-bytes.ensures.goes,
+      looked_on ((n - 1) * size) size old (life c.loop-pages.blob) new c.in_ok-bytes.bytes c.loop-pages.invariant.looked c.in_ok-bytes.ensures.goes,
     )
 
 pub returns-then-is_some-clause-bytes : goal.returns-then-is_some-clause-bytes
@@ -93,7 +98,8 @@ loop-pages-preserved g c =
     record {
       fewer = omega arith;
       same = last_none sum P n c.args.pages readable c.loop-pages.invariant.same c.loop-pages-test.true none;
-      looked = looked_read ((n - 1) * size) size old (life c.loop-pages.blob) new c.in_ok-bytes.bytes c.loop-pages.invariant.looked c.in_ok-bytes.ensures.goes;
+      looked = looked_on ((n - 1) * size) size old (life c.loop-pages.blob) new c.in_ok-bytes.bytes c.loop-pages.invariant.looked c.in_ok-bytes.ensures.goes;
+      reads = down_page P size n old (life c.loop-pages.blob) new c.read_at.result c.physical_size-size.ensures c.loop-pages-test.true c.loop-pages.invariant.reads c.read_at.ensures.goes;
     }
 
 pub loop-pages-preserved-else-is_some : goal.loop-pages-preserved-else-is_some
@@ -114,5 +120,39 @@ loop-pages-preserved-else-is_some g c =
     record {
       fewer = omega arith;
       same = last_none sum P n c.args.pages readable c.loop-pages.invariant.same c.loop-pages-test.true none;
-      looked = looked_read ((n - 1) * size) size old (life c.loop-pages.blob) new c.in_ok-bytes.bytes c.loop-pages.invariant.looked c.in_ok-bytes.ensures.goes;
+      looked = looked_on ((n - 1) * size) size old (life c.loop-pages.blob) new c.in_ok-bytes.bytes c.loop-pages.invariant.looked c.in_ok-bytes.ensures.goes;
+      reads = down_page P size n old (life c.loop-pages.blob) new c.read_at.result c.physical_size-size.ensures c.loop-pages-test.true c.loop-pages.invariant.reads c.read_at.ensures.goes;
     }
+
+-- a page was read, whatever the answer
+reads : (g : Over) (c : After-read_at g) → ReadsBack (non_zero_u16_get c.args.page_size + 12) (g.B.Blob.life c.args.blob.now) (g.B.Blob.life c.read_at.new.self)
+reads g c =
+    let life = g.B.Blob.life in
+    let P = non_zero_u16_get c.args.page_size in
+    let n = c.loop-pages.pages in
+    let old = life c.args.blob.now in
+    let new = life c.read_at.new.self in
+    down_back (P + 12) ((n - 1) * (P + 12)) old new (down_page P c.physical_size-size.result n old (life c.loop-pages.blob) new c.read_at.result c.physical_size-size.ensures c.loop-pages-test.true c.loop-pages.invariant.reads c.read_at.ensures.goes)
+
+pub returns-in_err-bytes-clause-reads : goal.returns-in_err-bytes-clause-reads
+returns-in_err-bytes-clause-reads g c = reads g (goal.at.returns-in_err-bytes-clause-reads g c).After-read_at
+
+pub returns-then-is_full-clause-reads : goal.returns-then-is_full-clause-reads
+returns-then-is_full-clause-reads g c = reads g (goal.at.returns-then-is_full-clause-reads g c).After-read_at
+
+pub returns-in_err-partial-clause-reads : goal.returns-in_err-partial-clause-reads
+returns-in_err-partial-clause-reads g c = reads g (goal.at.returns-in_err-partial-clause-reads g c).After-read_at
+
+pub returns-then-is_some-clause-reads : goal.returns-then-is_some-clause-reads
+returns-then-is_some-clause-reads g c = reads g (goal.at.returns-then-is_some-clause-reads g c).After-read_at
+
+pub returns-clause-reads : goal.returns-clause-reads
+returns-clause-reads g c =
+    let P = non_zero_u16_get c.args.page_size in
+    down_back (P + 12) (c.loop-pages.pages * (P + 12)) (g.B.Blob.life c.args.blob.now) (g.B.Blob.life c.loop-pages.blob) c.loop-pages.invariant.reads
+
+pub loop-pages-init : goal.loop-pages-init
+loop-pages-init g c =
+    let old = g.B.Blob.life c.args.blob.now in
+    let P = non_zero_u16_get c.args.page_size in
+    record { fewer = omega arith; same = refl; looked = looked_start old; reads = down_start (P + 12) (c.args.pages * (P + 12)) old c.requires.there }

@@ -1,7 +1,8 @@
-use Rattle.std.proofs.Common.{◌≡◌, ◌≤◌}
+use Rattle.std.proofs.Common.{◌≡◌, ◌≤◌, ◌+◌, ◌*◌}
 use Rattle.std.specs.Int.NonZero.{non_zero_u16_get}
 use Rattle.crash.specs.Looks.{Looked}
 use Rattle.paged.specs.Prefix.{last_prefix}
+use Rattle.paged.proofs.Searching.{ReadsDownTo}
 use Rattle.paged.proofs.search.last_pages.Given as goal
 
 abbrev pub invariant-loop-pages : goal.invariant-loop-pages
@@ -12,6 +13,7 @@ invariant-loop-pages g l =
       fewer : l.pages ≤ l.initial.pages;
       same : last_prefix g.H.Sum.sum_of P l.pages readable ≡ last_prefix g.H.Sum.sum_of P l.initial.pages readable;
       looked : Looked (g.B.Blob.life l.initial.blob) (g.B.Blob.life l.blob);
+      reads : ReadsDownTo (P + 12) (l.pages * (P + 12)) (g.B.Blob.life l.initial.blob) (g.B.Blob.life l.blob);
     }
 
 abbrev pub decreases-loop-pages : goal.decreases-loop-pages

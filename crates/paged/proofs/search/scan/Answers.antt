@@ -1,11 +1,16 @@
-use Rattle.std.proofs.Common.{◌+◌, ◌*◌, ◌≤◌, length, arith, sym}
+use Rattle.std.proofs.Common.{rules, ◌≡◌, ℕ, ◌+◌, ◌*◌, ◌/◌, ◌≤◌, max, length, ap, ◌∙◌, arith, subst, sym}
 use Rattle.std.proofs.lemmas.Result.{err_from_is_err_and}
-use Rattle.std.specs.Int.NonZero.{non_zero_u16_get}
+use Rattle.std.specs.Int.NonZero.{non_zero_u16_get, non_zero_usize_get}
 use Rattle.page.specs.Page.{pieces}
 use Rattle.paged.specs.Prefix.{prefix_of}
 use Rattle.paged.proofs.Prefixes.{batch_fits, batch_read, stands_ended, stands_on, has_bytes_batch}
-use Rattle.paged.proofs.Looking.{looked_read, read_gives, finds_fault, finds_memory}
+use Rattle.crash.proofs.LookLaws.{read_gives, looked_start}
+use Rattle.paged.proofs.Looking.{looked_on, finds_fault, finds_memory}
+use Rattle.paged.specs.Searches.{ReadsWithin, scan_bytes}
+use Rattle.paged.proofs.Searching.{within_batch, scan_bytes_is}
+use Rattle.paged.proofs.search.scan.Given.{Over}
 use Rattle.paged.proofs.search.scan.Goals as goal
+use Rattle.paged.proofs.search.scan.Goals.{After-read_at}
 
 pub returns-in_err-bytes-clause-finds : goal.returns-in_err-bytes-clause-finds
 returns-in_err-bytes-clause-finds g c =
@@ -25,7 +30,7 @@ returns-in_err-prefix-clause-finds g c =
     let old = life c.args.blob.now in
     let size = c.physical_size-size.result in
     let P = non_zero_u16_get c.args.page_size in
-    let looked = looked_read (c.loop-done.done * size) (c.min-batch.result * size) old (life c.loop-done.blob) (life c.read_at.new.self) c.in_ok-bytes.bytes c.loop-done.invariant.looked c.in_ok-bytes.ensures.goes in
+    let looked = looked_on (c.loop-done.done * size) (c.min-batch.result * size) old (life c.loop-done.blob) (life c.read_at.new.self) c.in_ok-bytes.bytes c.loop-done.invariant.looked c.in_ok-bytes.ensures.goes in
     let p = err_from_is_err_and c.from_residual-in_err-prefix.result c.from_residual-in_err-prefix.ensures.1 in
     rw (p.1, p.2) (finds_memory (prefix_of g.H.Sum.sum_of P (pieces c.args.pages (P + 12) old.present.readable)) old (life c.read_at.new.self) c.in_err-prefix.field-0.0 looked c.in_err-prefix.ensures.err)
 
@@ -46,7 +51,7 @@ returns-then-prefix-batch-clause-finds g c =
     let read = read_gives (k * size) (b * size) old (life c.loop-done.blob) new bytes c.loop-done.invariant.looked c.in_ok-bytes.ensures.goes in
     let batch = batch_read sum P size k b c.args.pages readable bytes q c.physical_size-size.ensures le c.requires.there read c.in_ok-prefix.ensures.ok in (
       sym (stands_ended sum P c.args.pages k b readable bytes q le batch (prefix_of sum P (pieces c.args.pages (P + 12) readable)) c.loop-done.invariant.stands c.if-prefix-batch.true),
-      looked_read (k * size) (b * size) old (life c.loop-done.blob) new bytes c.loop-done.invariant.looked c.in_ok-bytes.ensures.goes,
+      looked_on (k * size) (b * size) old (life c.loop-done.blob) new bytes c.loop-done.invariant.looked c.in_ok-bytes.ensures.goes,
     )
 
 pub returns-then-prefix-batch-clause-bytes : goal.returns-then-prefix-batch-clause-bytes
@@ -85,7 +90,8 @@ loop-done-preserved g c =
       some = c.loop-done.invariant.some;
       within = le;
       stands = stands_on sum P c.args.pages k b readable bytes q le batch (prefix_of sum P (pieces c.args.pages (P + 12) readable)) c.loop-done.invariant.stands (omega arith);
-      looked = looked_read (k * size) (b * size) old (life c.loop-done.blob) new bytes c.loop-done.invariant.looked c.in_ok-bytes.ensures.goes;
+      looked = looked_on (k * size) (b * size) old (life c.loop-done.blob) new bytes c.loop-done.invariant.looked c.in_ok-bytes.ensures.goes;
+      reads = within_batch P size (k * size) b c.max-most.result old (life c.loop-done.blob) new c.read_at.result c.physical_size-size.ensures (omega arith) c.loop-done.invariant.reads c.read_at.ensures.goes;
     }
 
 pub loop-done-preserved-else-prefix-batch : goal.loop-done-preserved-else-prefix-batch
@@ -108,5 +114,30 @@ loop-done-preserved-else-prefix-batch g c =
       some = c.loop-done.invariant.some;
       within = le;
       stands = stands_on sum P c.args.pages k b readable bytes q le batch (prefix_of sum P (pieces c.args.pages (P + 12) readable)) c.loop-done.invariant.stands (omega arith);
-      looked = looked_read (k * size) (b * size) old (life c.loop-done.blob) new bytes c.loop-done.invariant.looked c.in_ok-bytes.ensures.goes;
+      looked = looked_on (k * size) (b * size) old (life c.loop-done.blob) new bytes c.loop-done.invariant.looked c.in_ok-bytes.ensures.goes;
+      reads = within_batch P size (k * size) b c.max-most.result old (life c.loop-done.blob) new c.read_at.result c.physical_size-size.ensures (omega arith) c.loop-done.invariant.reads c.read_at.ensures.goes;
     }
+
+-- a batch was read, whatever the answer
+reads : (g : Over) (c : After-read_at g) → ReadsWithin (scan_bytes (non_zero_u16_get c.args.page_size) (non_zero_usize_get c.args.buffer_size)) (g.B.Blob.life c.args.blob.now) (g.B.Blob.life c.read_at.new.self)
+reads g c =
+    let life = g.B.Blob.life in
+    let P = non_zero_u16_get c.args.page_size in
+    let size = c.physical_size-size.result in
+    let most = c.max-most.result in
+    let old = life c.args.blob.now in
+    let new = life c.read_at.new.self in
+    let is : most * (P + 12) ≡ scan_bytes P (non_zero_usize_get c.args.buffer_size) = scan_bytes_is P size (non_zero_usize_get c.args.buffer_size) most c.physical_size-size.ensures (c.max-most.ensures ∙ ap (λ (n : ℕ). max (n / size) 1) c.get.ensures.value) in
+    subst (λ (n : ℕ). ReadsWithin n old new) is (within_batch P size (c.loop-done.done * size) c.min-batch.result most old (life c.loop-done.blob) new c.read_at.result c.physical_size-size.ensures (omega arith) c.loop-done.invariant.reads c.read_at.ensures.goes)
+
+pub returns-in_err-bytes-clause-reads : goal.returns-in_err-bytes-clause-reads
+returns-in_err-bytes-clause-reads g c = reads g (goal.at.returns-in_err-bytes-clause-reads g c).After-read_at
+
+pub returns-in_err-prefix-clause-reads : goal.returns-in_err-prefix-clause-reads
+returns-in_err-prefix-clause-reads g c = reads g (goal.at.returns-in_err-prefix-clause-reads g c).After-read_at
+
+pub returns-then-prefix-batch-clause-reads : goal.returns-then-prefix-batch-clause-reads
+returns-then-prefix-batch-clause-reads g c = reads g (goal.at.returns-then-prefix-batch-clause-reads g c).After-read_at
+
+pub loop-done-init : goal.loop-done-init
+loop-done-init g c = search (rules, looked_start)

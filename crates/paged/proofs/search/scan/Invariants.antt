@@ -1,8 +1,9 @@
-use Rattle.std.proofs.Common.{◌≤◌, ◌<◌, ◌-◌, ◌+◌}
+use Rattle.std.proofs.Common.{◌≤◌, ◌<◌, ◌-◌, ◌+◌, ◌*◌}
 use Rattle.std.specs.Int.NonZero.{non_zero_u16_get}
 use Rattle.page.specs.Page.{pieces}
 use Rattle.crash.specs.Looks.{Looked}
 use Rattle.paged.specs.Prefix.{prefix_of}
+use Rattle.paged.specs.Searches.{ReadsWithin}
 use Rattle.paged.proofs.Prefixes.{StandsAt}
 use Rattle.paged.proofs.search.scan.Given as goal
 
@@ -16,6 +17,7 @@ invariant-loop-done g l =
       within : l.done ≤ l.pages;
       stands : StandsAt sum P (prefix_of sum P (pieces l.pages (P + 12) readable)) l.pages l.done readable;
       looked : Looked (g.B.Blob.life l.initial.blob) (g.B.Blob.life l.blob);
+      reads : ReadsWithin (l.most * (P + 12)) (g.B.Blob.life l.initial.blob) (g.B.Blob.life l.blob);
     }
 
 abbrev pub decreases-loop-done : goal.decreases-loop-done

@@ -1,18 +1,190 @@
-use Rattle.paged.proofs.Trims.{opens_stay, keeps_text, leaves_text}
+use Rattle.std.proofs.Common.{◌≡◌, ◌+◌, ◌*◌, ◌/◌, ◌%◌, ◌^◌, ◌<◌, ℕ, length, ◌∙◌, ap, arith, inl, refl, subst}
+use Rattle.std.proofs.lemmas.Result.{err_from_is_err_and}
+use Rattle.std.specs.Int.NonZero.{non_zero_u16_get}
+use Rattle.std.specs.Prelude.{Ok}
+use Rattle.page.specs.Geometry.{adjusted}
+use Rattle.paged.specs.Prefix.{last_prefix, HasBytes}
+use Rattle.paged.specs.Recovery.{Opens, opened_size, CutsBack}
+use Rattle.page.specs.Page.{text}
+use Rattle.crash.proofs.LookLaws.{looked_start}
+use Rattle.crash.proofs.FloorLaws.{floors_none}
+use Rattle.paged.proofs.Recoveries.{opened_is, opened_last, opened_reach, opened_kept, opened_size_le, pages_count, fits_prefix, opens_cause, back_cause, kept_back, trims_back}
+use Rattle.paged.specs.Searches.{ReadsBack}
+use Rattle.paged.proofs.Searching.{opens_back}
+use Rattle.paged.proofs.Opened.{opens_end, opened_there}
+use Rattle.paged.proofs.Trims.{Owes, opens_owe, finds_looked}
 use Rattle.paged.proofs.Places.{opens_within}
+use Rattle.paged.proofs.Places.{adjusted_whole, adjusted_room}
+use Rattle.paged.proofs.recovery.Recovery+B+H.open.Given.{Over}
 use Rattle.paged.proofs.recovery.Recovery+B+H.open.Goals as goal
+use Rattle.paged.proofs.recovery.Recovery+B+H.open.Goals.{In_err-capacity, In_err-last, After-cut_back, After-at_prefix}
+
+pub pages_of-requires : goal.pages_of-requires
+pages_of-requires g c =
+    let P = c.args.cache.now.page_size in
+    let readable = (g.B.Blob.life c.args.blob.now).present.readable in
+    let p = c.in_ok-last.last in
+    let reach = opened_reach g.H.Sum.sum_of P (non_zero_u16_get c.page_size-page_size.result) c.args.size c.physical_size-physical_size.result readable p c.page_size-page_size.ensures c.physical_size-physical_size.ensures c.requires.length c.in_ok-last.ensures.finds.0 in
+    pages_count P (length readable) _ p.full_pages (omega arith) reach (omega arith)
+
+pub overflow_mul-kept : goal.overflow_mul-kept
+overflow_mul-kept g c =
+    let sum = g.H.Sum.sum_of in
+    let P = c.args.cache.now.page_size in
+    let readable = (g.B.Blob.life c.args.blob.now).present.readable in
+    let physical = c.physical_size-physical_size.result in
+    let kept = opened_kept sum P (non_zero_u16_get c.page_size-page_size.result) c.args.size physical readable c.in_ok-last.last c.page_size-page_size.ensures c.physical_size-physical_size.ensures c.requires.length c.in_ok-last.ensures.finds.0 c.pages_of.result (c.pages_of.result * physical) c.pages_of.ensures refl in
+    omega (arith, kept, opened_size_le sum P readable)
+
+pub returns-in_err-sync_state-clause-opens : goal.returns-in_err-sync_state-clause-opens
+returns-in_err-sync_state-clause-opens g c =
+    let life = g.B.Blob.life in
+    let sum = g.H.Sum.sum_of in
+    let P = c.args.cache.now.page_size in
+    let physical = c.physical_size-physical_size.result in
+    let old = life c.args.blob.now in
+    let mid = life c.last_pages.new.blob in
+    let new = life c.cut_back.new.blob in
+    let readable = old.present.readable in
+    let e = c.in_err-sync_state.field-0.0 in
+    let kept = opened_kept sum P (non_zero_u16_get c.page_size-page_size.result) c.args.size physical readable c.in_ok-last.last c.page_size-page_size.ensures c.physical_size-physical_size.ensures c.requires.length c.in_ok-last.ensures.finds.0 c.pages_of.result (c.pages_of.result * physical) c.pages_of.ensures refl in
+    let q = err_from_is_err_and c.from_residual-in_err-sync_state.result c.from_residual-in_err-sync_state.ensures.1 in
+    rw (q.1, q.2) (opens_cause sum c.args.cache.now c.args.capacity old new e (back_cause (c.pages_of.result * physical) old mid new e c.in_ok-last.ensures.finds.1 (omega (arith, kept, opened_size_le sum P readable)) c.in_err-sync_state.ensures.cuts))
+
+pub at_prefix-requires : goal.at_prefix-requires
+at_prefix-requires g c =
+    let sum = g.H.Sum.sum_of in
+    let P = c.args.cache.now.page_size in
+    let Q = non_zero_u16_get c.page_size-page_size.result in
+    let physical = c.physical_size-physical_size.result in
+    let readable = (g.B.Blob.life c.args.blob.now).present.readable in
+    let p = c.in_ok-last.last in
+    let last = opened_last sum P Q c.args.size physical readable p c.page_size-page_size.ensures c.physical_size-physical_size.ensures c.requires.length c.in_ok-last.ensures.finds.0 in
+    let reach = opened_reach sum P Q c.args.size physical readable p c.page_size-page_size.ensures c.physical_size-physical_size.ensures c.requires.length c.in_ok-last.ensures.finds.0 in
+    let size : c.from.result ≡ P = c.from.ensures ∙ c.get.ensures.value ∙ c.page_size-page_size.ensures in
+    let some : 0 < P = omega (arith, c.get.ensures.nonzero, c.get.ensures.value, c.page_size-page_size.ensures) in
+    let room : c.in_ok-capacity.capacity ≡ adjusted c.args.capacity P = c.in_ok-capacity.ensures.capacity.1 ∙ ap (λ (n : ℕ). adjusted c.args.capacity n) size in
+    record {
+      room = omega (arith, room, adjusted_room c.args.capacity P);
+      whole = ap (λ (n : ℕ). n % P) room ∙ adjusted_whole c.args.capacity P some;
+      fits = fits_prefix P (length readable) p (last.tip some) reach (omega arith);
+      short = last.tip some;
+    }
+
+-- nothing was asked for
+owes-none : (g : Over) (c : In_err-capacity g) → Owes g.H.Sum.sum_of c.args.cache.now.page_size (g.B.Blob.life c.args.blob.now) (g.B.Blob.life c.args.blob.now)
+owes-none g c =
+    let old = g.B.Blob.life c.args.blob.now in
+    opens_owe g.H.Sum.sum_of c.args.cache.now.page_size old old (omega (arith, c.page_size-page_size.result.ok, c.page_size-page_size.ensures)) (g.met.B.Blob.readable_is_image c.args.blob.now) (old, looked_start old, inl refl)
+
+pub returns-in_err-capacity-clause-kept : goal.returns-in_err-capacity-clause-kept
+returns-in_err-capacity-clause-kept g c = (owes-none g (goal.at.returns-in_err-capacity-clause-kept g c).In_err-capacity).kept
+
+pub returns-in_err-capacity-clause-only : goal.returns-in_err-capacity-clause-only
+returns-in_err-capacity-clause-only g c = (owes-none g (goal.at.returns-in_err-capacity-clause-only g c).In_err-capacity).only
+
+-- the blob was looked at
+owes-looked : (g : Over) (c : In_err-last g) → Owes g.H.Sum.sum_of c.args.cache.now.page_size (g.B.Blob.life c.args.blob.now) (g.B.Blob.life c.last_pages.new.blob)
+owes-looked g c =
+    let old = g.B.Blob.life c.args.blob.now in
+    let new = g.B.Blob.life c.last_pages.new.blob in
+    let Q = non_zero_u16_get c.page_size-page_size.result in
+    let looked = finds_looked (last_prefix g.H.Sum.sum_of Q (c.args.size / c.physical_size-physical_size.result) old.present.readable) old new c.in_err-last.field-0.0 c.in_err-last.ensures.finds in
+    opens_owe g.H.Sum.sum_of c.args.cache.now.page_size old new (omega (arith, c.page_size-page_size.result.ok, c.page_size-page_size.ensures)) (g.met.B.Blob.readable_is_image c.args.blob.now) (new, looked, inl refl)
+
+pub returns-in_err-last-clause-floors : goal.returns-in_err-last-clause-floors
+returns-in_err-last-clause-floors g c = (owes-looked g (goal.at.returns-in_err-last-clause-floors g c).In_err-last).floors
+
+pub returns-in_err-last-clause-kept : goal.returns-in_err-last-clause-kept
+returns-in_err-last-clause-kept g c = (owes-looked g (goal.at.returns-in_err-last-clause-kept g c).In_err-last).kept
+
+pub returns-in_err-last-clause-only : goal.returns-in_err-last-clause-only
+returns-in_err-last-clause-only g c = (owes-looked g (goal.at.returns-in_err-last-clause-only g c).In_err-last).only
+
+-- and then cut, whatever the answer
+owes : (g : Over) (c : After-cut_back g) → Owes g.H.Sum.sum_of c.args.cache.now.page_size (g.B.Blob.life c.args.blob.now) (g.B.Blob.life c.cut_back.new.blob)
+owes g c =
+    let life = g.B.Blob.life in
+    let sum = g.H.Sum.sum_of in
+    let P = c.args.cache.now.page_size in
+    let physical = c.physical_size-physical_size.result in
+    let old = life c.args.blob.now in
+    let mid = life c.last_pages.new.blob in
+    let new = life c.cut_back.new.blob in
+    let kept = opened_kept sum P (non_zero_u16_get c.page_size-page_size.result) c.args.size physical old.present.readable c.in_ok-last.last c.page_size-page_size.ensures c.physical_size-physical_size.ensures c.requires.length c.in_ok-last.ensures.finds.0 c.pages_of.result (c.pages_of.result * physical) c.pages_of.ensures refl in
+    opens_owe sum P old new (omega (arith, c.page_size-page_size.result.ok, c.page_size-page_size.ensures)) (g.met.B.Blob.readable_is_image c.args.blob.now)
+    (trims_back (opened_size sum P old.present.readable) old mid new c.cut_back.result c.in_ok-last.ensures.finds.1 (subst (λ (n : ℕ). CutsBack n mid new c.cut_back.result) kept c.cut_back.ensures.cuts))
+
+pub returns-in_err-sync_state-clause-floors : goal.returns-in_err-sync_state-clause-floors
+returns-in_err-sync_state-clause-floors g c = (owes g (goal.at.returns-in_err-sync_state-clause-floors g c).After-cut_back).floors
+
+pub returns-in_err-sync_state-clause-kept : goal.returns-in_err-sync_state-clause-kept
+returns-in_err-sync_state-clause-kept g c = (owes g (goal.at.returns-in_err-sync_state-clause-kept g c).After-cut_back).kept
+
+pub returns-in_err-sync_state-clause-only : goal.returns-in_err-sync_state-clause-only
+returns-in_err-sync_state-clause-only g c = (owes g (goal.at.returns-in_err-sync_state-clause-only g c).After-cut_back).only
+
+pub returns-clause-floors : goal.returns-clause-floors
+returns-clause-floors g c = (owes g (goal.at.returns-clause-floors g c).After-cut_back).floors
 
 pub returns-clause-kept : goal.returns-clause-kept
-returns-clause-kept g c =
-    let old = g.B.Blob.life c.args.blob.now in
-    let new = g.B.Blob.life c.open_pages.new.blob in
-    keeps_text g.H.Sum.sum_of c.args.cache.now.page_size old new (opens_stay g.H.Sum.sum_of c.args.cache.now.page_size old new c.open_pages.ensures.some c.open_pages.ensures.trims)
+returns-clause-kept g c = (owes g (goal.at.returns-clause-kept g c).After-cut_back).kept
 
 pub returns-clause-only : goal.returns-clause-only
-returns-clause-only g c =
-    let old = g.B.Blob.life c.args.blob.now in
-    let new = g.B.Blob.life c.open_pages.new.blob in
-    leaves_text g.H.Sum.sum_of c.args.cache.now.page_size old new (opens_stay g.H.Sum.sum_of c.args.cache.now.page_size old new c.open_pages.ensures.some c.open_pages.ensures.trims)
+returns-clause-only g c = (owes g (goal.at.returns-clause-only g c).After-cut_back).only
+
+-- what was read, whatever the answer
+reads : (g : Over) (c : After-cut_back g) → ReadsBack (c.args.cache.now.page_size + 12) (g.B.Blob.life c.args.blob.now) (g.B.Blob.life c.cut_back.new.blob)
+reads g c =
+    let life = g.B.Blob.life in
+    let old = life c.args.blob.now in
+    let mid = life c.last_pages.new.blob in
+    let back = subst (λ (n : ℕ). ReadsBack (n + 12) old mid) c.page_size-page_size.ensures c.in_ok-last.ensures.reads in
+    opens_back (c.args.cache.now.page_size + 12) _ old mid (life c.cut_back.new.blob) c.cut_back.result back c.cut_back.ensures.cuts
+
+pub returns-in_err-sync_state-clause-reads : goal.returns-in_err-sync_state-clause-reads
+returns-in_err-sync_state-clause-reads g c = reads g (goal.at.returns-in_err-sync_state-clause-reads g c).After-cut_back
+
+pub returns-clause-reads : goal.returns-clause-reads
+returns-clause-reads g c = reads g (goal.at.returns-clause-reads g c).After-cut_back
+
+-- how opening ends, where it does
+opens : (g : Over) (c : After-at_prefix g) → Opens g.H.Sum.sum_of c.args.cache.now c.args.capacity (g.B.Blob.life c.args.blob.now) (g.B.Blob.life c.cut_back.new.blob) c.at_prefix.result
+opens g c =
+    let life = g.B.Blob.life in
+    let sum = g.H.Sum.sum_of in
+    let P = c.args.cache.now.page_size in
+    let Q = non_zero_u16_get c.page_size-page_size.result in
+    let physical = c.physical_size-physical_size.result in
+    let old = life c.args.blob.now in
+    let mid = life c.last_pages.new.blob in
+    let new = life c.cut_back.new.blob in
+    let readable = old.present.readable in
+    let p = c.in_ok-last.last in
+    let s = c.in_ok-sync_state.sync_state in
+    let some : 0 < P = omega (arith, c.page_size-page_size.result.ok, c.page_size-page_size.ensures) in
+    let small : P < 2 ^ 16 = omega (arith, c.page_size-page_size.ensures) in
+    let room : c.in_ok-capacity.capacity ≡ adjusted c.args.capacity P = c.in_ok-capacity.ensures.capacity.1 ∙ ap (λ (n : ℕ). adjusted c.args.capacity n) (c.from.ensures ∙ c.get.ensures.value ∙ c.page_size-page_size.ensures) in
+    let bytes = subst (λ (n : ℕ). HasBytes n p.full_pages readable p.partial) c.page_size-page_size.ensures c.in_ok-last.ensures.bytes in
+    let is = opened_is sum P Q c.args.size physical readable p c.page_size-page_size.ensures c.physical_size-physical_size.ensures c.requires.length c.in_ok-last.ensures.finds.0 in
+    let kept = opened_kept sum P Q c.args.size physical readable p c.page_size-page_size.ensures c.physical_size-physical_size.ensures c.requires.length c.in_ok-last.ensures.finds.0 c.pages_of.result (c.pages_of.result * physical) c.pages_of.ensures refl in
+    opens_end sum c.args.cache.now c.args.capacity old new s c.in_ok-capacity.capacity p c.at_prefix.result g.met.H.Sum.small some small room is bytes
+    (kept_back (opened_size sum P readable) old mid new s c.in_ok-last.ensures.finds.1 (opened_size_le sum P readable) (subst (λ (n : ℕ). CutsBack n mid new (Ok s)) kept c.in_ok-sync_state.ensures.cuts))
+    c.at_prefix.ensures.stands
+
+pub returns-clause-opens : goal.returns-clause-opens
+returns-clause-opens g c = opens g (goal.at.returns-clause-opens g c).After-at_prefix
+
+pub returns-clause-there : goal.returns-clause-there
+returns-clause-there g c =
+    opened_there g.H.Sum.sum_of c.args.cache.now c.args.capacity (g.B.Blob.life c.args.blob.now) (g.B.Blob.life c.cut_back.new.blob) c.at_prefix.result (opens g (goal.at.returns-clause-there g c).After-at_prefix)
 
 pub returns-clause-within : goal.returns-clause-within
-returns-clause-within g c = opens_within g.H.Sum.sum_of c.args.cache.now c.args.capacity c.open_pages.ensures.some (g.B.Blob.life c.args.blob.now) (g.B.Blob.life c.open_pages.new.blob) c.open_pages.result c.open_pages.ensures.opens
+returns-clause-within g c =
+    opens_within g.H.Sum.sum_of c.args.cache.now c.args.capacity (omega (arith, c.page_size-page_size.result.ok, c.page_size-page_size.ensures)) (g.B.Blob.life c.args.blob.now) (g.B.Blob.life c.cut_back.new.blob) c.at_prefix.result (opens g (goal.at.returns-clause-within g c).After-at_prefix)
+
+pub returns-in_err-capacity-clause-floors : goal.returns-in_err-capacity-clause-floors
+returns-in_err-capacity-clause-floors g c =
+    let life = g.B.Blob.life c.args.blob.now in
+    let P = c.args.cache.now.page_size in
+    floors_none g.H.Sum.sum_of P (text g.H.Sum.sum_of P life.present.readable) life life refl

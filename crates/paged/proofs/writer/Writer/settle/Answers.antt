@@ -1,18 +1,23 @@
 use Rattle.std.proofs.Common.{◌∙◌, sym, ap, refl, arith}
 use Rattle.paged.specs.Writer.{state_of}
 use Rattle.paged.proofs.Flushes.{settle_goes, settle_asks, settle_due, settled_already}
+use Rattle.crash.specs.Sound.{IsSound}
 use Rattle.paged.proofs.writer.Writer.settle.Goals as goal
 
 pub returns-in-Dirty : goal.returns-in-Dirty
+unfolding IsSound
 returns-in-Dirty g c = record {
   settles = settle_goes g.H.Sum.sum_of c.args.self (g.B.Blob.life c.args.blob.now) (g.B.Blob.life c.sync_blob.new.blob) c.sync_blob.result g.met.H.Sum.small c.requires.sound c.sync_blob.ensures.goes c.sync_blob.ensures.state;
   calls = settle_asks c.args.self (g.B.Blob.life c.args.blob.now) (g.B.Blob.life c.sync_blob.new.blob) c.sync_blob.result (sym (ap (λ s. s.sync) c.self.view_is) ∙ ap state_of c.in-Dirty.is) c.sync_blob.ensures.goes;
+  unwritten = λ dirty. c.sync_blob.ensures.goes;
   idle = λ none. absurd (settle_due c.args.self (sym (ap (λ s. s.sync) c.self.view_is) ∙ ap state_of c.in-Dirty.is) none);
 }
 
 pub returns-in-Clean : goal.returns-in-Clean
+unfolding IsSound
 returns-in-Clean g c = record {
   settles = settled_already g.H.Sum.sum_of c.args.self (g.B.Blob.life c.args.blob.now) c.requires.sound (sym (ap (λ s. s.sync) c.self.view_is) ∙ ap state_of c.in-Clean.is);
   calls = omega arith;
+  unwritten = λ dirty. let clean = sym (ap (λ s. s.sync) c.self.view_is) ∙ ap state_of c.in-Clean.is in absurd (cc);
   idle = λ none. (refl, refl);
 }

@@ -1,0 +1,69 @@
+-- Calls that change nothing but the log.
+use Rattle.std.proofs.Common.{◌≡◌, ℕ, List, [], ◌∷◌, take, drop, refl, sym, ap, ◌∙◌, subst, Bool, true, false, Ok, Err, Result}
+use Rattle.disk.specs.Disk.{Disk, Life, Request, ReadAt, next, logged, AskedOnce, ReadGoes}
+use Rattle.disk.specs.declared.error.Error.{Error}
+use Rattle.disk.specs.declared.error.Error.TheVariants.{ReadFailed, WriteFailed, ResizeFailed, SyncFailed, InvalidChecksum, BlobInsufficientLength, OffsetOverflow, OutOfMemory, IdsExhausted}
+use Rattle.disk.proofs.Logs.{grows_same, grows_once, grows_joins}
+use Rattle.crash.specs.Kept.{Through}
+use Rattle.crash.specs.Looks.{SameButLog, Looked}
+use Rattle.crash.proofs.Moments.{through_start, through_joins, through_then}
+
+-- no call
+pub looked_start : (life : Life) → Looked life life
+looked_start life = record {
+  same = refl;
+  log = grows_same life.present life.present refl;
+  through = through_start (SameButLog life.present) life refl;
+}
+
+-- the same but for the log, twice
+same_later : (a b d : Disk) → SameButLog a b → SameButLog b d → SameButLog a d
+same_later a b d first second = second ∙ ap (λ (x : Disk). record x { log = d.log }) first
+
+-- one call after another
+pub looked_joins : (old mid new : Life) → Looked old mid → Looked mid new → Looked old new
+looked_joins old mid new first second = record {
+  same = same_later old.present mid.present new.present first.same second.same;
+  log = grows_joins old.present mid.present new.present first.log second.log;
+  through = through_joins (SameButLog old.present) old mid new first.through
+      (through_then (SameButLog mid.present) (SameButLog old.present) mid new
+      (λ d h. same_later old.present mid.present d first.same h) second.through);
+}
+
+-- a call in the log
+looked_once : (life : Life) (request : Request) (failed : Bool) → Looked life (next life (logged request failed life.present))
+unfolding Through
+looked_once life request failed = record {
+  same = refl;
+  log = grows_once request failed life.present (logged request failed life.present) refl;
+  through = record { moments = logged request failed life.present ∷ []; goes = refl; start = refl; each = (refl, tt) };
+}
+
+pub looked_asked : (request : Request) (failed : Bool) (old new : Life) → AskedOnce request failed old new → Looked old new
+looked_asked request failed old new is = subst (λ l. Looked old l) (sym is) (looked_once old request failed)
+
+pub looked_none : (old new : Life) → new ≡ old → Looked old new
+looked_none old new is = subst (λ l. Looked old l) (sym is) (looked_start old)
+
+-- a read of the device, whatever it answers
+pub looked_read : (place len : ℕ) (old new : Life) (result : Result (List ℕ) Error) → ReadGoes place len old new result → Looked old new
+looked_read place len old new (Ok bytes) goes = looked_asked (ReadAt place len) false old new goes.2
+looked_read place len old new (Err ReadFailed) goes = looked_asked (ReadAt place len) true old new goes
+looked_read place len old new (Err WriteFailed) goes = absurd goes
+looked_read place len old new (Err ResizeFailed) goes = absurd goes
+looked_read place len old new (Err SyncFailed) goes = absurd goes
+looked_read place len old new (Err InvalidChecksum) goes = absurd goes
+looked_read place len old new (Err BlobInsufficientLength) goes = looked_none old new goes.0
+looked_read place len old new (Err OffsetOverflow) goes = absurd goes
+looked_read place len old new (Err OutOfMemory) goes = looked_none old new goes.0
+looked_read place len old new (Err IdsExhausted) goes = absurd goes
+
+-- what a look leaves readable
+pub looked_readable : (old new : Life) → Looked old new → new.present.readable ≡ old.present.readable
+looked_readable old new looked = ap (λ (d : Disk). d.readable) looked.same
+
+-- what a read behind a look gave
+pub read_gives : (place len : ℕ) (start old new : Life) (bytes : List ℕ) → Looked start old → ReadGoes place len old new (Ok bytes)
+    → bytes ≡ take len (drop place start.present.readable)
+read_gives place len start old new bytes so_far goes =
+    goes.1 ∙ ap (λ (l : List ℕ). take len (drop place l)) (looked_readable start old so_far)

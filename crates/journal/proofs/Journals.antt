@@ -1,0 +1,366 @@
+-- What a journal's calls do, from what the writer's do.
+use Rattle.std.proofs.Common.{◌≡◌, inl, inr, ℕ, ◌+◌, ◌-◌, ◌^◌, ◌<◌, ◌≤◌, List, [], ◌∷◌, ◌++◌, length, take, drop, replicate, refl, sym, ap, ap₂, ◌∙◌, subst, arith, append-nil, length-append, length-take, length-drop, min, Ok, Err, Result}
+use Rattle.std.specs.Prelude.{Option, IfOk, OnOk, IsOkUnless, Vec}
+use Rattle.std.specs.Result.{IsErrAnd}
+use Rattle.std.specs.declared.alloc.Global.{Global}
+use Rattle.std.proofs.lemmas.List.{append_assoc, take_at, take-append-le, drop_at}
+use Rattle.std.proofs.Math.Seq.{take-length}
+use Rattle.disk.specs.Disk.{Disk, Life, IsImage}
+use Rattle.disk.specs.declared.error.Error.{Error}
+use Rattle.disk.specs.declared.error.Error.TheVariants.{ReadFailed, WriteFailed, ResizeFailed, SyncFailed, InvalidChecksum, BlobInsufficientLength, OffsetOverflow, OutOfMemory, IdsExhausted}
+use Rattle.page.specs.Page.{text}
+use Rattle.cache.specs.CacheState.{CacheState}
+use Rattle.crash.specs.Kept.{AllKeep, AllOnly, Through}
+use Rattle.crash.specs.Stays.{KeepsFloors, LeavesOnly, KeepsAll}
+use Rattle.crash.specs.Looks.{Looked}
+use Rattle.crash.specs.Sound.{IsSound, content}
+use Rattle.crash.specs.WriterState.{WriterState}
+use Rattle.crash.proofs.Moments.{through_then, same_floor, keeps_longer, through_joins, through_end}
+use Rattle.crash.proofs.FloorLaws.{floors_of_content}
+use Rattle.crash.proofs.Lists.{take_same}
+use Rattle.crash.proofs.Promise.{keeps_at_rest}
+use Rattle.paged.proofs.There.{reads_keep, reads_leave, sound_leaves}
+use Rattle.paged.specs.Calls.{Appends, Syncs}
+use Rattle.paged.specs.Reads.{HasPages}
+use Rattle.paged.specs.Recovery.{Recovers}
+use Rattle.paged.specs.Writer.{physical_size}
+use Rattle.journal.specs.Frame.{frame, record_len, frame_len, listed, record_of, records, missing, IsWhole, filled, IsPrefix}
+use Rattle.journal.specs.Journal.{IsJournal, Commits, OnlyRecords, KeepsCommitted, LeavesRecords, CommitsAll, IsAppended, AppendsRecord, IsCommitted, CommitGoes, BringsBack, BringsOnly, ReadRefused, ReadsBytes, ReadsFrame, IsFound, IsFilled, FillsUp, ReadsAll, RecoversJournal, KeepsAnyCommitted}
+use Rattle.journal.proofs.Frames.{records-append, missing-append, records-take, frame_is_whole, records-frame, record_of-frame, length-frame, record_len-front, record_of-front, records-from, records-filled, filled_is_whole}
+
+-- the first of the first are the first
+pub prefix_trans : (a b c : List (List ℕ)) → IsPrefix a b → IsPrefix b c → IsPrefix a c
+prefix_trans a b c (r, is) (s, then) = (r ++ s, then ∙ ap (λ l. l ++ s) is ∙ append_assoc a r s)
+
+pub prefix_of_itself : (a : List (List ℕ)) → IsPrefix a a
+prefix_of_itself a = ([], sym (append-nil a))
+
+-- a content begins with what it was
+pub begins : (before more : List ℕ) → before ≡ take (length before) (before ++ more)
+begins before more = sym (take_at before more (length before) refl)
+
+-- floors that are kept keep what is committed
+pub keeps_committed : (sum own : List ℕ → ℕ) (P : ℕ) (content : List ℕ) (old new : Life) → KeepsFloors sum P content old new → KeepsCommitted sum own P content old new
+keeps_committed sum own P content old new keeps = λ n commits.
+    through_then (AllKeep sum P content commits.floor) (Commits sum own P content n) old new
+    (λ d kept. record { floor = commits.floor; within = commits.within; kept = kept; there = commits.there })
+    (keeps commits.floor commits.within commits.kept)
+
+-- a text that is a beginning of a content has the first of its records
+text_prefix : (own : List ℕ → ℕ) (read content : List ℕ) → read ≡ take (length read) content → IsPrefix (records own read) (records own content)
+text_prefix own read content is = subst (λ (l : List ℕ). IsPrefix (records own l) (records own content)) (sym is) (records-take own (length read) content)
+
+-- contents that are left leave their records
+pub only_records : (sum own : List ℕ → ℕ) (P : ℕ) (before behind : List ℕ) (all : List (List ℕ)) (d : Disk) → IsPrefix (records own before) all → IsPrefix (records own behind) all
+    → AllOnly sum P before behind d → OnlyRecords sum own P all d
+only_records sum own P before behind all d first second only = λ image is_image free. elim (only image is_image free) [
+  | inl is ↦ prefix_trans (records own (text sum P image)) (records own before) all (text_prefix own (text sum P image) before is) first
+  | inr is ↦ prefix_trans (records own (text sum P image)) (records own behind) all (text_prefix own (text sum P image) behind is) second
+]
+
+pub leaves_records : (sum own : List ℕ → ℕ) (P : ℕ) (before behind : List ℕ) (all : List (List ℕ)) (old new : Life) → IsPrefix (records own before) all → IsPrefix (records own behind) all
+    → LeavesOnly sum P before behind old new → LeavesRecords sum own P all old new
+leaves_records sum own P before behind all old new first second leaves =
+    through_then (AllOnly sum P before behind) (OnlyRecords sum own P all) old new (λ d only. only_records sum own P before behind all d first second only) leaves
+
+-- where nothing was asked, there is what there was
+pub leaves_still : (sum own : List ℕ → ℕ) (w : WriterState) (all : List (List ℕ)) (life : Life) → IsSound sum w life.present → IsPrefix (records own (content w life.present.readable)) all
+    → LeavesRecords sum own w.page_size all life life
+leaves_still sum own w all life sound first =
+    let held = content w life.present.readable in
+    leaves_records sum own w.page_size held held all life life first first (sound_leaves sum w held life sound)
+
+-- what is committed of a content is of a longer one
+pub commits_longer : (sum own : List ℕ → ℕ) (P : ℕ) (content more : List ℕ) (n : ℕ) (d : Disk) → Commits sum own P content n d → Commits sum own P (content ++ more) n d
+commits_longer sum own P content more n d commits = record {
+  floor = commits.floor;
+  within = omega (arith, commits.within, length-append content more);
+  kept = keeps_longer sum P content (content ++ more) commits.floor d (begins content more) commits.within commits.kept;
+  there = subst (λ (l : List ℕ). n ≤ length (records own l)) (same_floor content (content ++ more) commits.floor (begins content more) commits.within) commits.there;
+}
+
+-- where all of a content is kept, all of its records are committed
+pub commits_all : (sum own : List ℕ → ℕ) (P : ℕ) (content : List ℕ) (d : Disk) → AllKeep sum P content (length content) d → CommitsAll sum own P content d
+commits_all sum own P content d keeps = record {
+  floor = length content;
+  within = omega arith;
+  kept = keeps;
+  there = (let e : length (records own (take (length content) content)) ≡ length (records own content) = ap (λ (l : List ℕ). length (records own l)) (take-length content) in omega arith);
+}
+
+-- a record that was appended
+pub appended : (sum own : List ℕ → ℕ) (w : WriterState) (bytes : List ℕ) (old new : Life) (now : WriterState) (place : ℕ) → length bytes ≤ 65535 → own bytes < 2 ^ 32
+    → IsWhole (content w old.present.readable) → HasPages now new → Appends sum w (frame own bytes) old new (Ok (now, place)) → IsAppended sum own w bytes old new now place
+appended sum own w bytes old new now place short small whole there (at, goes) =
+    let before = content w old.present.readable in
+    let framed = frame own bytes in
+    let fits : length bytes < 2 ^ 16 = omega arith in
+    let stood : drop place (before ++ framed) ≡ framed ++ [] = ap (λ n. drop n (before ++ framed)) at ∙ drop_at before framed (length before) refl ∙ sym (append-nil framed) in
+    record {
+      at = at;
+      journal = record {
+        sound = goes.sound;
+        there = there;
+        whole = ap missing goes.content ∙ missing-append before framed whole ∙ frame_is_whole own bytes fits;
+      };
+      holds = goes.content;
+      added = ap (λ (l : List ℕ). records own l) goes.content ∙ records-append own before framed whole ∙ ap (λ rs. records own before ++ rs) (records-frame own bytes fits small);
+      there = ap (λ (l : List ℕ). record_of own (drop place l)) goes.content ∙ ap (λ (l : List ℕ). record_of own l) stood ∙ record_of-frame own bytes [] fits small;
+      same = goes.same;
+      commits = λ n d commits.
+          subst (λ (P : ℕ). Commits sum own P (content now new.present.readable) n d) (sym goes.same.page_size)
+          (subst (λ (l : List ℕ). Commits sum own w.page_size l n d) (sym goes.content) (commits_longer sum own w.page_size before framed n d commits));
+    }
+
+-- an append that was refused
+pub not_appended : (sum own : List ℕ → ℕ) (w : WriterState) (bytes : List ℕ) (old new : Life) (e : Error) → Appends sum w (frame own bytes) old new (Err e) → AppendsRecord sum own w bytes old new (Err e)
+not_appended sum own w bytes old new OffsetOverflow (same, passes) =
+    (same, subst (λ (n : ℕ). 2 ^ 64 ≤ physical_size w.page_size w.full_pages (length w.tip + n)) (length-frame own bytes) passes)
+not_appended sum own w bytes old new ReadFailed refused = refused.cause
+not_appended sum own w bytes old new WriteFailed refused = refused.cause
+not_appended sum own w bytes old new ResizeFailed refused = refused.cause
+not_appended sum own w bytes old new SyncFailed refused = refused.cause
+not_appended sum own w bytes old new InvalidChecksum refused = refused.cause
+not_appended sum own w bytes old new BlobInsufficientLength refused = refused.cause
+not_appended sum own w bytes old new OutOfMemory refused = refused.cause
+not_appended sum own w bytes old new IdsExhausted refused = refused.cause
+
+-- the records before an append are the first of those behind it, and those behind it are all
+pub before_append : (own : List ℕ → ℕ) (before bytes : List ℕ) → IsPrefix (records own before) (records own before ++ bytes ∷ [])
+before_append own before bytes = (bytes ∷ [], refl)
+
+pub behind_append : (own : List ℕ → ℕ) (before bytes : List ℕ) → length bytes ≤ 65535 → own bytes < 2 ^ 32 → IsWhole before → IsPrefix (records own (before ++ frame own bytes)) (records own before ++ bytes ∷ [])
+behind_append own before bytes short small whole =
+    ([], sym (append-nil (records own (before ++ frame own bytes)) ∙ records-append own before (frame own bytes) whole ∙ ap (λ rs. records own before ++ rs) (records-frame own bytes (omega arith) small)))
+
+-- a commit
+pub committed : (sum own : List ℕ → ℕ) (w : WriterState) (old new : Life) (now : WriterState) → IsWhole (content w old.present.readable) → HasPages now new
+    → Syncs sum w old new (Ok now) → KeepsAll sum w.page_size (content w old.present.readable) new → IsCommitted sum own w old new now
+committed sum own w old new now whole there (goes, settled) keeps =
+    let same : content now new.present.readable ≡ content w old.present.readable = goes.content ∙ append-nil (content w old.present.readable) in
+    record {
+      journal = record { sound = goes.sound; there = there; whole = ap missing same ∙ whole };
+      holds = same;
+      same = goes.same;
+      all = subst (λ (P : ℕ). CommitsAll sum own P (content now new.present.readable) new.present) (sym goes.same.page_size)
+          (subst (λ (l : List ℕ). CommitsAll sum own w.page_size l new.present) (sym same) (commits_all sum own w.page_size (content w old.present.readable) new.present keeps));
+    }
+
+pub not_committed : (sum own : List ℕ → ℕ) (w : WriterState) (old new : Life) (e : Error) → Syncs sum w old new (Err e) → CommitGoes sum own w old new (Err e)
+not_committed sum own w old new e refused = refused.cause
+
+take_first : (n : ℕ) (xs ys : List (List ℕ)) → n ≤ length xs → take n (xs ++ ys) ≡ take n xs
+take_first n xs ys le = take-append-le n xs ys le
+
+-- what comes back begins with what was committed
+pub brings_back : (sum own : List ℕ → ℕ) (P : ℕ) (d : Disk) (image : List ℕ) → IsImage d image → BringsBack sum own P d (records own (text sum P image))
+brings_back sum own P d image is_image = λ content n commits.
+    let kept : take commits.floor (text sum P image) ≡ take commits.floor content = commits.kept image is_image in
+    let read = records-take own commits.floor (text sum P image) in
+    let all = records-take own commits.floor content in
+    let more = read.0 in
+    let rest = all.0 in
+    let first = records own (take commits.floor content) in
+    let held : records own (text sum P image) ≡ first ++ more = read.1 ∙ ap (λ (l : List ℕ). records own l ++ more) kept in (
+      omega (arith, commits.there, ap length held, length-append first more),
+      ap (λ rs. take n rs) held ∙ take_first n first more commits.there ∙ sym (take_first n first rest commits.there) ∙ sym (ap (λ rs. take n rs) all.1),
+    )
+
+-- an append of a record's frame, by its answer
+pub append_goes : (sum own : List ℕ → ℕ) (w : WriterState) (bytes : List ℕ) (old new : Life) (result : Result (WriterState × ℕ) Error) → length bytes ≤ 65535 → own bytes < 2 ^ 32
+    → IsWhole (content w old.present.readable) → Appends sum w (frame own bytes) old new result → IfOk result (λ r. HasPages r.0 new) → AppendsRecord sum own w bytes old new result
+append_goes sum own w bytes old new (Ok r) short small whole appends there = appended sum own w bytes old new r.0 r.1 short small whole there appends
+append_goes sum own w bytes old new (Err e) short small whole appends there = not_appended sum own w bytes old new e appends
+
+pub append_gives : (sum own : List ℕ → ℕ) (w : WriterState) (bytes : List ℕ) (old new : Life) (result : Result (WriterState × ℕ) Error) → AppendsRecord sum own w bytes old new result → IfOk result (λ r. IsJournal sum r.0 new)
+append_gives sum own w bytes old new (Ok r) is = is.journal
+append_gives sum own w bytes old new (Err e) is = tt
+
+-- a commit, by its answer
+pub commit_goes : (sum own : List ℕ → ℕ) (w : WriterState) (old new : Life) (result : Result WriterState Error) → IsWhole (content w old.present.readable)
+    → Syncs sum w old new result → IfOk result (λ now. HasPages now new) → OnOk result (KeepsAll sum w.page_size (content w old.present.readable) new) → CommitGoes sum own w old new result
+commit_goes sum own w old new (Ok now) whole syncs there keeps = committed sum own w old new now whole there syncs keeps
+commit_goes sum own w old new (Err e) whole syncs there keeps = not_committed sum own w old new e syncs
+
+pub commit_gives : (sum own : List ℕ → ℕ) (w : WriterState) (old new : Life) (result : Result WriterState Error) → CommitGoes sum own w old new result → IfOk result (λ now. IsJournal sum now new)
+commit_gives sum own w old new (Ok now) is = is.journal
+commit_gives sum own w old new (Err e) is = tt
+
+-- a frame is read in two reads: how long it is, and all of it
+pub frame_read : (sum : List ℕ → ℕ) (w : WriterState) (place rest len : ℕ) (head : List ℕ) (old mid new : Life) (result : Result (List ℕ) Error) → Looked old mid → length (drop place (content w old.present.readable)) ≡ rest
+    → ReadsBytes sum w place (min rest 2) old mid (Ok head) → len ≡ min rest (record_len head + 7) → ReadsBytes sum w place len mid new result → ReadsFrame sum w place rest old new result
+frame_read sum w place rest len head old mid new (Ok bytes) looked long first is second =
+    let behind = drop place (content w old.present.readable) in
+    let same : content w mid.present.readable ≡ content w old.present.readable = ap (λ (d : Disk). content w d.readable) looked.same in
+    let said : record_len head ≡ record_len behind = ap record_len first ∙ record_len-front (min rest 2) behind (omega (arith, long)) in
+    let n : len ≡ min (frame_len behind) rest = omega arith in
+    second ∙ ap₂ (λ k (l : List ℕ). take k (drop place l)) n same
+frame_read sum w place rest len head old mid new (Err e) looked long first is second = (mid, inr looked, second)
+
+pub frame_not_read : (sum : List ℕ → ℕ) (w : WriterState) (place rest : ℕ) (old new : Life) (e : Error) → ReadRefused sum w old new e → ReadsFrame sum w place rest old new (Err e)
+frame_not_read sum w place rest old new e refused = (old, inl refl, refused)
+
+-- the frame at a place
+pub found : (own : List ℕ → ℕ) (content : List ℕ) (place rest : ℕ) (framed : List ℕ) (bytes : Option (List ℕ)) (end : ℕ) → place + rest ≡ length content → 0 < rest
+    → framed ≡ take (min (frame_len (drop place content)) rest) (drop place content) → bytes ≡ record_of own (drop 0 framed) → end ≡ place + length framed → IsFound own content place bytes end
+found own content place rest framed bytes end within some is held behind =
+    let from = drop place content in
+    let e : rest ≡ length content - place = omega arith in
+    let long : length from ≡ rest = omega (arith, length-drop place content) in
+    let size : length framed ≡ min (frame_len from) rest = ap length is ∙ (let t = length-take (min (frame_len from) rest) from in omega arith) in
+    let ends : end ≡ place + min (frame_len from) (length content - place) = omega arith in
+    let is_record : bytes ≡ record_of own from = held ∙ ap (λ (l : List ℕ). record_of own l) is ∙ record_of-front own (min (frame_len from) rest) from (omega arith) in
+    record {
+      within = omega arith;
+      held = is_record;
+      behind = ends;
+      rest = records-from own content place (omega arith)
+          ∙ ap₂ (λ b n. listed b ++ records own (drop n content)) (sym is_record) (sym ends);
+    }
+
+-- a read leaves the content that there was, whatever else may be
+pub looked_leaves : (sum : List ℕ → ℕ) (w : WriterState) (behind : List ℕ) (old new : Life) → IsSound sum w old.present → Looked old new → LeavesOnly sum w.page_size (content w old.present.readable) behind old new
+looked_leaves sum w behind old new sound looked =
+    let held = content w old.present.readable in
+    through_then (AllOnly sum w.page_size held held) (AllOnly sum w.page_size held behind) old new
+    (λ d only. λ image is_image free. elim (only image is_image free) [ inl is ↦ inl is | inr is ↦ inl is ])
+    (reads_leave sum w old new looked sound)
+
+-- the content after a read
+same_content : (w : WriterState) (old mid : Life) → Looked old mid → content w mid.present.readable ≡ content w old.present.readable
+same_content w old mid looked = ap (λ (d : Disk). content w d.readable) looked.same
+
+-- zeros appended behind a read
+pub fill_keeps : (sum : List ℕ → ℕ) (w : WriterState) (old mid new : Life) → IsSound sum w old.present → Looked old mid → KeepsFloors sum w.page_size (content w mid.present.readable) mid new
+    → KeepsFloors sum w.page_size (content w old.present.readable) old new
+fill_keeps sum w old mid new sound looked keeps = λ floor enough kept.
+    let first = reads_keep sum w old mid looked sound floor enough kept in
+    through_joins (AllKeep sum w.page_size (content w old.present.readable) floor) old mid new first
+    (subst (λ (l : List ℕ). KeepsFloors sum w.page_size l mid new) (same_content w old mid looked) keeps floor enough
+    (through_end (AllKeep sum w.page_size (content w old.present.readable) floor) old mid first))
+
+pub fill_leaves : (sum : List ℕ → ℕ) (w : WriterState) (zeros : List ℕ) (old mid new : Life) → IsSound sum w old.present → Looked old mid → zeros ≡ replicate (missing (content w old.present.readable)) 0
+    → LeavesOnly sum w.page_size (content w mid.present.readable) (content w mid.present.readable ++ zeros) mid new → LeavesOnly sum w.page_size (content w old.present.readable) (filled (content w old.present.readable)) old new
+fill_leaves sum w zeros old mid new sound looked is leaves =
+    let held = content w old.present.readable in
+    through_joins (AllOnly sum w.page_size held (filled held)) old mid new (looked_leaves sum w (filled held) old mid sound looked)
+    (subst (λ (z : List ℕ). LeavesOnly sum w.page_size held (held ++ z) mid new) is
+    (subst (λ (l : List ℕ). LeavesOnly sum w.page_size l (l ++ zeros) mid new) (same_content w old mid looked) leaves))
+
+-- so the last frame is filled up
+pub fill_goes : (sum own : List ℕ → ℕ) (w : WriterState) (found : List (List ℕ)) (zeros : List ℕ) (old mid new : Life) (now : WriterState) (place : ℕ) → Looked old mid → found ≡ records own (content w old.present.readable)
+    → zeros ≡ replicate (missing (content w old.present.readable)) 0 → Appends sum w zeros mid new (Ok (now, place)) → HasPages now new → IsFilled sum own w old new now found
+fill_goes sum own w found zeros old mid new now place looked given is (at, goes) there =
+    let held = content w old.present.readable in
+    let holds : content now new.present.readable ≡ filled held = goes.content ∙ ap₂ (λ (a b : List ℕ). a ++ b) (same_content w old mid looked) is in
+    record {
+      journal = record { sound = goes.sound; there = there; whole = ap missing holds ∙ filled_is_whole held };
+      holds = holds;
+      given = given;
+      same = goes.same;
+    }
+
+-- what a recovery keeps of a text T, once the blob's recovered writer stands for it and goes on
+pub recovered_keeps : (sum own : List ℕ → ℕ) (P : ℕ) (T : List ℕ) (old mid new : Life) (w : WriterState) → w.page_size ≡ P → content w mid.present.readable ≡ T
+    → Through (AllKeep sum P T (length T)) old mid → KeepsFloors sum w.page_size (content w mid.present.readable) mid new → Through (AllKeep sum P T (length T)) old new
+recovered_keeps sum own P T old mid new w size holds first keeps =
+    let then : KeepsFloors sum P T mid new = subst (λ (n : ℕ). KeepsFloors sum n T mid new) size (subst (λ (l : List ℕ). KeepsFloors sum w.page_size l mid new) holds keeps) in
+    through_joins (AllKeep sum P T (length T)) old mid new first (then (length T) (omega arith) (through_end (AllKeep sum P T (length T)) old mid first))
+
+pub recovered_leaves : (sum own : List ℕ → ℕ) (P : ℕ) (T : List ℕ) (old mid new : Life) (w : WriterState) → w.page_size ≡ P → content w mid.present.readable ≡ T
+    → LeavesOnly sum P T T old mid → LeavesOnly sum w.page_size (content w mid.present.readable) (filled (content w mid.present.readable)) mid new → LeavesRecords sum own P (records own T) old new
+recovered_leaves sum own P T old mid new w size holds first leaves =
+    let then : LeavesOnly sum P T (filled T) mid new =
+    subst (λ (n : ℕ). LeavesOnly sum n T (filled T) mid new) size (subst (λ (l : List ℕ). LeavesOnly sum w.page_size l (filled l) mid new) holds leaves) in
+    let all = records own T in
+    let itself = prefix_of_itself all in
+    through_joins (OnlyRecords sum own P all) old mid new (leaves_records sum own P T T all old mid itself itself first)
+    (leaves_records sum own P T (filled T) all mid new itself ([], sym (append-nil (records own (filled T)) ∙ records-filled own T)) then)
+
+pub commits_through : (sum own : List ℕ → ℕ) (P : ℕ) (T : List ℕ) (old new : Life) → Through (AllKeep sum P T (length T)) old new → Through (CommitsAll sum own P T) old new
+commits_through sum own P T old new through = through_then (AllKeep sum P T (length T)) (CommitsAll sum own P T) old new (λ d keeps. commits_all sum own P T d keeps) through
+
+-- a read of all records, by the answer of the parse of what was read
+pub all_read : (sum own : List ℕ → ℕ) (w : WriterState) (bytes : List ℕ) (old new : Life) (result : Result (Vec (List ℕ) Global × ℕ) Error) → bytes ≡ content w old.present.readable
+    → IfOk result (λ r. r.0.items ≡ records own bytes) → IfOk result (λ r. r.1 ≡ missing bytes) → IsOkUnless result OutOfMemory → ReadsAll sum own w old new result
+all_read sum own w bytes old new (Ok r) is found lacks err = (found ∙ ap (λ (l : List ℕ). records own l) is, lacks ∙ ap missing is)
+all_read sum own w bytes old new (Err e) is found lacks err = inl err
+
+-- a recovery, from that of the blob and the rest
+pub recovery_goes : (sum own : List ℕ → ℕ) (cache : CacheState) (capacity : ℕ) (old mid new : Life) (w : WriterState) (result : Result (WriterState × Vec (List ℕ) Global) Error)
+    → Recovers sum cache capacity old mid (Ok w) → KeepsAll sum cache.page_size (text sum cache.page_size old.present.readable) mid
+    → KeepsFloors sum w.page_size (content w mid.present.readable) mid new → FillsUp sum own w mid new result → RecoversJournal sum own cache capacity old new result
+recovery_goes sum own cache capacity old mid new w (Ok r) recovers all keeps fills =
+    let P = cache.page_size in
+    let T = text sum P old.present.readable in
+    let size : w.page_size ≡ P = ap (λ (x : WriterState). x.page_size) recovers.state in
+    let then : KeepsFloors sum P T mid new = subst (λ (n : ℕ). KeepsFloors sum n T mid new) size (subst (λ (l : List ℕ). KeepsFloors sum w.page_size l mid new) recovers.content keeps) in
+    let kept : AllKeep sum P T (length T) new.present = through_end (AllKeep sum P T (length T)) mid new (then (length T) (omega arith) all) in
+    let holds : content r.0 new.present.readable ≡ filled T = fills.holds ∙ ap filled recovers.content in
+    let given : r.1.items ≡ records own T = fills.given ∙ ap (λ (l : List ℕ). records own l) recovers.content in
+    let commits : Commits sum own P (filled T) (length (records own T)) new.present = commits_longer sum own P T (replicate (missing T) 0) (length (records own T)) new.present (commits_all sum own P T new.present kept) in
+    record {
+      page_size = fills.same.page_size ∙ size;
+      journal = fills.journal;
+      holds = holds;
+      given = given;
+      same = given ∙ sym (ap (λ (l : List ℕ). records own l) holds ∙ records-filled own T);
+      all = subst (λ (l : List ℕ). CommitsAll sum own P l new.present) (sym holds)
+          (subst (λ (n : ℕ). Commits sum own P (filled T) n new.present) (ap length (sym (records-filled own T))) commits);
+    }
+recovery_goes sum own cache capacity old mid new w (Err e) recovers all keeps fills = inr (mid, w, recovers, fills)
+
+pub recovery_gives : (sum own : List ℕ → ℕ) (cache : CacheState) (capacity : ℕ) (old new : Life) (result : Result (WriterState × Vec (List ℕ) Global) Error)
+    → RecoversJournal sum own cache capacity old new result → IfOk result (λ r. IsJournal sum r.0 new)
+recovery_gives sum own cache capacity old new (Ok r) is = is.journal
+recovery_gives sum own cache capacity old new (Err e) is = tt
+
+-- a recovery of what a crash left
+pub brought_back : (sum own : List ℕ → ℕ) (cache : CacheState) (capacity : ℕ) (d : Disk) (image : List ℕ) (old new : Life) (result : Result (WriterState × Vec (List ℕ) Global) Error) → IsImage d image
+    → old.present.readable ≡ image → RecoversJournal sum own cache capacity old new result → IfOk result (λ r. BringsBack sum own cache.page_size d r.1.items)
+brought_back sum own cache capacity d image old new (Ok r) is_image is recovered =
+    let P = cache.page_size in
+    let found : r.1.items ≡ records own (text sum P image) = recovered.given ∙ ap (λ (l : List ℕ). records own (text sum P l)) is in
+    subst (λ (rs : List (List ℕ)). BringsBack sum own P d rs) (sym found) (brings_back sum own P d image is_image)
+brought_back sum own cache capacity d image old new (Err e) is_image is recovered = tt
+
+pub brought_only : (sum own : List ℕ → ℕ) (cache : CacheState) (capacity : ℕ) (d : Disk) (image : List ℕ) (old new : Life) (result : Result (WriterState × Vec (List ℕ) Global) Error) → IsImage d image
+    → old.present.readable ≡ image → RecoversJournal sum own cache capacity old new result → IfOk result (λ r. BringsOnly sum own cache.page_size d image r.1.items)
+brought_only sum own cache capacity d image old new (Ok r) is_image is recovered = λ free all only.
+    let P = cache.page_size in
+    let found : r.1.items ≡ records own (text sum P image) = recovered.given ∙ ap (λ (l : List ℕ). records own (text sum P l)) is in
+    subst (λ (rs : List (List ℕ)). IsPrefix rs all) (sym found) (only image is_image free)
+brought_only sum own cache capacity d image old new (Err e) is_image is recovered = tt
+
+-- floors of the text of what is readable that are kept keep what was committed of any content
+pub keeps_any : (sum own : List ℕ → ℕ) (P : ℕ) (old new : Life) → IsImage old.present old.present.readable → KeepsFloors sum P (text sum P old.present.readable) old new → KeepsAnyCommitted sum own P old new
+keeps_any sum own P old new is_image floors = λ content. keeps_committed sum own P content old new (floors_of_content sum P content old new is_image floors)
+
+-- what a crash left begins a new life, of which all is kept: what was committed still is
+pub commits_begun : (sum own : List ℕ → ℕ) (P : ℕ) (content : List ℕ) (n : ℕ) (d e : Disk) (image : List ℕ) → IsImage d image → e.base ≡ image → e.since ≡ [] → Commits sum own P content n d → Commits sum own P content n e
+commits_begun sum own P content n d e image is_image base since commits =
+    let T = text sum P image in
+    let f = commits.floor in
+    let same : take f T ≡ take f content = commits.kept image is_image in
+    let enough : f ≤ length T =
+    (let a = ap length same in let b = length-take f T in let c = length-take f content in omega (arith, commits.within)) in
+    let all : AllKeep sum P T (length T) e = subst (λ (l : List ℕ). AllKeep sum P (text sum P l) (length (text sum P l)) e) base (keeps_at_rest sum P e since) in
+    record {
+      floor = f;
+      within = commits.within;
+      kept = λ left is. take_same f (length T) (text sum P left) T enough (all left is) ∙ same;
+      there = commits.there;
+    }
+
+pub floors_join : (sum : List ℕ → ℕ) (P : ℕ) (T : List ℕ) (old mid new : Life) (w : WriterState) → w.page_size ≡ P → content w mid.present.readable ≡ T
+    → KeepsFloors sum P T old mid → KeepsFloors sum w.page_size (content w mid.present.readable) mid new → KeepsFloors sum P T old new
+floors_join sum P T old mid new w size holds first keeps = λ floor enough kept.
+    let then : KeepsFloors sum P T mid new = subst (λ (n : ℕ). KeepsFloors sum n T mid new) size (subst (λ (l : List ℕ). KeepsFloors sum w.page_size l mid new) holds keeps) in
+    let begun = first floor enough kept in
+    through_joins (AllKeep sum P T floor) old mid new begun (then floor enough (through_end (AllKeep sum P T floor) old mid begun))
+
+-- the content wasn't read, and so the last frame wasn't filled up
+pub fill_unread : (sum own : List ℕ → ℕ) (w : WriterState) (old new : Life) (e : Error) (result : Result (WriterState × Vec (List ℕ) Global) Error) → IsErrAnd result (λ x. x ≡ e)
+    → ReadRefused sum w old new e → FillsUp sum own w old new result
+fill_unread sum own w old new e (Ok r) is refused = absurd is
+fill_unread sum own w old new e (Err x) is refused = inl (old, inl refl, subst (λ (y : Error). ReadRefused sum w old new y) (sym is) refused)

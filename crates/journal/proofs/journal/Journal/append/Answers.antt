@@ -1,0 +1,21 @@
+use Rattle.std.proofs.Common.{subst, Err}
+use Rattle.crash.specs.Sound.{content}
+use Rattle.crash.specs.Stays.{KeepsFloors}
+use Rattle.crash.specs.WriterState.{WriterState}
+use Rattle.paged.specs.Calls.{Appends}
+use Rattle.journal.proofs.journal.Journal.append.Goals as goal
+
+pub returns-in-Ok-clause-kept : goal.returns-in-Ok-clause-kept
+returns-in-Ok-clause-kept g c =
+    let old = g.B.Blob.life c.args.blob.now in
+    subst (λ (w : WriterState). KeepsFloors g.H.Sum.sum_of w.page_size (content w old.present.readable) old (g.B.Blob.life c.append.new.blob)) c.self.view_is c.append.ensures.kept
+
+pub returns-in-Err-clause-appends : goal.returns-in-Err-clause-appends
+returns-in-Err-clause-appends g c =
+    let old = g.B.Blob.life c.args.blob.now in
+    subst (λ (w : WriterState). Appends g.H.Sum.sum_of w c.args.bytes.now old (g.B.Blob.life c.append.new.blob) (Err c.in-Err.error)) c.self.view_is c.in-Err.ensures.appends
+
+pub returns-in-Err-clause-kept : goal.returns-in-Err-clause-kept
+returns-in-Err-clause-kept g c =
+    let old = g.B.Blob.life c.args.blob.now in
+    subst (λ (w : WriterState). KeepsFloors g.H.Sum.sum_of w.page_size (content w old.present.readable) old (g.B.Blob.life c.append.new.blob)) c.self.view_is c.append.ensures.kept

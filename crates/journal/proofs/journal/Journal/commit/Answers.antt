@@ -1,0 +1,26 @@
+use Rattle.crash.specs.Sound.{content}
+use Rattle.journal.specs.Frame.{records}
+use Rattle.journal.proofs.Journals.{commit_goes, commit_gives, keeps_committed, leaves_records, prefix_of_itself}
+use Rattle.journal.proofs.journal.Journal.commit.Goals as goal
+
+pub returns-clause-commits : goal.returns-clause-commits
+returns-clause-commits g c =
+    commit_goes g.H.Sum.sum_of g.R.Sum.sum_of c.args.self (g.B.Blob.life c.args.blob.now) (g.B.Blob.life c.sync.new.blob) c.sync.result c.requires.journal.whole
+    c.sync.ensures.syncs c.sync.ensures.there c.sync.ensures.durable
+
+pub returns-clause-journal : goal.returns-clause-journal
+returns-clause-journal g c =
+    commit_gives g.H.Sum.sum_of g.R.Sum.sum_of c.args.self (g.B.Blob.life c.args.blob.now) (g.B.Blob.life c.sync.new.blob) c.sync.result (returns-clause-commits g c)
+
+pub returns-clause-kept : goal.returns-clause-kept
+returns-clause-kept g c =
+    let old = g.B.Blob.life c.args.blob.now in
+    keeps_committed g.H.Sum.sum_of g.R.Sum.sum_of c.args.self.page_size (content c.args.self old.present.readable) old (g.B.Blob.life c.sync.new.blob) c.sync.ensures.kept
+
+pub returns-clause-only : goal.returns-clause-only
+returns-clause-only g c =
+    let own = g.R.Sum.sum_of in
+    let old = g.B.Blob.life c.args.blob.now in
+    let held = content c.args.self old.present.readable in
+    leaves_records g.H.Sum.sum_of own c.args.self.page_size held held (records own held) old (g.B.Blob.life c.sync.new.blob)
+    (prefix_of_itself (records own held)) (prefix_of_itself (records own held)) c.sync.ensures.only

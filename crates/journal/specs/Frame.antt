@@ -1,0 +1,70 @@
+-- A journal's bytes: frames one behind another, of which some are records. A byte that a frame
+-- lacks counts as 0.
+use Rattle.std.specs.Prelude.{◌≡◌, ◌&&◌, ◌==◌, ℕ, zero, suc, ◌+◌, ◌-◌, List, [], ◌∷◌, ◌++◌, length, take, drop, replicate, Bool, Option, Some, None, if◌then◌else◌, slice_index}
+use Rattle.std.specs.List.{flat_map}
+use Rattle.std.specs.Int.{w16, w32, to_be_bytes, from_be_bytes}
+
+-- the frame of a record: how many bytes it has, the bytes, their checksum, and the mark
+unfoldable pub frame : (List ℕ → ℕ) → List ℕ → List ℕ
+frame sum bytes = to_be_bytes w16 (length bytes) ++ bytes ++ to_be_bytes w32 (sum bytes) ++ 1 ∷ []
+
+-- of the frame at the front of some bytes: how many it says that its record has
+unfoldable pub record_len : List ℕ → ℕ
+record_len bytes = from_be_bytes w16 bytes
+
+-- how many the frame has
+abbrev pub frame_len : List ℕ → ℕ
+frame_len bytes = record_len bytes + 7
+
+-- whether it is a record: its mark is 1, and its checksum is that of the record's bytes
+unfoldable pub is_record : (List ℕ → ℕ) → List ℕ → Bool
+is_record sum bytes =
+    let n = record_len bytes in
+    (slice_index bytes (n + 6) == 1)
+    && (from_be_bytes w32 (drop (n + 2) bytes) == sum (take n (drop 2 bytes)))
+
+-- the record
+unfoldable pub record_of : (List ℕ → ℕ) → List ℕ → Option (List ℕ)
+record_of sum bytes =
+    if is_record sum bytes then Some (take (record_len bytes) (drop 2 bytes)) else None
+
+-- some bytes as frames, of which the last may be cut short; at most n
+abbrev pub frames_in : ℕ → List ℕ → List (List ℕ)
+frames_in zero bytes = []
+frames_in (suc n) [] = []
+frames_in (suc n) (b ∷ bytes) =
+    let all = b ∷ bytes in take (frame_len all) all ∷ frames_in n (drop (frame_len all) all)
+
+-- all of them
+unfoldable pub frames : List ℕ → List (List ℕ)
+frames bytes = frames_in (length bytes) bytes
+
+-- a list of what there is
+abbrev pub listed : Option (List ℕ) → List (List ℕ)
+listed None = []
+listed (Some bytes) = bytes ∷ []
+
+-- the records of some bytes: each frame that is one; the others are passed over
+unfoldable pub records : (List ℕ → ℕ) → List ℕ → List (List ℕ)
+records sum bytes = flat_map (λ f. listed (record_of sum f)) (frames bytes)
+
+-- how many bytes these frames lack
+abbrev pub lacking : List (List ℕ) → ℕ
+lacking [] = 0
+lacking (f ∷ fs) = (frame_len f - length f) + lacking fs
+
+-- how many the last frame of some bytes lacks
+unfoldable pub missing : List ℕ → ℕ
+missing bytes = lacking (frames bytes)
+
+-- no frame is cut short
+abbrev pub IsWhole : List ℕ → Type 0
+IsWhole bytes = missing bytes ≡ 0
+
+-- the bytes with the last frame filled up: where it was cut short its mark is 0 then
+abbrev pub filled : List ℕ → List ℕ
+filled bytes = bytes ++ replicate (missing bytes) 0
+
+-- these are the first of those
+abbrev pub IsPrefix : List (List ℕ) → List (List ℕ) → Type 0
+IsPrefix front all = (rest : List (List ℕ)) × (all ≡ front ++ rest)

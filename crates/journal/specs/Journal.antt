@@ -1,0 +1,228 @@
+-- What a journal's calls do, and what a crash keeps of its records. Pages have the checksum
+-- function sum, records their own.
+use Rattle.std.specs.Prelude.{◌≡◌, ◌⊎◌, ◌<◌, ◌≤◌, ◌+◌, ◌-◌, ◌^◌, ◌++◌, ℕ, List, [], ◌∷◌, length, take, drop, replicate, min, Option, Some, None, Result, Ok, Err, Vec}
+use Rattle.std.specs.declared.alloc.Global.{Global}
+use Rattle.disk.specs.Disk.{Disk, Life, IsImage}
+use Rattle.disk.specs.declared.error.Error.{Error}
+use Rattle.disk.specs.declared.error.Error.TheVariants.{OffsetOverflow, OutOfMemory}
+use Rattle.page.specs.Page.{text}
+use Rattle.cache.specs.CacheState.{CacheState}
+use Rattle.crash.specs.Guard.{IsChanceFree}
+use Rattle.crash.specs.Kept.{AllKeep, Through}
+use Rattle.crash.specs.Looks.{Looked}
+use Rattle.crash.specs.Sound.{IsSound, content}
+use Rattle.crash.specs.WriterState.{WriterState}
+use Rattle.paged.specs.Calls.{IsSameWriter, Appends, HasCause}
+use Rattle.paged.specs.Reads.{HasPages, Reads, size_of}
+use Rattle.paged.specs.Recovery.{IsDurable, Recovers}
+use Rattle.paged.specs.Writer.{physical_size}
+use Rattle.journal.specs.declared.frame.Found.{Found}
+use Rattle.journal.specs.Frame.{frame, frame_len, record_of, records, listed, missing, IsWhole, filled, IsPrefix}
+
+-- a journal between two calls: its writer is sound, its pages are in the blob, and its content is
+-- whole frames
+pub record IsJournal (sum : List ℕ → ℕ) (w : WriterState) (life : Life) : Type 0 where
+  pub sound : IsSound sum w life.present
+  pub there : HasPages w life
+  pub whole : IsWhole (content w life.present.readable)
+
+-- the content's first n records are committed: they stand in so many of its bytes as every image
+-- keeps
+pub record Commits (sum own : List ℕ → ℕ) (P : ℕ) (content : List ℕ) (n : ℕ) (d : Disk)
+    : Type 0 where
+  pub floor : ℕ
+  pub within : floor ≤ length content
+  pub kept : AllKeep sum P content floor d
+  pub there : n ≤ length (records own (take floor content))
+
+-- all records of a content are committed
+abbrev pub CommitsAll : (sum own : List ℕ → ℕ) → ℕ → List ℕ → Disk → Type 0
+CommitsAll sum own P content d = Commits sum own P content (length (records own content)) d
+
+-- chance aside, the records of whatever a crash leaves are the first of these
+abbrev pub OnlyRecords : (sum own : List ℕ → ℕ) → ℕ → List (List ℕ) → Disk → Type 0
+OnlyRecords sum own P all d =
+    (image : List ℕ) → IsImage d image → IsChanceFree sum P d image
+    → IsPrefix (records own (text sum P image)) all
+
+-- what was committed of a content as a call began is committed at each moment since
+abbrev pub KeepsCommitted : (sum own : List ℕ → ℕ) → ℕ → List ℕ → Life → Life → Type 0
+KeepsCommitted sum own P content old new =
+    (n : ℕ) → Commits sum own P content n old.present
+    → Through (Commits sum own P content n) old new
+
+-- chance aside, a crash at any moment since leaves only the first of these records
+abbrev pub LeavesRecords : (sum own : List ℕ → ℕ) → ℕ → List (List ℕ) → Life → Life → Type 0
+LeavesRecords sum own P all old new = Through (OnlyRecords sum own P all) old new
+
+-- the same of the content that a journal had as the call began
+abbrev pub KeepsItsCommitted : (sum own : List ℕ → ℕ) → WriterState → Life → Life → Type 0
+KeepsItsCommitted sum own w old new =
+    KeepsCommitted sum own w.page_size (content w old.present.readable) old new
+
+abbrev pub LeavesItsRecords : (sum own : List ℕ → ℕ) → WriterState → Life → Life → Type 0
+LeavesItsRecords sum own w old new =
+    LeavesRecords sum own w.page_size (records own (content w old.present.readable)) old new
+
+-- and of its records with one behind them
+abbrev pub LeavesOneMore : (sum own : List ℕ → ℕ) → WriterState → List ℕ → Life → Life → Type 0
+LeavesOneMore sum own w bytes old new =
+    let all = records own (content w old.present.readable) in
+    LeavesRecords sum own w.page_size (all ++ bytes ∷ []) old new
+
+-- a record was appended: at this place, behind the records that there were
+pub record IsAppended (sum own : List ℕ → ℕ) (w : WriterState) (bytes : List ℕ) (old new : Life)
+    (now : WriterState) (place : ℕ) : Type 0 where
+  pub at : place ≡ length (content w old.present.readable)
+  pub journal : IsJournal sum now new
+  pub holds : content now new.present.readable ≡ content w old.present.readable ++ frame own bytes
+  pub added : records own (content now new.present.readable)
+      ≡ records own (content w old.present.readable) ++ bytes ∷ []
+  pub there : record_of own (drop place (content now new.present.readable)) ≡ Some bytes
+  pub same : IsSameWriter w now
+  -- what was committed of the content before is of the content now
+  pub commits : (n : ℕ) (d : Disk)
+      → Commits sum own w.page_size (content w old.present.readable) n d
+      → Commits sum own now.page_size (content now new.present.readable) n d
+
+abbrev pub AppendsRecord : (sum own : List ℕ → ℕ) → WriterState → List ℕ → Life → Life
+    → Result (WriterState × ℕ) Error → Type 0
+AppendsRecord sum own w bytes old new (Ok r) = IsAppended sum own w bytes old new r.0 r.1
+AppendsRecord sum own w bytes old new (Err OffsetOverflow) =
+    (new ≡ old)
+    × (2 ^ 64 ≤ physical_size w.page_size w.full_pages (length w.tip + (length bytes + 7)))
+AppendsRecord sum own w bytes old new (Err e) = HasCause old new e
+
+-- all records were committed
+pub record IsCommitted (sum own : List ℕ → ℕ) (w : WriterState) (old new : Life)
+    (now : WriterState) : Type 0 where
+  pub journal : IsJournal sum now new
+  pub holds : content now new.present.readable ≡ content w old.present.readable
+  pub same : IsSameWriter w now
+  pub all : CommitsAll sum own now.page_size (content now new.present.readable) new.present
+
+abbrev pub CommitGoes : (sum own : List ℕ → ℕ) → WriterState → Life → Life
+    → Result WriterState Error → Type 0
+CommitGoes sum own w old new (Ok now) = IsCommitted sum own w old new now
+CommitGoes sum own w old new (Err e) = HasCause old new e
+
+-- a read within the content was refused, or memory was
+abbrev pub ReadRefused : (List ℕ → ℕ) → WriterState → Life → Life → Error → Type 0
+ReadRefused sum w old new e =
+    (e ≡ OutOfMemory)
+    ⊎ ((place len : ℕ) × (place + len ≤ size_of w) × Reads sum w place len old new (Err e))
+
+-- so was one behind others
+abbrev pub ReadRefusedLater : (List ℕ → ℕ) → WriterState → Life → Life → Error → Type 0
+ReadRefusedLater sum w old new e =
+    (mid : Life) × ((mid ≡ old) ⊎ Looked old mid) × ReadRefused sum w mid new e
+
+-- a read of bytes within the content
+abbrev pub ReadsBytes : (List ℕ → ℕ) → WriterState → (place len : ℕ) → Life → Life
+    → Result (List ℕ) Error → Type 0
+ReadsBytes sum w place len old new (Ok bytes) =
+    bytes ≡ take len (drop place (content w old.present.readable))
+ReadsBytes sum w place len old new (Err e) = ReadRefused sum w old new e
+
+-- a read of the frame at a place behind which so many bytes stand, where it may be cut short
+abbrev pub ReadsFrame : (List ℕ → ℕ) → WriterState → (place rest : ℕ) → Life → Life
+    → Result (List ℕ) Error → Type 0
+ReadsFrame sum w place rest old new (Ok bytes) =
+    let behind = drop place (content w old.present.readable) in
+    bytes ≡ take (min (frame_len behind) rest) behind
+ReadsFrame sum w place rest old new (Err e) = ReadRefusedLater sum w old new e
+
+-- the frame that begins at a place of a content: its record, if it is one, the place behind it, and
+-- the records from there on
+pub record IsFound (own : List ℕ → ℕ) (content : List ℕ) (place : ℕ) (bytes : Option (List ℕ))
+    (end : ℕ) : Type 0 where
+  pub within : place < length content
+  pub held : bytes ≡ record_of own (drop place content)
+  pub behind : end ≡ place + min (frame_len (drop place content)) (length content - place)
+  pub rest : records own (drop place content) ≡ listed bytes ++ records own (drop end content)
+
+-- a read of the frame at a place: none begins at the end or behind it
+abbrev pub ReadsRecord : (sum own : List ℕ → ℕ) → WriterState → ℕ → Life → Life
+    → Result (Option Found) Error → Type 0
+ReadsRecord sum own w place old new (Ok None) = length (content w old.present.readable) ≤ place
+ReadsRecord sum own w place old new (Ok (Some f)) =
+    IsFound own (content w old.present.readable) place f.bytes f.end
+ReadsRecord sum own w place old new (Err e) = ReadRefusedLater sum w old new e
+
+-- a read of all records, and of how many bytes the last frame lacks
+abbrev pub ReadsAll : (sum own : List ℕ → ℕ) → WriterState → Life → Life
+    → Result (Vec (List ℕ) Global × ℕ) Error → Type 0
+ReadsAll sum own w old new (Ok r) =
+    (r.0.items ≡ records own (content w old.present.readable))
+    × (r.1 ≡ missing (content w old.present.readable))
+ReadsAll sum own w old new (Err e) = ReadRefused sum w old new e
+
+-- the last frame was filled up; these are the records
+pub record IsFilled (sum own : List ℕ → ℕ) (w : WriterState) (old new : Life) (now : WriterState)
+    (found : List (List ℕ)) : Type 0 where
+  pub journal : IsJournal sum now new
+  pub holds : content now new.present.readable ≡ filled (content w old.present.readable)
+  pub given : found ≡ records own (content w old.present.readable)
+  pub same : IsSameWriter w now
+
+-- it wasn't: a read of the content was refused, or an append of the zeros behind it
+abbrev pub FillsUp : (sum own : List ℕ → ℕ) → WriterState → Life → Life
+    → Result (WriterState × Vec (List ℕ) Global) Error → Type 0
+FillsUp sum own w old new (Ok r) = IsFilled sum own w old new r.0 r.1.items
+FillsUp sum own w old new (Err e) =
+    ReadRefusedLater sum w old new e
+    ⊎ ((mid : Life) × (n : ℕ) × Looked old mid × Appends sum w (replicate n 0) mid new (Err e))
+
+-- a journal was recovered: its content is the text that was readable, of which the last frame was
+-- filled up; these are its records, and all of them are committed
+pub record HasRecovered (sum own : List ℕ → ℕ) (P : ℕ) (old new : Life) (w : WriterState)
+    (found : List (List ℕ)) : Type 0 where
+  pub page_size : w.page_size ≡ P
+  pub journal : IsJournal sum w new
+  pub holds : content w new.present.readable ≡ filled (text sum P old.present.readable)
+  pub given : found ≡ records own (text sum P old.present.readable)
+  pub same : found ≡ records own (content w new.present.readable)
+  pub all : CommitsAll sum own P (content w new.present.readable) new.present
+
+-- a recovery: that of the blob was refused, or it ended well and the last frame wasn't filled up
+abbrev pub RecoversJournal : (sum own : List ℕ → ℕ) → CacheState → ℕ → Life → Life
+    → Result (WriterState × Vec (List ℕ) Global) Error → Type 0
+RecoversJournal sum own cache capacity old new (Ok r) =
+    HasRecovered sum own cache.page_size old new r.0 r.1.items
+RecoversJournal sum own cache capacity old new (Err e) =
+    Recovers sum cache capacity old new (Err e)
+    ⊎ ((mid : Life) × (w : WriterState) × Recovers sum cache capacity old mid (Ok w)
+    × FillsUp sum own w mid new (Err e))
+
+-- what was committed of any content as a call began is committed at each moment since
+abbrev pub KeepsAnyCommitted : (sum own : List ℕ → ℕ) → ℕ → Life → Life → Type 0
+KeepsAnyCommitted sum own P old new = (content : List ℕ) → KeepsCommitted sum own P content old new
+
+-- and, whatever happened between them, at the last
+abbrev pub StaysCommitted : (sum own : List ℕ → ℕ) → ℕ → Disk → Disk → Type 0
+StaysCommitted sum own P d e =
+    (content : List ℕ) (n : ℕ) → Commits sum own P content n d → Commits sum own P content n e
+
+-- where all was durable as a recovery began, all records of the text are committed at each moment
+-- since
+abbrev pub KeepsAllRecords : (sum own : List ℕ → ℕ) → ℕ → Life → Life → Type 0
+KeepsAllRecords sum own P old new =
+    IsDurable old.present → Through (CommitsAll sum own P (text sum P old.present.readable)) old new
+
+-- and chance aside a crash leaves only these
+abbrev pub LeavesAllRecords : (sum own : List ℕ → ℕ) → ℕ → Life → Life → Type 0
+LeavesAllRecords sum own P old new =
+    IsDurable old.present
+    → LeavesRecords sum own P (records own (text sum P old.present.readable)) old new
+
+-- what comes back of a journal begins with all that was committed
+abbrev pub BringsBack : (sum own : List ℕ → ℕ) → ℕ → Disk → List (List ℕ) → Type 0
+BringsBack sum own P d back =
+    (content : List ℕ) (n : ℕ) → Commits sum own P content n d
+    → (n ≤ length back) × (take n back ≡ take n (records own content))
+
+-- and, where what the crash left is chance-free, is the first of what was appended
+abbrev pub BringsOnly : (sum own : List ℕ → ℕ) → ℕ → Disk → List ℕ → List (List ℕ) → Type 0
+BringsOnly sum own P d image back =
+    IsChanceFree sum P d image
+    → (all : List (List ℕ)) → OnlyRecords sum own P all d → IsPrefix back all

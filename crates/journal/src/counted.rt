@@ -1,0 +1,86 @@
+// A blob that counts what it is asked for.
+ghost use Rattle.std.specs.Prelude.{◌≡◌, ◌+◌, ◌-◌, ◌^◌, [], min, length, true};
+ghost use Rattle.std.specs.List.{concat};
+ghost use Rattle.disk.specs.Disk.{ReadGoes, WriteGoes, ResizeGoes, SyncGoes};
+
+use disk::{Blob, Error, IoBuf, IoBufs, ReadOptions, WriteOptions};
+use std::alloc::Global;
+
+/// A blob that hands each call on to another, and counts the calls and the bytes that it is asked to write.
+/// A count stays at the greatest `u64`.
+#[derive(Drop)]
+pub struct Counted<B> {
+    /// The other blob.
+    pub inner: B,
+    /// How many calls there were, whatever they answered.
+    pub calls: u64,
+    /// The bytes of all writes, whatever they answered.
+    pub written: u64,
+}
+
+impl<B> Counted<B> {
+    /// A blob of which nothing was asked yet.
+    pub fn new(inner: B) -> Self
+        ensures inner { result.inner ≡ inner }
+        ensures calls { result.calls ≡ 0 }
+        ensures written { result.written ≡ 0 }
+    {
+        Counted {
+            inner,
+            calls: 0,
+            written: 0,
+        }
+    }
+}
+
+impl<B: Blob> Blob for Counted<B> {
+    ghost life = { λ b. B.life b.inner };
+
+    fn read_at(
+        &mut self,
+        alloc: Global,
+        offset: u64,
+        len: usize,
+        options: ReadOptions,
+    ) -> Result<IoBuf, Error>
+        ensures goes { ReadGoes offset len (B.life self.old.inner) (B.life self.new.inner) result }
+        ensures calls { self.new.calls ≡ min (self.old.calls + 1) (2 ^ 64 - 1) }
+        ensures written { self.new.written ≡ self.old.written }
+    {
+        self.calls = self.calls.saturating_add(1);
+        self.inner.read_at(alloc, offset, len, options)
+    }
+
+    fn write_at(&mut self, offset: u64, bufs: &IoBufs, options: WriteOptions) -> Result<(), Error>
+        requires settled { options.sync ≡ true → (B.life self.old.inner).present.since ≡ [] }
+        ensures goes { let old = B.life self.old.inner in let new = B.life self.new.inner in
+            WriteGoes offset (concat bufs.now) options.sync old new result }
+        ensures calls { self.new.calls ≡ min (self.old.calls + 1) (2 ^ 64 - 1) }
+        ensures written { let bytes = concat bufs.now in
+            self.new.written ≡ min (self.old.written + length bytes) (2 ^ 64 - 1) }
+    {
+        self.calls = self.calls.saturating_add(1);
+        self.written = self.written.saturating_add(bufs.len() as u64);
+        self.inner.write_at(offset, bufs, options)
+    }
+
+    fn resize(&mut self, len: u64) -> Result<(), Error>
+        ensures goes { ResizeGoes len (B.life self.old.inner) (B.life self.new.inner) result }
+        ensures calls { self.new.calls ≡ min (self.old.calls + 1) (2 ^ 64 - 1) }
+        ensures written { self.new.written ≡ self.old.written }
+    {
+        self.calls = self.calls.saturating_add(1);
+        self.inner.resize(len)
+    }
+
+    fn sync(&mut self) -> Result<(), Error>
+        ensures goes { SyncGoes (B.life self.old.inner) (B.life self.new.inner) result }
+        ensures calls { self.new.calls ≡ min (self.old.calls + 1) (2 ^ 64 - 1) }
+        ensures written { self.new.written ≡ self.old.written }
+    {
+        self.calls = self.calls.saturating_add(1);
+        self.inner.sync()
+    }
+
+    ghost readable_is_image = { λ b. B.readable_is_image b.inner };
+}

@@ -1,0 +1,309 @@
+// Journals: records over a paged blob.
+ghost use Rattle.std.specs.Prelude.{◌≡◌, ◌+◌, ◌*◌, ◌≤◌, ◌++◌, ◌∷◌, [], length, replicate, IfOk, OnOk, IsOkUnless};
+ghost use Rattle.crash.specs.Looks.{Looked};
+ghost use Rattle.crash.specs.Sound.{IsSound, content};
+ghost use Rattle.crash.specs.Stays.{KeepsAll, KeepsFloors, LeavesOnly};
+ghost use Rattle.page.specs.Page.{text};
+ghost use Rattle.paged.specs.Calls.{Appends, Syncs};
+ghost use Rattle.paged.specs.Reads.{HasPages, size_of};
+ghost use Rattle.journal.specs.Frame.{filled};
+ghost use Rattle.journal.specs.Journal.{IsJournal, AppendsRecord, CommitGoes, ReadsBytes, ReadsFrame, ReadsRecord, ReadsAll, FillsUp, RecoversJournal, KeepsItsCommitted, LeavesItsRecords, LeavesOneMore, KeepsAnyCommitted, KeepsAllRecords, LeavesAllRecords, BringsBack};
+
+use crate::frame::{Found, frame_of, record_at, record_len_of, records_of};
+use cache::CacheRef;
+use disk::{Blob, Error, IoBuf};
+use page::Sum;
+use paged::Writer;
+use std::alloc::Global;
+use std::marker::{Model, PhantomData};
+use std::num::NonZeroUsize;
+
+/// A journal: records, one behind another, in a blob of the type `B` with pages under the checksum
+/// function `H`. Each record has a checksum of its own, by `R`.
+///
+/// The blob and the cache are lent to each call, as a writer's are. A call that takes the journal gives it
+/// back only on success; after an error it is to be recovered.
+#[derive(Drop)]
+pub struct Journal<B, H, R> {
+    alloc: Global,
+    writer: Writer<B, H>,
+    of: PhantomData<R>,
+}
+
+impl<B, H, R> Model for Journal<B, H, R> {
+    ghost use Rattle.crash.specs.WriterState.{WriterState};
+
+    ghost Value = { WriterState };
+
+    ghost view = { λ j. j.writer };
+}
+
+// So many zeros. It answers `OutOfMemory` alone.
+fn zeros(alloc: Global, count: usize) -> Result<Vec<u8>, Error>
+    ensures zeros { IfOk result (λ zeros. zeros.items ≡ replicate count 0) }
+    ensures err { IsOkUnless result Error.OutOfMemory }
+{
+    let mut zeros = Vec::new(alloc);
+    zeros.resize(count, 0)?;
+    Ok(zeros)
+}
+
+impl<B, H, R> Journal<B, H, R> {
+    fn new(alloc: Global, writer: Writer<B, H>) -> Self
+        ensures { result ≡ writer }
+    {
+        Journal {
+            alloc,
+            writer,
+            of: PhantomData,
+        }
+    }
+
+    /// The bytes of all frames. A place behind them is no record's.
+    pub fn size(&self) -> u64
+        ensures { result ≡ size_of self.now }
+    {
+        self.writer.size()
+    }
+}
+
+impl<B: Blob, H: Sum, R: Sum> Journal<B, H, R> {
+    /// Appends a record, and answers the place of its frame, in logical bytes. It is committed by the next
+    /// [`Journal::commit`].
+    ///
+    /// `OffsetOverflow` where the blob has no places for the frame, `WriteFailed` where the device failed,
+    /// `OutOfMemory`. The journal is gone then.
+    pub fn append_record(
+        self,
+        blob: &mut B,
+        cache: &mut CacheRef,
+        bytes: &[u8],
+    ) -> Result<(Self, u64), Error>
+        requires journal { IsJournal H.sum_of self (B.life blob.old) }
+        requires short { length bytes.now ≤ 65535 }
+        ensures appends { let old = B.life blob.old in let new = B.life blob.new in
+            AppendsRecord H.sum_of R.sum_of self bytes.now old new result }
+        ensures journal { IfOk result (λ r. IsJournal H.sum_of r.0 (B.life blob.new)) }
+
+        // At each moment since the call began, and at every answer.
+        ensures kept { let old = B.life blob.old in let new = B.life blob.new in
+            KeepsItsCommitted H.sum_of R.sum_of self old new }
+        ensures only { let old = B.life blob.old in let new = B.life blob.new in
+            LeavesOneMore H.sum_of R.sum_of self bytes.now old new }
+    {
+        let framed = frame_of::<R>(self.alloc, bytes)?;
+        self.append(blob, cache, &framed)
+    }
+
+    // Appends bytes to the content.
+    fn append(self, blob: &mut B, cache: &mut CacheRef, bytes: &[u8]) -> Result<(Self, u64), Error>
+        requires sound { IsSound H.sum_of self (B.life blob.old).present }
+        ensures appends { let old = B.life blob.old in let new = B.life blob.new in
+            Appends H.sum_of self bytes.now old new result }
+        ensures there { IfOk result (λ r. HasPages r.0 (B.life blob.new)) }
+        ensures kept { let held = content self (B.life blob.old).present.readable in
+            KeepsFloors H.sum_of self.page_size held (B.life blob.old) (B.life blob.new) }
+        ensures only { let old = B.life blob.old in
+            let held = content self old.present.readable in
+            LeavesOnly H.sum_of self.page_size held (held ++ bytes.now) old (B.life blob.new) }
+    {
+        let alloc = self.alloc;
+        match self.writer.append(blob, cache, bytes) {
+            Ok((writer, place)) => Ok((Journal::new(alloc, writer), place)),
+            Err(error) => Err(error),
+        }
+    }
+
+    /// Commits all records that were appended: whatever crashes from then on, they come back.
+    ///
+    /// `WriteFailed` and `SyncFailed` where the device failed, `OutOfMemory`. The journal is gone then.
+    pub fn commit(self, blob: &mut B, cache: &mut CacheRef) -> Result<Self, Error>
+        requires journal { IsJournal H.sum_of self (B.life blob.old) }
+        ensures commits { let old = B.life blob.old in let new = B.life blob.new in
+            CommitGoes H.sum_of R.sum_of self old new result }
+        ensures journal { IfOk result (λ j. IsJournal H.sum_of j (B.life blob.new)) }
+
+        // At each moment since the call began, and at every answer.
+        ensures kept { let old = B.life blob.old in let new = B.life blob.new in
+            KeepsItsCommitted H.sum_of R.sum_of self old new }
+        ensures only { LeavesItsRecords H.sum_of R.sum_of self (B.life blob.old) (B.life blob.new) }
+    {
+        self.sync(blob, cache)
+    }
+
+    // Makes the content durable.
+    fn sync(self, blob: &mut B, cache: &mut CacheRef) -> Result<Self, Error>
+        requires sound { IsSound H.sum_of self (B.life blob.old).present }
+        ensures syncs { Syncs H.sum_of self (B.life blob.old) (B.life blob.new) result }
+        ensures there { IfOk result (λ w. HasPages w (B.life blob.new)) }
+        ensures durable { let held = content self (B.life blob.old).present.readable in
+            OnOk result (KeepsAll H.sum_of self.page_size held (B.life blob.new)) }
+        ensures kept { let held = content self (B.life blob.old).present.readable in
+            KeepsFloors H.sum_of self.page_size held (B.life blob.old) (B.life blob.new) }
+        ensures only { let held = content self (B.life blob.old).present.readable in
+            LeavesOnly H.sum_of self.page_size held held (B.life blob.old) (B.life blob.new) }
+    {
+        let alloc = self.alloc;
+        match self.writer.sync(blob, cache) {
+            Ok(writer) => Ok(Journal::new(alloc, writer)),
+            Err(error) => Err(error),
+        }
+    }
+
+    // Reads bytes of the content, in one buffer.
+    fn read(
+        &self,
+        blob: &mut B,
+        cache: &mut CacheRef,
+        place: u64,
+        len: usize,
+    ) -> Result<IoBuf, Error>
+        requires there { HasPages self.now (B.life blob.old) }
+        requires within { place + len ≤ size_of self.now }
+        ensures reads { let old = B.life blob.old in let new = B.life blob.new in
+            ReadsBytes H.sum_of self.now place len old new result }
+        ensures looked { Looked (B.life blob.old) (B.life blob.new) }
+        ensures there { HasPages self.now (B.life blob.new) }
+        ensures sound { IsSound H.sum_of self.now (B.life blob.old).present
+            → IsSound H.sum_of self.now (B.life blob.new).present }
+    {
+        match self.writer.read_at(blob, cache, place, len) {
+            Ok(bufs) => bufs.coalesce(),
+            Err(error) => Err(error),
+        }
+    }
+
+    // The records of the content, and how many bytes its last frame lacks.
+    fn read_all(&self, blob: &mut B, cache: &mut CacheRef) -> Result<(Vec<IoBuf>, usize), Error>
+        requires sound { IsSound H.sum_of self.now (B.life blob.old).present }
+        requires there { HasPages self.now (B.life blob.old) }
+        ensures reads { let old = B.life blob.old in let new = B.life blob.new in
+            ReadsAll H.sum_of R.sum_of self.now old new result }
+        ensures looked { Looked (B.life blob.old) (B.life blob.new) }
+        ensures sound { IsSound H.sum_of self.now (B.life blob.new).present }
+    {
+        let bytes = self.read(blob, cache, 0, self.size() as usize)?;
+        records_of::<R>(self.alloc, &bytes)
+    }
+
+    // Fills the last frame up, where it was cut short, and answers the records that there are.
+    fn fill(self, blob: &mut B, cache: &mut CacheRef) -> Result<(Self, Vec<IoBuf>), Error>
+        requires sound { IsSound H.sum_of self (B.life blob.old).present }
+        requires there { HasPages self (B.life blob.old) }
+        ensures fills { FillsUp H.sum_of R.sum_of self (B.life blob.old) (B.life blob.new) result }
+        ensures kept { let held = content self (B.life blob.old).present.readable in
+            KeepsFloors H.sum_of self.page_size held (B.life blob.old) (B.life blob.new) }
+        ensures only { let old = B.life blob.old in let held = content self old.present.readable in
+            LeavesOnly H.sum_of self.page_size held (filled held) old (B.life blob.new) }
+    {
+        let (found, missing) = self.read_all(blob, cache)?;
+        let zeros = zeros(self.alloc, missing)?;
+        match self.append(blob, cache, &zeros) {
+            Ok((journal, _)) => Ok((journal, found)),
+            Err(error) => Err(error),
+        }
+    }
+
+    /// Recovers the journal of a blob of `size` physical bytes, whatever they are, and answers its records:
+    /// those of the blob's text, in order, which begin with all that were committed. Where the last frame was
+    /// cut short it is filled up with zeros, so that it is passed over, and what is appended behind it is
+    /// found. The other arguments are those of [`paged::recover`].
+    ///
+    /// The errors are those of [`paged::recover`], and `WriteFailed`. What was committed then still is.
+    pub fn recover(
+        alloc: Global,
+        blob: &mut B,
+        size: u64,
+        capacity: usize,
+        cache: &mut CacheRef,
+        buffer_size: NonZeroUsize,
+    ) -> Result<(Self, Vec<IoBuf>), Error>
+        requires length { size ≡ length (B.life blob.old).present.readable }
+        ensures recovers { let old = B.life blob.old in let new = B.life blob.new in
+            RecoversJournal H.sum_of R.sum_of cache.old capacity old new result }
+        ensures journal { IfOk result (λ r. IsJournal H.sum_of r.0 (B.life blob.new)) }
+
+        ensures back { let was = (B.life blob.old).present in
+            IfOk result (λ r. BringsBack H.sum_of R.sum_of cache.old.page_size was r.1.items) }
+
+        // At each moment since the call began, and at every answer.
+        ensures floors { let old = B.life blob.old in let new = B.life blob.new in
+            KeepsAnyCommitted H.sum_of R.sum_of cache.old.page_size old new }
+
+        // The same, where all was durable.
+        ensures kept { let old = B.life blob.old in let new = B.life blob.new in
+            KeepsAllRecords H.sum_of R.sum_of cache.old.page_size old new }
+        ensures only { let old = B.life blob.old in let new = B.life blob.new in
+            LeavesAllRecords H.sum_of R.sum_of cache.old.page_size old new }
+    {
+        let recovery = paged::recover::<B, H>(alloc, blob, size, capacity, cache, buffer_size)?;
+        let journal = Self::new(alloc, Writer::from(recovery));
+        journal.fill(blob, cache)
+    }
+
+    // The bytes of the frame that begins at a place, behind which so many stand in the journal.
+    fn read_frame(
+        &self,
+        blob: &mut B,
+        cache: &mut CacheRef,
+        place: u64,
+        rest: u64,
+    ) -> Result<IoBuf, Error>
+        requires journal { IsJournal H.sum_of self.now (B.life blob.old) }
+        requires within { place + rest ≡ size_of self.now }
+        ensures reads { let old = B.life blob.old in let new = B.life blob.new in
+            ReadsFrame H.sum_of self.now place rest old new result }
+        ensures looked { Looked (B.life blob.old) (B.life blob.new) }
+        ensures journal { IsJournal H.sum_of self.now (B.life blob.new) }
+    {
+        let head = self.read(blob, cache, place, rest.min(2) as usize)?;
+        let len = rest.min(record_len_of(head.as_ref()) as u64 + 7);
+        self.read(blob, cache, place, len as usize)
+    }
+
+    // The frame that begins at a place, or none.
+    fn find(&self, blob: &mut B, cache: &mut CacheRef, place: u64) -> Result<Option<Found>, Error>
+        requires journal { IsJournal H.sum_of self.now (B.life blob.old) }
+        ensures reads { let old = B.life blob.old in let new = B.life blob.new in
+            ReadsRecord H.sum_of R.sum_of self.now place old new result }
+        ensures looked { Looked (B.life blob.old) (B.life blob.new) }
+        ensures journal { IsJournal H.sum_of self.now (B.life blob.new) }
+    {
+        let size = self.size();
+        if size <= place {
+            return Ok(None);
+        }
+        let framed = self.read_frame(blob, cache, place, size - place)?;
+        let bytes = record_at::<R>(&framed, 0)?;
+        Ok(Some(Found {
+            bytes,
+            end: place + framed.len() as u64,
+        }))
+    }
+
+    /// The frame that begins at a place, in logical bytes: one that an append answered, or the place behind
+    /// another frame, the first of which begins at 0. `None` where none begins there: at the end of the
+    /// journal and behind it.
+    ///
+    /// `ReadFailed` where the device failed, `OutOfMemory`. An error leaves all as it was.
+    pub fn read_record(
+        &self,
+        blob: &mut B,
+        cache: &mut CacheRef,
+        place: u64,
+    ) -> Result<Option<Found>, Error>
+        requires journal { IsJournal H.sum_of self.now (B.life blob.old) }
+        ensures reads { let old = B.life blob.old in let new = B.life blob.new in
+            ReadsRecord H.sum_of R.sum_of self.now place old new result }
+        ensures looked { Looked (B.life blob.old) (B.life blob.new) }
+        ensures journal { IsJournal H.sum_of self.now (B.life blob.new) }
+
+        // At each moment since the call began, and at every answer.
+        ensures kept { let old = B.life blob.old in let new = B.life blob.new in
+            KeepsItsCommitted H.sum_of R.sum_of self.now old new }
+        ensures only { let old = B.life blob.old in let new = B.life blob.new in
+            LeavesItsRecords H.sum_of R.sum_of self.now old new }
+    {
+        self.find(blob, cache, place)
+    }
+}

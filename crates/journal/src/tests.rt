@@ -1,0 +1,136 @@
+// Frames by hand, and what comes back of journals that were cut short. Pages have 16 bytes, 28 with their
+// footer, and a buffer has 32.
+ghost use Rattle.std.specs.Prelude.{◌≤◌, length};
+
+use crate::crashes::crash_and_recover;
+use crate::frame::{Found, frame_of, records_of};
+use crate::journal::Journal;
+use crate::new_cache;
+use disk::{Error, IoBuf, MemBlob};
+use page::{AddSum, ConstSum, Sum};
+use std::alloc::Global;
+use std::num::NonZeroUsize;
+use std::process::Abort;
+use std::test::Fail;
+
+const CAPACITY: usize = 32;
+
+#[test]
+fn a_frame(rt: HostRuntime) -> Result<(), Fail> {
+    let framed = frame_of::<AddSum>(rt.alloc(), b"ab")?;
+    assert_eq!(rt;
+        framed.as_slice(),
+        [0, 2, 0x61, 0x62, 0, 0, 0, 0xC3, 1].as_slice()
+    );
+    let empty = frame_of::<ConstSum>(rt.alloc(), b"")?;
+    assert_eq!(rt; empty.as_slice(), [0, 0, 0, 0, 0, 0, 1].as_slice());
+    Ok(())
+}
+
+#[test]
+fn frames_that_are_cut_are_passed_over(rt: HostRuntime) -> Result<(), Fail> {
+    let bytes = IoBuf::copy_from_slice(
+        rt.alloc(),
+        &[
+            0, 1, 0x61, 0, 0, 0, 0x61, 1, 0, 1, 0x62, 0, 0, 0, 0, 0, 0, 1, 0x63, 0, 0, 0, 0x63, 1,
+            0,
+        ],
+    )?;
+    let (records, missing) = records_of::<AddSum>(rt.alloc(), &bytes)?;
+    assert_eq!(rt; records.len(), 2);
+    assert_eq!(rt; records[0].as_ref(), b"a".as_slice());
+    assert_eq!(rt; records[1].as_ref(), b"c".as_slice());
+    assert_eq!(rt; missing, 6);
+    Ok(())
+}
+
+/// Commits a record, appends another, fails its commit, and crashes so that the first page of that write is
+/// kept whole and nothing behind it; then appends a third behind what came back, and commits it.
+fn cut_short<H: Sum, R: Sum>(rt: &impl Abort, alloc: Global, first: &[u8]) -> Result<MemBlob, Error>
+    requires { length first.now ≤ 65535 }
+{
+    let mut cache = new_cache(alloc)?;
+    let mut blob = MemBlob::new(alloc);
+    let size = blob.len();
+    let one = NonZeroUsize::MIN;
+    let (journal, found) = Journal::<MemBlob, H, R>::recover(
+        alloc, &mut blob, size, CAPACITY, &mut cache, one,
+    )?;
+    assert_eq!(rt; found.len(), 0);
+    let (journal, place) = journal.append_record(&mut blob, &mut cache, first)?;
+    assert_eq!(rt; place, 0);
+    let journal = journal.commit(&mut blob, &mut cache)?;
+    let (journal, _) = journal.append_record(&mut blob, &mut cache, b"second")?;
+    blob.fail_at(1);
+    assert!(rt; journal.commit(&mut blob, &mut cache).is_err());
+    let (journal, found) = crash_and_recover::<H, R>(
+        alloc,
+        &mut blob,
+        &[true; 28],
+        CAPACITY,
+        &mut cache,
+        one,
+    )?;
+    assert_eq!(rt; found.len(), 1);
+    assert_eq!(rt; found[0].as_ref(), first);
+    let (journal, _) = journal.append_record(&mut blob, &mut cache, b"third")?;
+    let journal = journal.commit(&mut blob, &mut cache)?;
+    drop(journal);
+    Ok(blob)
+}
+
+/// The first record and the third one come back then, and a walk over the frames finds these and one that is
+/// passed over.
+fn comes_back<H: Sum, R: Sum>(
+    rt: &impl Abort,
+    alloc: Global,
+    first: &[u8],
+    blob: &mut MemBlob,
+) -> Result<(), Error> {
+    let mut cache = new_cache(alloc)?;
+    let one = NonZeroUsize::MIN;
+    let (journal, found) = crash_and_recover::<H, R>(alloc, blob, &[], CAPACITY, &mut cache, one)?;
+    assert_eq!(rt; found.len(), 2);
+    assert_eq!(rt; found[0].as_ref(), first);
+    assert_eq!(rt; found[1].as_ref(), b"third".as_slice());
+    let (is_record, place) = told(journal.read_record(blob, &mut cache, 0)?);
+    assert!(rt; is_record);
+    let (is_record, place) = told(journal.read_record(blob, &mut cache, place)?);
+    assert!(rt; !is_record);
+    let (is_record, place) = told(journal.read_record(blob, &mut cache, place)?);
+    assert!(rt; is_record);
+    assert_eq!(rt; place, journal.size());
+    assert!(rt; journal.read_record(blob, &mut cache, place)?.is_none());
+    Ok(())
+}
+
+/// Whether a frame was found that is a record, and the place behind it.
+fn told(found: Option<Found>) -> (bool, u64) {
+    match found {
+        None => (false, 0),
+        Some(found) => (found.bytes.is_some(), found.end),
+    }
+}
+
+// Ten bytes stand in the frame of "one", so the first page has six of the next frame.
+#[test]
+fn a_crash_inside_a_record(rt: HostRuntime) -> Result<(), Fail> {
+    let mut blob = cut_short::<AddSum, AddSum>(&rt, rt.alloc(), b"one")?;
+    comes_back::<AddSum, AddSum>(&rt, rt.alloc(), b"one", &mut blob)?;
+    Ok(())
+}
+
+// Fifteen stand in this one, so the first page has the first byte of the next frame's length.
+#[test]
+fn a_crash_inside_a_length(rt: HostRuntime) -> Result<(), Fail> {
+    let mut blob = cut_short::<AddSum, AddSum>(&rt, rt.alloc(), b"a record")?;
+    comes_back::<AddSum, AddSum>(&rt, rt.alloc(), b"a record", &mut blob)?;
+    Ok(())
+}
+
+#[test]
+fn whatever_the_checksums(rt: HostRuntime) -> Result<(), Fail> {
+    let mut blob = cut_short::<ConstSum, ConstSum>(&rt, rt.alloc(), b"one")?;
+    comes_back::<ConstSum, ConstSum>(&rt, rt.alloc(), b"one", &mut blob)?;
+    Ok(())
+}

@@ -1,0 +1,149 @@
+-- What opening a blob leaves of it, and where its writer is sound.
+use Rattle.std.proofs.Common.{◌≡◌, ◌≢◌, inl, inr, ℕ, zero, suc, ◌+◌, ◌*◌, ◌/◌, ◌^◌, ◌<◌, ◌≤◌, List, length, refl, sym, ◌∙◌, ap, subst, arith}
+use Rattle.std.specs.Prelude.{slice_get, Option, Some, None, Result, Ok, Err, IfOk}
+use Rattle.std.proofs.lemmas.Bool.{cases_eq}
+use Rattle.std.proofs.lemmas.Option.{slice_get_within}
+use Rattle.std.proofs.Math.Nat.{mul-le-mul_left}
+use Rattle.disk.specs.Disk.{Disk, Life, LogGrows}
+use Rattle.disk.specs.declared.error.Error.{Error}
+use Rattle.disk.specs.declared.error.Error.TheVariants.{ReadFailed, WriteFailed, ResizeFailed, SyncFailed, InvalidChecksum, BlobInsufficientLength, OffsetOverflow, OutOfMemory, IdsExhausted}
+use Rattle.page.specs.Geometry.{adjusted}
+use Rattle.page.specs.Page.{pages, active, value_len}
+use Rattle.page.specs.declared.slot.ActiveChecksum.{ActiveChecksum}
+use Rattle.cache.specs.CacheState.{CacheState}
+use Rattle.crash.specs.WriterState.{WriterState, SyncState}
+use Rattle.crash.specs.WriterState.SyncState.{Clean, Dirty}
+use Rattle.crash.specs.Sound.{IsSound}
+use Rattle.crash.proofs.BuiltLaws.{IsSmall}
+use Rattle.crash.proofs.Pages.{pages_at, pages_reach, page_is, length-pages}
+use Rattle.crash.proofs.Texts.{active_some}
+use Rattle.paged.specs.declared.prefix.Prefix.{Prefix}
+use Rattle.paged.specs.declared.writer.SyncState.{SyncState as State}
+use Rattle.paged.specs.Writer.{state_of}
+use Rattle.paged.specs.Prefix.{page_at, last_prefix, prefix_pages, value_and_slot, at_prefix, HasBytes}
+use Rattle.paged.specs.Reads.{HasPages}
+use Rattle.paged.specs.Recovery.{IsKept, Stands, SoundWhereFull, Opens, opened_prefix, opened_size}
+use Rattle.paged.proofs.Prefixes.{last_is, last_none_suc, last_full_suc, last_part_suc}
+use Rattle.paged.proofs.Firsts.{Behind}
+use Rattle.paged.proofs.Standing.{stands_behind}
+use Rattle.paged.proofs.Recovered.{kept_readable, opened_stays_durable, opened_length, opened_page_size}
+
+module _ (sum : List ℕ → ℕ) (P : ℕ) (bytes : List ℕ) where
+  -- a page that is there is the one at its place
+  page_there : (k : ℕ) → k < length bytes / (P + 12) → slice_get (pages P bytes) k ≡ Some (page_at P k bytes)
+  page_there k lt = pages_at P k bytes (pages_reach P (k + 1) bytes (omega arith))
+
+  -- a page that has a value, and isn't full
+  behind_told : (k : ℕ) → k < length bytes / (P + 12) → value_len sum P (page_at P k bytes) ≢ 0 → value_len sum P (page_at P k bytes) ≢ P
+      → Behind sum P (pages P bytes) k (value_and_slot (active sum P (page_at P k bytes)) (page_at P k bytes))
+  behind_told k lt has part =
+      let page = page_at P k bytes in
+      let told = active_some sum P page (omega arith) in
+      subst (λ (s : Option ActiveChecksum). Behind sum P (pages P bytes) k (value_and_slot s page)) (sym told.1) (page, page_there k lt, told.1, refl, part)
+
+  -- no page from there on has a value
+  behind_none : (k : ℕ) → ((m : ℕ) → k ≤ m → m < length bytes / (P + 12) → value_len sum P (page_at P m bytes) ≡ 0) → Behind sum P (pages P bytes) k None
+  behind_none k none = λ page is.
+      ap (λ (l : List ℕ). value_len sum P l) (page_is P k bytes page is)
+      ∙ none k (omega arith) (omega (arith, slice_get_within (pages P bytes) k page is, length-pages P bytes))
+
+  -- what stands behind the pages up to the last that has a value
+  behind_last : (n : ℕ) → n ≤ length bytes / (P + 12) → ((m : ℕ) → n ≤ m → m < length bytes / (P + 12) → value_len sum P (page_at P m bytes) ≡ 0)
+      → Behind sum P (pages P bytes) (last_prefix sum P n bytes).full_pages (last_prefix sum P n bytes).partial
+  behind_last zero within none = behind_none 0 none
+  behind_last (suc n) within none = elim (cases_eq (value_len sum P (page_at P n bytes)) 0) [
+    | inl empty ↦ subst (λ (p : Prefix). Behind sum P (pages P bytes) p.full_pages p.partial) (sym (last_none_suc sum P n bytes empty))
+        (behind_last n (omega arith) (λ m le lt. elim (cases_eq m n) [
+          | inl is ↦ ap (λ (k : ℕ). value_len sum P (page_at P k bytes)) is ∙ empty
+          | inr other ↦ none m (omega arith) lt
+        ]))
+    | inr has ↦ elim (cases_eq (value_len sum P (page_at P n bytes)) P) [
+      | inl full ↦ subst (λ (p : Prefix). Behind sum P (pages P bytes) p.full_pages p.partial) (sym (last_full_suc sum P n bytes has full)) (behind_none (n + 1) (λ m le lt. none m (omega arith) lt))
+      | inr part ↦ subst (λ (p : Prefix). Behind sum P (pages P bytes) p.full_pages p.partial) (sym (last_part_suc sum P n bytes has part)) (behind_told n (omega arith) has part)
+    ]
+  ]
+
+-- ---- where a writer is sound
+
+-- a writer whose durable slot is the one that was written last is as sound where something may be unsynced
+at_state : (sum : List ℕ → ℕ) (P id room : ℕ) (p : Prefix) (d : Disk) (s : SyncState) → IsSound sum (at_prefix P id room p Clean) d → IsSound sum (at_prefix P id room p s) d
+unfolding IsSound
+at_state sum P id room p d Clean sound = sound
+at_state sum P id room p d Dirty sound = record {
+  stands = record {
+    some = sound.stands.some;
+    small = sound.stands.small;
+    done = sound.stands.done;
+    full = sound.stands.full;
+    tip_page = sound.stands.tip_page;
+    state = tt;
+    carries = sound.stands.carries;
+  };
+  safe = record {
+    full = sound.safe.full;
+    tip = sound.safe.tip;
+    there = sound.safe.there;
+    pages = sound.safe.pages;
+    guard = sound.safe.guard;
+    base = sound.safe.base;
+    place = sound.safe.place;
+  };
+  truthful = sound.truthful;
+}
+
+module _ (sum : List ℕ → ℕ) (P : ℕ) (old new : Life) (s : SyncState) (kept : IsKept old new (opened_size sum P old.present.readable) s) where
+  -- the writer that opening gives
+  pub opened_sound : (id room : ℕ) → IsSmall sum → 0 < P → P < 2 ^ 16
+      → HasBytes P (opened_prefix sum P old.present.readable).full_pages old.present.readable (opened_prefix sum P old.present.readable).partial
+      → SoundWhereFull sum P old new (at_prefix P id room (opened_prefix sum P old.present.readable) s)
+  unfolding IsSound
+  opened_sound id room small_sum positive small has durable are =
+      let bytes = old.present.readable in
+      let p = opened_prefix sum P bytes in
+      let n = length bytes / (P + 12) in
+      let last = last_is sum P n bytes in
+      let stands = stands_behind sum small_sum P id room bytes new.present positive small (opened_stays_durable old new (opened_size sum P bytes) s kept durable) p.full_pages p.partial
+      (omega (arith, last.within, length-pages P bytes)) are (behind_last sum P bytes n (omega arith) (λ m le lt. absurd (omega arith))) has (kept_readable old new (opened_size sum P bytes) s kept) in
+      (at_state sum P id room p new.present s stands.0, stands.1)
+
+-- a writer stands behind what was kept, or has no id
+pub opens_end : (sum : List ℕ → ℕ) (cache : CacheState) (capacity : ℕ) (old new : Life) (s : State) (room : ℕ) (p : Prefix) (answer : Result WriterState Error) → IsSmall sum → 0 < cache.page_size → cache.page_size < 2 ^ 16
+    → room ≡ adjusted capacity cache.page_size → p ≡ opened_prefix sum cache.page_size old.present.readable
+    → HasBytes cache.page_size p.full_pages old.present.readable p.partial → IsKept old new (opened_size sum cache.page_size old.present.readable) (state_of s) × LogGrows old.present new.present
+    → Stands cache room p (state_of s) answer → Opens sum cache capacity old new answer
+opens_end sum cache capacity old new s room p (Ok w) small_sum positive small room_is is bytes kept stands =
+    let P = cache.page_size in
+    let q = opened_prefix sum P old.present.readable in
+    let state : w ≡ at_prefix P cache.ids_given (adjusted capacity P) q (state_of s) =
+    stands ∙ ap (λ (r : ℕ). at_prefix P cache.ids_given r p (state_of s)) room_is ∙ ap (λ (x : Prefix). at_prefix P cache.ids_given (adjusted capacity P) x (state_of s)) is in
+    let has : HasBytes P q.full_pages old.present.readable q.partial = subst (λ (x : Prefix). HasBytes P x.full_pages old.present.readable x.partial) is bytes in
+    record {
+      sync = state_of s;
+      state = state;
+      kept = kept.0;
+      bytes = subst (λ (n : ℕ). HasBytes P n old.present.readable q.partial) (sym (ap (λ (x : WriterState). x.full_pages) state)) has;
+      sound = subst (λ (x : WriterState). SoundWhereFull sum P old new x) (sym state) (opened_sound sum P old new (state_of s) kept.0 cache.ids_given (adjusted capacity P) small_sum positive small has);
+      log = kept.1;
+    }
+opens_end sum cache capacity old new s room p (Err ReadFailed) small_sum positive small room_is is bytes kept stands = absurd stands
+opens_end sum cache capacity old new s room p (Err WriteFailed) small_sum positive small room_is is bytes kept stands = absurd stands
+opens_end sum cache capacity old new s room p (Err ResizeFailed) small_sum positive small room_is is bytes kept stands = absurd stands
+opens_end sum cache capacity old new s room p (Err SyncFailed) small_sum positive small room_is is bytes kept stands = absurd stands
+opens_end sum cache capacity old new s room p (Err InvalidChecksum) small_sum positive small room_is is bytes kept stands = absurd stands
+opens_end sum cache capacity old new s room p (Err BlobInsufficientLength) small_sum positive small room_is is bytes kept stands = absurd stands
+opens_end sum cache capacity old new s room p (Err OffsetOverflow) small_sum positive small room_is is bytes kept stands = absurd stands
+opens_end sum cache capacity old new s room p (Err OutOfMemory) small_sum positive small room_is is bytes kept stands = tt
+opens_end sum cache capacity old new s room p (Err IdsExhausted) small_sum positive small room_is is bytes kept stands = (stands, state_of s, kept.0)
+
+-- ---- what holds of it
+
+-- the pages below its tip are in the blob
+pub opened_there : (sum : List ℕ → ℕ) (cache : CacheState) (capacity : ℕ) (old new : Life) (result : Result WriterState Error) → Opens sum cache capacity old new result → IfOk result (λ w. HasPages w new)
+opened_there sum cache capacity old new (Ok w) opened =
+    let P = cache.page_size in
+    let p = opened_prefix sum P old.present.readable in
+    let some_pages : w.full_pages ≤ prefix_pages p = omega (arith, ap (λ (x : WriterState). x.full_pages) opened.state) in
+    let more : (P + 12) * w.full_pages ≤ (P + 12) * prefix_pages p = mul-le-mul_left (P + 12) some_pages in
+    let here : w.full_pages * (P + 12) ≤ length new.present.readable = omega (arith, more, opened_length sum cache capacity old new w opened) in
+    subst (λ (n : ℕ). w.full_pages * (n + 12) ≤ length new.present.readable) (sym (opened_page_size sum cache capacity old new w opened)) here
+opened_there sum cache capacity old new (Err e) opened = tt

@@ -1,0 +1,269 @@
+-- What a search through a blob's pages reads, told by the log.
+use Rattle.std.proofs.Common.{◌≡◌, ◌⊎◌, inl, inr, ℕ, ◌+◌, ◌-◌, ◌*◌, ◌/◌, ◌<◌, ◌≤◌, max, List, [], ◌∷◌, ◌++◌, length, map, Bool, true, false, Result, Ok, Err, refl, sym, ap, ◌∙◌, subst, arith, append-nil, append_assoc}
+use Rattle.std.proofs.Math.Nat.{mul-le-mul_left}
+use Rattle.std.proofs.lemmas.List.{map-append}
+use Rattle.disk.specs.Disk.{Request, Entry, Life, ReadAt, ReadMany, StartReadMany, ResizeTo, SyncAll, AskedOnce, ReadGoes, ResizeGoes, SyncGoes}
+use Rattle.disk.specs.declared.error.Error.{Error}
+use Rattle.disk.specs.declared.error.Error.TheVariants.{ReadFailed, WriteFailed, ResizeFailed, SyncFailed, InvalidChecksum, BlobInsufficientLength, OffsetOverflow, OutOfMemory, IdsExhausted}
+use Rattle.paged.specs.declared.writer.SyncState.TheVariants.{Clean as IsClean, Dirty as IsDirty}
+use Rattle.paged.specs.declared.writer.SyncState.{SyncState as State}
+use Rattle.paged.specs.Recovery.{Cuts, CutsBack, EndsAt}
+use Rattle.paged.specs.Searches.{Gained, AreWithin, FallFrom, ReadsWithin, ReadsBack, scan_bytes}
+
+-- ---- requests
+
+-- none of these reads
+abbrev pub AreQuiet : List Request → Type 0
+AreQuiet [] = Unit {0}
+AreQuiet (ReadAt place len ∷ rest) = ⊥
+AreQuiet (ReadMany ranges ∷ rest) = ⊥
+AreQuiet (StartReadMany ranges ∷ rest) = ⊥
+AreQuiet (_ ∷ rest) = AreQuiet rest
+
+-- reads that fall, the last one no lower than this place
+abbrev pub FallTo : (size top bottom : ℕ) → List Request → Type 0
+FallTo size top bottom [] = bottom ≤ top
+FallTo size top bottom (ReadAt place len ∷ rest) = (len ≡ size) × (place + size ≤ top) × FallTo size place bottom rest
+FallTo size top bottom (ReadMany ranges ∷ rest) = ⊥
+FallTo size top bottom (StartReadMany ranges ∷ rest) = ⊥
+FallTo size top bottom (_ ∷ rest) = FallTo size top bottom rest
+
+quiet_joins : (xs ys : List Request) → AreQuiet xs → AreQuiet ys → AreQuiet (xs ++ ys)
+quiet_joins [] ys first second = second
+quiet_joins (ReadAt place len ∷ xs) ys first second = absurd first
+quiet_joins (ReadMany ranges ∷ xs) ys first second = absurd first
+quiet_joins (StartReadMany ranges ∷ xs) ys first second = absurd first
+quiet_joins (_ ∷ xs) ys first second = quiet_joins xs ys first second
+
+within_joins : (most : ℕ) (xs ys : List Request) → AreWithin most xs → AreWithin most ys → AreWithin most (xs ++ ys)
+within_joins most [] ys first second = second
+within_joins most (ReadAt place len ∷ xs) ys first second = (first.0, within_joins most xs ys first.1 second)
+within_joins most (ReadMany ranges ∷ xs) ys first second = absurd first
+within_joins most (StartReadMany ranges ∷ xs) ys first second = absurd first
+within_joins most (_ ∷ xs) ys first second = within_joins most xs ys first second
+
+quiet_within : (most : ℕ) (xs : List Request) → AreQuiet xs → AreWithin most xs
+quiet_within most [] quiet = tt
+quiet_within most (ReadAt place len ∷ xs) quiet = absurd quiet
+quiet_within most (ReadMany ranges ∷ xs) quiet = absurd quiet
+quiet_within most (StartReadMany ranges ∷ xs) quiet = absurd quiet
+quiet_within most (_ ∷ xs) quiet = quiet_within most xs quiet
+
+-- reads that fall, and then none
+fall_then_quiet : (size top : ℕ) (xs ys : List Request) → FallFrom size top xs → AreQuiet ys → FallFrom size top (xs ++ ys)
+fall_then_quiet size top [] [] fall quiet = tt
+fall_then_quiet size top [] (ReadAt place len ∷ ys) fall quiet = absurd quiet
+fall_then_quiet size top [] (ReadMany ranges ∷ ys) fall quiet = absurd quiet
+fall_then_quiet size top [] (StartReadMany ranges ∷ ys) fall quiet = absurd quiet
+fall_then_quiet size top [] (_ ∷ ys) fall quiet = fall_then_quiet size top [] ys fall quiet
+fall_then_quiet size top (ReadAt place len ∷ xs) ys fall quiet = (fall.0, fall.1, fall_then_quiet size place xs ys fall.2 quiet)
+fall_then_quiet size top (ReadMany ranges ∷ xs) ys fall quiet = absurd fall
+fall_then_quiet size top (StartReadMany ranges ∷ xs) ys fall quiet = absurd fall
+fall_then_quiet size top (_ ∷ xs) ys fall quiet = fall_then_quiet size top xs ys fall quiet
+
+-- each is of one page
+fall_within : (size top most : ℕ) (xs : List Request) → size ≤ most → FallFrom size top xs → AreWithin most xs
+fall_within size top most [] enough fall = tt
+fall_within size top most (ReadAt place len ∷ xs) enough fall = (omega (arith, fall.0), fall_within size place most xs enough fall.2)
+fall_within size top most (ReadMany ranges ∷ xs) enough fall = absurd fall
+fall_within size top most (StartReadMany ranges ∷ xs) enough fall = absurd fall
+fall_within size top most (_ ∷ xs) enough fall = fall_within size top most xs enough fall
+
+-- however low they end
+fall_forget : (size top bottom : ℕ) (xs : List Request) → FallTo size top bottom xs → FallFrom size top xs
+fall_forget size top bottom [] fall = tt
+fall_forget size top bottom (ReadAt place len ∷ xs) fall = (fall.0, fall.1, fall_forget size place bottom xs fall.2)
+fall_forget size top bottom (ReadMany ranges ∷ xs) fall = absurd fall
+fall_forget size top bottom (StartReadMany ranges ∷ xs) fall = absurd fall
+fall_forget size top bottom (_ ∷ xs) fall = fall_forget size top bottom xs fall
+
+-- one lower
+fall_read : (size top bottom place : ℕ) (xs : List Request) → FallTo size top bottom xs → place + size ≤ bottom → FallTo size top place (xs ++ ReadAt place size ∷ [])
+fall_read size top bottom place [] fall below = (refl, omega arith, omega arith)
+fall_read size top bottom place (ReadAt at len ∷ xs) fall below = (fall.0, fall.1, fall_read size at bottom place xs fall.2 below)
+fall_read size top bottom place (ReadMany ranges ∷ xs) fall below = absurd fall
+fall_read size top bottom place (StartReadMany ranges ∷ xs) fall below = absurd fall
+fall_read size top bottom place (_ ∷ xs) fall below = fall_read size top bottom place xs fall below
+
+fall_lower : (size top bottom place : ℕ) (xs : List Request) → FallTo size top bottom xs → place ≤ bottom → FallTo size top place xs
+fall_lower size top bottom place [] fall below = omega arith
+fall_lower size top bottom place (ReadAt at len ∷ xs) fall below = (fall.0, fall.1, fall_lower size at bottom place xs fall.2 below)
+fall_lower size top bottom place (ReadMany ranges ∷ xs) fall below = absurd fall
+fall_lower size top bottom place (StartReadMany ranges ∷ xs) fall below = absurd fall
+fall_lower size top bottom place (_ ∷ xs) fall below = fall_lower size top bottom place xs fall below
+
+-- ---- the log
+
+-- the same log
+gained_none : (Q : List Request → Type 0) (old new : Life) → new ≡ old → Q [] → Gained Q old new
+gained_none Q old new same holds = ([], ap (λ (l : Life). l.present.log) same ∙ sym (append-nil old.present.log), holds)
+
+-- one call more
+gained_once : (Q : List Request → Type 0) (request : Request) (failed : Bool) (old new : Life) → new.present.log ≡ old.present.log ++ record { request = request; failed = failed } ∷ [] → Q (request ∷ []) → Gained Q old new
+gained_once Q request failed old new is holds = (record { request = request; failed = failed } ∷ [], is, holds)
+
+-- one part of a call after another
+gained_joins : (Q R S : List Request → Type 0) (old mid new : Life) → ((xs ys : List Request) → Q xs → R ys → S (xs ++ ys)) → Gained Q old mid → Gained R mid new → Gained S old new
+gained_joins Q R S old mid new joins first second = (
+  first.0 ++ second.0,
+  second.1 ∙ ap (λ (l : List Entry). l ++ second.0) first.1 ∙ append_assoc old.present.log first.0 second.0,
+  subst S (sym (map-append (λ (e : Entry). e.request) first.0 second.0)) (joins (map (λ (e : Entry). e.request) first.0) (map (λ (e : Entry). e.request) second.0) first.2 second.2),
+)
+
+-- what follows
+gained_then : (Q R : List Request → Type 0) (old new : Life) → ((xs : List Request) → Q xs → R xs) → Gained Q old new → Gained R old new
+gained_then Q R old new then gained = (gained.0, gained.1, then (map (λ (e : Entry). e.request) gained.0) gained.2)
+
+-- ---- reads
+
+-- a read asks for nothing else
+read_asks : (place len : ℕ) (old new : Life) (answer : Result (List ℕ) Error) → ReadGoes place len old new answer → (new ≡ old) ⊎ ((failed : Bool) × AskedOnce (ReadAt place len) failed old new)
+read_asks place len old new (Ok bytes) goes = inr (false, goes.2)
+read_asks place len old new (Err ReadFailed) goes = inr (true, goes)
+read_asks place len old new (Err BlobInsufficientLength) goes = inl goes.0
+read_asks place len old new (Err OutOfMemory) goes = inl goes.0
+read_asks place len old new (Err WriteFailed) goes = absurd goes
+read_asks place len old new (Err ResizeFailed) goes = absurd goes
+read_asks place len old new (Err SyncFailed) goes = absurd goes
+read_asks place len old new (Err InvalidChecksum) goes = absurd goes
+read_asks place len old new (Err OffsetOverflow) goes = absurd goes
+read_asks place len old new (Err IdsExhausted) goes = absurd goes
+
+-- a read more
+pub within_read : (most place len : ℕ) (start old new : Life) (answer : Result (List ℕ) Error) → len ≤ most → ReadsWithin most start old → ReadGoes place len old new answer → ReadsWithin most start new
+within_read most place len start old new answer few so_far goes =
+    gained_joins (AreWithin most) (AreWithin most) (AreWithin most) start old new (within_joins most) so_far
+    (elim (read_asks place len old new answer goes) [
+      | inl none ↦ gained_none (AreWithin most) old new none tt
+      | inr asked ↦ gained_once (AreWithin most) (ReadAt place len) asked.0 old new (ap (λ (l : Life). l.present.log) asked.1) (few, tt)
+    ])
+
+-- the reads of a search that goes back, down to a place
+abbrev pub ReadsDownTo : (size bottom : ℕ) → Life → Life → Type 0
+ReadsDownTo size bottom old new = Gained (FallTo size (length old.present.readable) bottom) old new
+
+-- none yet
+pub down_start : (size bottom : ℕ) (life : Life) → bottom ≤ length life.present.readable → ReadsDownTo size bottom life life
+down_start size bottom life below = gained_none (FallTo size (length life.present.readable) bottom) life life refl below
+
+-- one lower
+pub down_read : (size bottom place : ℕ) (start old new : Life) (answer : Result (List ℕ) Error) → place + size ≤ bottom → ReadsDownTo size bottom start old → ReadGoes place size old new answer → ReadsDownTo size place start new
+down_read size bottom place start old new answer below so_far goes =
+    let top = length start.present.readable in
+    elim (read_asks place size old new answer goes) [
+      | inl none ↦ subst (λ (l : Life). ReadsDownTo size place start l) (sym none) (gained_then (FallTo size top bottom) (FallTo size top place) start old (λ xs fall. fall_lower size top bottom place xs fall (omega arith)) so_far)
+      | inr asked ↦ gained_joins (FallTo size top bottom) (λ ys. ys ≡ ReadAt place size ∷ []) (FallTo size top place) start old new
+          (λ xs ys fall is. subst (λ (l : List Request). FallTo size top place (xs ++ l)) (sym is) (fall_read size top bottom place xs fall below)) so_far
+          (gained_once (λ ys. ys ≡ ReadAt place size ∷ []) (ReadAt place size) asked.0 old new (ap (λ (l : Life). l.present.log) asked.1) refl)
+    ]
+
+-- the page before the last that is left
+pub down_page : (P size n : ℕ) (start old new : Life) (answer : Result (List ℕ) Error) → size ≡ P + 12 → 0 < n → ReadsDownTo (P + 12) (n * (P + 12)) start old → ReadGoes ((n - 1) * size) size old new answer
+    → ReadsDownTo (P + 12) ((n - 1) * (P + 12)) start new
+down_page P size n start old new answer is some so_far goes =
+    let last : n - 1 + 1 ≡ n = omega arith in
+    let below : (n - 1) * (P + 12) + (P + 12) ≤ n * (P + 12) = rw last at (let all : (n - 1) * (P + 12) + (P + 12) ≤ (n - 1 + 1) * (P + 12) = omega arith in all) in
+    down_read (P + 12) (n * (P + 12)) ((n - 1) * (P + 12)) start old new answer below so_far (subst (λ (k : ℕ). ReadGoes ((n - 1) * k) k old new answer) is goes)
+
+-- so it goes back
+pub down_back : (size bottom : ℕ) (old new : Life) → ReadsDownTo size bottom old new → ReadsBack size old new
+down_back size bottom old new down = gained_then (FallTo size (length old.present.readable) bottom) (FallFrom size (length old.present.readable)) old new (λ xs fall. fall_forget size (length old.present.readable) bottom xs fall) down
+
+-- its reads are within any that have a page
+pub back_within : (size most : ℕ) (old new : Life) → size ≤ most → ReadsBack size old new → ReadsWithin most old new
+back_within size most old new enough back = gained_then (FallFrom size (length old.present.readable)) (AreWithin most) old new (λ xs fall. fall_within size (length old.present.readable) most xs enough fall) back
+
+-- ---- calls that read nothing
+
+abbrev Quiet : Life → Life → Type 0
+Quiet old new = Gained AreQuiet old new
+
+quiet_both : (old mid new : Life) → Quiet old mid → Quiet mid new → Quiet old new
+quiet_both old mid new first second = gained_joins AreQuiet AreQuiet AreQuiet old mid new quiet_joins first second
+
+resize_once : (len : ℕ) (failed : Bool) (old new : Life) → new.present.log ≡ old.present.log ++ record { request = ResizeTo len; failed = failed } ∷ [] → Quiet old new
+resize_once len failed old new is = gained_once AreQuiet (ResizeTo len) failed old new is tt
+
+resize_quiet : (len : ℕ) (old new : Life) (answer : Result (Unit {0}) Error) → ResizeGoes len old new answer → Quiet old new
+resize_quiet len old new (Ok done) (d, is, operated) = resize_once len false old new (ap (λ (l : Life). l.present.log) is ∙ ap (λ x. x.log) operated.rest)
+resize_quiet len old new (Err OffsetOverflow) goes = absurd goes.1
+resize_quiet len old new (Err OutOfMemory) goes = gained_none AreQuiet old new goes.0 tt
+resize_quiet len old new (Err ReadFailed) (e, (d, is, operated)) = resize_once len true old new (ap (λ (l : Life). l.present.log) is ∙ ap (λ x. x.log) operated.rest)
+resize_quiet len old new (Err WriteFailed) (e, (d, is, operated)) = resize_once len true old new (ap (λ (l : Life). l.present.log) is ∙ ap (λ x. x.log) operated.rest)
+resize_quiet len old new (Err ResizeFailed) (e, (d, is, operated)) = resize_once len true old new (ap (λ (l : Life). l.present.log) is ∙ ap (λ x. x.log) operated.rest)
+resize_quiet len old new (Err SyncFailed) (e, (d, is, operated)) = resize_once len true old new (ap (λ (l : Life). l.present.log) is ∙ ap (λ x. x.log) operated.rest)
+resize_quiet len old new (Err InvalidChecksum) (e, (d, is, operated)) = resize_once len true old new (ap (λ (l : Life). l.present.log) is ∙ ap (λ x. x.log) operated.rest)
+resize_quiet len old new (Err BlobInsufficientLength) (e, (d, is, operated)) = resize_once len true old new (ap (λ (l : Life). l.present.log) is ∙ ap (λ x. x.log) operated.rest)
+resize_quiet len old new (Err IdsExhausted) (e, (d, is, operated)) = resize_once len true old new (ap (λ (l : Life). l.present.log) is ∙ ap (λ x. x.log) operated.rest)
+
+sync_quiet : (old new : Life) (answer : Result (Unit {0}) Error) → SyncGoes old new answer → Quiet old new
+sync_quiet old new (Ok done) goes = gained_once AreQuiet SyncAll false old new (ap (λ (l : Life). l.present.log) goes) tt
+sync_quiet old new (Err SyncFailed) goes = gained_once AreQuiet SyncAll true old new (ap (λ (l : Life). l.present.log) goes) tt
+sync_quiet old new (Err OutOfMemory) goes = gained_none AreQuiet old new goes tt
+sync_quiet old new (Err ReadFailed) goes = absurd goes
+sync_quiet old new (Err WriteFailed) goes = absurd goes
+sync_quiet old new (Err ResizeFailed) goes = absurd goes
+sync_quiet old new (Err InvalidChecksum) goes = absurd goes
+sync_quiet old new (Err BlobInsufficientLength) goes = absurd goes
+sync_quiet old new (Err OffsetOverflow) goes = absurd goes
+sync_quiet old new (Err IdsExhausted) goes = absurd goes
+
+cuts_quiet : (kept : ℕ) (old new : Life) (answer : Result (Unit {0}) Error) → Cuts kept old new answer → Quiet old new
+cuts_quiet kept old new (Ok u) cuts = quiet_both old cuts.0 new (resize_quiet kept old cuts.0 (Ok u) cuts.1) (sync_quiet cuts.0 new (Ok u) cuts.2)
+cuts_quiet kept old new (Err e) cuts = elim cuts [
+  | inl first ↦ resize_quiet kept old new (Err e) first
+  | inr second ↦ quiet_both old second.0 new (resize_quiet kept old second.0 (Ok tt) second.1) (sync_quiet second.0 new (Err e) second.2)
+]
+
+cuts_back_quiet : (kept : ℕ) (old new : Life) (answer : Result State Error) → CutsBack kept old new answer → Quiet old new
+cuts_back_quiet kept old new (Ok IsDirty) cuts = gained_none AreQuiet old new cuts.1 tt
+cuts_back_quiet kept old new (Ok IsClean) cuts = cuts_quiet kept old new (Ok tt) cuts.1
+cuts_back_quiet kept old new (Err e) cuts = cuts_quiet kept old new (Err e) cuts
+
+ends_quiet : (kept : ℕ) (old new : Life) → EndsAt kept old new → Quiet old new
+ends_quiet kept old new ends = quiet_both old ends.0 new
+    (elim ends.1 [
+      | inl none ↦ gained_none AreQuiet old ends.0 none tt
+      | inr syncs ↦ sync_quiet old ends.0 syncs.0 syncs.1
+    ])
+    (elim ends.2 [
+      | inl none ↦ gained_none AreQuiet ends.0 new none tt
+      | inr cuts ↦ cuts_quiet kept ends.0 new cuts.0 cuts.1
+    ])
+
+-- ---- the calls
+
+-- opening: a search back, and then a cut
+pub opens_back : (size kept : ℕ) (old mid new : Life) (answer : Result State Error) → ReadsBack size old mid → CutsBack kept mid new answer → ReadsBack size old new
+opens_back size kept old mid new answer back cuts =
+    let top = length old.present.readable in
+    gained_joins (FallFrom size top) AreQuiet (FallFrom size top) old mid new (fall_then_quiet size top) back (cuts_back_quiet kept mid new answer cuts)
+
+-- a scan of what was opened
+pub scans_within : (size most : ℕ) (old mid new : Life) → size ≤ most → ReadsBack size old mid → ReadsWithin most mid new → ReadsWithin most old new
+scans_within size most old mid new enough back within =
+    gained_joins (AreWithin most) (AreWithin most) (AreWithin most) old mid new (within_joins most) (back_within size most old mid enough back) within
+
+-- and what follows it
+pub ends_within : (most kept : ℕ) (old mid new : Life) → ReadsWithin most old mid → EndsAt kept mid new → ReadsWithin most old new
+ends_within most kept old mid new within ends =
+    gained_joins (AreWithin most) (AreWithin most) (AreWithin most) old mid new (within_joins most) within
+    (gained_then AreQuiet (AreWithin most) mid new (quiet_within most) (ends_quiet kept mid new ends))
+
+-- a batch of pages, no more than the most
+pub within_batch : (P size place batch most : ℕ) (start old new : Life) (answer : Result (List ℕ) Error) → size ≡ P + 12 → batch ≤ most → ReadsWithin (most * (P + 12)) start old → ReadGoes place (batch * size) old new answer
+    → ReadsWithin (most * (P + 12)) start new
+within_batch P size place batch most start old new answer is few so_far goes =
+    let more : (P + 12) * batch ≤ (P + 12) * most = mul-le-mul_left (P + 12) few in
+    within_read (most * (P + 12)) place (batch * size) start old new answer (omega (arith, more, ap (λ (k : ℕ). batch * k) is)) so_far goes
+
+-- the most that fit, and at least one
+pub scan_bytes_is : (P size buffer_size most : ℕ) → size ≡ P + 12 → most ≡ max (buffer_size / size) 1 → most * (P + 12) ≡ scan_bytes P buffer_size
+scan_bytes_is P size buffer_size most is most_is =
+    ap (λ (n : ℕ). n * (P + 12)) (most_is ∙ ap (λ (k : ℕ). max (buffer_size / k) 1) is ∙ (let e : max (buffer_size / (P + 12)) 1 ≡ max 1 (buffer_size / (P + 12)) = omega arith in e))
+
+-- a scan's longest read has a page
+pub page_within : (P buffer_size size : ℕ) → size ≡ P + 12 → size ≤ scan_bytes P buffer_size
+page_within P buffer_size size is =
+    let more : (P + 12) * 1 ≤ (P + 12) * max 1 (buffer_size / (P + 12)) = mul-le-mul_left (P + 12) (let le : 1 ≤ max 1 (buffer_size / (P + 12)) = omega arith in le) in
+    omega (arith, more)

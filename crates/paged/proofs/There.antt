@@ -1,0 +1,68 @@
+-- The pages below the tip are in the blob, whatever call ended well.
+use Rattle.std.proofs.Common.{ℕ, List, ap, Ok, Err, Result}
+use Rattle.std.specs.Prelude.{IfOk}
+use Rattle.disk.specs.Disk.{Disk, Life}
+use Rattle.disk.specs.declared.error.Error.{Error}
+use Rattle.cache.specs.CacheState.{CacheState}
+use Rattle.crash.specs.WriterState.{WriterState}
+use Rattle.crash.specs.Sound.{IsSound, content}
+use Rattle.crash.specs.Stays.{Stays, StaysThrough, KeepsFloors, LeavesOnly}
+use Rattle.crash.proofs.Moments.{through_then, stays_alike, stays_itself, stays_through_start, only_through}
+use Rattle.paged.proofs.Halves.{keeps_floors, leaves_only}
+use Rattle.crash.specs.Looks.{SameButLog, Looked}
+use Rattle.crash.proofs.FlushLaws.{tip_reach}
+use Rattle.crash.proofs.Soundness.{looked_sound}
+use Rattle.paged.specs.Calls.{Syncs, Appends}
+use Rattle.paged.specs.Reads.{HasPages}
+use Rattle.paged.specs.Recovery.{Recovers}
+
+-- the pages below the tip of a sound writer are in its blob
+pub sound_has_pages : (sum : List ℕ → ℕ) (w : WriterState) (life : Life) → IsSound sum w life.present → HasPages w life
+unfolding IsSound
+sound_has_pages sum w life sound = (tip_reach sum w.page_size w.full_pages w.tip life.present.readable w.flushed sound.stands.tip_page).0
+
+-- after a sync
+pub synced_there : (sum : List ℕ → ℕ) (w : WriterState) (old new : Life) (result : Result WriterState Error) → Syncs sum w old new result → IfOk result (λ now. HasPages now new)
+synced_there sum w old new (Ok now) (goes, settled) = sound_has_pages sum now new goes.sound
+synced_there sum w old new (Err e) refused = tt
+
+-- after an append
+pub appended_there : (sum : List ℕ → ℕ) (w : WriterState) (bytes : List ℕ) (old new : Life) (result : Result (WriterState × ℕ) Error) → Appends sum w bytes old new result → IfOk result (λ r. HasPages r.0 new)
+appended_there sum w bytes old new (Ok r) (at, goes) = sound_has_pages sum r.0 new goes.sound
+appended_there sum w bytes old new (Err e) refused = tt
+
+-- after a recovery
+pub recovered_there : (sum : List ℕ → ℕ) (cache : CacheState) (capacity : ℕ) (old new : Life) (result : Result WriterState Error) → Recovers sum cache capacity old new result → IfOk result (λ w. HasPages w new)
+recovered_there sum cache capacity old new (Ok w) is = sound_has_pages sum w new is.sound
+recovered_there sum cache capacity old new (Err e) refused = tt
+
+pub recovered_sound : (sum : List ℕ → ℕ) (cache : CacheState) (capacity : ℕ) (old new : Life) (result : Result WriterState Error) → Recovers sum cache capacity old new result → IfOk result (λ w. IsSound sum w new.present)
+recovered_sound sum cache capacity old new (Ok w) is = is.sound
+recovered_sound sum cache capacity old new (Err e) refused = tt
+
+-- a read keeps soundness
+pub reads_keep_sound : (sum : List ℕ → ℕ) (w : WriterState) (old new : Life) → Looked old new → IsSound sum w old.present → IsSound sum w new.present
+unfolding IsSound
+reads_keep_sound sum w old new looked sound = looked_sound sum w old new sound looked
+
+-- a read owes nothing: its moments differ in the log alone
+reads_stay : (sum : List ℕ → ℕ) (w : WriterState) (old new : Life) → IsSound sum w old.present → Looked old new → StaysThrough sum w.page_size (content w old.present.readable) old new
+unfolding IsSound
+reads_stay sum w old new sound looked =
+    let held = content w old.present.readable in
+    through_then (SameButLog old.present) (Stays sum w.page_size held old.present) old new
+    (λ d same. stays_alike sum w.page_size held old.present old.present d (ap (λ (x : Disk). x.base) same) (ap (λ (x : Disk). x.since) same) (stays_itself sum w.page_size held old.present sound.truthful))
+    looked.through
+
+pub reads_keep : (sum : List ℕ → ℕ) (w : WriterState) (old new : Life) → Looked old new → IsSound sum w old.present → KeepsFloors sum w.page_size (content w old.present.readable) old new
+reads_keep sum w old new looked sound = keeps_floors sum w.page_size (content w old.present.readable) old new (reads_stay sum w old new sound looked)
+
+pub reads_leave : (sum : List ℕ → ℕ) (w : WriterState) (old new : Life) → Looked old new → IsSound sum w old.present
+    → LeavesOnly sum w.page_size (content w old.present.readable) (content w old.present.readable) old new
+reads_leave sum w old new looked sound = leaves_only sum w.page_size (content w old.present.readable) old new (reads_stay sum w old new sound looked)
+
+-- a sound writer leaves only its content, where nothing is asked
+pub sound_leaves : (sum : List ℕ → ℕ) (w : WriterState) (behind : List ℕ) (life : Life) → IsSound sum w life.present → LeavesOnly sum w.page_size (content w life.present.readable) behind life life
+unfolding IsSound
+sound_leaves sum w behind life sound =
+    only_through sum w.page_size (content w life.present.readable) behind life life (stays_through_start sum w.page_size (content w life.present.readable) life sound.truthful)

@@ -1,0 +1,4 @@
+pub mod StepLaws
+pub mod RunLaws
+pub mod PromiseLaws
+pub mod Examples

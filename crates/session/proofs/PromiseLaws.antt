@@ -1,0 +1,457 @@
+-- The promise of a run, put together from what a run and a recovery say.
+use Rattle.std.proofs.Common.{◌≡◌, ℕ, suc, ◌+◌, ◌<◌, ◌≤◌, List, [], ◌∷◌, ◌++◌, length, take, refl, sym, ap, ◌∙◌, subst, arith, inl, inr, Bool, true, false, length-append, length-take}
+use Rattle.std.specs.Prelude.{Option, Some, None, Ok, ◌⊎◌, ◌%◌, ◌*◌, if◌then◌else◌}
+use Rattle.std.proofs.lemmas.List.{take-take}
+use Rattle.disk.specs.Disk.{Disk, IsImage, Life, next, after}
+use Rattle.page.specs.Page.{text}
+use Rattle.page.specs.Geometry.{adjusted}
+use Rattle.cache.specs.CacheState.{CacheState}
+use Rattle.crash.specs.Guard.{IsChanceFree}
+use Rattle.crash.specs.Kept.{AllKeep, AllOnly, Each, Through}
+use Rattle.crash.specs.Stays.{Stays, KeepsAll, KeepsFloors}
+use Rattle.crash.specs.WriterState.{WriterState}
+use Rattle.crash.specs.Sound.{IsSound, content as content_of}
+use Rattle.crash.proofs.Disks.{base_is_whole, image_at_rest}
+use Rattle.crash.proofs.Moments.{after-append, each_then, each_last, through_end, stays_itself}
+use Rattle.crash.proofs.Promise.{whole_is_chance_free}
+use Rattle.paged.specs.Calls.{HoldsWithin}
+use Rattle.paged.specs.Recovery.{IsDurable, Recovers, LeavesText}
+use Rattle.session.specs.declared.steps.Step.{Step}
+use Rattle.session.specs.declared.steps.Step.TheVariants.{Append, TryAppend, Sync, Size, Read}
+use Rattle.session.specs.declared.steps.Reply.{Reply}
+use Rattle.session.specs.declared.steps.Reply.TheVariants.{At, Nothing, Done, Length, Bytes, Fault, Closed}
+use Rattle.session.specs.Run.{Standing, turned_away, Takes, Foretells, other_content, last, Answers, Ran, StandsFor, RunsAlways}
+use Rattle.session.specs.Promise.{IsMoment, HasCrashed, Crashes, Attempts, HasRecovered, ComesBack, Begins, Survives, stands_after, stands_after_all, Tells, Promises, fresh, KeepsFloor, LeavesContent, IsBegun, AttemptsThrough, opened, StandsWhereSound, RecoversFrom, GivesBack, GivesBackLeft, LeadsOn}
+use Rattle.session.specs.Promise.ComesBack.{recovered, crashed, attempted}
+use Rattle.session.proofs.StepLaws.{stands_now, settled_idle}
+use Rattle.paged.proofs.Flushes.{size_is_length}
+use Rattle.std.proofs.Math.Nat.{mul-add-mod_self_right, mod-eq_of_lt}
+use Rattle.std.proofs.lemmas.Bool.{false≢true}
+
+-- ---- moments of a life
+
+-- two lives are the same where their disks are
+same_life : (a b : Life) → a.present ≡ b.present → a.past ≡ b.past → a ≡ b
+same_life a b present past = rw (present, past) refl
+
+-- how many moments a life has had
+length_after : (life : Life) (ds : List Disk) → length (after life ds).past ≡ length life.past + length ds
+length_after life [] = omega arith
+length_after life (d ∷ ds) = omega (arith, length_after (next life d) ds)
+
+-- the parts of a list
+heads : (a b : Disk) (xs ys : List Disk) → a ∷ xs ≡ b ∷ ys → a ≡ b
+heads a b xs ys is = cc
+
+tails : (a b : Disk) (xs ys : List Disk) → a ∷ xs ≡ b ∷ ys → xs ≡ ys
+tails a b xs ys is = cc
+
+join_moments : (a b : Disk) (xs ys : List Disk) → a ≡ b → xs ≡ ys → a ∷ xs ≡ b ∷ ys
+join_moments a b xs ys first rest = cc
+
+-- the moments by which a life went on are known from where it began and ended
+same_moments : (a b : Life) (ds es : List Disk) → length a.past ≡ length b.past → after a ds ≡ after b es → (a ≡ b) × (ds ≡ es)
+same_moments a b [] [] long is = (is, refl)
+same_moments a b [] (e ∷ es) long is = absurd (omega (arith, long, ap (λ (l : Life). length l.past) is, length_after (next b e) es))
+same_moments a b (d ∷ ds) [] long is = absurd (omega (arith, long, ap (λ (l : Life). length l.past) is, length_after (next a d) ds))
+same_moments a b (d ∷ ds) (e ∷ es) long is =
+    let r = same_moments (next a d) (next b e) ds es (ap suc long) is in
+    let newest : d ≡ e = ap (λ (l : Life). l.present) r.0 in
+    let older : a.present ∷ a.past ≡ b.present ∷ b.past = ap (λ (l : Life). l.past) r.0 in
+    (same_life a b (heads a.present b.present a.past b.past older) (tails a.present b.present a.past b.past older), join_moments d e ds es newest r.1)
+
+-- what holds of joined moments holds of the first
+each_front : (Q : Disk → Type 0) (ds es : List Disk) → Each Q (ds ++ es) → Each Q ds
+each_front Q [] es each = tt
+each_front Q (d ∷ ds) es each = (each.0, each_front Q ds es each.1)
+
+-- what holds through a life holds at each moment of it
+pub through_moment : (Q : Disk → Type 0) (old new : Life) (d : Disk) → Through Q old new → IsMoment old new d → Q d
+unfolding Through
+through_moment Q old new d through (before, behind, goes, is) =
+    let same : through.moments ≡ before ++ behind = (same_moments old old through.moments (before ++ behind) refl (sym through.goes ∙ goes ∙ sym (after-append old before behind))).1 in
+    let each : Each Q before = each_front Q before behind (subst (λ (l : List Disk). Each Q l) same through.each) in
+    subst Q (sym is) (each_last Q old before through.start each)
+
+-- each moment of a life is one
+each_moment : (old new : Life) (before moments : List Disk) → new ≡ after (after old before) moments → Each (λ d. IsMoment old new d) moments
+each_moment old new before [] goes = tt
+each_moment old new before (d ∷ ds) goes =
+    let joined : after old (before ++ d ∷ []) ≡ next (after old before) d = after-append old before (d ∷ []) in
+    let later : new ≡ after (after old (before ++ d ∷ [])) ds = goes ∙ ap (λ (l : Life). after l ds) (sym joined) in
+    ((before ++ d ∷ [], ds, later, ap (λ (l : Life). l.present) (sym joined)), each_moment old new (before ++ d ∷ []) ds later)
+
+-- ---- prefixes
+
+-- a beginning of a beginning
+pub begins_further : (given mid content : List ℕ) → Begins given mid → Begins mid content → Begins given content
+begins_further given mid content first second =
+    let few : length given ≤ length mid = omega (arith, ap length first, length-take (length given) mid) in
+    first ∙ ap (λ (l : List ℕ). take (length given) l) second ∙ take-take (length given) (length mid) content few
+
+begins_either : (given mid a b : List ℕ) → Begins given mid → Begins mid a ⊎ Begins mid b → Begins given a ⊎ Begins given b
+begins_either given mid a b first either = elim either [ inl h ↦ inl (begins_further given mid a first h) | inr h ↦ inr (begins_further given mid b first h) ]
+
+-- ---- what every image keeps, through crashes and recoveries
+
+-- a durable disk has one image
+durable_image : (d : Disk) (image : List ℕ) → IsDurable d → IsImage d image → image ≡ d.readable
+durable_image d image durable is_image = image_at_rest d image durable.since is_image ∙ durable.base
+
+-- and that is chance-free
+durable_free : (sum : List ℕ → ℕ) (P : ℕ) (d : Disk) → IsDurable d → IsChanceFree sum P d d.readable
+durable_free sum P d durable = subst (λ (l : List ℕ). IsChanceFree sum P d l) durable.base (whole_is_chance_free sum P d d.base (base_is_whole d.base d.since))
+
+-- the text that a recovery gave
+given_text : (sum : List ℕ → ℕ) (P : ℕ) (fair : Bool) (d : Disk) (given : List ℕ) → HasRecovered sum P fair d given → given ≡ text sum P d.readable
+given_text sum P fair d given r = r.content ∙ r.recovers.content ∙ ap (λ (n : ℕ). text sum n r.old.present.readable) r.page_size ∙ ap (λ (e : Disk). text sum P e.readable) r.began
+
+-- the floor of a content is one of the text of what is readable
+floor_of_text : (sum : List ℕ → ℕ) (P : ℕ) (content : List ℕ) (floor : ℕ) (d : Disk) → floor ≤ length content → IsImage d d.readable → AllKeep sum P content floor d
+    → (floor ≤ length (text sum P d.readable)) × AllKeep sum P (text sum P d.readable) floor d
+floor_of_text sum P content floor d enough image keeps =
+    let now : take floor (text sum P d.readable) ≡ take floor content = keeps d.readable image in
+    (omega (arith, enough, ap length now, length-take floor (text sum P d.readable), length-take floor content), λ left is_image. keeps left is_image ∙ sym now)
+
+-- a crash keeps the floor
+crash_keeps : (sum : List ℕ → ℕ) (P : ℕ) (content : List ℕ) (floor : ℕ) (d e : Disk) → HasCrashed d e → AllKeep sum P content floor d → AllKeep sum P content floor e
+crash_keeps sum P content floor d e c keeps = λ image is_image.
+    subst (λ (l : List ℕ). take floor (text sum P l) ≡ take floor content) (sym (durable_image e image c.durable is_image)) (keeps e.readable c.image)
+
+-- so does a recovery at each of its moments
+attempt_keeps : (sum : List ℕ → ℕ) (P : ℕ) (fair : Bool) (content : List ℕ) (floor : ℕ) (d m : Disk) → floor ≤ length content → Attempts sum P fair d m → AllKeep sum P content floor d → AllKeep sum P content floor m
+attempt_keeps sum P fair content floor d m enough a keeps =
+    let T = text sum P d.readable in
+    let of_text = floor_of_text sum P content floor d enough a.image keeps in
+    let begun : AllKeep sum P T floor a.old.present = subst (λ (e : Disk). AllKeep sum P T floor e) (sym a.began) of_text.1 in
+    let later : AllKeep sum P T floor m = through_moment (AllKeep sum P T floor) a.old a.new m (a.kept floor of_text.0 begun) a.moment in
+    λ image is_image. later image is_image ∙ keeps d.readable a.image
+
+-- what comes back keeps the floor
+pub comes_kept : (sum : List ℕ → ℕ) (P : ℕ) (fair : Bool) (content : List ℕ) (floor : ℕ) (d : Disk) (given : List ℕ) → floor ≤ length content → AllKeep sum P content floor d → ComesBack sum P fair d given
+    → take floor given ≡ take floor content
+comes_kept sum P fair content floor d given enough keeps (recovered at out r) = ap (λ (l : List ℕ). take floor l) (given_text sum P fair d given r) ∙ keeps d.readable r.image
+comes_kept sum P fair content floor d given enough keeps (crashed at out e c rest) = comes_kept sum P fair content floor e given enough (crash_keeps sum P content floor d e c.crashed keeps) rest
+comes_kept sum P fair content floor d given enough keeps (attempted at out m a rest) = comes_kept sum P fair content floor m given enough (attempt_keeps sum P fair content floor d m enough a keeps) rest
+
+-- chance aside a crash leaves only the contents
+crash_leaves : (sum : List ℕ → ℕ) (P : ℕ) (content other : List ℕ) (d e : Disk) → Crashes sum P true d e → AllOnly sum P content other d → AllOnly sum P content other e
+crash_leaves sum P content other d e c only = λ image is_image free.
+    subst (λ (l : List ℕ). Begins (text sum P l) content ⊎ Begins (text sum P l) other) (sym (durable_image e image c.crashed.durable is_image)) (only e.readable c.crashed.image (c.free refl))
+
+-- so does a recovery at each of its moments
+attempt_leaves : (sum : List ℕ → ℕ) (P : ℕ) (content other : List ℕ) (d m : Disk) → Attempts sum P true d m → AllOnly sum P content other d → AllOnly sum P content other m
+attempt_leaves sum P content other d m a only =
+    let T = text sum P a.old.present.readable in
+    let durable : IsDurable a.old.present = subst IsDurable (sym a.began) (a.durable refl) in
+    let now : Begins (text sum P d.readable) content ⊎ Begins (text sum P d.readable) other = only d.readable a.image (durable_free sum P d (a.durable refl)) in
+    let was : Begins T content ⊎ Begins T other = subst (λ (e : Disk). Begins (text sum P e.readable) content ⊎ Begins (text sum P e.readable) other) (sym a.began) now in
+    let later : AllOnly sum P T T m = through_moment (AllOnly sum P T T) a.old a.new m (a.only durable) a.moment in
+    λ image is_image free.
+    let begins : Begins (text sum P image) T = elim (later image is_image free) [ inl h ↦ h | inr h ↦ h ] in
+    begins_either (text sum P image) T content other begins was
+
+-- what comes back is a prefix of one of the contents
+pub comes_only : (sum : List ℕ → ℕ) (P : ℕ) (content other : List ℕ) (d : Disk) (given : List ℕ) → AllOnly sum P content other d → ComesBack sum P true d given → Begins given content ⊎ Begins given other
+comes_only sum P content other d given only (recovered at out r) =
+    subst (λ (l : List ℕ). Begins l content ⊎ Begins l other) (sym (given_text sum P true d given r)) (only d.readable r.image (durable_free sum P d (r.durable refl)))
+comes_only sum P content other d given only (crashed at out e c rest) = comes_only sum P content other e given (crash_leaves sum P content other d e c only) rest
+comes_only sum P content other d given only (attempted at out m a rest) = comes_only sum P content other m given (attempt_leaves sum P content other d m a only) rest
+
+-- a moment is survived where every image keeps the floor and says only these contents
+pub survives : (sum : List ℕ → ℕ) (P : ℕ) (content other : List ℕ) (floor : ℕ) (d : Disk) → floor ≤ length content → AllKeep sum P content floor d → AllOnly sum P content other d → Survives sum P content other floor d
+survives sum P content other floor d enough keeps only = record {
+  kept = λ fair given comes. comes_kept sum P fair content floor d given enough keeps comes;
+  only = λ given comes. comes_only sum P content other d given only comes;
+}
+
+-- ---- runs
+
+-- what stands behind an accepted step
+accepts_stands : (P : ℕ) (step : Step) (reply : Reply) (from to : Disk) (before behind : Standing) → Takes P step reply from to before behind → behind ≡ stands_after P step reply before
+accepts_stands P (Append bytes) (Fault e) from to before behind a = a.2
+accepts_stands P (TryAppend bytes) (Fault e) from to before behind a = a.2
+accepts_stands P Sync (Fault e) from to before behind a = a.2
+accepts_stands P Size (Fault e) from to before behind a = a.2
+accepts_stands P (Read offset len) (Fault e) from to before behind a = a.2
+accepts_stands P (Append bytes) (At n) from to before behind a = a.1
+accepts_stands P (TryAppend bytes) (At n) from to before behind a = a.2
+accepts_stands P (TryAppend bytes) Nothing from to before behind a = a.1
+accepts_stands P Sync Done from to before behind a = a
+accepts_stands P Size (Length n) from to before behind a = a.1
+accepts_stands P (Read offset len) (Bytes bytes) from to before behind a = a.1
+accepts_stands P (Append bytes) Nothing from to before behind a = absurd a
+accepts_stands P (Append bytes) Done from to before behind a = absurd a
+accepts_stands P (Append bytes) (Length n) from to before behind a = absurd a
+accepts_stands P (Append bytes) (Bytes read) from to before behind a = absurd a
+accepts_stands P (Append bytes) Closed from to before behind a = absurd a
+accepts_stands P (TryAppend bytes) Done from to before behind a = absurd a
+accepts_stands P (TryAppend bytes) (Length n) from to before behind a = absurd a
+accepts_stands P (TryAppend bytes) (Bytes read) from to before behind a = absurd a
+accepts_stands P (TryAppend bytes) Closed from to before behind a = absurd a
+accepts_stands P Sync (At n) from to before behind a = absurd a
+accepts_stands P Sync Nothing from to before behind a = absurd a
+accepts_stands P Sync (Length n) from to before behind a = absurd a
+accepts_stands P Sync (Bytes read) from to before behind a = absurd a
+accepts_stands P Sync Closed from to before behind a = absurd a
+accepts_stands P Size (At n) from to before behind a = absurd a
+accepts_stands P Size Nothing from to before behind a = absurd a
+accepts_stands P Size Done from to before behind a = absurd a
+accepts_stands P Size (Bytes read) from to before behind a = absurd a
+accepts_stands P Size Closed from to before behind a = absurd a
+accepts_stands P (Read offset len) (At n) from to before behind a = absurd a
+accepts_stands P (Read offset len) Nothing from to before behind a = absurd a
+accepts_stands P (Read offset len) Done from to before behind a = absurd a
+accepts_stands P (Read offset len) (Length n) from to before behind a = absurd a
+accepts_stands P (Read offset len) Closed from to before behind a = absurd a
+
+-- what stands behind an answer
+answer_stands : (P : ℕ) (step : Step) (reply : Reply) (from to : Disk) (before behind : Standing) → Answers P step reply from to before behind → behind ≡ stands_after P step reply before
+answer_stands P step reply from to before behind answers = by_turn (turned_away step before) refl answers
+  where
+    closed_only : (b : Bool) (other : Reply) → (if b then None else Some Closed) ≡ Some other → other ≡ Closed
+    closed_only true other is = absurd (cc is)
+    closed_only false other is = cc is
+
+    by_turn : (turn : Option Reply) → turned_away step before ≡ turn → (elim turn as (λ (o : Option Reply). Type 0) [ Some other ↦ (reply ≡ other) × (behind ≡ before) | None ↦ Takes P step reply from to before behind × Foretells P step reply before ]) → behind ≡ stands_after P step reply before
+    by_turn None is takes = accepts_stands P step reply from to before behind takes.0
+    by_turn (Some other) is (same, stays) =
+        let closed : reply ≡ Closed = same ∙ closed_only before.has_writer other is in
+        stays ∙ subst (λ (r : Reply). before ≡ stands_after P step r before) (sym closed) refl
+
+-- the floor stays within the content
+floor_after : (P : ℕ) (step : Step) (reply : Reply) (s : Standing) → s.floor ≤ length s.content → (stands_after P step reply s).floor ≤ length (stands_after P step reply s).content
+floor_after P (Append bytes) Closed s enough = enough
+floor_after P (Append bytes) (Fault e) s enough = enough
+floor_after P (Append bytes) (At n) s enough = omega (arith, enough, length-append s.content bytes.items)
+floor_after P (Append bytes) Nothing s enough = omega (arith, enough, length-append s.content bytes.items)
+floor_after P (Append bytes) Done s enough = omega (arith, enough, length-append s.content bytes.items)
+floor_after P (Append bytes) (Length n) s enough = omega (arith, enough, length-append s.content bytes.items)
+floor_after P (Append bytes) (Bytes read) s enough = omega (arith, enough, length-append s.content bytes.items)
+floor_after P (TryAppend bytes) Closed s enough = enough
+floor_after P (TryAppend bytes) (Fault e) s enough = enough
+floor_after P (TryAppend bytes) Nothing s enough = enough
+floor_after P (TryAppend bytes) (At n) s enough = omega (arith, enough, length-append s.content bytes.items)
+floor_after P (TryAppend bytes) Done s enough = omega (arith, enough, length-append s.content bytes.items)
+floor_after P (TryAppend bytes) (Length n) s enough = omega (arith, enough, length-append s.content bytes.items)
+floor_after P (TryAppend bytes) (Bytes read) s enough = omega (arith, enough, length-append s.content bytes.items)
+floor_after P Sync Closed s enough = enough
+floor_after P Sync (Fault e) s enough = enough
+floor_after P Sync (At n) s enough = omega arith
+floor_after P Sync Nothing s enough = omega arith
+floor_after P Sync Done s enough = omega arith
+floor_after P Sync (Length n) s enough = omega arith
+floor_after P Sync (Bytes read) s enough = omega arith
+floor_after P Size Closed s enough = enough
+floor_after P Size (Fault e) s enough = enough
+floor_after P Size (At n) s enough = enough
+floor_after P Size Nothing s enough = enough
+floor_after P Size Done s enough = enough
+floor_after P Size (Length n) s enough = enough
+floor_after P Size (Bytes read) s enough = enough
+floor_after P (Read offset len) Closed s enough = enough
+floor_after P (Read offset len) (Fault e) s enough = enough
+floor_after P (Read offset len) (At n) s enough = enough
+floor_after P (Read offset len) Nothing s enough = enough
+floor_after P (Read offset len) Done s enough = enough
+floor_after P (Read offset len) (Length n) s enough = enough
+floor_after P (Read offset len) (Bytes read) s enough = enough
+
+-- both halves at each moment
+survive_each : (sum : List ℕ → ℕ) (P : ℕ) (content other : List ℕ) (floor : ℕ) (ds : List Disk) → floor ≤ length content → Each (AllKeep sum P content floor) ds → Each (AllOnly sum P content other) ds → Each (Survives sum P content other floor) ds
+survive_each sum P content other floor [] enough kept only = tt
+survive_each sum P content other floor (d ∷ ds) enough kept only = (survives sum P content other floor d enough kept.0 only.0, survive_each sum P content other floor ds enough kept.1 only.1)
+
+-- a run tells
+pub ran_tells : (sum : List ℕ → ℕ) (P : ℕ) (steps : List Step) (replies : List Reply) (from : Disk) (moments : List Disk) (s behind : Standing) → s.floor ≤ length s.content → Ran sum P steps replies from moments s behind
+    → Tells sum P steps replies from moments s
+ran_tells sum P [] [] from moments s behind enough (none, same, keeps, only) = (none, survives sum P s.content s.otherwise s.floor from enough keeps only)
+ran_tells sum P (step ∷ steps) (reply ∷ replies) from moments s behind enough (first, rest, is, mid, did, ran) =
+    let same : mid ≡ stands_after P step reply s = answer_stands P step reply from (last from first) s mid did.answer in (
+      first,
+      rest,
+      is,
+      subst (λ (m : Standing). Answers P step reply from (last from first) s m) same did.answer,
+      survive_each sum P s.content (other_content step s) s.floor (from ∷ first) enough did.kept did.only,
+      ran_tells sum P steps replies (last from first) rest (stands_after P step reply s) behind (floor_after P step reply s enough)
+          (subst (λ (m : Standing). Ran sum P steps replies (last from first) rest m behind) same ran),
+    )
+ran_tells sum P [] (reply ∷ replies) from moments s behind enough ran = absurd ran
+ran_tells sum P (step ∷ steps) [] from moments s behind enough ran = absurd ran
+
+-- what stands at the end of a run
+ran_ends : (sum : List ℕ → ℕ) (P : ℕ) (steps : List Step) (replies : List Reply) (from : Disk) (moments : List Disk) (s behind : Standing) → Ran sum P steps replies from moments s behind → behind ≡ stands_after_all P steps replies s
+ran_ends sum P [] [] from moments s behind (none, same, keeps, only) = same
+ran_ends sum P (step ∷ steps) (reply ∷ replies) from moments s behind (first, rest, is, mid, did, ran) =
+    let same : mid ≡ stands_after P step reply s = answer_stands P step reply from (last from first) s mid did.answer in
+    ran_ends sum P steps replies (last from first) rest (stands_after P step reply s) behind (subst (λ (m : Standing). Ran sum P steps replies (last from first) rest m behind) same ran)
+ran_ends sum P [] (reply ∷ replies) from moments s behind ran = absurd ran
+ran_ends sum P (step ∷ steps) [] from moments s behind ran = absurd ran
+
+-- the promise of a run
+pub promises : (sum : List ℕ → ℕ) (steps : List Step) (was now : Option WriterState) (old new : Life) (earlier replies : List Reply) → RunsAlways sum steps was now old new earlier replies → Promises sum steps was now old new earlier replies
+promises sum steps was now old new earlier replies always = λ P before stands.
+    let runs = always.runs P before stands in
+    let ends : runs.behind ≡ stands_after_all P steps always.added before = ran_ends sum P steps always.added old.present runs.moments before runs.behind runs.ran in
+    record {
+      added = always.added;
+      adds = always.adds;
+      moments = runs.moments;
+      goes = runs.goes;
+      tells = ran_tells sum P steps always.added old.present runs.moments before runs.behind stands.floor runs.ran;
+      stands = subst (λ (s : Standing). StandsFor sum P now s new.present) ends runs.stands;
+    }
+
+-- ---- how a session begins
+
+-- a session with a sound writer
+pub stands_where_sound : (sum : List ℕ → ℕ) (w : WriterState) → StandsWhereSound sum w
+unfolding IsSound
+stands_where_sound sum w = λ d floor sound within enough keeps.
+    let s : Standing = opened w floor d.readable in
+    let life : Life = record { present = d; past = [] } in
+    stands_now sum w.page_size w life life s
+    (record {
+      page_size = refl;
+      has_writer = refl;
+      content = refl;
+      otherwise = refl;
+      capacity = refl;
+      buffered = refl;
+      within = within;
+      settled = λ is. absurd (false≢true is);
+    })
+    enough keeps (stays_itself sum w.page_size (content_of w d.readable) d sound.truthful)
+
+-- the size of a content is that of full pages and of a tip that is less
+tip_is : (sum : List ℕ → ℕ) (w : WriterState) (life : Life) → IsSound sum w life.present → length w.tip < w.page_size → length w.tip ≡ length (content_of w life.present.readable) % w.page_size
+tip_is sum w life sound short =
+    let size : w.full_pages * w.page_size + length w.tip ≡ length (content_of w life.present.readable) = size_is_length sum w life sound in
+    sym (mod-eq_of_lt short) ∙ sym (mul-add-mod_self_right w.full_pages w.page_size (length w.tip)) ∙ ap (λ (n : ℕ). n % w.page_size) size
+
+-- a writer that a recovery gave
+pub fresh_stands : (sum : List ℕ → ℕ) (w : WriterState) (cache : CacheState) (capacity : ℕ) (old new : Life) → Recovers sum cache capacity old new (Ok w) → HoldsWithin w
+    → KeepsAll sum cache.page_size (text sum cache.page_size old.present.readable) new → StandsFor sum cache.page_size (Some w) (fresh cache.page_size (adjusted capacity cache.page_size) (text sum cache.page_size old.present.readable)) new.present
+unfolding IsSound
+fresh_stands sum w cache capacity old new recovers within durable =
+    let P = cache.page_size in
+    let T = text sum P old.present.readable in
+    let size : w.page_size ≡ P = ap (λ (x : WriterState). x.page_size) recovers.state in
+    let room : w.capacity ≡ adjusted capacity P = ap (λ (x : WriterState). x.capacity) recovers.state in
+    let holds : content_of w new.present.readable ≡ T = recovers.content in
+    let buffered : length w.tip ≡ length T % P =
+    tip_is sum w new recovers.sound recovers.settled.short ∙ ap (λ (l : List ℕ). length l % w.page_size) holds ∙ ap (λ (n : ℕ). length T % n) size in
+    let stays : Stays sum P T new.present new.present =
+    subst (λ (n : ℕ). Stays sum n T new.present new.present) size
+    (subst (λ (l : List ℕ). Stays sum w.page_size l new.present new.present) holds (stays_itself sum w.page_size (content_of w new.present.readable) new.present recovers.sound.truthful)) in
+    stands_now sum P w new new (fresh P (adjusted capacity P) T)
+    (record {
+      page_size = size;
+      has_writer = refl;
+      content = sym holds;
+      otherwise = refl;
+      capacity = room;
+      buffered = buffered;
+      within = omega (arith, within, buffered, room);
+      settled = λ is. settled_idle w recovers.settled;
+    })
+    (omega arith) durable stays
+
+-- nothing is asked of what isn't fair
+pub unfair : {A : Type 0} → false ≡ true → A
+unfair is = absurd (false≢true is)
+
+-- what a recovery gave keeps the floor of whatever was stood for as it began
+pub recovered_keeps : (sum : List ℕ → ℕ) (P : ℕ) (d : Disk) (given : List ℕ) → HasRecovered sum P false d given → KeepsFloor sum P d given
+recovered_keeps sum P d given r = λ was s stands. comes_kept sum P false s.content s.floor d given stands.floor stands.kept (recovered d given r)
+
+-- and chance aside, where all was durable, it is a prefix of one of the contents
+pub recovered_leaves : (sum : List ℕ → ℕ) (P : ℕ) (d : Disk) (given : List ℕ) → HasRecovered sum P true d given → LeavesContent sum P d given
+recovered_leaves sum P d given r = λ was s stands. comes_only sum P s.content s.otherwise d given stands.only (recovered d given r)
+
+-- so a session begins
+pub begun : (sum : List ℕ → ℕ) (w : WriterState) (now : Option WriterState) (cache : CacheState) (capacity : ℕ) (old new : Life) → now ≡ Some w → Recovers sum cache capacity old new (Ok w) → HoldsWithin w
+    → KeepsAll sum cache.page_size (text sum cache.page_size old.present.readable) new → IsBegun sum cache capacity old new now
+begun sum w now cache capacity old new is recovers within durable = record {
+  writer = w;
+  has_writer = is;
+  recovers = recovers;
+  stands = subst (λ (o : Option WriterState). StandsFor sum cache.page_size o (fresh cache.page_size (adjusted capacity cache.page_size) (text sum cache.page_size old.present.readable)) new.present) (sym is)
+      (fresh_stands sum w cache capacity old new recovers within durable);
+}
+
+-- it gave the text
+pub recovers_from : (sum : List ℕ → ℕ) (w : WriterState) (cache : CacheState) (capacity : ℕ) (old new : Life) → IsImage old.present old.present.readable → Recovers sum cache capacity old new (Ok w) → RecoversFrom sum cache.page_size old.present
+recovers_from sum w cache capacity old new image recovers = λ fair durable. record {
+  old = old;
+  new = new;
+  cache = cache;
+  capacity = capacity;
+  writer = w;
+  began = refl;
+  page_size = refl;
+  recovers = recovers;
+  content = sym recovers.content;
+  image = image;
+  durable = durable;
+}
+
+-- and by what stood as it began
+pub gives_back : (sum : List ℕ → ℕ) (w : WriterState) (cache : CacheState) (capacity : ℕ) (old new : Life) → IsImage old.present old.present.readable → Recovers sum cache capacity old new (Ok w) → GivesBack sum cache.page_size old.present
+gives_back sum w cache capacity old new image recovers =
+    let from : RecoversFrom sum cache.page_size old.present = recovers_from sum w cache capacity old new image recovers in
+    record {
+      recovered = from;
+      floor = recovered_keeps sum cache.page_size old.present (text sum cache.page_size old.present.readable) (from false unfair);
+      content = λ durable. recovered_leaves sum cache.page_size old.present (text sum cache.page_size old.present.readable) (from true (λ fair. durable));
+    }
+
+-- each of its moments is one that it came to
+pub attempts_through : (sum : List ℕ → ℕ) (P : ℕ) (old new : Life) → IsImage old.present old.present.readable → KeepsFloors sum P (text sum P old.present.readable) old new → LeavesText sum P old new → AttemptsThrough sum P old new
+unfolding Through
+attempts_through sum P old new image kept only = λ fair durable.
+    let through : Through (AllKeep sum P (text sum P old.present.readable) 0) old new = kept 0 (omega arith) (λ left is_image. refl) in
+    let at : (d : Disk) → IsMoment old new d → Attempts sum P fair old.present d = λ d moment. record {
+      old = old;
+      new = new;
+      began = refl;
+      moment = moment;
+      image = image;
+      kept = kept;
+      only = only;
+      durable = durable;
+    } in
+    record {
+      moments = through.moments;
+      goes = through.goes;
+      start = at old.present ([], through.moments, through.goes, refl);
+      each = each_then (IsMoment old new) (Attempts sum P fair old.present) through.moments at (each_moment old new [] through.moments through.goes);
+    }
+
+-- ---- a crash, and a recovery behind it
+
+-- what came back keeps the floor
+pub crashed_keeps : (sum : List ℕ → ℕ) (P : ℕ) (d e : Disk) (left : List ℕ) → HasCrashed d e → e.readable ≡ left → RecoversFrom sum P e → KeepsFloor sum P d (text sum P left)
+crashed_keeps sum P d e left c is from = λ was s stands.
+    let comes : ComesBack sum P false d (text sum P e.readable) = crashed d (text sum P e.readable) e (record { crashed = c; free = unfair }) (recovered e (text sum P e.readable) (from false (unfair))) in
+    let kept : take s.floor (text sum P e.readable) ≡ take s.floor s.content = comes_kept sum P false s.content s.floor d (text sum P e.readable) stands.floor stands.kept comes in
+    subst (λ (l : List ℕ). take s.floor (text sum P l) ≡ take s.floor s.content) is kept
+
+-- and chance aside it is a prefix of what stood
+pub crashed_leaves : (sum : List ℕ → ℕ) (P : ℕ) (d e : Disk) (left : List ℕ) → HasCrashed d e → e.readable ≡ left → RecoversFrom sum P e → IsChanceFree sum P d left → LeavesContent sum P d (text sum P left)
+crashed_leaves sum P d e left c is from free = λ was s stands.
+    let comes : ComesBack sum P true d (text sum P e.readable) =
+    crashed d (text sum P e.readable) e (record { crashed = c; free = λ fair. subst (λ (l : List ℕ). IsChanceFree sum P d l) (sym is) free }) (recovered e (text sum P e.readable) (from true (λ fair. c.durable))) in
+    let only : Begins (text sum P e.readable) s.content ⊎ Begins (text sum P e.readable) s.otherwise = comes_only sum P s.content s.otherwise d (text sum P e.readable) stands.only comes in
+    subst (λ (l : List ℕ). Begins (text sum P l) s.content ⊎ Begins (text sum P l) s.otherwise) is only
+
+-- by what stood as the crash came
+pub left_back : (sum : List ℕ → ℕ) (P : ℕ) (d e : Disk) (left : List ℕ) → HasCrashed d e → e.readable ≡ left → RecoversFrom sum P e → GivesBackLeft sum P d left
+left_back sum P d e left c is from = record { floor = crashed_keeps sum P d e left c is from; content = crashed_leaves sum P d e left c is from }
+
+-- what comes back later came through them
+pub crashed_leads : (sum : List ℕ → ℕ) (P : ℕ) (d : Disk) (left : List ℕ) (old new : Life) → HasCrashed d old.present → old.present.readable ≡ left → AttemptsThrough sum P old new
+    → LeadsOn sum P d left new.present
+crashed_leads sum P d left old new c is attempts = λ fair free given comes.
+    let attempt : Attempts sum P fair old.present new.present = through_end (Attempts sum P fair old.present) old new (attempts fair (λ fair. c.durable)) in
+    crashed d given old.present (record { crashed = c; free = λ f. subst (λ (l : List ℕ). IsChanceFree sum P d l) (sym is) (free f) }) (attempted old.present given new.present attempt comes)

@@ -1,0 +1,38 @@
+use Rattle.std.proofs.Common.{◌≡◌, ◌+◌, List, [], ◌∷◌, ◌++◌, take, ap, sym, ◌∙◌, subst, arith}
+use Rattle.std.proofs.lemmas.List.{take_more, take_all}
+use Rattle.session.specs.declared.steps.Step.{Step}
+use Rattle.session.specs.declared.steps.Reply.{Reply}
+use Rattle.session.specs.Run.{RunsAlways}
+use Rattle.session.specs.Promise.{Promises}
+use Rattle.session.proofs.RunLaws.{runs_more}
+use Rattle.session.proofs.PromiseLaws.{promises}
+use Rattle.session.proofs.sessions.run.Goals as goal
+
+pub loop-step-preserved : goal.loop-step-preserved
+loop-step-preserved g c =
+    let sum = g.H.Sum.sum_of in
+    let old = g.B.Blob.life c.args.blob.now in
+    let between = g.B.Blob.life c.loop-step.blob in
+    let new = g.B.Blob.life c.step-reply.new.blob in
+    let steps = c.args.steps.now in
+    let before = take c.loop-step.step-index steps in
+    let one : take (c.loop-step.step-index + 1) steps ≡ before ++ c.step-item.result ∷ [] =
+    take_more steps c.loop-step.step-index c.step-item.result c.loop-step-test.true ∙ ap (λ (s : Step). before ++ s ∷ []) (sym c.step-item.is) in
+    record {
+      room = omega (arith, c.loop-step.invariant.room, c.push_reserved.ensures.len, c.push_reserved.ensures.capacity, c.loop-step-test.true);
+      ready = c.step-reply.ensures.ready;
+      runs = subst (λ (taken : List Step). RunsAlways sum taken c.args.session.now c.step-reply.new.self old new c.try_reserve.new.self.items c.push_reserved.new.self.items) (sym one)
+          (runs_more sum before c.step-item.result c.step-reply.result c.args.session.now c.loop-step.session c.step-reply.new.self old between new c.try_reserve.new.self.items c.loop-step.replies.items c.push_reserved.new.self.items
+          c.loop-step.invariant.runs c.step-reply.ensures c.push_reserved.ensures.items);
+    }
+
+pub returns-clause-promises : goal.returns-clause-promises
+returns-clause-promises g c =
+    let old = g.B.Blob.life c.args.blob.now in
+    let new = g.B.Blob.life c.loop-step.blob in
+    let steps = c.args.steps.now in
+    let all : take c.loop-step.step-index steps ≡ steps = take_all c.loop-step.step-index steps (omega (arith, c.loop-step-test.false)) in
+    let runs : RunsAlways g.H.Sum.sum_of steps c.args.session.now c.loop-step.session old new c.try_reserve.new.self.items c.loop-step.replies.items =
+    subst (λ (taken : List Step). RunsAlways g.H.Sum.sum_of taken c.args.session.now c.loop-step.session old new c.try_reserve.new.self.items c.loop-step.replies.items) all c.loop-step.invariant.runs in
+    subst (λ (earlier : List Reply). Promises g.H.Sum.sum_of steps c.args.session.now c.loop-step.session old new earlier c.loop-step.replies.items) c.try_reserve.ensures.items
+    (promises g.H.Sum.sum_of steps c.args.session.now c.loop-step.session old new c.try_reserve.new.self.items c.loop-step.replies.items runs)

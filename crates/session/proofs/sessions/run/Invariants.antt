@@ -1,0 +1,10 @@
+use Rattle.std.proofs.Common.{◌+◌, ◌-◌, ◌≤◌, length, take, vec_len, vec_capacity}
+use Rattle.session.specs.Run.{IsReady, RunsAlways}
+use Rattle.session.proofs.sessions.run.Given as goal
+
+abbrev pub invariant-loop-step : goal.invariant-loop-step
+invariant-loop-step g l = record {
+  room : vec_len l.replies + (length l.steps - l.step-index) ≤ vec_capacity l.replies;
+  ready : IsReady g.H.Sum.sum_of l.session (g.B.Blob.life l.blob).present;
+  runs : RunsAlways g.H.Sum.sum_of (take l.step-index l.steps) l.initial.session l.session (g.B.Blob.life l.initial.blob) (g.B.Blob.life l.blob) l.initial.replies.items l.replies.items;
+}

@@ -1,0 +1,245 @@
+-- What a user may rely on: a crash at any moment of a run, whatever it leaves of what isn't synced,
+-- any number of further crashes and of recoveries that are cut short, and then a recovery that
+-- answers Ok.
+use Rattle.std.specs.Prelude.{◌≡◌, ◌⊎◌, ◌≤◌, ◌+◌, ◌%◌, ◌++◌, ℕ, List, [], ◌∷◌, length, take, Bool, true, false, Option, Some, Result, Ok, Err}
+use Rattle.disk.specs.Disk.{Disk, IsImage, Life, after}
+use Rattle.disk.specs.declared.error.Error.{Error}
+use Rattle.page.specs.Page.{text}
+use Rattle.page.specs.Geometry.{adjusted}
+use Rattle.cache.specs.CacheState.{CacheState}
+use Rattle.crash.specs.Guard.{IsChanceFree}
+use Rattle.crash.specs.Kept.{AllKeep, Each, Through}
+use Rattle.crash.specs.Stays.{KeepsFloors}
+use Rattle.crash.specs.WriterState.{WriterState}
+use Rattle.crash.specs.Sound.{IsSound, content as content_of}
+use Rattle.paged.specs.Calls.{HoldsWithin}
+use Rattle.paged.specs.Recovery.{IsDurable, Recovers, LeavesText}
+use Rattle.session.specs.declared.steps.Step.{Step}
+use Rattle.session.specs.declared.steps.Step.TheVariants.{Append, TryAppend, Sync}
+use Rattle.session.specs.declared.steps.Reply.{Reply}
+use Rattle.session.specs.declared.steps.Reply.TheVariants.{Nothing, Fault, Closed}
+use Rattle.session.specs.Run.{Standing, appended, synced, ended, other_content, last, Answers, StandsFor}
+
+-- ---- the way back
+
+-- a disk of this life, since it was so
+abbrev pub IsMoment : Life → Life → Disk → Type 0
+IsMoment old new d =
+    (before behind : List Disk) × (new ≡ after (after old before) behind)
+    × (d ≡ (after old before).present)
+
+-- a crash: a new life begins with something that it may leave, all of it durable
+pub record HasCrashed (d e : Disk) : Type 0 where
+  pub image : IsImage d e.readable
+  pub durable : IsDurable e
+
+-- where it is fair, that is chance-free
+pub record Crashes (sum : List ℕ → ℕ) (P : ℕ) (fair : Bool) (d e : Disk) : Type 0 where
+  pub crashed : HasCrashed d e
+  pub free : fair ≡ true → IsChanceFree sum P d e.readable
+
+-- a recovery began over d and came to the moment m: it was cut short there, or that is what its
+-- answer left, an error too. Where it is fair, all of d was durable.
+pub record Attempts (sum : List ℕ → ℕ) (P : ℕ) (fair : Bool) (d m : Disk) : Type 0 where
+  pub old : Life
+  pub new : Life
+  pub began : old.present ≡ d
+  pub moment : IsMoment old new m
+  pub image : IsImage d d.readable
+  pub kept : KeepsFloors sum P (text sum P d.readable) old new
+  pub only : LeavesText sum P old new
+  pub durable : fair ≡ true → IsDurable d
+
+-- a recovery over d answered Ok: this is the content that it gave. Where it is fair, all of d was
+-- durable.
+pub record HasRecovered (sum : List ℕ → ℕ) (P : ℕ) (fair : Bool) (d : Disk)
+    (given : List ℕ) : Type 0 where
+  pub old : Life
+  pub new : Life
+  pub cache : CacheState
+  pub capacity : ℕ
+  pub writer : WriterState
+  pub began : old.present ≡ d
+  pub page_size : cache.page_size ≡ P
+  pub recovers : Recovers sum cache capacity old new (Ok writer)
+  pub content : given ≡ content_of writer new.present.readable
+  pub image : IsImage d d.readable
+  pub durable : fair ≡ true → IsDurable d
+
+-- crashes and recoveries in any order and number, of which the last answered Ok and gave this
+-- content
+pub data ComesBack (sum : List ℕ → ℕ) (P : ℕ) (fair : Bool) : Disk → List ℕ → Type 0 where
+  recovered : (d : Disk) (given : List ℕ) → HasRecovered sum P fair d given
+      → ComesBack sum P fair d given
+  crashed : (d : Disk) (given : List ℕ) (e : Disk) → Crashes sum P fair d e
+      → ComesBack sum P fair e given → ComesBack sum P fair d given
+  attempted : (d : Disk) (given : List ℕ) (m : Disk) → Attempts sum P fair d m
+      → ComesBack sum P fair m given → ComesBack sum P fair d given
+
+-- what comes back from m comes back from d
+abbrev pub LeadsTo : (List ℕ → ℕ) → (P : ℕ) → (fair : Bool) → Disk → Disk → Type 0
+LeadsTo sum P fair d m =
+    (given : List ℕ) → ComesBack sum P fair m given → ComesBack sum P fair d given
+
+-- the content is one's beginning
+abbrev pub Begins : List ℕ → List ℕ → Type 0
+Begins given content = given ≡ take (length given) content
+
+-- whatever comes back begins with the content's first floor bytes; and chance aside it is a prefix
+-- of the content, or of the other
+pub record Survives (sum : List ℕ → ℕ) (P : ℕ) (content other : List ℕ) (floor : ℕ)
+    (d : Disk) : Type 0 where
+  pub kept : (fair : Bool) (given : List ℕ) → ComesBack sum P fair d given
+      → take floor given ≡ take floor content
+  pub only : (given : List ℕ) → ComesBack sum P true d given
+      → Begins given content ⊎ Begins given other
+
+-- ---- a run
+
+-- what stands after a step with this reply, in pages of P bytes
+abbrev pub stands_after : (P : ℕ) → Step → Reply → Standing → Standing
+stands_after P step Closed s = s
+stands_after P (Append bytes) (Fault e) s = ended (s.content ++ bytes.items) s
+stands_after P Sync (Fault e) s = ended s.content s
+stands_after P step (Fault e) s = s
+stands_after P (TryAppend bytes) Nothing s = s
+stands_after P (Append bytes) reply s = appended P bytes.items s
+stands_after P (TryAppend bytes) reply s = appended P bytes.items s
+stands_after P Sync reply s = synced P s
+stands_after P step reply s = s
+
+-- after steps with these replies
+abbrev pub stands_after_all : (P : ℕ) → List Step → List Reply → Standing → Standing
+stands_after_all P [] replies s = s
+stands_after_all P (step ∷ steps) [] s = s
+stands_after_all P (step ∷ steps) (reply ∷ replies) s =
+    stands_after_all P steps replies (stands_after P step reply s)
+
+-- a run of steps with these replies, through its moments: each reply is exact; and what comes back
+-- from any moment of a step, or from the end, keeps what stood then: the contents are the fold of
+-- the accepted steps, the floor is what the last sync that answered Ok made durable
+abbrev pub Tells : (List ℕ → ℕ) → (P : ℕ) → List Step → List Reply → Disk → List Disk → Standing
+    → Type 0
+Tells sum P [] [] from moments s =
+    (moments ≡ []) × Survives sum P s.content s.otherwise s.floor from
+Tells sum P (step ∷ steps) (reply ∷ replies) from moments s =
+    (first : List Disk) × (rest : List Disk) × (moments ≡ first ++ rest)
+    × Answers P step reply from (last from first) s (stands_after P step reply s)
+    × Each (Survives sum P s.content (other_content step s) s.floor) (from ∷ first)
+    × Tells sum P steps replies (last from first) rest (stands_after P step reply s)
+Tells sum P [] (reply ∷ replies) from moments s = ⊥
+Tells sum P (step ∷ steps) [] from moments s = ⊥
+
+-- a run, told moment by moment; the session stands at its end for what the replies say, so another
+-- run may follow
+pub record Told (sum : List ℕ → ℕ) (P : ℕ) (steps : List Step) (now : Option WriterState)
+    (old new : Life) (earlier replies : List Reply) (before : Standing) : Type 0 where
+  pub added : List Reply
+  pub adds : replies ≡ earlier ++ added
+  pub moments : List Disk
+  pub goes : new ≡ after old moments
+  pub tells : Tells sum P steps added old.present moments before
+  pub stands : StandsFor sum P now (stands_after_all P steps added before) new.present
+
+-- the promise of a run: so it is told whatever the session stood for when it began
+abbrev pub Promises : (List ℕ → ℕ) → List Step → Option WriterState → Option WriterState → Life
+    → Life → List Reply → List Reply → Type 0
+Promises sum steps was now old new earlier replies =
+    (P : ℕ) (before : Standing) → StandsFor sum P was before old.present
+    → Told sum P steps now old new earlier replies before
+
+-- ---- how a session begins
+
+-- with this content, all of it durable, and a buffer of so many bytes
+abbrev pub fresh : (P capacity : ℕ) → List ℕ → Standing
+fresh P capacity content = record {
+  has_writer = true;
+  content = content;
+  floor = length content;
+  otherwise = content;
+  capacity = capacity;
+  buffered = length content % P;
+  settled = true;
+}
+
+-- a recovery of these bytes at its end: the session that it gave stands for their text, all of it
+-- durable
+pub record IsBegun (sum : List ℕ → ℕ) (cache : CacheState) (capacity : ℕ) (old new : Life)
+    (now : Option WriterState) : Type 0 where
+  pub writer : WriterState
+  pub has_writer : now ≡ Some writer
+  pub recovers : Recovers sum cache capacity old new (Ok writer)
+  pub stands : let P = cache.page_size in
+      let given = text sum P old.present.readable in
+      StandsFor sum P now (fresh P (adjusted capacity P) given) new.present
+
+-- by its answer
+abbrev pub BeginsBy : (List ℕ → ℕ) → CacheState → (capacity : ℕ) → Life → Life
+    → Result (Option WriterState) Error → Type 0
+BeginsBy sum cache capacity old new (Ok now) = IsBegun sum cache capacity old new now
+BeginsBy sum cache capacity old new (Err e) = Recovers sum cache capacity old new (Err e)
+
+-- the cache once a session has begun; where none has, an id may have been given or not
+abbrev pub GivesId : Result (Option WriterState) Error → CacheState → CacheState → Type 0
+GivesId (Ok now) old new = new ≡ record old { ids_given = old.ids_given + 1 }
+GivesId (Err e) old new = (new ≡ old) ⊎ (new ≡ record old { ids_given = old.ids_given + 1 })
+
+-- whatever a recovery answers, each moment of it is one that it came to
+abbrev pub AttemptsThrough : (List ℕ → ℕ) → (P : ℕ) → Life → Life → Type 0
+AttemptsThrough sum P old new =
+    (fair : Bool) → (fair ≡ true → IsDurable old.present)
+    → Through (Attempts sum P fair old.present) old new
+
+-- a recovery over d gave the text of what was readable
+abbrev pub RecoversFrom : (List ℕ → ℕ) → (P : ℕ) → Disk → Type 0
+RecoversFrom sum P d =
+    (fair : Bool) → (fair ≡ true → IsDurable d)
+    → HasRecovered sum P fair d (text sum P d.readable)
+
+-- whatever was stood for over this disk, this content keeps its floor
+abbrev pub KeepsFloor : (List ℕ → ℕ) → (P : ℕ) → Disk → List ℕ → Type 0
+KeepsFloor sum P d given =
+    (was : Option WriterState) (s : Standing) → StandsFor sum P was s d
+    → take s.floor given ≡ take s.floor s.content
+
+-- and it is a prefix of one of the two contents
+abbrev pub LeavesContent : (List ℕ → ℕ) → (P : ℕ) → Disk → List ℕ → Type 0
+LeavesContent sum P d given =
+    (was : Option WriterState) (s : Standing) → StandsFor sum P was s d
+    → Begins given s.content ⊎ Begins given s.otherwise
+
+-- what a recovery gave back, by what stood over d as it began
+pub record GivesBack (sum : List ℕ → ℕ) (P : ℕ) (d : Disk) : Type 0 where
+  pub recovered : RecoversFrom sum P d
+  pub floor : KeepsFloor sum P d (text sum P d.readable)
+  pub content : IsDurable d → LeavesContent sum P d (text sum P d.readable)
+
+-- what a recovery gave back of what a crash left, by what stood over d as that came
+pub record GivesBackLeft (sum : List ℕ → ℕ) (P : ℕ) (d : Disk) (left : List ℕ) : Type 0 where
+  pub floor : KeepsFloor sum P d (text sum P left)
+  pub content : IsChanceFree sum P d left → LeavesContent sum P d (text sum P left)
+
+-- and what comes back later came through that crash
+abbrev pub LeadsOn : (List ℕ → ℕ) → (P : ℕ) → (d : Disk) → (left : List ℕ) → Disk → Type 0
+LeadsOn sum P d left m =
+    (fair : Bool) → (fair ≡ true → IsChanceFree sum P d left) → LeadsTo sum P fair d m
+
+-- what a session stands for with this writer, where every image keeps so much of its content
+abbrev pub opened : WriterState → (floor : ℕ) → List ℕ → Standing
+opened w floor readable = record {
+  has_writer = true;
+  content = content_of w readable;
+  floor = floor;
+  otherwise = content_of w readable;
+  capacity = w.capacity;
+  buffered = length w.tip;
+  settled = false;
+}
+
+-- over each blob on which the writer is sound
+abbrev pub StandsWhereSound : (List ℕ → ℕ) → WriterState → Type 0
+StandsWhereSound sum w =
+    (d : Disk) (floor : ℕ) → IsSound sum w d → HoldsWithin w
+    → floor ≤ length (content_of w d.readable)
+    → AllKeep sum w.page_size (content_of w d.readable) floor d
+    → StandsFor sum w.page_size (Some w) (opened w floor d.readable) d

@@ -1,0 +1,12 @@
+//! Sessions: lists of steps over one blob, what a run of them did at each moment, and what comes
+//! back after a crash.
+#![tactic(auto)]
+
+mod recoveries;
+mod sessions;
+mod steps;
+#[cfg(test)]
+mod tests;
+
+pub use sessions::{Session, run};
+pub use steps::{Reply, Step};

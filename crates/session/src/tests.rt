@@ -1,0 +1,149 @@
+// Each public call once, where all goes well, and a recovery at once after a refusal.
+ghost use Rattle.std.specs.Prelude.{IfOk};
+ghost use Rattle.disk.specs.History.{life_of};
+ghost use Rattle.page.specs.Sums.{add_sum};
+ghost use Rattle.session.specs.Run.{IsReady};
+
+use super::*;
+use cache::CacheRef;
+use disk::{Error, MemBlob};
+use page::AddSum;
+use std::alloc::Global;
+use std::num::{NonZeroU16, NonZeroUsize};
+use std::process::Abort;
+use std::test::Fail;
+
+const CAPACITY: usize = 8;
+
+fn new_cache(alloc: Global) -> Result<CacheRef, Error> {
+    let page_size = NonZeroU16::new(4).unwrap_or(NonZeroU16::MIN);
+    CacheRef::new(alloc, page_size, NonZeroUsize::MIN)
+}
+
+fn begun(
+    alloc: Global,
+    blob: &mut MemBlob,
+    cache: &mut CacheRef,
+) -> Result<Session<MemBlob, AddSum>, Error>
+    ensures { IfOk result (λ session. IsReady add_sum session (life_of blob.new).present) }
+{
+    let size = blob.len();
+    Session::recover(alloc, blob, size, CAPACITY, cache, NonZeroUsize::MIN)
+}
+
+// Takes these steps, and looks at the replies.
+fn expect(
+    rt: &impl Abort,
+    alloc: Global,
+    session: &mut Session<MemBlob, AddSum>,
+    blob: &mut MemBlob,
+    cache: &mut CacheRef,
+    steps: &[Step],
+    replies: &[Reply],
+) -> Result<(), Fail>
+    requires { IsReady add_sum session.old (life_of blob.old).present }
+    ensures { IsReady add_sum session.new (life_of blob.new).present }
+{
+    let mut given = Vec::new(alloc);
+    run(session, blob, cache, steps, &mut given)?;
+    assert_eq!(rt; given.as_slice(), replies);
+    Ok(())
+}
+
+#[test]
+fn a_session_comes_back(rt: HostRuntime) -> Result<(), Fail> {
+    let alloc = rt.alloc();
+    let mut blob = MemBlob::new(alloc);
+    let mut cache = new_cache(alloc)?;
+    let mut session = begun(alloc, &mut blob, &mut cache)?;
+    let steps = [
+        Step::TryAppend(Vec::from_slice(alloc, b"abcdef")?),
+        Step::Sync,
+        Step::Append(Vec::from_slice(alloc, b"ghij")?),
+        Step::TryAppend(Vec::from_slice(alloc, b"klm")?),
+        Step::Read(4, 4),
+        Step::Size,
+    ];
+    let replies = [
+        Reply::At(0),
+        Reply::Done,
+        Reply::At(6),
+        Reply::Nothing,
+        Reply::Bytes(Vec::from_slice(alloc, b"efgh")?),
+        Reply::Length(10),
+    ];
+    expect(
+        &rt,
+        alloc,
+        &mut session,
+        &mut blob,
+        &mut cache,
+        &steps,
+        &replies,
+    )?;
+    assert_eq!(rt; session.size(), Some(10));
+    session.crash_and_recover(&mut blob, &[], CAPACITY, &mut cache, NonZeroUsize::MIN)?;
+    assert_eq!(rt; session.size(), Some(6));
+    session.crash(&mut blob, &[])?;
+    assert_eq!(rt; session.size(), None);
+    Ok(())
+}
+
+#[test]
+fn a_writer_begins_a_session(rt: HostRuntime) -> Result<(), Fail> {
+    let alloc = rt.alloc();
+    let mut blob = MemBlob::new(alloc);
+    let mut cache = new_cache(alloc)?;
+    let size = blob.len();
+    let writer = paged::recover(
+        alloc,
+        &mut blob,
+        size,
+        CAPACITY,
+        &mut cache,
+        NonZeroUsize::MIN,
+    )?;
+    assert_eq!(rt;
+        Session::<MemBlob, AddSum>::new(alloc, writer).size(),
+        Some(0)
+    );
+    assert_eq!(rt; Session::<MemBlob, AddSum>::closed(alloc).size(), None);
+    Ok(())
+}
+
+#[test]
+fn a_refused_sync_is_recovered_at_once(rt: HostRuntime) -> Result<(), Fail> {
+    let alloc = rt.alloc();
+    let mut blob = MemBlob::new(alloc);
+    let mut cache = new_cache(alloc)?;
+    let mut session = begun(alloc, &mut blob, &mut cache)?;
+    let steps = [
+        Step::Append(Vec::from_slice(alloc, b"abcdef")?),
+        Step::Sync,
+        Step::Append(Vec::from_slice(alloc, b"g")?),
+    ];
+    let replies = [Reply::At(0), Reply::Done, Reply::At(6)];
+    expect(
+        &rt,
+        alloc,
+        &mut session,
+        &mut blob,
+        &mut cache,
+        &steps,
+        &replies,
+    )?;
+    blob.fail_at(1);
+    let steps = [Step::Sync, Step::Size];
+    let replies = [Reply::Fault(Error::WriteFailed), Reply::Closed];
+    expect(
+        &rt,
+        alloc,
+        &mut session,
+        &mut blob,
+        &mut cache,
+        &steps,
+        &replies,
+    )?;
+    assert_eq!(rt; begun(alloc, &mut blob, &mut cache)?.size(), Some(6));
+    Ok(())
+}
