@@ -17,7 +17,7 @@ AllKeep sum P content floor d = (image : List ℕ) → IsImage d image → Keeps
 abbrev pub AllOnly : (List ℕ → ℕ) → ℕ → List ℕ → List ℕ → Disk → Type 0
 AllOnly sum P before behind d = (image : List ℕ) → IsImage d image → IsChanceFree sum P d image
     → (text sum P image ≡ take (length (text sum P image)) before) ⊎
-        (text sum P image ≡ take (length (text sum P image)) behind)
+    (text sum P image ≡ take (length (text sum P image)) behind)
 
 -- Q holds of each disk in the list
 abbrev pub Each : (Disk → Type 0) → List Disk → Type 0

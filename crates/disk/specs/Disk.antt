@@ -153,8 +153,12 @@ pub record Operated (o : Operation) (request : Request) (failed : Bool) (old new
   pub readable : IsPartial o old.readable new.readable
   pub done : failed ≡ false → new.readable ≡ applied o old.readable
   pub rest :
-      new ≡ record old { readable = new.readable; since = old.since ++ o ∷ []; log = old.log ++
-      record { request = request; failed = failed } ∷ [] }
+      new ≡ record old {
+        readable = new.readable;
+        since = old.since ++ o ∷ [];
+        log = old.log ++
+            record { request = request; failed = failed } ∷ [];
+      }
 
 -- all that is readable is durable
 abbrev pub settle : Disk → Disk
@@ -238,9 +242,12 @@ bytes_of ranges bytes = map (λ r. take r.1 (drop r.0 bytes)) ranges
 -- a sync is started; its name is its number
 abbrev pub starts : Bool → Disk → Disk
 starts failed d =
-    record d { started = d.started ++
-    record { covers = d.settled + length d.since; bytes = d.readable; failed = failed } ∷ []; log =
-    d.log ++ record { request = StartSync; failed = failed } ∷ [] }
+    record d {
+      started = d.started ++
+          record { covers = d.settled + length d.since; bytes = d.readable; failed = failed } ∷ [];
+      log =
+          d.log ++ record { request = StartSync; failed = failed } ∷ [];
+    }
 
 abbrev pub WaitGoes : ℕ → Life → Life → Result (Unit {0}) Error → Type 0
 WaitGoes name old new (Ok _) =

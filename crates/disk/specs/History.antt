@@ -49,8 +49,12 @@ operation_of actions.Sync = []
 -- they were
 abbrev pub operated : Operation → Request → Bool → Disk → Disk
 operated o request failed d =
-    record d { readable = if failed then d.readable else applied o d.readable; since = d.since ++
-    o ∷ []; log = d.log ++ record { request = request; failed = failed } ∷ [] }
+    record d {
+      readable = if failed then d.readable else applied o d.readable;
+      since = d.since ++
+          o ∷ [];
+      log = d.log ++ record { request = request; failed = failed } ∷ [];
+    }
 
 -- the bytes after an event
 abbrev pub redone : Event → List ℕ → List ℕ
@@ -108,8 +112,11 @@ life_of h = goes_on (begun h.first h.earlier) h.events
 -- one action more, which fails if it is the one that is to fail
 abbrev pub told : Action → History → History
 told action h =
-    record h { events = h.events ++
-    record { action = action; failed = h.failing == 1 } ∷ []; failing = h.failing - 1 }
+    record h {
+      events = h.events ++
+          record { action = action; failed = h.failing == 1 } ∷ [];
+      failing = h.failing - 1;
+    }
 
 -- what these flags leave of an action that isn't durable, and the flags behind them
 abbrev pub TornBy : Action → List Bool → List Bool → List ℕ → List ℕ → Type 0
