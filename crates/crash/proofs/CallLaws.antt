@@ -13,7 +13,8 @@ use Rattle.crash.specs.Stays.{Stays, StaysThrough}
 use Rattle.crash.specs.Sound.{content, guard_slot, Soundness, CanWrite}
 use Rattle.crash.proofs.BuiltLaws.{IsSmall}
 use Rattle.crash.proofs.FlushLaws.{flush_content}
-use Rattle.crash.proofs.Moments.{through_more, stays_through_start}
+use Rattle.crash.specs.Moments.{through_more}
+use Rattle.crash.proofs.Moments.{stays_through_start}
 use Rattle.crash.proofs.Soundness.{operated_sound, operated_stays, operated_settle_stays, settle_sound, settle_stays, alike_stays}
 
 module _ (sum : List ℕ → ℕ) (w : WriterState) (old : Life) (sound : Soundness sum w old.present) where

@@ -15,10 +15,12 @@ use Rattle.crash.specs.Stays.{Stays, StaysThrough}
 use Rattle.crash.proofs.Lists.{take_same, within_take, same_elements, slice_get-take, taken_element}
 use Rattle.crash.proofs.Pages.{length-page, length-pages, page_fits, page_is, pages_at, pages_fit, pages_of_take, take-pages_same, cut_is}
 use Rattle.crash.proofs.Texts.{text_full, text_part, value_len_le, verified_le_value}
-use Rattle.crash.proofs.Disks.{fixed_at_rest, fixed_in_image, fixed_length, fixed_stays, image_at_rest, length-applied_resize, operated_base, operated_since, resize_leaves}
+use Rattle.crash.proofs.Disks.{fixed_at_rest, fixed_in_image, fixed_length, fixed_stays, length-applied_resize, operated_base, operated_since, resize_leaves}
+use Rattle.disk.specs.Images.{only_image}
 use Rattle.crash.proofs.PageFacts.{value_len_slot}
 use Rattle.crash.proofs.Promise.{guarded_is_kept, guards_at_rest, guards_below, keeps_at_rest, resize_leaves_below}
-use Rattle.crash.proofs.Moments.{stays_alike, stays_through_joins, through_end, through_more, through_start, through_then}
+use Rattle.crash.specs.Moments.{through_end, through_more, through_start, through_then}
+use Rattle.crash.proofs.Moments.{stays_alike, stays_through_joins}
 
 -- ---- where the text of pages ends
 
@@ -162,7 +164,7 @@ rest_keeps sum P content e at_rest says = subst (λ (t : List ℕ). AllKeep sum 
 
 -- and no other
 pub rest_only : (sum : List ℕ → ℕ) (P : ℕ) (content : List ℕ) (e : Disk) (image : List ℕ) → e.since ≡ [] → text sum P e.base ≡ content → IsImage e image → text sum P image ≡ content
-rest_only sum P content e image at_rest says is_image = ap (λ (l : List ℕ). text sum P l) (image_at_rest e image at_rest is_image) ∙ says
+rest_only sum P content e image at_rest says is_image = ap (λ (l : List ℕ). text sum P l) (only_image e image at_rest is_image) ∙ says
 
 -- so it owes nothing
 pub rest_stays : (sum : List ℕ → ℕ) (P : ℕ) (content : List ℕ) (d e : Disk) → e.since ≡ [] → text sum P e.base ≡ content → Stays sum P content d e

@@ -267,22 +267,6 @@ fixed_alike d e place bytes base since fixed = record {
   within = λ whole is_whole. fixed.within whole (rw (base, since) at is_whole);
 }
 
--- with nothing unsynced the base is the one image
-pub image_at_rest : (d : Disk) (image : List ℕ) → d.since ≡ [] → IsImage d image → image ≡ d.base
-image_at_rest d image at_rest is_image =
-    let short : is_image.no_shorter.0 ≡ d.base = subst (λ (os : List Operation). IsWhole d.base os is_image.no_shorter.0) at_rest is_image.no_shorter.1 in
-    let long : is_image.no_longer.0 ≡ d.base = subst (λ (os : List Operation). IsWhole d.base os is_image.no_longer.0) at_rest is_image.no_longer.1 in
-    let same : length image ≡ length d.base = omega (arith, ap length short, ap length long, is_image.no_shorter.2, is_image.no_longer.2) in
-    same_elements image d.base same (λ at byte is.
-    let inside : at < length image = slice_get_within image at byte is in
-    elim (is_image.each at byte is) [
-      | inl in_base ↦ in_base
-      | inr (inl written) ↦ elim (subst (λ (os : List Operation). SomeWrites os at byte) at_rest written) [ ]
-      | inr (inr gap) ↦
-          let whole : gap.1.0 ≡ d.base = subst (λ (os : List Operation). IsWhole d.base os gap.1.0) at_rest gap.1.1 in
-          absurd (omega (arith, ap length whole, gap.1.2))
-    ])
-
 -- with one operation more there is a whole state no longer than that operation leaves an image
 shorter_whole : (d e : Disk) (o : Operation) (old whole : List ℕ) → e.base ≡ d.base → e.since ≡ d.since ++ o ∷ [] → IsWhole d.base d.since whole → length whole ≤ length old
     → (bytes : List ℕ) × IsWhole e.base e.since bytes × (length bytes ≤ length (applied o old))

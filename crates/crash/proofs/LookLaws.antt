@@ -3,32 +3,9 @@ use Rattle.std.proofs.Common.{◌≡◌, ℕ, List, [], ◌∷◌, take, drop, r
 use Rattle.disk.specs.Disk.{Disk, Life, Request, ReadAt, next, logged, AskedOnce, ReadGoes}
 use Rattle.disk.specs.declared.error.Error.{Error}
 use Rattle.disk.specs.declared.error.Error.TheVariants.{ReadFailed, WriteFailed, ResizeFailed, SyncFailed, InvalidChecksum, BlobInsufficientLength, OffsetOverflow, OutOfMemory, IdsExhausted}
-use Rattle.disk.proofs.Logs.{grows_same, grows_once, grows_joins}
+use Rattle.disk.proofs.Logs.{grows_once}
 use Rattle.crash.specs.Kept.{Through}
-use Rattle.crash.specs.Looks.{SameButLog, Looked}
-use Rattle.crash.proofs.Moments.{through_start, through_joins, through_then}
-
--- no call
-pub looked_start : (life : Life) → Looked life life
-looked_start life = record {
-  same = refl;
-  log = grows_same life.present life.present refl;
-  through = through_start (SameButLog life.present) life refl;
-}
-
--- the same but for the log, twice
-same_later : (a b d : Disk) → SameButLog a b → SameButLog b d → SameButLog a d
-same_later a b d first second = second ∙ ap (λ (x : Disk). record x { log = d.log }) first
-
--- one call after another
-pub looked_joins : (old mid new : Life) → Looked old mid → Looked mid new → Looked old new
-looked_joins old mid new first second = record {
-  same = same_later old.present mid.present new.present first.same second.same;
-  log = grows_joins old.present mid.present new.present first.log second.log;
-  through = through_joins (SameButLog old.present) old mid new first.through
-      (through_then (SameButLog mid.present) (SameButLog old.present) mid new
-      (λ d h. same_later old.present mid.present d first.same h) second.through);
-}
+use Rattle.crash.specs.Looks.{Looked, looked_start}
 
 -- a call in the log
 looked_once : (life : Life) (request : Request) (failed : Bool) → Looked life (next life (logged request failed life.present))

@@ -9,7 +9,8 @@ use Rattle.page.specs.declared.slot.Slot.{Slot}
 use Rattle.crash.specs.Guard.{Held, IsSlotFor, IsGuarded, Guards, IsTruthful, IsChanceFree}
 use Rattle.crash.specs.Kept.{AllKeep}
 use Rattle.crash.specs.Sound.{latest}
-use Rattle.crash.proofs.Disks.{fixed_length, fixed_in_image, fixed_stays, fixed_settles, fixed_at_rest, fixed_alike, Leaves, resize_leaves, write_behind_leaves, base_is_image, image_at_rest, one_more_whole, fixed_covered, whole_covered, length-applied_resize}
+use Rattle.crash.proofs.Disks.{fixed_length, fixed_in_image, fixed_stays, fixed_settles, fixed_at_rest, fixed_alike, Leaves, resize_leaves, write_behind_leaves, base_is_image, one_more_whole, fixed_covered, whole_covered, length-applied_resize}
+use Rattle.disk.specs.Images.{only_image}
 use Rattle.crash.proofs.Lists.{take_same, within_take}
 use Rattle.crash.proofs.Pages.{pages_at, page_fits, page_is, length-page, cut_is}
 use Rattle.crash.proofs.Texts.{verified_len_le, verified_le_value, value_len_le}
@@ -231,7 +232,7 @@ guards_at_rest sum P d some at_rest =
 
 -- so every image has that text
 pub keeps_at_rest : (sum : List ℕ → ℕ) (P : ℕ) (d : Disk) → d.since ≡ [] → AllKeep sum P (text sum P d.base) (length (text sum P d.base)) d
-keeps_at_rest sum P d at_rest = λ image is_image. ap (λ (l : List ℕ). take (length (text sum P d.base)) (text sum P l)) (image_at_rest d image at_rest is_image)
+keeps_at_rest sum P d at_rest = λ image is_image. ap (λ (l : List ℕ). take (length (text sum P d.base)) (text sum P l)) (only_image d image at_rest is_image)
 
 -- each slot of these bytes that verifies does so over bytes of the content
 abbrev pub SaysOnly : (List ℕ → ℕ) → ℕ → List ℕ → List ℕ → Type 0

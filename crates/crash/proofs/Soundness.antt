@@ -18,16 +18,18 @@ use Rattle.crash.specs.Built.{kept_len, built, durable_after, after_write, writt
 use Rattle.crash.specs.Kept.{AllKeep}
 use Rattle.crash.specs.Stays.{Stays, StaysThrough}
 use Rattle.crash.specs.Looks.{SameButLog, Looked}
-use Rattle.crash.specs.Sound.{latest, stored, content, HasPage, TipPage, StateFits, Stands, guard_slot, TipGuard, IsSafe, Soundness, CanWrite}
+use Rattle.crash.specs.Sound.{latest, stored, content, HasPage, TipPage, StateFits, Stands, guard_slot, TipGuard, IsSafe, Soundness, IsSound, LeavesItsContent, CanWrite}
 use Rattle.crash.proofs.Lists.{take_past, take_same}
 use Rattle.crash.proofs.Pages.{length-stored, pages_at, page_fits, page_is, pages_fit, length-pages}
 use Rattle.crash.proofs.Texts.{text_exact, text_of_part, value_at, verified_le_value, verified_len_le}
 use Rattle.crash.proofs.BuiltLaws.{IsSmall, slot_len_of, slot_crc_of}
 use Rattle.crash.proofs.FlushLaws.{tip_reach, flush_reach, pages_written, flush_content, operated_stands, settle_stands, alike_stands, alike_content, longer_stands, longer_content, carry_stands, settled_stands, exact_stands, length-content, content_in_page, content_in_tip}
-use Rattle.crash.proofs.Disks.{fixed_at_rest, image_at_rest, operated_base, operated_since}
+use Rattle.crash.proofs.Disks.{fixed_at_rest, operated_base, operated_since}
+use Rattle.disk.specs.Images.{only_image}
 use Rattle.crash.proofs.PageFacts.{page_begins, slot_at, slot_offset_le, own_beginning}
-use Rattle.crash.proofs.Promise.{guards_at_rest, guards_longer, guards_less, guards_alike, held_alike, held_stays, leaves_page_below, write_leaves_below, part_of_beginning, SaysOnly, truthful_at_rest, truthful_alike, truthful_longer}
-use Rattle.crash.proofs.Moments.{stays_itself, stays_alike, stays_settled, stays_guarded, through_then}
+use Rattle.crash.proofs.Promise.{guards_at_rest, guards_longer, guards_less, guards_alike, held_alike, held_stays, leaves_page_below, write_leaves_below, part_of_beginning, SaysOnly, truthful_at_rest, truthful_alike, truthful_longer, only_content}
+use Rattle.crash.specs.Moments.{through_then}
+use Rattle.crash.proofs.Moments.{stays_itself, stays_alike, stays_settled, stays_guarded}
 use Rattle.crash.proofs.Spared.{flush_keeps_full, held_through_flush, guards_with_tip, truthful_through_flush}
 
 -- ---- what is written
@@ -378,7 +380,7 @@ module _ (sum : List ℕ → ℕ) (w : WriterState) (d : Disk) (sound : Soundnes
 
   -- a crash of a clean writer's blob leaves what is readable
   pub clean_image : (image : List ℕ) → IsImage d image → image ≡ d.readable
-  clean_image image is_image = image_at_rest d image at_rest.0 is_image ∙ at_rest.1
+  clean_image image is_image = only_image d image at_rest.0 is_image ∙ at_rest.1
 
   -- so it keeps what is written
   pub clean_keeps : AllKeep sum w.page_size (content w d.readable) (w.full_pages * w.page_size + kept_len w.flushed) d
@@ -498,6 +500,11 @@ empty_sound sum w d readable base since some small full flushed durable =
 -- a disk whose log alone differs
 same_parts : (d e : Disk) → SameButLog d e → (e.readable ≡ d.readable) × (e.base ≡ d.base) × (e.since ≡ d.since)
 same_parts d e is = (ap (λ (x : Disk). x.readable) is, ap (λ (x : Disk). x.base) is, ap (λ (x : Disk). x.since) is)
+
+-- chance aside, a crash leaves of a sound writer's content a beginning
+pub sound_leaves : (sum : List ℕ → ℕ) (w : WriterState) (d : Disk) → IsSound sum w d → LeavesItsContent sum w d
+unfolding IsSound
+sound_leaves sum w d sound = λ image is_image free. inl (only_content sum w.page_size (content w d.readable) d image sound.truthful free)
 
 module _ (sum : List ℕ → ℕ) (w : WriterState) (old new : Life) (sound : Soundness sum w old.present) (looked : Looked old new) where
   -- a call that only reads keeps soundness

@@ -3,6 +3,7 @@ pub mod Full
 pub mod Built
 pub mod Guard
 pub mod Kept
+pub mod Moments
 pub mod Stays
 pub mod Looks
 pub mod Sound

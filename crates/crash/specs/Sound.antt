@@ -10,6 +10,7 @@ use Rattle.crash.specs.WriterState.SyncState.{Clean, Dirty}
 use Rattle.crash.specs.Guard.{Held, Guards, IsTruthful}
 use Rattle.crash.specs.Full.{AreFull}
 use Rattle.crash.specs.Built.{kept_len}
+use Rattle.crash.specs.Kept.{AllOnly}
 
 -- the last whole state: every operation done
 abbrev pub latest : List ℕ → List Operation → List ℕ
@@ -104,6 +105,11 @@ pub record Soundness (sum : List ℕ → ℕ) (w : WriterState) (d : Disk) : Typ
 -- the word for it in contracts: a caller hands it from call to call, and has no need to see into it
 unfoldable pub IsSound : (List ℕ → ℕ) → WriterState → Disk → Type 0
 IsSound sum w d = Soundness sum w d
+
+-- chance aside, a crash leaves of a writer's content a beginning
+abbrev pub LeavesItsContent : (List ℕ → ℕ) → WriterState → Disk → Type 0
+LeavesItsContent sum w d =
+    let held = content w d.readable in AllOnly sum w.page_size held held d
 
 -- a flush of k full pages, and of the rest where asked, is one write
 abbrev pub CanWrite : ℕ → List ℕ → ℕ → Bool → Type 0

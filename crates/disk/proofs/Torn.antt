@@ -4,10 +4,12 @@ use Rattle.std.proofs.lemmas.List.{drop_more, take_min, drop_min}
 use Rattle.std.proofs.lemmas.Bool.{cases_lt}
 use Rattle.std.proofs.Common.{suc, ◌⊎◌, inl, inr, slice_get, Some}
 use Rattle.std.proofs.lemmas.Option.{slice_get_within}
-use Rattle.std.proofs.Common.{append-nil, append_assoc}
+use Rattle.std.proofs.Common.{append-nil, append_assoc, subst}
 use Rattle.disk.specs.Torn.{torn_resize}
-use Rattle.disk.specs.Disk.{Disk, IsImage, Resize}
-use Rattle.disk.specs.Images.{IsTorn, same_image, base_is_image, torn_image, partial_is_torn, same_is_partial, done_is_partial, length_write, applied_byte}
+use Rattle.disk.specs.Disk.{Disk, IsImage, LeavesNoMore, Resize}
+use Rattle.disk.specs.History.{History, begun, goes_on, life_of}
+use Rattle.disk.specs.declared.action.Event.{Event}
+use Rattle.disk.specs.Images.{IsTorn, only_image, same_image, base_is_image, torn_image, partial_is_torn, same_is_partial, done_is_partial, length_write, applied_byte}
 use Rattle.disk.specs.Disk.{Writes, Operation, Write, applied}
 use Rattle.disk.specs.Torn.{torn, torn_write}
 
@@ -121,3 +123,9 @@ pub torn_is_image : (keep : List Bool) (d : Disk) → IsImage d (torn keep d.sin
 torn_is_image keep d =
     let begin : Disk = record d { since = [] } in
     torn_images d.since keep begin d d.base refl refl (base_is_image begin)
+
+-- a life that begins with what a crash left has no other image
+pub begun_leaves : (keep : List Bool) (d : Disk) (h : History) → h.events ≡ [] → h.first ≡ torn keep d.since d.base → LeavesNoMore d (life_of h).present
+begun_leaves keep d h none left =
+    subst (λ (es : List Event). LeavesNoMore d (goes_on (begun h.first h.earlier) es).present) (sym none)
+    (λ image is_image. subst (λ (l : List ℕ). IsImage d l) (sym (only_image (begun h.first h.earlier).present image refl is_image ∙ left)) (torn_is_image keep d))

@@ -76,6 +76,10 @@ pub record IsImage (d : Disk) (image : List ℕ) : Type 0 where
       SomeWrites d.since at byte ⊎
       ((byte ≡ 0) × ((bytes : List ℕ) × IsWhole d.base d.since bytes × (length bytes ≤ at)))
 
+-- a crash leaves nothing of e that it might not have left of d
+abbrev pub LeavesNoMore : Disk → Disk → Type 0
+LeavesNoMore d e = (image : List ℕ) → IsImage e image → IsImage d image
+
 -- how many device calls failed
 abbrev pub failures : List Entry → ℕ
 failures [] = 0

@@ -1,7 +1,7 @@
 // A blob in memory, whose calls can be made to fail, and which can crash.
 ghost use Rattle.std.specs.Prelude.{◌≡◌, ◌≤◌, ◌<◌, ◌+◌, ◌-◌, ◌==◌, ◌++◌, [], ◌∷◌, length, map, vec_len, vec_capacity, if◌then◌else◌, IfOk, OnOk, OnErr, IsOkUnless};
 ghost use Rattle.std.specs.List.{concat};
-ghost use Rattle.disk.specs.Disk.{IsImage, Life, Write, Resize, failures, ReadGoes, WriteGoes, ResizeGoes, SyncGoes};
+ghost use Rattle.disk.specs.Disk.{IsImage, LeavesNoMore, Life, Write, Resize, failures, ReadGoes, WriteGoes, ResizeGoes, SyncGoes};
 ghost use Rattle.disk.specs.History.{life_of, begun, told, request_of};
 ghost use Rattle.disk.specs.Memory.{settled_after, CountsDown, IsRange};
 ghost use Rattle.disk.specs.Torn.{torn};
@@ -127,13 +127,15 @@ impl MemBlob {
 
     /// Crashes, and begins a new life with what is left: the durable bytes, and of the operations that aren't durable,
     /// in order, those bytes of a write for which there is a true flag, and each resize whose flag is true. There is
-    /// one flag for each byte of a write and one for a resize. A missing flag is false.
+    /// one flag for each byte of a write and one for a resize. A missing flag is false. A later crash leaves nothing
+    /// that this one might not have left, until something is written.
     ///
     /// It answers `OutOfMemory` alone, and then nothing changed.
     pub fn crash(&mut self, keep: &[bool]) -> Result<(), Error>
         ensures life { let old = (life_of self.old).present in
             OnOk result (life_of self.new ≡ begun (torn keep.now old.since old.base) old.log) }
         ensures image { let old = (life_of self.old).present in IsImage old (torn keep.now old.since old.base) }
+        ensures leaves { LeavesNoMore (life_of self.old).present (life_of self.new).present }
         ensures failing { self.new.failing ≡ self.old.failing }
         ensures same { OnErr result (self.new ≡ self.old) }
         ensures err { IsOkUnless result Error.OutOfMemory }

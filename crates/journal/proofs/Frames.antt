@@ -3,12 +3,17 @@ use Rattle.std.proofs.Common.{◌≡◌, inl, inr, ◌&&◌, ◌==◌, ℕ, zero
 use Rattle.std.specs.Prelude.{Some, None, Option, if◌then◌else◌, slice_range}
 use Rattle.std.specs.List.{flat_map}
 use Rattle.std.specs.Int.{w16, w32, to_be_bytes, from_be_bytes}
-use Rattle.std.proofs.lemmas.List.{append_assoc, get_or-take, get_or-drop, get_or_past, get_or_append_left, take_all, take_at, drop_all, drop-drop, drop-take, drop-append-le, drop_at, length-replicate}
+use Rattle.std.proofs.lemmas.List.{append_assoc, take-take, get_or-take, get_or-drop, get_or_past, get_or_append_left, take_all, take_at, drop_all, drop-drop, drop-take, drop-append-le, drop_at, length-replicate}
 use Rattle.std.proofs.lemmas.Nat.{from_be_bytes-to_be_bytes_2, from_be_bytes-to_be_bytes_4}
 use Rattle.std.proofs.Math.Nat.{add_comm}
 use Rattle.std.proofs.lemmas.Bool.{cases_lt, ne_eqb}
-use Rattle.crash.proofs.Lists.{within_take}
 use Rattle.journal.specs.Frame.{frame, record_len, frame_len, is_record, record_of, frames_in, frames, listed, records, lacking, missing, IsWhole, filled, IsPrefix}
+
+-- what stands within a beginning of some bytes stands in all of them
+within_take : (n k m : ℕ) (xs : List ℕ) → k + n ≤ m → take n (drop k (take m xs)) ≡ take n (drop k xs)
+within_take n k m xs le =
+    let e : m ≡ k + (m - k) = omega arith in
+    ap (λ (j : ℕ). take n (drop k (take j xs))) e ∙ ap (λ (l : List ℕ). take n l) (drop-take k (m - k) xs) ∙ take-take n (m - k) (drop k xs) (omega arith)
 
 -- these bytes are the same up to there; what a list lacks is 0
 abbrev Agree : ℕ → List ℕ → List ℕ → Type 0

@@ -1,31 +1,28 @@
 -- What a journal's calls do, from what the writer's do.
-use Rattle.std.proofs.Common.{◌≡◌, inl, inr, ℕ, ◌+◌, ◌-◌, ◌^◌, ◌<◌, ◌≤◌, List, [], ◌∷◌, ◌++◌, length, take, drop, replicate, refl, sym, ap, ap₂, ◌∙◌, subst, arith, append-nil, length-append, length-take, length-drop, min, Ok, Err, Result}
+use Rattle.std.proofs.Common.{◌≡◌, inl, inr, ℕ, ◌+◌, ◌-◌, ◌*◌, ◌^◌, ◌<◌, ◌≤◌, List, [], ◌∷◌, ◌++◌, length, take, drop, replicate, refl, sym, ap, ap₂, ◌∙◌, subst, arith, append-nil, length-append, length-take, length-drop, min, Ok, Err, Result}
 use Rattle.std.specs.Prelude.{Option, IfOk, OnOk, IsOkUnless, Vec}
 use Rattle.std.specs.Result.{IsErrAnd}
 use Rattle.std.specs.declared.alloc.Global.{Global}
-use Rattle.std.proofs.lemmas.List.{append_assoc, take_at, take-append-le, drop_at}
+use Rattle.std.proofs.lemmas.List.{append_assoc, take-append-le, drop_at}
 use Rattle.std.proofs.Math.Seq.{take-length}
-use Rattle.disk.specs.Disk.{Disk, Life, IsImage}
+use Rattle.disk.specs.Disk.{Disk, Life, IsImage, LeavesNoMore}
 use Rattle.disk.specs.declared.error.Error.{Error}
 use Rattle.disk.specs.declared.error.Error.TheVariants.{ReadFailed, WriteFailed, ResizeFailed, SyncFailed, InvalidChecksum, BlobInsufficientLength, OffsetOverflow, OutOfMemory, IdsExhausted}
 use Rattle.page.specs.Page.{text}
 use Rattle.cache.specs.CacheState.{CacheState}
 use Rattle.crash.specs.Kept.{AllKeep, AllOnly, Through}
-use Rattle.crash.specs.Stays.{KeepsFloors, LeavesOnly, KeepsAll}
-use Rattle.crash.specs.Looks.{Looked}
-use Rattle.crash.specs.Sound.{IsSound, content}
+use Rattle.crash.specs.Stays.{KeepsAllFloors, LeavesOnly, KeepsAll}
+use Rattle.crash.specs.Looks.{Looked, looked_start, looked_joins}
+use Rattle.crash.specs.Sound.{IsSound, LeavesItsContent, content}
 use Rattle.crash.specs.WriterState.{WriterState}
-use Rattle.crash.proofs.Moments.{through_then, same_floor, keeps_longer, through_joins, through_end}
-use Rattle.crash.proofs.FloorLaws.{floors_of_content}
-use Rattle.crash.proofs.Lists.{take_same}
-use Rattle.crash.proofs.Promise.{keeps_at_rest}
-use Rattle.paged.proofs.There.{reads_keep, reads_leave, sound_leaves}
-use Rattle.paged.specs.Calls.{Appends, Syncs}
+use Rattle.crash.specs.Moments.{through_start, through_then, through_joins, through_end}
+use Rattle.paged.specs.Calls.{GoesOn, Appends, Syncs}
 use Rattle.paged.specs.Reads.{HasPages}
 use Rattle.paged.specs.Recovery.{Recovers}
 use Rattle.paged.specs.Writer.{physical_size}
+use Rattle.journal.specs.declared.frame.Found.{Found}
 use Rattle.journal.specs.Frame.{frame, record_len, frame_len, listed, record_of, records, missing, IsWhole, filled, IsPrefix}
-use Rattle.journal.specs.Journal.{IsJournal, Commits, OnlyRecords, KeepsCommitted, LeavesRecords, CommitsAll, IsAppended, AppendsRecord, IsCommitted, CommitGoes, BringsBack, BringsOnly, ReadRefused, ReadsBytes, ReadsFrame, IsFound, IsFilled, FillsUp, ReadsAll, RecoversJournal, KeepsAnyCommitted}
+use Rattle.journal.specs.Journal.{IsReady, IsJournal, OnlyReads, LeavesContent, Commits, OnlyRecords, KeepsCommitted, LeavesRecords, CommitsAll, IsAppended, AppendsRecord, IsCommitted, CommitGoes, BringsBack, BringsOnly, ReadRefused, ReadRefusedLater, ReadsBytes, ReadsFrame, ReadsRecord, IsFound, IsFilled, FillsUp, ReadsAll, RecoversJournal}
 use Rattle.journal.proofs.Frames.{records-append, missing-append, records-take, frame_is_whole, records-frame, record_of-frame, length-frame, record_len-front, record_of-front, records-from, records-filled, filled_is_whole}
 
 -- the first of the first are the first
@@ -35,16 +32,22 @@ prefix_trans a b c (r, is) (s, then) = (r ++ s, then ∙ ap (λ l. l ++ s) is �
 pub prefix_of_itself : (a : List (List ℕ)) → IsPrefix a a
 prefix_of_itself a = ([], sym (append-nil a))
 
--- a content begins with what it was
-pub begins : (before more : List ℕ) → before ≡ take (length before) (before ++ more)
-begins before more = sym (take_at before more (length before) refl)
+-- the first bytes of a content are those of a longer one
+front : (before more : List ℕ) (n : ℕ) → n ≤ length before → take n before ≡ take n (before ++ more)
+front before more n within = sym (take-append-le n before more within)
 
 -- floors that are kept keep what is committed
-pub keeps_committed : (sum own : List ℕ → ℕ) (P : ℕ) (content : List ℕ) (old new : Life) → KeepsFloors sum P content old new → KeepsCommitted sum own P content old new
-keeps_committed sum own P content old new keeps = λ n commits.
+pub keeps_committed : (sum own : List ℕ → ℕ) (P : ℕ) (old new : Life) → KeepsAllFloors sum P old new → KeepsCommitted sum own P old new
+keeps_committed sum own P old new keeps = λ content n commits.
     through_then (AllKeep sum P content commits.floor) (Commits sum own P content n) old new
     (λ d kept. record { floor = commits.floor; within = commits.within; kept = kept; there = commits.there })
-    (keeps commits.floor commits.within commits.kept)
+    (keeps content commits.floor commits.within commits.kept)
+
+-- one call after another
+pub floors_join : (sum : List ℕ → ℕ) (P : ℕ) (old mid new : Life) → KeepsAllFloors sum P old mid → KeepsAllFloors sum P mid new → KeepsAllFloors sum P old new
+floors_join sum P old mid new first second = λ content floor enough kept.
+    let begun = first content floor enough kept in
+    through_joins (AllKeep sum P content floor) old mid new begun (second content floor enough (through_end (AllKeep sum P content floor) old mid begun))
 
 -- a text that is a beginning of a content has the first of its records
 text_prefix : (own : List ℕ → ℕ) (read content : List ℕ) → read ≡ take (length read) content → IsPrefix (records own read) (records own content)
@@ -64,19 +67,19 @@ leaves_records sum own P before behind all old new first second leaves =
     through_then (AllOnly sum P before behind) (OnlyRecords sum own P all) old new (λ d only. only_records sum own P before behind all d first second only) leaves
 
 -- where nothing was asked, there is what there was
-pub leaves_still : (sum own : List ℕ → ℕ) (w : WriterState) (all : List (List ℕ)) (life : Life) → IsSound sum w life.present → IsPrefix (records own (content w life.present.readable)) all
+pub leaves_still : (sum own : List ℕ → ℕ) (w : WriterState) (all : List (List ℕ)) (life : Life) → LeavesItsContent sum w life.present → IsPrefix (records own (content w life.present.readable)) all
     → LeavesRecords sum own w.page_size all life life
-leaves_still sum own w all life sound first =
+leaves_still sum own w all life only first =
     let held = content w life.present.readable in
-    leaves_records sum own w.page_size held held all life life first first (sound_leaves sum w held life sound)
+    leaves_records sum own w.page_size held held all life life first first (through_start (AllOnly sum w.page_size held held) life only)
 
 -- what is committed of a content is of a longer one
 pub commits_longer : (sum own : List ℕ → ℕ) (P : ℕ) (content more : List ℕ) (n : ℕ) (d : Disk) → Commits sum own P content n d → Commits sum own P (content ++ more) n d
 commits_longer sum own P content more n d commits = record {
   floor = commits.floor;
   within = omega (arith, commits.within, length-append content more);
-  kept = keeps_longer sum P content (content ++ more) commits.floor d (begins content more) commits.within commits.kept;
-  there = subst (λ (l : List ℕ). n ≤ length (records own l)) (same_floor content (content ++ more) commits.floor (begins content more) commits.within) commits.there;
+  kept = λ image is_image. commits.kept image is_image ∙ front content more commits.floor commits.within;
+  there = subst (λ (l : List ℕ). n ≤ length (records own l)) (front content more commits.floor commits.within) commits.there;
 }
 
 -- where all of a content is kept, all of its records are committed
@@ -87,6 +90,10 @@ commits_all sum own P content d keeps = record {
   kept = keeps;
   there = (let e : length (records own (take (length content) content)) ≡ length (records own content) = ap (λ (l : List ℕ). length (records own l)) (take-length content) in omega arith);
 }
+
+-- a writer that went on is ready
+gone_on : (sum : List ℕ → ℕ) (w : WriterState) (old : Life) (more : List ℕ) (now : WriterState) (new : Life) → GoesOn sum w old more now new → HasPages now new → IsReady sum now new
+gone_on sum w old more now new goes there = record { sound = goes.sound; there = there; size = goes.size; only = goes.only }
 
 -- a record that was appended
 pub appended : (sum own : List ℕ → ℕ) (w : WriterState) (bytes : List ℕ) (old new : Life) (now : WriterState) (place : ℕ) → length bytes ≤ 65535 → own bytes < 2 ^ 32
@@ -99,8 +106,7 @@ appended sum own w bytes old new now place short small whole there (at, goes) =
     record {
       at = at;
       journal = record {
-        sound = goes.sound;
-        there = there;
+        ready = gone_on sum w old framed now new goes there;
         whole = ap missing goes.content ∙ missing-append before framed whole ∙ frame_is_whole own bytes fits;
       };
       holds = goes.content;
@@ -139,7 +145,7 @@ pub committed : (sum own : List ℕ → ℕ) (w : WriterState) (old new : Life) 
 committed sum own w old new now whole there (goes, settled) keeps =
     let same : content now new.present.readable ≡ content w old.present.readable = goes.content ∙ append-nil (content w old.present.readable) in
     record {
-      journal = record { sound = goes.sound; there = there; whole = ap missing same ∙ whole };
+      journal = record { ready = gone_on sum w old [] now new goes there; whole = ap missing same ∙ whole };
       holds = same;
       same = goes.same;
       all = subst (λ (P : ℕ). CommitsAll sum own P (content now new.present.readable) new.present) (sym goes.same.page_size)
@@ -187,15 +193,14 @@ commit_gives sum own w old new (Ok now) is = is.journal
 commit_gives sum own w old new (Err e) is = tt
 
 -- a frame is read in two reads: how long it is, and all of it
-pub frame_read : (sum : List ℕ → ℕ) (w : WriterState) (place rest len : ℕ) (head : List ℕ) (old mid new : Life) (result : Result (List ℕ) Error) → Looked old mid → length (drop place (content w old.present.readable)) ≡ rest
+pub frame_read : (sum : List ℕ → ℕ) (w : WriterState) (place rest len : ℕ) (head : List ℕ) (old mid new : Life) (result : Result (List ℕ) Error) → OnlyReads sum w old mid → length (drop place (content w old.present.readable)) ≡ rest
     → ReadsBytes sum w place (min rest 2) old mid (Ok head) → len ≡ min rest (record_len head + 7) → ReadsBytes sum w place len mid new result → ReadsFrame sum w place rest old new result
-frame_read sum w place rest len head old mid new (Ok bytes) looked long first is second =
+frame_read sum w place rest len head old mid new (Ok bytes) left long first is second =
     let behind = drop place (content w old.present.readable) in
-    let same : content w mid.present.readable ≡ content w old.present.readable = ap (λ (d : Disk). content w d.readable) looked.same in
     let said : record_len head ≡ record_len behind = ap record_len first ∙ record_len-front (min rest 2) behind (omega (arith, long)) in
     let n : len ≡ min (frame_len behind) rest = omega arith in
-    second ∙ ap₂ (λ k (l : List ℕ). take k (drop place l)) n same
-frame_read sum w place rest len head old mid new (Err e) looked long first is second = (mid, inr looked, second)
+    second ∙ ap₂ (λ k (l : List ℕ). take k (drop place l)) n left.holds
+frame_read sum w place rest len head old mid new (Err e) left long first is second = (mid, inr left.looked, second)
 
 pub frame_not_read : (sum : List ℕ → ℕ) (w : WriterState) (place rest : ℕ) (old new : Life) (e : Error) → ReadRefused sum w old new e → ReadsFrame sum w place rest old new (Err e)
 frame_not_read sum w place rest old new e refused = (old, inl refl, refused)
@@ -218,54 +223,93 @@ found own content place rest framed bytes end within some is held behind =
           ∙ ap₂ (λ b n. listed b ++ records own (drop n content)) (sym is_record) (sym ends);
     }
 
--- a read leaves the content that there was, whatever else may be
-pub looked_leaves : (sum : List ℕ → ℕ) (w : WriterState) (behind : List ℕ) (old new : Life) → IsSound sum w old.present → Looked old new → LeavesOnly sum w.page_size (content w old.present.readable) behind old new
-looked_leaves sum w behind old new sound looked =
+-- a read of the writer's content
+pub read_leaves : (sum : List ℕ → ℕ) (w : WriterState) (old new : Life) → IsReady sum w old → Looked old new → (IsSound sum w old.present → IsSound sum w new.present)
+    → (IsSound sum w old.present → KeepsAllFloors sum w.page_size old new) → (IsSound sum w old.present → LeavesContent sum w.page_size (content w old.present.readable) old new) → OnlyReads sum w old new
+read_leaves sum w old new ready looked sound kept only =
     let held = content w old.present.readable in
-    through_then (AllOnly sum w.page_size held held) (AllOnly sum w.page_size held behind) old new
-    (λ d only. λ image is_image free. elim (only image is_image free) [ inl is ↦ inl is | inr is ↦ inl is ])
-    (reads_leave sum w old new looked sound)
+    let same : new.present.readable ≡ old.present.readable = ap (λ (d : Disk). d.readable) looked.same in
+    let holds : content w new.present.readable ≡ held = ap (λ (l : List ℕ). content w l) same in
+    record {
+      ready = record {
+        sound = sound ready.sound;
+        there = subst (λ (l : List ℕ). w.full_pages * (w.page_size + 12) ≤ length l) (sym same) ready.there;
+        size = ready.size ∙ ap length (sym holds);
+        only = subst (λ (l : List ℕ). AllOnly sum w.page_size l l new.present) (sym holds) (through_end (AllOnly sum w.page_size held held) old new (only ready.sound));
+      };
+      holds = holds;
+      looked = looked;
+      kept = kept ready.sound;
+      only = only ready.sound;
+    }
 
--- the content after a read
-same_content : (w : WriterState) (old mid : Life) → Looked old mid → content w mid.present.readable ≡ content w old.present.readable
-same_content w old mid looked = ap (λ (d : Disk). content w d.readable) looked.same
+-- no read
+pub reads_start : (sum : List ℕ → ℕ) (w : WriterState) (life : Life) → IsReady sum w life → OnlyReads sum w life life
+reads_start sum w life ready =
+    let held = content w life.present.readable in
+    record {
+      ready = ready;
+      holds = refl;
+      looked = looked_start life;
+      kept = λ content floor enough kept. through_start (AllKeep sum w.page_size content floor) life kept;
+      only = through_start (AllOnly sum w.page_size held held) life ready.only;
+    }
+
+-- one after another
+pub reads_join : (sum : List ℕ → ℕ) (w : WriterState) (old mid new : Life) → OnlyReads sum w old mid → OnlyReads sum w mid new → OnlyReads sum w old new
+reads_join sum w old mid new first second =
+    let held = content w old.present.readable in
+    record {
+      ready = second.ready;
+      holds = second.holds ∙ first.holds;
+      looked = looked_joins old mid new first.looked second.looked;
+      kept = floors_join sum w.page_size old mid new first.kept second.kept;
+      only = through_joins (AllOnly sum w.page_size held held) old mid new first.only
+          (subst (λ (l : List ℕ). LeavesContent sum w.page_size l mid new) first.holds second.only);
+    }
+
+-- where a crash leaves only the content, it leaves that or another
+pub leaves_or : (sum : List ℕ → ℕ) (P : ℕ) (held behind : List ℕ) (old new : Life) → LeavesContent sum P held old new → LeavesOnly sum P held behind old new
+leaves_or sum P held behind old new only =
+    through_then (AllOnly sum P held held) (AllOnly sum P held behind) old new
+    (λ d left. λ image is_image free. elim (left image is_image free) [ inl is ↦ inl is | inr is ↦ inl is ]) only
 
 -- zeros appended behind a read
-pub fill_keeps : (sum : List ℕ → ℕ) (w : WriterState) (old mid new : Life) → IsSound sum w old.present → Looked old mid → KeepsFloors sum w.page_size (content w mid.present.readable) mid new
-    → KeepsFloors sum w.page_size (content w old.present.readable) old new
-fill_keeps sum w old mid new sound looked keeps = λ floor enough kept.
-    let first = reads_keep sum w old mid looked sound floor enough kept in
-    through_joins (AllKeep sum w.page_size (content w old.present.readable) floor) old mid new first
-    (subst (λ (l : List ℕ). KeepsFloors sum w.page_size l mid new) (same_content w old mid looked) keeps floor enough
-    (through_end (AllKeep sum w.page_size (content w old.present.readable) floor) old mid first))
-
-pub fill_leaves : (sum : List ℕ → ℕ) (w : WriterState) (zeros : List ℕ) (old mid new : Life) → IsSound sum w old.present → Looked old mid → zeros ≡ replicate (missing (content w old.present.readable)) 0
+pub fill_leaves : (sum : List ℕ → ℕ) (w : WriterState) (zeros : List ℕ) (old mid new : Life) → OnlyReads sum w old mid → zeros ≡ replicate (missing (content w old.present.readable)) 0
     → LeavesOnly sum w.page_size (content w mid.present.readable) (content w mid.present.readable ++ zeros) mid new → LeavesOnly sum w.page_size (content w old.present.readable) (filled (content w old.present.readable)) old new
-fill_leaves sum w zeros old mid new sound looked is leaves =
+fill_leaves sum w zeros old mid new left is leaves =
     let held = content w old.present.readable in
-    through_joins (AllOnly sum w.page_size held (filled held)) old mid new (looked_leaves sum w (filled held) old mid sound looked)
+    through_joins (AllOnly sum w.page_size held (filled held)) old mid new (leaves_or sum w.page_size held (filled held) old mid left.only)
     (subst (λ (z : List ℕ). LeavesOnly sum w.page_size held (held ++ z) mid new) is
-    (subst (λ (l : List ℕ). LeavesOnly sum w.page_size l (l ++ zeros) mid new) (same_content w old mid looked) leaves))
+    (subst (λ (l : List ℕ). LeavesOnly sum w.page_size l (l ++ zeros) mid new) left.holds leaves))
 
 -- so the last frame is filled up
-pub fill_goes : (sum own : List ℕ → ℕ) (w : WriterState) (found : List (List ℕ)) (zeros : List ℕ) (old mid new : Life) (now : WriterState) (place : ℕ) → Looked old mid → found ≡ records own (content w old.present.readable)
+pub fill_goes : (sum own : List ℕ → ℕ) (w : WriterState) (found : List (List ℕ)) (zeros : List ℕ) (old mid new : Life) (now : WriterState) (place : ℕ) → OnlyReads sum w old mid → found ≡ records own (content w old.present.readable)
     → zeros ≡ replicate (missing (content w old.present.readable)) 0 → Appends sum w zeros mid new (Ok (now, place)) → HasPages now new → IsFilled sum own w old new now found
-fill_goes sum own w found zeros old mid new now place looked given is (at, goes) there =
+fill_goes sum own w found zeros old mid new now place left given is (at, goes) there =
     let held = content w old.present.readable in
-    let holds : content now new.present.readable ≡ filled held = goes.content ∙ ap₂ (λ (a b : List ℕ). a ++ b) (same_content w old mid looked) is in
+    let holds : content now new.present.readable ≡ filled held = goes.content ∙ ap₂ (λ (a b : List ℕ). a ++ b) left.holds is in
     record {
-      journal = record { sound = goes.sound; there = there; whole = ap missing holds ∙ filled_is_whole held };
+      journal = record { ready = gone_on sum w mid zeros now new goes there; whole = ap missing holds ∙ filled_is_whole held };
       holds = holds;
       given = given;
       same = goes.same;
     }
 
+-- a recovered writer is ready
+pub recovered_ready : (sum : List ℕ → ℕ) (cache : CacheState) (capacity : ℕ) (old new : Life) (w : WriterState) → Recovers sum cache capacity old new (Ok w) → HasPages w new → IsReady sum w new
+recovered_ready sum cache capacity old new w recovers there = record { sound = recovers.sound; there = there; size = recovers.size; only = recovers.only }
+
+-- no frame was read
+pub not_found : (sum own : List ℕ → ℕ) (w : WriterState) (place rest : ℕ) (old new : Life) (e : Error) (result : Result (Option Found) Error) → IsErrAnd result (λ x. x ≡ e)
+    → ReadsFrame sum w place rest old new (Err e) → ReadsRecord sum own w place old new result
+not_found sum own w place rest old new e (Ok f) is refused = absurd is
+not_found sum own w place rest old new e (Err x) is refused = subst (λ (y : Error). ReadRefusedLater sum w old new y) (sym is) refused
+
 -- what a recovery keeps of a text T, once the blob's recovered writer stands for it and goes on
-pub recovered_keeps : (sum own : List ℕ → ℕ) (P : ℕ) (T : List ℕ) (old mid new : Life) (w : WriterState) → w.page_size ≡ P → content w mid.present.readable ≡ T
-    → Through (AllKeep sum P T (length T)) old mid → KeepsFloors sum w.page_size (content w mid.present.readable) mid new → Through (AllKeep sum P T (length T)) old new
-recovered_keeps sum own P T old mid new w size holds first keeps =
-    let then : KeepsFloors sum P T mid new = subst (λ (n : ℕ). KeepsFloors sum n T mid new) size (subst (λ (l : List ℕ). KeepsFloors sum w.page_size l mid new) holds keeps) in
-    through_joins (AllKeep sum P T (length T)) old mid new first (then (length T) (omega arith) (through_end (AllKeep sum P T (length T)) old mid first))
+pub recovered_keeps : (sum : List ℕ → ℕ) (P : ℕ) (T : List ℕ) (old mid new : Life) → Through (AllKeep sum P T (length T)) old mid → KeepsAllFloors sum P mid new → Through (AllKeep sum P T (length T)) old new
+recovered_keeps sum P T old mid new first keeps =
+    through_joins (AllKeep sum P T (length T)) old mid new first (keeps T (length T) (omega arith) (through_end (AllKeep sum P T (length T)) old mid first))
 
 pub recovered_leaves : (sum own : List ℕ → ℕ) (P : ℕ) (T : List ℕ) (old mid new : Life) (w : WriterState) → w.page_size ≡ P → content w mid.present.readable ≡ T
     → LeavesOnly sum P T T old mid → LeavesOnly sum w.page_size (content w mid.present.readable) (filled (content w mid.present.readable)) mid new → LeavesRecords sum own P (records own T) old new
@@ -289,18 +333,16 @@ all_read sum own w bytes old new (Err e) is found lacks err = inl err
 -- a recovery, from that of the blob and the rest
 pub recovery_goes : (sum own : List ℕ → ℕ) (cache : CacheState) (capacity : ℕ) (old mid new : Life) (w : WriterState) (result : Result (WriterState × Vec (List ℕ) Global) Error)
     → Recovers sum cache capacity old mid (Ok w) → KeepsAll sum cache.page_size (text sum cache.page_size old.present.readable) mid
-    → KeepsFloors sum w.page_size (content w mid.present.readable) mid new → FillsUp sum own w mid new result → RecoversJournal sum own cache capacity old new result
+    → KeepsAllFloors sum cache.page_size mid new → FillsUp sum own w mid new result → RecoversJournal sum own cache capacity old new result
 recovery_goes sum own cache capacity old mid new w (Ok r) recovers all keeps fills =
     let P = cache.page_size in
     let T = text sum P old.present.readable in
-    let size : w.page_size ≡ P = ap (λ (x : WriterState). x.page_size) recovers.state in
-    let then : KeepsFloors sum P T mid new = subst (λ (n : ℕ). KeepsFloors sum n T mid new) size (subst (λ (l : List ℕ). KeepsFloors sum w.page_size l mid new) recovers.content keeps) in
-    let kept : AllKeep sum P T (length T) new.present = through_end (AllKeep sum P T (length T)) mid new (then (length T) (omega arith) all) in
+    let kept : AllKeep sum P T (length T) new.present = through_end (AllKeep sum P T (length T)) mid new (keeps T (length T) (omega arith) all) in
     let holds : content r.0 new.present.readable ≡ filled T = fills.holds ∙ ap filled recovers.content in
     let given : r.1.items ≡ records own T = fills.given ∙ ap (λ (l : List ℕ). records own l) recovers.content in
     let commits : Commits sum own P (filled T) (length (records own T)) new.present = commits_longer sum own P T (replicate (missing T) 0) (length (records own T)) new.present (commits_all sum own P T new.present kept) in
     record {
-      page_size = fills.same.page_size ∙ size;
+      page_size = fills.same.page_size ∙ recovers.page_size;
       journal = fills.journal;
       holds = holds;
       given = given;
@@ -332,32 +374,14 @@ brought_only sum own cache capacity d image old new (Ok r) is_image is recovered
     subst (λ (rs : List (List ℕ)). IsPrefix rs all) (sym found) (only image is_image free)
 brought_only sum own cache capacity d image old new (Err e) is_image is recovered = tt
 
--- floors of the text of what is readable that are kept keep what was committed of any content
-pub keeps_any : (sum own : List ℕ → ℕ) (P : ℕ) (old new : Life) → IsImage old.present old.present.readable → KeepsFloors sum P (text sum P old.present.readable) old new → KeepsAnyCommitted sum own P old new
-keeps_any sum own P old new is_image floors = λ content. keeps_committed sum own P content old new (floors_of_content sum P content old new is_image floors)
-
--- what a crash left begins a new life, of which all is kept: what was committed still is
-pub commits_begun : (sum own : List ℕ → ℕ) (P : ℕ) (content : List ℕ) (n : ℕ) (d e : Disk) (image : List ℕ) → IsImage d image → e.base ≡ image → e.since ≡ [] → Commits sum own P content n d → Commits sum own P content n e
-commits_begun sum own P content n d e image is_image base since commits =
-    let T = text sum P image in
-    let f = commits.floor in
-    let same : take f T ≡ take f content = commits.kept image is_image in
-    let enough : f ≤ length T =
-    (let a = ap length same in let b = length-take f T in let c = length-take f content in omega (arith, commits.within)) in
-    let all : AllKeep sum P T (length T) e = subst (λ (l : List ℕ). AllKeep sum P (text sum P l) (length (text sum P l)) e) base (keeps_at_rest sum P e since) in
-    record {
-      floor = f;
-      within = commits.within;
-      kept = λ left is. take_same f (length T) (text sum P left) T enough (all left is) ∙ same;
-      there = commits.there;
-    }
-
-pub floors_join : (sum : List ℕ → ℕ) (P : ℕ) (T : List ℕ) (old mid new : Life) (w : WriterState) → w.page_size ≡ P → content w mid.present.readable ≡ T
-    → KeepsFloors sum P T old mid → KeepsFloors sum w.page_size (content w mid.present.readable) mid new → KeepsFloors sum P T old new
-floors_join sum P T old mid new w size holds first keeps = λ floor enough kept.
-    let then : KeepsFloors sum P T mid new = subst (λ (n : ℕ). KeepsFloors sum n T mid new) size (subst (λ (l : List ℕ). KeepsFloors sum w.page_size l mid new) holds keeps) in
-    let begun = first floor enough kept in
-    through_joins (AllKeep sum P T floor) old mid new begun (then floor enough (through_end (AllKeep sum P T floor) old mid begun))
+-- what was committed as a blob crashed still is: a crash of what it left leaves nothing else
+pub commits_left : (sum own : List ℕ → ℕ) (P : ℕ) (content : List ℕ) (n : ℕ) (d e : Disk) → LeavesNoMore d e → Commits sum own P content n d → Commits sum own P content n e
+commits_left sum own P content n d e less commits = record {
+  floor = commits.floor;
+  within = commits.within;
+  kept = λ image is_image. commits.kept image (less image is_image);
+  there = commits.there;
+}
 
 -- the content wasn't read, and so the last frame wasn't filled up
 pub fill_unread : (sum own : List ℕ → ℕ) (w : WriterState) (old new : Life) (e : Error) (result : Result (WriterState × Vec (List ℕ) Global) Error) → IsErrAnd result (λ x. x ≡ e)

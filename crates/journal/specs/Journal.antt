@@ -10,7 +10,8 @@ use Rattle.cache.specs.CacheState.{CacheState}
 use Rattle.crash.specs.Guard.{IsChanceFree}
 use Rattle.crash.specs.Kept.{AllKeep, Through}
 use Rattle.crash.specs.Looks.{Looked}
-use Rattle.crash.specs.Sound.{IsSound, content}
+use Rattle.crash.specs.Sound.{IsSound, LeavesItsContent, content}
+use Rattle.crash.specs.Stays.{KeepsAllFloors, LeavesOnly}
 use Rattle.crash.specs.WriterState.{WriterState}
 use Rattle.paged.specs.Calls.{IsSameWriter, Appends, HasCause}
 use Rattle.paged.specs.Reads.{HasPages, Reads, size_of}
@@ -19,12 +20,31 @@ use Rattle.paged.specs.Writer.{physical_size}
 use Rattle.journal.specs.declared.frame.Found.{Found}
 use Rattle.journal.specs.Frame.{frame, frame_len, record_of, records, listed, missing, IsWhole, filled, IsPrefix}
 
--- a journal between two calls: its writer is sound, its pages are in the blob, and its content is
--- whole frames
-pub record IsJournal (sum : List ℕ → ℕ) (w : WriterState) (life : Life) : Type 0 where
+-- a writer between two calls, as the last of them left it: it is sound, its pages are in the blob,
+-- its size is that of its content, and chance aside a crash leaves only that
+pub record IsReady (sum : List ℕ → ℕ) (w : WriterState) (life : Life) : Type 0 where
   pub sound : IsSound sum w life.present
   pub there : HasPages w life
+  pub size : size_of w ≡ length (content w life.present.readable)
+  pub only : LeavesItsContent sum w life.present
+
+-- a journal between two calls: its writer is ready, and its content is whole frames
+pub record IsJournal (sum : List ℕ → ℕ) (w : WriterState) (life : Life) : Type 0 where
+  pub ready : IsReady sum w life
   pub whole : IsWhole (content w life.present.readable)
+
+-- chance aside, a crash at any moment since leaves of this content a beginning
+abbrev pub LeavesContent : (List ℕ → ℕ) → ℕ → List ℕ → Life → Life → Type 0
+LeavesContent sum P content old new = LeavesOnly sum P content content old new
+
+-- reads: the writer is ready again, the content is the same, and a crash at any moment since keeps
+-- and leaves what one before them did
+pub record OnlyReads (sum : List ℕ → ℕ) (w : WriterState) (old new : Life) : Type 0 where
+  pub ready : IsReady sum w new
+  pub holds : content w new.present.readable ≡ content w old.present.readable
+  pub looked : Looked old new
+  pub kept : KeepsAllFloors sum w.page_size old new
+  pub only : LeavesContent sum w.page_size (content w old.present.readable) old new
 
 -- the content's first n records are committed: they stand in so many of its bytes as every image
 -- keeps
@@ -45,21 +65,17 @@ OnlyRecords sum own P all d =
     (image : List ℕ) → IsImage d image → IsChanceFree sum P d image
     → IsPrefix (records own (text sum P image)) all
 
--- what was committed of a content as a call began is committed at each moment since
-abbrev pub KeepsCommitted : (sum own : List ℕ → ℕ) → ℕ → List ℕ → Life → Life → Type 0
-KeepsCommitted sum own P content old new =
-    (n : ℕ) → Commits sum own P content n old.present
+-- what was committed as a call began is committed at each moment since
+abbrev pub KeepsCommitted : (sum own : List ℕ → ℕ) → ℕ → Life → Life → Type 0
+KeepsCommitted sum own P old new =
+    (content : List ℕ) (n : ℕ) → Commits sum own P content n old.present
     → Through (Commits sum own P content n) old new
 
 -- chance aside, a crash at any moment since leaves only the first of these records
 abbrev pub LeavesRecords : (sum own : List ℕ → ℕ) → ℕ → List (List ℕ) → Life → Life → Type 0
 LeavesRecords sum own P all old new = Through (OnlyRecords sum own P all) old new
 
--- the same of the content that a journal had as the call began
-abbrev pub KeepsItsCommitted : (sum own : List ℕ → ℕ) → WriterState → Life → Life → Type 0
-KeepsItsCommitted sum own w old new =
-    KeepsCommitted sum own w.page_size (content w old.present.readable) old new
-
+-- the first of those that a journal had as the call began
 abbrev pub LeavesItsRecords : (sum own : List ℕ → ℕ) → WriterState → Life → Life → Type 0
 LeavesItsRecords sum own w old new =
     LeavesRecords sum own w.page_size (records own (content w old.present.readable)) old new
@@ -194,11 +210,7 @@ RecoversJournal sum own cache capacity old new (Err e) =
     ⊎ ((mid : Life) × (w : WriterState) × Recovers sum cache capacity old mid (Ok w)
     × FillsUp sum own w mid new (Err e))
 
--- what was committed of any content as a call began is committed at each moment since
-abbrev pub KeepsAnyCommitted : (sum own : List ℕ → ℕ) → ℕ → Life → Life → Type 0
-KeepsAnyCommitted sum own P old new = (content : List ℕ) → KeepsCommitted sum own P content old new
-
--- and, whatever happened between them, at the last
+-- what was committed at one moment still is at a later one
 abbrev pub StaysCommitted : (sum own : List ℕ → ℕ) → ℕ → Disk → Disk → Type 0
 StaysCommitted sum own P d e =
     (content : List ℕ) (n : ℕ) → Commits sum own P content n d → Commits sum own P content n e

@@ -2,12 +2,12 @@
 ghost use Rattle.std.specs.Prelude.{◌≡◌, ◌+◌, ◌*◌, ◌≤◌, ◌++◌, ◌∷◌, [], length, replicate, IfOk, OnOk, IsOkUnless};
 ghost use Rattle.crash.specs.Looks.{Looked};
 ghost use Rattle.crash.specs.Sound.{IsSound, content};
-ghost use Rattle.crash.specs.Stays.{KeepsAll, KeepsFloors, LeavesOnly};
+ghost use Rattle.crash.specs.Stays.{KeepsAll, KeepsAllFloors, LeavesOnly};
 ghost use Rattle.page.specs.Page.{text};
 ghost use Rattle.paged.specs.Calls.{Appends, Syncs};
 ghost use Rattle.paged.specs.Reads.{HasPages, size_of};
 ghost use Rattle.journal.specs.Frame.{filled};
-ghost use Rattle.journal.specs.Journal.{IsJournal, AppendsRecord, CommitGoes, ReadsBytes, ReadsFrame, ReadsRecord, ReadsAll, FillsUp, RecoversJournal, KeepsItsCommitted, LeavesItsRecords, LeavesOneMore, KeepsAnyCommitted, KeepsAllRecords, LeavesAllRecords, BringsBack};
+ghost use Rattle.journal.specs.Journal.{IsJournal, AppendsRecord, CommitGoes, ReadsBytes, ReadsFrame, ReadsRecord, ReadsAll, FillsUp, RecoversJournal, IsReady, OnlyReads, KeepsCommitted, LeavesItsRecords, LeavesOneMore, KeepsAllRecords, LeavesAllRecords, BringsBack};
 
 use crate::frame::{Found, frame_of, record_at, record_len_of, records_of};
 use cache::CacheRef;
@@ -87,7 +87,7 @@ impl<B: Blob, H: Sum, R: Sum> Journal<B, H, R> {
 
         // At each moment since the call began, and at every answer.
         ensures kept { let old = B.life blob.old in let new = B.life blob.new in
-            KeepsItsCommitted H.sum_of R.sum_of self old new }
+            KeepsCommitted H.sum_of R.sum_of self.page_size old new }
         ensures only { let old = B.life blob.old in let new = B.life blob.new in
             LeavesOneMore H.sum_of R.sum_of self bytes.now old new }
     {
@@ -101,8 +101,7 @@ impl<B: Blob, H: Sum, R: Sum> Journal<B, H, R> {
         ensures appends { let old = B.life blob.old in let new = B.life blob.new in
             Appends H.sum_of self bytes.now old new result }
         ensures there { IfOk result (λ r. HasPages r.0 (B.life blob.new)) }
-        ensures kept { let held = content self (B.life blob.old).present.readable in
-            KeepsFloors H.sum_of self.page_size held (B.life blob.old) (B.life blob.new) }
+        ensures kept { KeepsAllFloors H.sum_of self.page_size (B.life blob.old) (B.life blob.new) }
         ensures only { let old = B.life blob.old in
             let held = content self old.present.readable in
             LeavesOnly H.sum_of self.page_size held (held ++ bytes.now) old (B.life blob.new) }
@@ -125,7 +124,7 @@ impl<B: Blob, H: Sum, R: Sum> Journal<B, H, R> {
 
         // At each moment since the call began, and at every answer.
         ensures kept { let old = B.life blob.old in let new = B.life blob.new in
-            KeepsItsCommitted H.sum_of R.sum_of self old new }
+            KeepsCommitted H.sum_of R.sum_of self.page_size old new }
         ensures only { LeavesItsRecords H.sum_of R.sum_of self (B.life blob.old) (B.life blob.new) }
     {
         self.sync(blob, cache)
@@ -138,8 +137,7 @@ impl<B: Blob, H: Sum, R: Sum> Journal<B, H, R> {
         ensures there { IfOk result (λ w. HasPages w (B.life blob.new)) }
         ensures durable { let held = content self (B.life blob.old).present.readable in
             OnOk result (KeepsAll H.sum_of self.page_size held (B.life blob.new)) }
-        ensures kept { let held = content self (B.life blob.old).present.readable in
-            KeepsFloors H.sum_of self.page_size held (B.life blob.old) (B.life blob.new) }
+        ensures kept { KeepsAllFloors H.sum_of self.page_size (B.life blob.old) (B.life blob.new) }
         ensures only { let held = content self (B.life blob.old).present.readable in
             LeavesOnly H.sum_of self.page_size held held (B.life blob.old) (B.life blob.new) }
     {
@@ -158,14 +156,11 @@ impl<B: Blob, H: Sum, R: Sum> Journal<B, H, R> {
         place: u64,
         len: usize,
     ) -> Result<IoBuf, Error>
-        requires there { HasPages self.now (B.life blob.old) }
+        requires ready { IsReady H.sum_of self.now (B.life blob.old) }
         requires within { place + len ≤ size_of self.now }
         ensures reads { let old = B.life blob.old in let new = B.life blob.new in
             ReadsBytes H.sum_of self.now place len old new result }
-        ensures looked { Looked (B.life blob.old) (B.life blob.new) }
-        ensures there { HasPages self.now (B.life blob.new) }
-        ensures sound { IsSound H.sum_of self.now (B.life blob.old).present
-            → IsSound H.sum_of self.now (B.life blob.new).present }
+        ensures leaves { OnlyReads H.sum_of self.now (B.life blob.old) (B.life blob.new) }
     {
         match self.writer.read_at(blob, cache, place, len) {
             Ok(bufs) => bufs.coalesce(),
@@ -175,12 +170,10 @@ impl<B: Blob, H: Sum, R: Sum> Journal<B, H, R> {
 
     // The records of the content, and how many bytes its last frame lacks.
     fn read_all(&self, blob: &mut B, cache: &mut CacheRef) -> Result<(Vec<IoBuf>, usize), Error>
-        requires sound { IsSound H.sum_of self.now (B.life blob.old).present }
-        requires there { HasPages self.now (B.life blob.old) }
+        requires ready { IsReady H.sum_of self.now (B.life blob.old) }
         ensures reads { let old = B.life blob.old in let new = B.life blob.new in
             ReadsAll H.sum_of R.sum_of self.now old new result }
-        ensures looked { Looked (B.life blob.old) (B.life blob.new) }
-        ensures sound { IsSound H.sum_of self.now (B.life blob.new).present }
+        ensures leaves { OnlyReads H.sum_of self.now (B.life blob.old) (B.life blob.new) }
     {
         let bytes = self.read(blob, cache, 0, self.size() as usize)?;
         records_of::<R>(self.alloc, &bytes)
@@ -188,11 +181,9 @@ impl<B: Blob, H: Sum, R: Sum> Journal<B, H, R> {
 
     // Fills the last frame up, where it was cut short, and answers the records that there are.
     fn fill(self, blob: &mut B, cache: &mut CacheRef) -> Result<(Self, Vec<IoBuf>), Error>
-        requires sound { IsSound H.sum_of self (B.life blob.old).present }
-        requires there { HasPages self (B.life blob.old) }
+        requires ready { IsReady H.sum_of self (B.life blob.old) }
         ensures fills { FillsUp H.sum_of R.sum_of self (B.life blob.old) (B.life blob.new) result }
-        ensures kept { let held = content self (B.life blob.old).present.readable in
-            KeepsFloors H.sum_of self.page_size held (B.life blob.old) (B.life blob.new) }
+        ensures kept { KeepsAllFloors H.sum_of self.page_size (B.life blob.old) (B.life blob.new) }
         ensures only { let old = B.life blob.old in let held = content self old.present.readable in
             LeavesOnly H.sum_of self.page_size held (filled held) old (B.life blob.new) }
     {
@@ -228,7 +219,7 @@ impl<B: Blob, H: Sum, R: Sum> Journal<B, H, R> {
 
         // At each moment since the call began, and at every answer.
         ensures floors { let old = B.life blob.old in let new = B.life blob.new in
-            KeepsAnyCommitted H.sum_of R.sum_of cache.old.page_size old new }
+            KeepsCommitted H.sum_of R.sum_of cache.old.page_size old new }
 
         // The same, where all was durable.
         ensures kept { let old = B.life blob.old in let new = B.life blob.new in
@@ -249,12 +240,11 @@ impl<B: Blob, H: Sum, R: Sum> Journal<B, H, R> {
         place: u64,
         rest: u64,
     ) -> Result<IoBuf, Error>
-        requires journal { IsJournal H.sum_of self.now (B.life blob.old) }
+        requires ready { IsReady H.sum_of self.now (B.life blob.old) }
         requires within { place + rest ≡ size_of self.now }
         ensures reads { let old = B.life blob.old in let new = B.life blob.new in
             ReadsFrame H.sum_of self.now place rest old new result }
-        ensures looked { Looked (B.life blob.old) (B.life blob.new) }
-        ensures journal { IsJournal H.sum_of self.now (B.life blob.new) }
+        ensures leaves { OnlyReads H.sum_of self.now (B.life blob.old) (B.life blob.new) }
     {
         let head = self.read(blob, cache, place, rest.min(2) as usize)?;
         let len = rest.min(record_len_of(head.as_ref()) as u64 + 7);
@@ -263,11 +253,10 @@ impl<B: Blob, H: Sum, R: Sum> Journal<B, H, R> {
 
     // The frame that begins at a place, or none.
     fn find(&self, blob: &mut B, cache: &mut CacheRef, place: u64) -> Result<Option<Found>, Error>
-        requires journal { IsJournal H.sum_of self.now (B.life blob.old) }
+        requires ready { IsReady H.sum_of self.now (B.life blob.old) }
         ensures reads { let old = B.life blob.old in let new = B.life blob.new in
             ReadsRecord H.sum_of R.sum_of self.now place old new result }
-        ensures looked { Looked (B.life blob.old) (B.life blob.new) }
-        ensures journal { IsJournal H.sum_of self.now (B.life blob.new) }
+        ensures leaves { OnlyReads H.sum_of self.now (B.life blob.old) (B.life blob.new) }
     {
         let size = self.size();
         if size <= place {
@@ -300,7 +289,7 @@ impl<B: Blob, H: Sum, R: Sum> Journal<B, H, R> {
 
         // At each moment since the call began, and at every answer.
         ensures kept { let old = B.life blob.old in let new = B.life blob.new in
-            KeepsItsCommitted H.sum_of R.sum_of self.now old new }
+            KeepsCommitted H.sum_of R.sum_of self.now.page_size old new }
         ensures only { let old = B.life blob.old in let new = B.life blob.new in
             LeavesItsRecords H.sum_of R.sum_of self.now old new }
     {

@@ -28,6 +28,7 @@ append_goes sum w v now old new bytes sound is goes =
       sound = h.sound;
       content = h.content ∙ longer;
       size = h.size;
+      only = h.only;
       same = record { page_size = h.same.page_size; id = h.same.id; capacity = h.same.capacity };
       log = h.log;
       stays = subst (λ c. StaysThrough sum w.page_size c old new) longer h.stays;

@@ -15,7 +15,7 @@ use Rattle.crash.specs.Stays.{StaysThrough}
 use Rattle.crash.proofs.BuiltLaws.{IsSmall}
 use Rattle.crash.proofs.FlushLaws.{flushed_fits, tip_reach, length-content}
 use Rattle.crash.proofs.Moments.{stays_through_start, stays_through_joins}
-use Rattle.crash.proofs.Soundness.{carry_sound, guard_slot-again}
+use Rattle.crash.proofs.Soundness.{carry_sound, guard_slot-again, sound_leaves}
 use Rattle.crash.proofs.CallLaws.{sync_stays, sync_sound, sync_content, write_stays, write_sound, durable_write_sound, write_content}
 use Rattle.disk.proofs.Logs.{grows_same, grows_once, grows_joins}
 use Rattle.paged.proofs.Flushing.{length-rest}
@@ -44,6 +44,7 @@ unfolding IsSound
 flush_goes sum w rest old new (Ok now) small sound is can goes state fits = record {
   sound = subst (λ n. IsSound sum n new.present) (sym state) (write_sound sum w old new (full_in w) rest (flush_bytes sum w rest) small sound is can refl tt goes);
   size = size_is_length sum now new (subst (λ n. IsSound sum n new.present) (sym state) (write_sound sum w old new (full_in w) rest (flush_bytes sum w rest) small sound is can refl tt goes));
+  only = sound_leaves sum now new.present (subst (λ n. IsSound sum n new.present) (sym state) (write_sound sum w old new (full_in w) rest (flush_bytes sum w rest) small sound is can refl tt goes));
   content = ap (λ n. content n new.present.readable) state ∙ write_content sum w old new (full_in w) rest (flush_bytes sum w rest) small sound is can refl false tt goes ∙ sym (append-nil (content w old.present.readable));
   same = subst (λ n. IsSameWriter w n) (sym state) (record { page_size = refl; id = refl; capacity = refl });
   log = grows_once (WriteAt (place_of w) (length (flush_bytes sum w rest)) false) false old.present new.present (ap (λ l. l.present.log) goes.1 ∙ ap (λ e. e.log) goes.2.rest);
@@ -56,7 +57,7 @@ flush_goes sum w rest old new (Err e) small sound is can goes state fits = recor
 
 -- going on from a writer whose durable slot was brought up to date is going on from the writer
 carried_goes_on : (sum : List ℕ → ℕ) (w now : WriterState) (old new : Life) → GoesOn sum (carried w) old [] now new → GoesOn sum w old [] now new
-carried_goes_on sum w now old new h = record { sound = h.sound; content = h.content; size = h.size; same = record { page_size = h.same.page_size; id = h.same.id; capacity = h.same.capacity }; log = h.log; stays = h.stays }
+carried_goes_on sum w now old new h = record { sound = h.sound; content = h.content; size = h.size; only = h.only; same = record { page_size = h.same.page_size; id = h.same.id; capacity = h.same.capacity }; log = h.log; stays = h.stays }
 
 flushes_carried : (sum : List ℕ → ℕ) (w : WriterState) (old new : Life) (result : Result WriterState Error) → Flushes sum (carried w) old new result → Flushes sum w old new result
 flushes_carried sum w old new (Ok now) h = carried_goes_on sum w now old new h
@@ -77,6 +78,7 @@ pub goes_on_more : (sum : List ℕ → ℕ) (w m n : WriterState) (old mid new :
 goes_on_more sum w m n old mid new first second = record {
   sound = second.sound;
   size = second.size;
+  only = second.only;
   content = second.content ∙ append-nil (content m mid.present.readable) ∙ first.content;
   same = record { page_size = second.same.page_size ∙ first.same.page_size; id = second.same.id ∙ first.same.id; capacity = second.same.capacity ∙ first.same.capacity };
   log = grows_joins old.present mid.present new.present first.log second.log;
@@ -91,6 +93,7 @@ unfolding IsSound
 goes_on_same sum w life sound = record {
   sound = sound;
   size = size_is_length sum w life sound;
+  only = sound_leaves sum w life.present sound;
   content = sym (append-nil (content w life.present.readable));
   same = record { page_size = refl; id = refl; capacity = refl };
   log = grows_same life.present life.present refl;
@@ -103,6 +106,7 @@ unfolding IsSound
 settle_ok sum w now old new small sound goes state = record {
   sound = subst (λ n. IsSound sum n new.present) (sym state) (sync_sound sum w old sound new tt small goes);
   size = size_is_length sum now new (subst (λ n. IsSound sum n new.present) (sym state) (sync_sound sum w old sound new tt small goes));
+  only = sound_leaves sum now new.present (subst (λ n. IsSound sum n new.present) (sym state) (sync_sound sum w old sound new tt small goes));
   content = ap (λ n. content n new.present.readable) state ∙ sync_content sum w old sound new tt goes ∙ sym (append-nil (content w old.present.readable));
   same = subst (λ n. IsSameWriter w n) (sym state) (record { page_size = refl; id = refl; capacity = refl });
   log = grows_once SyncAll false old.present new.present (ap (λ l. l.present.log) goes);
@@ -142,6 +146,7 @@ sync_durably sum w rest old new (Ok now) small sound is rests can goes state fit
   record {
     sound = subst (λ n. IsSound sum n new.present) (sym state) (durable_write_sound sum w old new (full_in w) rest (flush_bytes sum w rest) small sound is can refl tt goes);
     size = size_is_length sum now new (subst (λ n. IsSound sum n new.present) (sym state) (durable_write_sound sum w old new (full_in w) rest (flush_bytes sum w rest) small sound is can refl tt goes));
+    only = sound_leaves sum now new.present (subst (λ n. IsSound sum n new.present) (sym state) (durable_write_sound sum w old new (full_in w) rest (flush_bytes sum w rest) small sound is can refl tt goes));
     content = ap (λ n. content n new.present.readable) state ∙ write_content sum w old new (full_in w) rest (flush_bytes sum w rest) small sound is can refl true tt goes ∙ sym (append-nil (content w old.present.readable));
     same = subst (λ n. IsSameWriter w n) (sym state) (record { page_size = refl; id = refl; capacity = refl });
     log = grows_once (WriteAt (place_of w) (length (flush_bytes sum w rest)) true) false old.present new.present (ap (λ l. l.present.log) goes.1 ∙ ap (λ e. e.log) goes.2.rest);

@@ -6,7 +6,8 @@ use Rattle.disk.specs.declared.error.Error.{Error}
 use Rattle.disk.specs.declared.error.Error.TheVariants.{ReadFailed, WriteFailed, ResizeFailed, SyncFailed, InvalidChecksum, BlobInsufficientLength, OffsetOverflow, OutOfMemory, IdsExhausted}
 use Rattle.crash.specs.WriterState.{WriterState}
 use Rattle.crash.specs.Sound.{IsSound, Soundness, content}
-use Rattle.crash.specs.Stays.{StaysThrough, KeepsAll, KeepsFloors, LeavesOnly}
+use Rattle.crash.specs.Stays.{StaysThrough, KeepsAll, KeepsFloors, LeavesOnly, KeepsAllFloors}
+use Rattle.crash.proofs.FloorLaws.{floors_of_sound}
 use Rattle.crash.proofs.Moments.{kept_through, only_through, only_behind, kept_through_longer}
 use Rattle.crash.proofs.Soundness.{settle_keeps}
 use Rattle.paged.specs.Calls.{Syncs, Appends}
@@ -59,9 +60,9 @@ leaves_only_behind sum P content bytes old new stays = only_behind sum P content
 
 -- so an append keeps floors, whatever it answers, and leaves only content
 pub append_keeps : (sum : List ℕ → ℕ) (w : WriterState) (bytes : List ℕ) (old new : Life) (result : Result (WriterState × ℕ) Error) → IsSound sum w old.present → Appends sum w bytes old new result
-    → KeepsFloors sum w.page_size (content w old.present.readable) old new
+    → KeepsAllFloors sum w.page_size old new
 unfolding IsSound
-append_keeps sum w bytes old new result sound appends = keeps_floors_before sum w.page_size (content w old.present.readable) bytes old new (appends_stay sum w bytes old new result sound appends)
+append_keeps sum w bytes old new result sound appends = floors_of_sound sum w old new sound (keeps_floors_before sum w.page_size (content w old.present.readable) bytes old new (appends_stay sum w bytes old new result sound appends))
 
 pub append_leaves : (sum : List ℕ → ℕ) (w : WriterState) (bytes : List ℕ) (old new : Life) (result : Result (WriterState × ℕ) Error) → IsSound sum w old.present → Appends sum w bytes old new result
     → LeavesOnly sum w.page_size (content w old.present.readable) (content w old.present.readable ++ bytes) old new
@@ -69,8 +70,8 @@ unfolding IsSound
 append_leaves sum w bytes old new result sound appends = leaves_only_behind sum w.page_size (content w old.present.readable) bytes old new (appends_stay sum w bytes old new result sound appends)
 
 -- and a sync does
-pub sync_keeps : (sum : List ℕ → ℕ) (w : WriterState) (old new : Life) (result : Result WriterState Error) → Syncs sum w old new result → KeepsFloors sum w.page_size (content w old.present.readable) old new
-sync_keeps sum w old new result syncs = keeps_floors sum w.page_size (content w old.present.readable) old new (syncs_stay sum w old new result syncs)
+pub sync_keeps : (sum : List ℕ → ℕ) (w : WriterState) (old new : Life) (result : Result WriterState Error) → IsSound sum w old.present → Syncs sum w old new result → KeepsAllFloors sum w.page_size old new
+sync_keeps sum w old new result sound syncs = floors_of_sound sum w old new sound (keeps_floors sum w.page_size (content w old.present.readable) old new (syncs_stay sum w old new result syncs))
 
 pub sync_leaves : (sum : List ℕ → ℕ) (w : WriterState) (old new : Life) (result : Result WriterState Error) → Syncs sum w old new result
     → LeavesOnly sum w.page_size (content w old.present.readable) (content w old.present.readable) old new

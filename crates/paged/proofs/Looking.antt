@@ -5,8 +5,8 @@ use Rattle.disk.specs.Disk.{Life, ReadAt, ReadGoes}
 use Rattle.disk.specs.declared.error.Error.{Error}
 use Rattle.disk.specs.declared.error.Error.TheVariants.{ReadFailed, WriteFailed, ResizeFailed, SyncFailed, InvalidChecksum, BlobInsufficientLength, OffsetOverflow, OutOfMemory, IdsExhausted}
 use Rattle.disk.proofs.Logs.{failed_once, failed_later}
-use Rattle.crash.specs.Looks.{Looked}
-use Rattle.crash.proofs.LookLaws.{looked_joins, looked_asked, looked_readable}
+use Rattle.crash.specs.Looks.{Looked, looked_joins}
+use Rattle.crash.proofs.LookLaws.{looked_asked, looked_readable}
 use Rattle.paged.specs.declared.prefix.Prefix.{Prefix}
 use Rattle.paged.specs.Recovery.{Finds}
 

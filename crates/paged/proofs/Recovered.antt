@@ -13,6 +13,7 @@ use Rattle.crash.specs.WriterState.{WriterState, SyncState}
 use Rattle.crash.specs.WriterState.SyncState.{Clean}
 use Rattle.crash.specs.Looks.{Looked}
 use Rattle.crash.specs.Sound.{IsSound, content}
+use Rattle.crash.proofs.Soundness.{sound_leaves}
 use Rattle.crash.proofs.Pages.{pages_whole, length-page, length-pieces}
 use Rattle.paged.specs.declared.prefix.Prefix.{Prefix}
 use Rattle.paged.specs.Prefix.{prefix_of, prefix_pages, partial_pages, slot_of_tip, tip_of, at_prefix, HasBytes}
@@ -167,6 +168,7 @@ module _ (sum : List ℕ → ℕ) (cache : CacheState) (capacity : ℕ) (old mid
         durable = keeps.2;
         page_size = ap (λ (x : WriterState). x.page_size) state;
         size = size_is_length sum now new (subst (λ (x : WriterState). IsSound sum x new.present) (sym state) stands.0);
+        only = sound_leaves sum now new.present (subst (λ (x : WriterState). IsSound sum x new.present) (sym state) stands.0);
         settled = settled_first sum P w.id w.capacity mid.present.readable p now positive is state;
         log = grows_joins old.present mid_then.present new.present (grows_joins old.present mid.present mid_then.present opened.log looked.log) keeps.3;
       }

@@ -12,7 +12,7 @@ use Rattle.crash.specs.Stays.{KeepsFloors}
 use Rattle.crash.proofs.CutLaws.{rest_through_start}
 use Rattle.crash.proofs.Disks.{whole_is_image}
 use Rattle.crash.proofs.FloorLaws.{ReadsImage, floors_none, floors_sync}
-use Rattle.crash.proofs.LookLaws.{looked_start}
+use Rattle.crash.specs.Looks.{looked_start}
 use Rattle.crash.proofs.Texts.{bytes_from_all}
 use Rattle.crash.proofs.Examples.{durable, rewritten, seven, before, behind}
 use Rattle.paged.specs.Prefix.{prefix_of, last_prefix, prefix_pages, at_prefix}

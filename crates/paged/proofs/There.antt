@@ -6,8 +6,10 @@ use Rattle.disk.specs.declared.error.Error.{Error}
 use Rattle.cache.specs.CacheState.{CacheState}
 use Rattle.crash.specs.WriterState.{WriterState}
 use Rattle.crash.specs.Sound.{IsSound, content}
-use Rattle.crash.specs.Stays.{Stays, StaysThrough, KeepsFloors, LeavesOnly}
-use Rattle.crash.proofs.Moments.{through_then, stays_alike, stays_itself, stays_through_start, only_through}
+use Rattle.crash.specs.Stays.{Stays, StaysThrough, LeavesOnly, KeepsAllFloors}
+use Rattle.crash.proofs.FloorLaws.{floors_of_sound}
+use Rattle.crash.specs.Moments.{through_then}
+use Rattle.crash.proofs.Moments.{stays_alike, stays_itself}
 use Rattle.paged.proofs.Halves.{keeps_floors, leaves_only}
 use Rattle.crash.specs.Looks.{SameButLog, Looked}
 use Rattle.crash.proofs.FlushLaws.{tip_reach}
@@ -54,15 +56,9 @@ reads_stay sum w old new sound looked =
     (λ d same. stays_alike sum w.page_size held old.present old.present d (ap (λ (x : Disk). x.base) same) (ap (λ (x : Disk). x.since) same) (stays_itself sum w.page_size held old.present sound.truthful))
     looked.through
 
-pub reads_keep : (sum : List ℕ → ℕ) (w : WriterState) (old new : Life) → Looked old new → IsSound sum w old.present → KeepsFloors sum w.page_size (content w old.present.readable) old new
-reads_keep sum w old new looked sound = keeps_floors sum w.page_size (content w old.present.readable) old new (reads_stay sum w old new sound looked)
+pub reads_keep : (sum : List ℕ → ℕ) (w : WriterState) (old new : Life) → Looked old new → IsSound sum w old.present → KeepsAllFloors sum w.page_size old new
+reads_keep sum w old new looked sound = floors_of_sound sum w old new sound (keeps_floors sum w.page_size (content w old.present.readable) old new (reads_stay sum w old new sound looked))
 
 pub reads_leave : (sum : List ℕ → ℕ) (w : WriterState) (old new : Life) → Looked old new → IsSound sum w old.present
     → LeavesOnly sum w.page_size (content w old.present.readable) (content w old.present.readable) old new
 reads_leave sum w old new looked sound = leaves_only sum w.page_size (content w old.present.readable) old new (reads_stay sum w old new sound looked)
-
--- a sound writer leaves only its content, where nothing is asked
-pub sound_leaves : (sum : List ℕ → ℕ) (w : WriterState) (behind : List ℕ) (life : Life) → IsSound sum w life.present → LeavesOnly sum w.page_size (content w life.present.readable) behind life life
-unfolding IsSound
-sound_leaves sum w behind life sound =
-    only_through sum w.page_size (content w life.present.readable) behind life life (stays_through_start sum w.page_size (content w life.present.readable) life sound.truthful)

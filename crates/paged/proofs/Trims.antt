@@ -10,9 +10,10 @@ use Rattle.crash.specs.WriterState.{WriterState, SyncState}
 use Rattle.crash.specs.Looks.{Looked}
 use Rattle.crash.proofs.Pages.{pages_reach, length-pages}
 use Rattle.crash.specs.Kept.{AllOnly}
-use Rattle.crash.specs.Stays.{StaysThrough, KeepsAll, KeepsFloors}
-use Rattle.crash.proofs.Moments.{stays_through_joins, only_through, through_joins}
-use Rattle.crash.proofs.FloorLaws.{ReadsImage, floors_none, floors_joins, floors_looked, floors_sync, floors_resize, floors_cut, looked_image, sync_image, sync_readable}
+use Rattle.crash.specs.Stays.{StaysThrough, KeepsAll, KeepsFloors, KeepsAllFloors}
+use Rattle.crash.specs.Moments.{through_joins}
+use Rattle.crash.proofs.Moments.{stays_through_joins, only_through}
+use Rattle.crash.proofs.FloorLaws.{ReadsImage, floors_of_content, floors_none, floors_joins, floors_looked, floors_sync, floors_resize, floors_cut, looked_image, sync_image, sync_readable}
 use Rattle.crash.proofs.LookLaws.{looked_readable}
 use Rattle.crash.proofs.CutLaws.{cut_few, rest_keeps, resize_stays, cut_sync_stays, rest_through_start, rest_looked_stays, rest_looked_rests, rest_sync_stays, rest_sync_rests}
 use Rattle.paged.specs.declared.prefix.Prefix.{Prefix}
@@ -128,7 +129,7 @@ module _ (sum : List ℕ → ℕ) (P k : ℕ) (content : List ℕ) (few : length
 -- ---- what a call owes at each moment, at every answer
 
 pub record Owes (sum : List ℕ → ℕ) (P : ℕ) (old new : Life) : Type 0 where
-  pub floors : KeepsFloors sum P (text sum P old.present.readable) old new
+  pub floors : KeepsAllFloors sum P old new
   pub kept : KeepsText sum P old new
   pub only : LeavesText sum P old new
 
@@ -154,12 +155,12 @@ module _ (sum : List ℕ → ℕ) (P : ℕ) (old new : Life) where
       let leaves = text_of_beginning sum P (opened_size sum P bytes) bytes some le (first_size_le sum P bytes some) in
       let floors = trims_floors sum P k (text sum P bytes) (content_few sum P k (text sum P bytes) bytes le leaves) old new image le trims in
       record {
-        floors = floors;
+        floors = λ content. floors_of_content sum P content old new image floors;
         kept = keeps_text floors;
         only = leaves_text (λ durable. trims_stay sum P (text sum P bytes) bytes some k old new (start sum P old durable) le leaves trims);
       }
 
-module _ (sum : List ℕ → ℕ) (P : ℕ) (old mid : Life) (some : 0 < P) (s : SyncState) (kept : IsKept old mid (opened_size sum P old.present.readable) s) (owes : Owes sum P old mid) where
+module _ (sum : List ℕ → ℕ) (P : ℕ) (old mid : Life) (some : 0 < P) (s : SyncState) (kept : IsKept old mid (opened_size sum P old.present.readable) s) (owes : Owes sum P old mid) (begun : ReadsImage old) where
   -- what opening left has the text
   opened_says : text sum P mid.present.readable ≡ text sum P old.present.readable
   opened_says =
@@ -175,9 +176,9 @@ module _ (sum : List ℕ → ℕ) (P : ℕ) (old mid : Life) (some : 0 < P) (s :
   joins_owe : (new : Life) → KeepsFloors sum P (text sum P old.present.readable) mid new → (IsDurable old.present → StaysThrough sum P (text sum P old.present.readable) mid new) → Owes sum P old new
   joins_owe new floors stays =
       let content = text sum P old.present.readable in
-      let all = floors_joins sum P content old mid new owes.floors floors in
+      let all = floors_joins sum P content old mid new (owes.floors content) floors in
       record {
-        floors = all;
+        floors = λ other. floors_of_content sum P other old new begun all;
         kept = keeps_text sum P old new all;
         only = λ durable. through_joins (AllOnly sum P content content) old mid new (owes.only durable) (only_through sum P content content mid new (stays durable));
       }

@@ -5,7 +5,7 @@ use Rattle.disk.specs.declared.error.Error.{Error}
 use Rattle.disk.specs.declared.error.Error.TheVariants.{WriteFailed, SyncFailed, OffsetOverflow, OutOfMemory}
 use Rattle.crash.specs.WriterState.{WriterState, SyncState}
 use Rattle.crash.specs.WriterState.SyncState.{Clean, Dirty}
-use Rattle.crash.specs.Sound.{IsSound, content}
+use Rattle.crash.specs.Sound.{IsSound, LeavesItsContent, content}
 use Rattle.crash.specs.Stays.{StaysThrough}
 use Rattle.crash.specs.Built.{kept_len}
 use Rattle.paged.specs.Writer.{physical_size, FitsBlob}
@@ -47,6 +47,7 @@ pub record GoesOn (sum : List ℕ → ℕ) (w : WriterState) (old : Life) (more 
   pub sound : IsSound sum now new.present
   pub stays : StaysThrough sum w.page_size (content w old.present.readable ++ more) old new
   pub size : now.full_pages * now.page_size + length now.tip ≡ length (content now new.present.readable)
+  pub only : LeavesItsContent sum now new.present
   pub content : content now new.present.readable ≡ content w old.present.readable ++ more
   pub same : IsSameWriter w now
   pub log : LogGrows old.present new.present

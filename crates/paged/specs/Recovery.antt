@@ -10,7 +10,7 @@ use Rattle.cache.specs.CacheState.{CacheState}
 use Rattle.crash.specs.WriterState.{WriterState, SyncState}
 use Rattle.crash.specs.WriterState.SyncState.{Clean, Dirty}
 use Rattle.crash.specs.Looks.{Looked}
-use Rattle.crash.specs.Sound.{IsSound, content}
+use Rattle.crash.specs.Sound.{IsSound, LeavesItsContent, content}
 use Rattle.crash.specs.Kept.{AllKeep, Through}
 use Rattle.crash.specs.Full.{AreFull}
 use Rattle.crash.specs.Stays.{LeavesOnly}
@@ -129,6 +129,7 @@ pub record IsRecovered (sum : List ℕ → ℕ) (cache : CacheState) (capacity :
   pub sound : IsSound sum w new.present
   pub page_size : w.page_size ≡ cache.page_size
   pub size : w.full_pages * w.page_size + length w.tip ≡ length (content w new.present.readable)
+  pub only : LeavesItsContent sum w new.present
   pub content : content w new.present.readable ≡ text sum cache.page_size old.present.readable
   pub readable : new.present.readable ≡ take (prefix_pages (prefix_of sum cache.page_size (pages cache.page_size old.present.readable)) * (cache.page_size + 12)) old.present.readable
   pub durable : IsDurable new.present

@@ -1,7 +1,7 @@
 // Appending.
 ghost use Rattle.std.specs.Prelude.{◌≡◌, ◌↔◌, ◌+◌, ◌^◌, ◌≤◌, ◌++◌, length, ◌<◌, IsTrue, IfOk, Err};
 ghost use Rattle.crash.specs.Sound.{IsSound, content};
-ghost use Rattle.crash.specs.Stays.{KeepsFloors, LeavesOnly};
+ghost use Rattle.crash.specs.Stays.{KeepsAllFloors, LeavesOnly};
 ghost use Rattle.paged.specs.Writer.{physical_size, FitsBlob};
 ghost use Rattle.paged.specs.Calls.{AsksAtMost, HoldsWithin, Appends, Buffers, BuffersAll, TryAppends, BuffersOver, KeepsSound, KeepsPages};
 ghost use Rattle.paged.specs.Reads.{HasPages};
@@ -58,7 +58,7 @@ impl<B: Blob, H: Sum, Phase> Writer<B, H, Phase> {
         ensures calls { AsksAtMost 1 (B.life blob.old) (B.life blob.new) }
 
         // At each moment since the call began, and at every answer.
-        ensures kept { KeepsFloors H.sum_of self.page_size (content self (B.life blob.old).present.readable) (B.life blob.old) (B.life blob.new) }
+        ensures kept { KeepsAllFloors H.sum_of self.page_size (B.life blob.old) (B.life blob.new) }
         ensures only { LeavesOnly H.sum_of self.page_size (content self (B.life blob.old).present.readable) (content self (B.life blob.old).present.readable ++ bytes.now) (B.life blob.old) (B.life blob.new) }
     {
         let at = self.size();

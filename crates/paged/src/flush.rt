@@ -5,7 +5,7 @@ ghost use Rattle.disk.specs.Disk.{WriteGoes, SyncGoes};
 ghost use Rattle.crash.specs.WriterState.SyncState.{Clean, Dirty};
 ghost use Rattle.crash.specs.Built.{durable_after, rest_written};
 ghost use Rattle.crash.specs.Sound.{CanWrite, IsSound, content};
-ghost use Rattle.crash.specs.Stays.{KeepsAll, KeepsFloors, LeavesOnly};
+ghost use Rattle.crash.specs.Stays.{KeepsAll, KeepsAllFloors, LeavesOnly};
 ghost use Rattle.paged.specs.Calls.{AsksAtMost, HoldsWithin, settle_calls, sync_calls, Flushes, Settles, Syncs};
 ghost use Rattle.paged.specs.Reads.{HasPages};
 ghost use Rattle.page.specs.Tip.{ArePages};
@@ -184,7 +184,7 @@ impl<B: Blob, H: Sum, Phase> Writer<B, H, Phase> {
         ensures durable { OnOk result (KeepsAll H.sum_of self.page_size (content self (B.life blob.old).present.readable) (B.life blob.new)) }
 
         // At each moment since the call began, and at every answer.
-        ensures kept { KeepsFloors H.sum_of self.page_size (content self (B.life blob.old).present.readable) (B.life blob.old) (B.life blob.new) }
+        ensures kept { KeepsAllFloors H.sum_of self.page_size (B.life blob.old) (B.life blob.new) }
         ensures only { LeavesOnly H.sum_of self.page_size (content self (B.life blob.old).present.readable) (content self (B.life blob.old).present.readable) (B.life blob.old) (B.life blob.new) }
     {
         if self.has_flush_work(true) {

@@ -6,7 +6,7 @@ ghost use Rattle.page.specs.Page.{value_len};
 ghost use Rattle.std.specs.List.{concat};
 ghost use Rattle.crash.specs.Looks.{Looked};
 ghost use Rattle.crash.specs.Sound.{content, IsSound};
-ghost use Rattle.crash.specs.Stays.{KeepsFloors, LeavesOnly};
+ghost use Rattle.crash.specs.Stays.{KeepsAllFloors, LeavesOnly};
 ghost use Rattle.paged.specs.Reads.{ReadsPage, ReadFault, HasPages, AreTouchedFull, Reads, size_of};
 
 use crate::Writer;
@@ -122,7 +122,7 @@ impl<B: Blob, H: Sum, Phase> Writer<B, H, Phase> {
 
         // Of a sound writer: it stays so, and a crash at any moment of the read keeps and leaves what it did before.
         ensures sound { IsSound H.sum_of self.now (B.life blob.old).present → IsSound H.sum_of self.now (B.life blob.new).present }
-        ensures kept { IsSound H.sum_of self.now (B.life blob.old).present → KeepsFloors H.sum_of self.now.page_size (content self.now (B.life blob.old).present.readable) (B.life blob.old) (B.life blob.new) }
+        ensures kept { IsSound H.sum_of self.now (B.life blob.old).present → KeepsAllFloors H.sum_of self.now.page_size (B.life blob.old) (B.life blob.new) }
         ensures only { IsSound H.sum_of self.now (B.life blob.old).present → LeavesOnly H.sum_of self.now.page_size (content self.now (B.life blob.old).present.readable) (content self.now (B.life blob.old).present.readable) (B.life blob.old) (B.life blob.new) }
     {
         let end = offset.checked_add(len as u64).ok_or(Error::OffsetOverflow)?;

@@ -11,7 +11,7 @@ ghost use Rattle.paged.specs.Searches.{ReadsBack, ReadsWithin, scan_bytes};
 ghost use Rattle.page.specs.Page.{text};
 ghost use Rattle.paged.specs.Reads.{HasPages};
 ghost use Rattle.crash.specs.Sound.{IsSound};
-ghost use Rattle.crash.specs.Stays.{KeepsAll, KeepsFloors};
+ghost use Rattle.crash.specs.Stays.{KeepsAll, KeepsAllFloors};
 
 use crate::prefix::{Partial, Prefix};
 use crate::search::{last_pages, pages_of, physical_size, scan};
@@ -137,7 +137,7 @@ impl<B: Blob, H: Sum> Recovery<B, H> {
         ensures ids { cache.new ≡ cache_after result cache.old }
 
         // At each moment since the call began, and at every answer.
-        ensures floors { KeepsFloors H.sum_of cache.old.page_size (text H.sum_of cache.old.page_size (B.life blob.old).present.readable) (B.life blob.old) (B.life blob.new) }
+        ensures floors { KeepsAllFloors H.sum_of cache.old.page_size (B.life blob.old) (B.life blob.new) }
 
         // The same, where all was durable.
         ensures kept { KeepsText H.sum_of cache.old.page_size (B.life blob.old) (B.life blob.new) }
@@ -207,7 +207,7 @@ pub fn recover<B: Blob, H: Sum>(
     ensures durable { OnOk result (KeepsAll H.sum_of cache.old.page_size (text H.sum_of cache.old.page_size (B.life blob.old).present.readable) (B.life blob.new)) }
 
     // At each moment since the call began, and at every answer.
-    ensures floors { KeepsFloors H.sum_of cache.old.page_size (text H.sum_of cache.old.page_size (B.life blob.old).present.readable) (B.life blob.old) (B.life blob.new) }
+    ensures floors { KeepsAllFloors H.sum_of cache.old.page_size (B.life blob.old) (B.life blob.new) }
 
     // The same, where all was durable.
     ensures kept { KeepsText H.sum_of cache.old.page_size (B.life blob.old) (B.life blob.new) }

@@ -8,11 +8,13 @@ use Rattle.page.specs.Geometry.{adjusted}
 use Rattle.cache.specs.CacheState.{CacheState}
 use Rattle.crash.specs.Guard.{IsChanceFree}
 use Rattle.crash.specs.Kept.{AllKeep, AllOnly, Each, Through}
-use Rattle.crash.specs.Stays.{Stays, KeepsAll, KeepsFloors}
+use Rattle.crash.specs.Stays.{Stays, KeepsAll, KeepsAllFloors}
 use Rattle.crash.specs.WriterState.{WriterState}
 use Rattle.crash.specs.Sound.{IsSound, content as content_of}
-use Rattle.crash.proofs.Disks.{base_is_whole, image_at_rest}
-use Rattle.crash.proofs.Moments.{after-append, each_then, each_last, through_end, stays_itself}
+use Rattle.crash.proofs.Disks.{base_is_whole}
+use Rattle.disk.specs.Images.{only_image}
+use Rattle.crash.specs.Moments.{each_last, through_end, after-append, each_then}
+use Rattle.crash.proofs.Moments.{stays_itself}
 use Rattle.crash.proofs.Promise.{whole_is_chance_free}
 use Rattle.paged.specs.Calls.{HoldsWithin}
 use Rattle.paged.specs.Recovery.{IsDurable, Recovers, LeavesText}
@@ -96,7 +98,7 @@ begins_either given mid a b first either = elim either [ inl h ↦ inl (begins_f
 
 -- a durable disk has one image
 durable_image : (d : Disk) (image : List ℕ) → IsDurable d → IsImage d image → image ≡ d.readable
-durable_image d image durable is_image = image_at_rest d image durable.since is_image ∙ durable.base
+durable_image d image durable is_image = only_image d image durable.since is_image ∙ durable.base
 
 -- and that is chance-free
 durable_free : (sum : List ℕ → ℕ) (P : ℕ) (d : Disk) → IsDurable d → IsChanceFree sum P d d.readable
@@ -407,17 +409,17 @@ gives_back sum w cache capacity old new image recovers =
     }
 
 -- each of its moments is one that it came to
-pub attempts_through : (sum : List ℕ → ℕ) (P : ℕ) (old new : Life) → IsImage old.present old.present.readable → KeepsFloors sum P (text sum P old.present.readable) old new → LeavesText sum P old new → AttemptsThrough sum P old new
+pub attempts_through : (sum : List ℕ → ℕ) (P : ℕ) (old new : Life) → IsImage old.present old.present.readable → KeepsAllFloors sum P old new → LeavesText sum P old new → AttemptsThrough sum P old new
 unfolding Through
 attempts_through sum P old new image kept only = λ fair durable.
-    let through : Through (AllKeep sum P (text sum P old.present.readable) 0) old new = kept 0 (omega arith) (λ left is_image. refl) in
+    let through : Through (AllKeep sum P (text sum P old.present.readable) 0) old new = kept (text sum P old.present.readable) 0 (omega arith) (λ left is_image. refl) in
     let at : (d : Disk) → IsMoment old new d → Attempts sum P fair old.present d = λ d moment. record {
       old = old;
       new = new;
       began = refl;
       moment = moment;
       image = image;
-      kept = kept;
+      kept = kept (text sum P old.present.readable);
       only = only;
       durable = durable;
     } in

@@ -4,7 +4,7 @@ use Rattle.std.specs.Prelude.{Option}
 use Rattle.disk.specs.Disk.{Disk, Life, after}
 use Rattle.crash.specs.Kept.{AllKeep, AllOnly}
 use Rattle.crash.specs.WriterState.{WriterState}
-use Rattle.crash.proofs.Moments.{after-append}
+use Rattle.crash.specs.Moments.{after-append}
 use Rattle.session.specs.declared.steps.Step.{Step}
 use Rattle.session.specs.declared.steps.Reply.{Reply}
 use Rattle.session.specs.Run.{Standing, last, Did, Ran, RunsAlways}

@@ -17,7 +17,8 @@ use Rattle.crash.specs.Built.{kept_len}
 use Rattle.crash.specs.Sound.{IsSound, content as content_of}
 use Rattle.crash.specs.Stays.{Stays, StaysThrough}
 use Rattle.crash.specs.Looks.{SameButLog, Looked}
-use Rattle.crash.proofs.Moments.{each_then, each_last, through_end, keeps_longer, keeps_shorter, stays_itself, stays_alike}
+use Rattle.crash.specs.Moments.{each_last, through_end, each_then}
+use Rattle.crash.proofs.Moments.{keeps_longer, keeps_shorter, stays_itself, stays_alike}
 use Rattle.paged.specs.Writer.{physical_size}
 use Rattle.paged.specs.Flush.{has_work}
 use Rattle.paged.specs.Calls.{HasCause as CallCause, GoesOn, Appends, TryAppends, Syncs, IsSettled, HoldsWithin, settle_calls, sync_calls}

@@ -1,10 +1,10 @@
-use Rattle.std.proofs.Common.{subst, sym, ap}
+use Rattle.std.proofs.Common.{ap}
 use Rattle.disk.specs.Disk.{Life}
-use Rattle.disk.specs.History.{History, life_of}
+use Rattle.disk.specs.History.{life_of}
 use Rattle.disk.specs.Torn.{torn}
-use Rattle.crash.proofs.Moments.{through_end}
+use Rattle.crash.specs.Moments.{through_end}
 use Rattle.journal.specs.Journal.{Commits}
-use Rattle.journal.proofs.Journals.{brought_back, brought_only, commits_begun}
+use Rattle.journal.proofs.Journals.{brought_back, brought_only, commits_left}
 use Rattle.journal.proofs.crashes.crash_and_recover.Goals as goal
 
 pub returns-clause-kept : goal.returns-clause-kept
@@ -21,18 +21,13 @@ returns-clause-only g c =
 
 pub returns-in_err-crash-clause-stays : goal.returns-in_err-crash-clause-stays
 returns-in_err-crash-clause-stays g c = λ content n commits.
-    let P = c.args.cache.now.page_size in
-    subst (λ (h : History). Commits g.H.Sum.sum_of g.R.Sum.sum_of P content n (life_of h).present) (sym c.in_err-crash.ensures.same) commits
+    commits_left g.H.Sum.sum_of g.R.Sum.sum_of c.args.cache.now.page_size content n (life_of c.args.blob.now).present (life_of c.crash.new.self).present c.crash.ensures.leaves commits
 
 pub returns-clause-stays : goal.returns-clause-stays
 returns-clause-stays g c = λ content n commits.
     let sum = g.H.Sum.sum_of in
     let own = g.R.Sum.sum_of in
     let P = c.args.cache.now.page_size in
-    let d = (life_of c.args.blob.now).present in
-    let left = torn c.args.keep.now d.since d.base in
     let mid = life_of c.crash.new.self in
-    let begun = c.in_ok-crash.ensures.life in
-    let first : Commits sum own P content n mid.present =
-    commits_begun sum own P content n d mid.present left c.crash.ensures.image (ap (λ (l : Life). l.present.base) begun) (ap (λ (l : Life). l.present.since) begun) commits in
+    let first : Commits sum own P content n mid.present = commits_left sum own P content n (life_of c.args.blob.now).present mid.present c.crash.ensures.leaves commits in
     through_end (Commits sum own P content n) mid (life_of c.recover.new.blob) (c.recover.ensures.floors content n first)

@@ -111,7 +111,7 @@ owes-looked g c =
     let opened = c.in_ok-recovery.ensures.opens in
     let some = opened_positive sum cache c.args.capacity old mid c.in_ok-recovery.recovery c.in_ok-recovery.ensures.opens (non_zero_u16_get c.recovery.inside.page_size) c.recovery.inside.page_size.ok (ap (λ (x : WriterState). x.page_size) c.recovery.view_is) in
     let before : Owes sum cache.page_size old mid = record { floors = c.in_ok-recovery.ensures.floors; kept = c.in_ok-recovery.ensures.kept; only = c.in_ok-recovery.ensures.only } in
-    scanned_owe sum cache.page_size old mid some opened.sync opened.kept before new (finds_looked (prefix_of sum Q (pieces c.flushed_pages-pages.result (Q + 12) mid.present.readable)) mid new c.in_err-prefix.field-0.0 c.in_err-prefix.ensures.finds)
+    scanned_owe sum cache.page_size old mid some opened.sync opened.kept before (g.met.B.Blob.readable_is_image c.args.blob.now) new (finds_looked (prefix_of sum Q (pieces c.flushed_pages-pages.result (Q + 12) mid.present.readable)) mid new c.in_err-prefix.field-0.0 c.in_err-prefix.ensures.finds)
 
 pub returns-in_err-prefix-clause-floors : goal.returns-in_err-prefix-clause-floors
 returns-in_err-prefix-clause-floors g c = (owes-looked g (goal.at.returns-in_err-prefix-clause-floors g c).In_err-prefix).floors
@@ -184,7 +184,7 @@ owes g c =
     let is = found_is sum cache c.args.capacity old mid w opened c.flushed_pages-pages.result Q p same c.flushed_pages-pages.ensures c.in_ok-prefix.ensures.finds.0 in
     let some = opened_positive sum cache c.args.capacity old mid c.in_ok-recovery.recovery c.in_ok-recovery.ensures.opens (non_zero_u16_get c.recovery.inside.page_size) c.recovery.inside.page_size.ok (ap (λ (x : WriterState). x.page_size) c.recovery.view_is) in
     let before : Owes sum cache.page_size old mid = record { floors = c.in_ok-recovery.ensures.floors; kept = c.in_ok-recovery.ensures.kept; only = c.in_ok-recovery.ensures.only } in
-    recovers_owe sum cache.page_size old mid some opened.sync opened.kept before (life c.scan.new.blob) (life c.keep.new.blob) w.page_size p (g.met.B.Blob.readable_is_image c.open.new.blob) c.in_ok-prefix.ensures.finds.1 here is c.keep.ensures.ends
+    recovers_owe sum cache.page_size old mid some opened.sync opened.kept before (g.met.B.Blob.readable_is_image c.args.blob.now) (life c.scan.new.blob) (life c.keep.new.blob) w.page_size p (g.met.B.Blob.readable_is_image c.open.new.blob) c.in_ok-prefix.ensures.finds.1 here is c.keep.ensures.ends
 
 pub returns-clause-floors : goal.returns-clause-floors
 returns-clause-floors g c = (owes g (goal.at.returns-clause-floors g c).After-keep).floors

@@ -3,7 +3,8 @@ use Rattle.std.proofs.lemmas.Result.{err_from_is_err_and}
 use Rattle.std.specs.Int.NonZero.{non_zero_u16_get}
 use Rattle.paged.specs.Prefix.{page_at, last_prefix}
 use Rattle.paged.proofs.Prefixes.{told_read, value_read, told_full, told_part, found_some, found_none, last_none, last_full, last_part, last_fits, has_bytes_read}
-use Rattle.crash.proofs.LookLaws.{looked_start, read_gives}
+use Rattle.crash.specs.Looks.{looked_start}
+use Rattle.crash.proofs.LookLaws.{read_gives}
 use Rattle.paged.proofs.Looking.{looked_on, finds_fault, finds_memory}
 use Rattle.paged.proofs.Searching.{down_start, down_page, down_back}
 use Rattle.paged.specs.Searches.{ReadsBack}

@@ -4,7 +4,8 @@ use Rattle.std.specs.Int.NonZero.{non_zero_u16_get, non_zero_usize_get}
 use Rattle.page.specs.Page.{pieces}
 use Rattle.paged.specs.Prefix.{prefix_of}
 use Rattle.paged.proofs.Prefixes.{batch_fits, batch_read, stands_ended, stands_on, has_bytes_batch}
-use Rattle.crash.proofs.LookLaws.{read_gives, looked_start}
+use Rattle.crash.specs.Looks.{looked_start}
+use Rattle.crash.proofs.LookLaws.{read_gives}
 use Rattle.paged.proofs.Looking.{looked_on, finds_fault, finds_memory}
 use Rattle.paged.specs.Searches.{ReadsWithin, scan_bytes}
 use Rattle.paged.proofs.Searching.{within_batch, scan_bytes_is}

@@ -1,6 +1,5 @@
 use Rattle.std.proofs.Common.{subst, Err}
-use Rattle.crash.specs.Sound.{content}
-use Rattle.crash.specs.Stays.{KeepsFloors}
+use Rattle.crash.specs.Stays.{KeepsAllFloors}
 use Rattle.crash.specs.WriterState.{WriterState}
 use Rattle.paged.specs.Calls.{Appends}
 use Rattle.journal.proofs.journal.Journal.append.Goals as goal
@@ -8,7 +7,7 @@ use Rattle.journal.proofs.journal.Journal.append.Goals as goal
 pub returns-in-Ok-clause-kept : goal.returns-in-Ok-clause-kept
 returns-in-Ok-clause-kept g c =
     let old = g.B.Blob.life c.args.blob.now in
-    subst (λ (w : WriterState). KeepsFloors g.H.Sum.sum_of w.page_size (content w old.present.readable) old (g.B.Blob.life c.append.new.blob)) c.self.view_is c.append.ensures.kept
+    subst (λ (w : WriterState). KeepsAllFloors g.H.Sum.sum_of w.page_size old (g.B.Blob.life c.append.new.blob)) c.self.view_is c.append.ensures.kept
 
 pub returns-in-Err-clause-appends : goal.returns-in-Err-clause-appends
 returns-in-Err-clause-appends g c =
@@ -18,4 +17,4 @@ returns-in-Err-clause-appends g c =
 pub returns-in-Err-clause-kept : goal.returns-in-Err-clause-kept
 returns-in-Err-clause-kept g c =
     let old = g.B.Blob.life c.args.blob.now in
-    subst (λ (w : WriterState). KeepsFloors g.H.Sum.sum_of w.page_size (content w old.present.readable) old (g.B.Blob.life c.append.new.blob)) c.self.view_is c.append.ensures.kept
+    subst (λ (w : WriterState). KeepsAllFloors g.H.Sum.sum_of w.page_size old (g.B.Blob.life c.append.new.blob)) c.self.view_is c.append.ensures.kept

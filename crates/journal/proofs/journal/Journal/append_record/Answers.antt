@@ -1,4 +1,4 @@
-use Rattle.crash.proofs.Moments.{through_start}
+use Rattle.crash.specs.Moments.{through_start}
 use Rattle.journal.specs.Journal.{Commits}
 use Rattle.std.proofs.Common.{◌≡◌, ◌++◌, ◌∷◌, [], List, ℕ, subst, ◌∙◌}
 use Rattle.crash.specs.Sound.{content}
@@ -13,7 +13,7 @@ returns-in_err-framed-clause-only g c =
     let own = g.R.Sum.sum_of in
     let w = c.args.self in
     let life = g.B.Blob.life c.args.blob.now in
-    leaves_still g.H.Sum.sum_of own w (records own (content w life.present.readable) ++ c.args.bytes.now ∷ []) life c.requires.journal.sound
+    leaves_still g.H.Sum.sum_of own w (records own (content w life.present.readable) ++ c.args.bytes.now ∷ []) life c.requires.journal.ready.only
     (before_append own (content w life.present.readable) c.args.bytes.now)
 
 pub returns-clause-appends : goal.returns-clause-appends
@@ -30,8 +30,7 @@ returns-clause-journal g c =
 
 pub returns-clause-kept : goal.returns-clause-kept
 returns-clause-kept g c =
-    let old = g.B.Blob.life c.args.blob.now in
-    keeps_committed g.H.Sum.sum_of g.R.Sum.sum_of c.args.self.page_size (content c.args.self old.present.readable) old (g.B.Blob.life c.append.new.blob) c.append.ensures.kept
+    keeps_committed g.H.Sum.sum_of g.R.Sum.sum_of c.args.self.page_size (g.B.Blob.life c.args.blob.now) (g.B.Blob.life c.append.new.blob) c.append.ensures.kept
 
 pub returns-clause-only : goal.returns-clause-only
 returns-clause-only g c =
@@ -47,6 +46,4 @@ returns-clause-only g c =
 
 pub returns-in_err-framed-clause-kept : goal.returns-in_err-framed-clause-kept
 returns-in_err-framed-clause-kept g c =
-    let life = g.B.Blob.life c.args.blob.now in
-    let held = content c.args.self life.present.readable in
-    λ n commits. through_start (Commits g.H.Sum.sum_of g.R.Sum.sum_of c.args.self.page_size held n) life commits
+    λ held n commits. through_start (Commits g.H.Sum.sum_of g.R.Sum.sum_of c.args.self.page_size held n) (g.B.Blob.life c.args.blob.now) commits

@@ -14,8 +14,7 @@ returns-clause-journal g c =
 
 pub returns-clause-kept : goal.returns-clause-kept
 returns-clause-kept g c =
-    let old = g.B.Blob.life c.args.blob.now in
-    keeps_committed g.H.Sum.sum_of g.R.Sum.sum_of c.args.self.page_size (content c.args.self old.present.readable) old (g.B.Blob.life c.sync.new.blob) c.sync.ensures.kept
+    keeps_committed g.H.Sum.sum_of g.R.Sum.sum_of c.args.self.page_size (g.B.Blob.life c.args.blob.now) (g.B.Blob.life c.sync.new.blob) c.sync.ensures.kept
 
 pub returns-clause-only : goal.returns-clause-only
 returns-clause-only g c =

@@ -1,7 +1,6 @@
 use Rattle.std.proofs.Common.{◌≤◌, ◌∙◌, length, arith}
 use Rattle.std.proofs.lemmas.List.{take_all}
 use Rattle.crash.specs.Sound.{content}
-use Rattle.paged.proofs.Flushes.{size_is_length}
 use Rattle.journal.proofs.Journals.{all_read}
 use Rattle.journal.proofs.journal.Journal.read_all.Goals as goal
 
@@ -10,7 +9,7 @@ returns-clause-reads g c =
     let w = c.args.self.now in
     let old = g.B.Blob.life c.args.blob.now in
     let held = content w old.present.readable in
-    let enough : length held ≤ c.size.result = omega (arith, c.size.ensures, size_is_length g.H.Sum.sum_of w old c.requires.sound) in
+    let enough : length held ≤ c.size.result = omega (arith, c.size.ensures, c.requires.ready.size) in
     let whole = c.in_ok-bytes.ensures.reads ∙ take_all c.size.result held enough in
     all_read g.H.Sum.sum_of g.R.Sum.sum_of w c.in_ok-bytes.bytes old (g.B.Blob.life c.read.new.blob) c.records_of.result whole
     c.records_of.ensures.records c.records_of.ensures.missing c.records_of.ensures.err

@@ -5,8 +5,7 @@ use Rattle.std.specs.Prelude.{Ok}
 use Rattle.page.specs.Geometry.{adjusted}
 use Rattle.paged.specs.Prefix.{last_prefix, HasBytes}
 use Rattle.paged.specs.Recovery.{Opens, opened_size, CutsBack}
-use Rattle.page.specs.Page.{text}
-use Rattle.crash.proofs.LookLaws.{looked_start}
+use Rattle.crash.specs.Looks.{looked_start}
 use Rattle.crash.proofs.FloorLaws.{floors_none}
 use Rattle.paged.proofs.Recoveries.{opened_is, opened_last, opened_reach, opened_kept, opened_size_le, pages_count, fits_prefix, opens_cause, back_cause, kept_back, trims_back}
 use Rattle.paged.specs.Searches.{ReadsBack}
@@ -186,5 +185,4 @@ returns-clause-within g c =
 pub returns-in_err-capacity-clause-floors : goal.returns-in_err-capacity-clause-floors
 returns-in_err-capacity-clause-floors g c =
     let life = g.B.Blob.life c.args.blob.now in
-    let P = c.args.cache.now.page_size in
-    floors_none g.H.Sum.sum_of P (text g.H.Sum.sum_of P life.present.readable) life life refl
+    λ content. floors_none g.H.Sum.sum_of c.args.cache.now.page_size content life life refl

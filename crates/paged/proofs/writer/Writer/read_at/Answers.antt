@@ -3,7 +3,7 @@ use Rattle.std.specs.List.{concat}
 use Rattle.crash.specs.Sound.{content}
 use Rattle.paged.specs.Reads.{size_of, AreTouchedFull}
 use Rattle.paged.proofs.Reading.{range_joins, touched_below}
-use Rattle.crash.proofs.LookLaws.{looked_start}
+use Rattle.crash.specs.Looks.{looked_start}
 use Rattle.paged.proofs.There.{reads_keep_sound, reads_keep, reads_leave}
 use Rattle.paged.proofs.writer.Writer.read_at.Goals as goal
 

@@ -6,7 +6,7 @@ use Rattle.page.specs.Page.{value_len}
 use Rattle.paged.specs.Prefix.{page_at}
 use Rattle.crash.specs.Sound.{content}
 use Rattle.std.proofs.lemmas.Result.{err_from_is_err_and}
-use Rattle.crash.proofs.LookLaws.{looked_joins, looked_start}
+use Rattle.crash.specs.Looks.{looked_joins, looked_start}
 use Rattle.paged.specs.Reads.{Touches}
 use Rattle.paged.proofs.Reading.{page_below, touched_here, read_fault, read_step, touched_more}
 use Rattle.paged.proofs.writer.Writer.read_below.Goals as goal

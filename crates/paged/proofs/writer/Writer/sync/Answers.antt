@@ -18,7 +18,7 @@ pub returns-then-has_flush_work-clause-durable : goal.returns-then-has_flush_wor
 returns-then-has_flush_work-clause-durable g c = sync_keeps_all g.H.Sum.sum_of c.args.self (g.B.Blob.life c.args.blob.now) (g.B.Blob.life c.sync_pages.new.blob) c.sync_pages.result (returns-then-has_flush_work-clause-syncs g c)
 
 pub returns-then-has_flush_work-clause-kept : goal.returns-then-has_flush_work-clause-kept
-returns-then-has_flush_work-clause-kept g c = sync_keeps g.H.Sum.sum_of c.args.self (g.B.Blob.life c.args.blob.now) (g.B.Blob.life c.sync_pages.new.blob) c.sync_pages.result (returns-then-has_flush_work-clause-syncs g c)
+returns-then-has_flush_work-clause-kept g c = sync_keeps g.H.Sum.sum_of c.args.self (g.B.Blob.life c.args.blob.now) (g.B.Blob.life c.sync_pages.new.blob) c.sync_pages.result c.requires.sound (returns-then-has_flush_work-clause-syncs g c)
 
 pub returns-then-has_flush_work-clause-only : goal.returns-then-has_flush_work-clause-only
 returns-then-has_flush_work-clause-only g c = sync_leaves g.H.Sum.sum_of c.args.self (g.B.Blob.life c.args.blob.now) (g.B.Blob.life c.sync_pages.new.blob) c.sync_pages.result (returns-then-has_flush_work-clause-syncs g c)
@@ -41,7 +41,7 @@ pub returns-else-has_flush_work-clause-durable : goal.returns-else-has_flush_wor
 returns-else-has_flush_work-clause-durable g c = sync_keeps_all g.H.Sum.sum_of c.args.self (g.B.Blob.life c.args.blob.now) (g.B.Blob.life c.settle.new.blob) c.settle.result (returns-else-has_flush_work-clause-syncs g c)
 
 pub returns-else-has_flush_work-clause-kept : goal.returns-else-has_flush_work-clause-kept
-returns-else-has_flush_work-clause-kept g c = sync_keeps g.H.Sum.sum_of c.args.self (g.B.Blob.life c.args.blob.now) (g.B.Blob.life c.settle.new.blob) c.settle.result (returns-else-has_flush_work-clause-syncs g c)
+returns-else-has_flush_work-clause-kept g c = sync_keeps g.H.Sum.sum_of c.args.self (g.B.Blob.life c.args.blob.now) (g.B.Blob.life c.settle.new.blob) c.settle.result c.requires.sound (returns-else-has_flush_work-clause-syncs g c)
 
 pub returns-else-has_flush_work-clause-only : goal.returns-else-has_flush_work-clause-only
 returns-else-has_flush_work-clause-only g c = sync_leaves g.H.Sum.sum_of c.args.self (g.B.Blob.life c.args.blob.now) (g.B.Blob.life c.settle.new.blob) c.settle.result (returns-else-has_flush_work-clause-syncs g c)
