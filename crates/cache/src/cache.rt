@@ -9,7 +9,8 @@ use std::alloc::Global;
 use std::marker::Model;
 use std::num::{NonZeroU16, NonZeroUsize};
 
-/// The pages of many blobs, by blob id and page number, and the ids of the blobs. It holds no page yet.
+/// The pages of many blobs, by blob id and page number, and the ids of the blobs. It holds no page
+/// yet.
 #[derive(Drop)]
 pub struct CacheRef {
     alloc: Global,
@@ -25,14 +26,22 @@ impl Model for CacheRef {
 
     ghost Value = { CacheState };
 
-    ghost view = { λ c. record { page_size = non_zero_u16_get c.page_size; capacity = non_zero_usize_get c.capacity; ids_given = ids_given c.next } };
+    ghost view = { λ c. record {
+      page_size = non_zero_u16_get c.page_size;
+      capacity = non_zero_usize_get c.capacity;
+      ids_given = ids_given c.next;
+    } };
 }
 
 impl CacheRef {
-    /// A cache of at most `capacity` pages of `page_size` logical bytes, which has given no id. It answers
-    /// `OutOfMemory` alone.
+    /// A cache of at most `capacity` pages of `page_size` logical bytes, which has given no id. It
+    /// answers `OutOfMemory` alone.
     pub fn new(alloc: Global, page_size: NonZeroU16, capacity: NonZeroUsize) -> Result<Self, Error>
-        ensures made { IfOk result (λ c. c ≡ record { page_size = non_zero_u16_get page_size; capacity = non_zero_usize_get capacity; ids_given = 0 }) }
+        ensures made { IfOk result (λ c. c ≡ record {
+          page_size = non_zero_u16_get page_size;
+          capacity = non_zero_usize_get capacity;
+          ids_given = 0;
+        }) }
         ensures err { IsOkUnless result Error.OutOfMemory }
     {
         Ok(CacheRef {
@@ -59,8 +68,8 @@ impl CacheRef {
         (offset / size, offset % size)
     }
 
-    /// An id that this cache has not given before: 0, 1, 2 and so on. `IdsExhausted` once the greatest `u64` was
-    /// given, and then the cache is as it was.
+    /// An id that this cache has not given before: 0, 1, 2 and so on. `IdsExhausted` once the
+    /// greatest `u64` was given, and then the cache is as it was.
     pub fn next_id(&mut self) -> Result<u64, Error>
         ensures id { OkIff result (self.old.ids_given < 2 ^ 64) self.old.ids_given }
         ensures err { IsOkUnless result Error.IdsExhausted }

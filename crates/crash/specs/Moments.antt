@@ -1,12 +1,13 @@
--- The laws of promises at each moment of a life: how they begin, compose, follow from one another and
--- end. Whoever makes two calls in one puts their promises together by these.
+-- The laws of promises at each moment of a life: how they begin, compose, follow from one another
+-- and end. Whoever makes two calls in one puts their promises together by these.
 use Rattle.std.specs.Prelude.{◌≡◌, List, [], ◌∷◌, ◌++◌}
 use Rattle.std.proofs.Common.{refl, sym, ap, ◌∙◌, subst}
 use Rattle.disk.specs.Disk.{Disk, Life, next, after}
 use Rattle.crash.specs.Kept.{Each, Through}
 
 -- moments joined are the first and then the others
-pub after-append : (life : Life) (ds es : List Disk) → after life (ds ++ es) ≡ after (after life ds) es
+pub after-append : (life : Life) (ds es : List Disk)
+    → after life (ds ++ es) ≡ after (after life ds) es
 after-append life [] es = refl
 after-append life (d ∷ ds) es = after-append (next life d) ds es
 
@@ -16,12 +17,14 @@ each-append Q [] es first second = second
 each-append Q (d ∷ ds) es first second = (first.0, each-append Q ds es first.1 second)
 
 -- what follows at each moment
-pub each_then : (Q R : Disk → Type 0) (ds : List Disk) → ((d : Disk) → Q d → R d) → Each Q ds → Each R ds
+pub each_then : (Q R : Disk → Type 0) (ds : List Disk) → ((d : Disk) → Q d → R d) → Each Q ds
+    → Each R ds
 each_then Q R [] then each = each
 each_then Q R (d ∷ ds) then each = (then d each.0, each_then Q R ds then each.1)
 
 -- what holds at the start and at each moment since holds at the end
-pub each_last : (Q : Disk → Type 0) (life : Life) (ds : List Disk) → Q life.present → Each Q ds → Q (after life ds).present
+pub each_last : (Q : Disk → Type 0) (life : Life) (ds : List Disk) → Q life.present → Each Q ds
+    → Q (after life ds).present
 each_last Q life [] start each = start
 each_last Q life (d ∷ ds) start each = each_last Q (next life d) ds each.0 each.1
 
@@ -31,21 +34,27 @@ unfolding Through
 through_start Q life start = record { moments = []; goes = refl; start = start; each = tt }
 
 -- one moment more
-pub through_more : (Q : Disk → Type 0) (old new : Life) (d : Disk) → Through Q old new → Q d → Through Q old (next new d)
+pub through_more : (Q : Disk → Type 0) (old new : Life) (d : Disk) → Through Q old new → Q d
+    → Through Q old (next new d)
 unfolding Through
 through_more Q old new d through holds = record {
   moments = through.moments ++ d ∷ [];
-  goes = ap (λ (life : Life). next life d) through.goes ∙ sym (after-append old through.moments (d ∷ []));
+  goes =
+      ap (λ (life : Life). next life d) through.goes ∙ sym
+      (after-append old through.moments (d ∷ []));
   start = through.start;
   each = each-append Q through.moments (d ∷ []) through.each (holds, tt);
 }
 
 -- one call after another
-pub through_joins : (Q : Disk → Type 0) (old mid new : Life) → Through Q old mid → Through Q mid new → Through Q old new
+pub through_joins : (Q : Disk → Type 0) (old mid new : Life) → Through Q old mid → Through Q mid new
+    → Through Q old new
 unfolding Through
 through_joins Q old mid new first second = record {
   moments = first.moments ++ second.moments;
-  goes = second.goes ∙ ap (λ (life : Life). after life second.moments) first.goes ∙ sym (after-append old first.moments second.moments);
+  goes =
+      second.goes ∙ ap (λ (life : Life). after life second.moments) first.goes ∙ sym
+      (after-append old first.moments second.moments);
   start = first.start;
   each = each-append Q first.moments second.moments first.each second.each;
 }
@@ -53,10 +62,13 @@ through_joins Q old mid new first second = record {
 -- what holds at each moment holds at the end
 pub through_end : (Q : Disk → Type 0) (old new : Life) → Through Q old new → Q new.present
 unfolding Through
-through_end Q old new through = subst (λ (life : Life). Q life.present) (sym through.goes) (each_last Q old through.moments through.start through.each)
+through_end Q old new through =
+    subst (λ (life : Life). Q life.present) (sym through.goes)
+    (each_last Q old through.moments through.start through.each)
 
 -- what follows from it holds at each moment too
-pub through_then : (Q R : Disk → Type 0) (old new : Life) → ((d : Disk) → Q d → R d) → Through Q old new → Through R old new
+pub through_then : (Q R : Disk → Type 0) (old new : Life) → ((d : Disk) → Q d → R d)
+    → Through Q old new → Through R old new
 unfolding Through
 through_then Q R old new then through = record {
   moments = through.moments;

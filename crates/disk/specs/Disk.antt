@@ -171,7 +171,10 @@ settle d = record d { base = d.readable; since = []; settled = d.settled + lengt
 -- what a started sync covers is durable, if it isn't yet
 abbrev pub settle_started : Started → Disk → Disk
 settle_started s d =
-    if nat_lt d.settled s.covers then record d { base = s.bytes; since = drop (s.covers - d.settled) d.since; settled = s.covers } else d
+    let covered = s.covers - d.settled in
+    if nat_lt d.settled s.covers
+    then record d { base = s.bytes; since = drop covered d.since; settled = s.covers }
+    else d
 
 -- whether this sync had failed when it started, or a wait for it
 abbrev pub had_failed : List Started → ℕ → Bool
@@ -221,7 +224,8 @@ DurableWriteGoes place bytes old new (Err _) = ⊥
 abbrev pub WriteGoes : ℕ → List ℕ → Bool → Life → Life → Result (Unit {0}) Error → Type 0
 WriteGoes place bytes true old new result = DurableWriteGoes place bytes old new result
 WriteGoes place bytes false old new result =
-    OperationGoes (Write place bytes) (WriteAt place (length bytes) false) WriteFailed old new result
+    let request = WriteAt place (length bytes) false in
+    OperationGoes (Write place bytes) request WriteFailed old new result
 
 -- a resize
 abbrev pub ResizeGoes : ℕ → Life → Life → Result (Unit {0}) Error → Type 0

@@ -75,10 +75,13 @@ abbrev pub lives : Action → Bool → Life → Life
 lives (actions.Read place len) failed life =
     next life (logged (ReadAt place len) failed life.present)
 lives (actions.Write place bytes false) failed life =
-    next life (operated (Write place bytes) (WriteAt place (length bytes) false) failed life.present)
+    let request = WriteAt place (length bytes) false in
+    next life (operated (Write place bytes) request failed life.present)
 lives (actions.Write place bytes true) true life =
     next life (operated (Write place bytes) (WriteAt place (length bytes) true) true life.present)
-lives (actions.Write place bytes true) false life = let d = operated (Write place bytes) (WriteAt place (length bytes) true) false life.present in next (next life d) (settle d)
+lives (actions.Write place bytes true) false life =
+    let d = operated (Write place bytes) (WriteAt place (length bytes) true) false life.present in
+    next (next life d) (settle d)
 lives (actions.Resize len) failed life =
     next life (operated (Resize len) (ResizeTo len) failed life.present)
 lives actions.Sync true life = next life (logged SyncAll true life.present)
@@ -89,10 +92,21 @@ abbrev pub goes_on : Life → List Event → Life
 goes_on life [] = life
 goes_on life (e ∷ es) = goes_on (lives e.action e.failed life) es
 
+-- a disk with these bytes, all durable, and this log
+abbrev pub at_rest : List ℕ → List Entry → Disk
+at_rest bytes log = record {
+  readable = bytes;
+  base = bytes;
+  since = [];
+  settled = 0;
+  started = [];
+  log = log;
+}
+
 -- a life that begins with these bytes, all durable, and the log of the lives before
 abbrev pub begun : List ℕ → List Entry → Life
 begun bytes log =
-    record { present = record { readable = bytes; base = bytes; since = []; settled = 0; started = []; log = log }; past = [] }
+    record { present = at_rest bytes log; past = [] }
 
 -- what a blob in memory is
 pub record History : Type 0 where

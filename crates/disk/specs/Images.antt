@@ -23,7 +23,11 @@ slice_get_append : (xs ys : List ℕ) (at byte : ℕ) → slice_get (xs ++ ys) a
 slice_get_append [] ys at byte h = inr (omega arith, let e : at - 0 ≡ at = omega arith in rw e h)
 slice_get_append (x ∷ xs) ys zero byte h = inl h
 slice_get_append (x ∷ xs) ys (suc at) byte h =
-    elim (slice_get_append xs ys at byte h) [ inl a ↦ inl a | inr b ↦ inr (omega arith, let e : suc at - suc (length xs) ≡ at - length xs = omega arith in rw e b.1) ]
+    let e : suc at - suc (length xs) ≡ at - length xs = omega arith in
+    elim (slice_get_append xs ys at byte h) [
+      | inl a ↦ inl a
+      | inr b ↦ inr (omega arith, rw e b.1)
+    ]
 
 -- an element of a beginning is one of the list
 slice_get_take : (n : ℕ) (xs : List ℕ) (at byte : ℕ) → slice_get (take n xs) at ≡ Some byte →
@@ -37,7 +41,8 @@ slice_get_take (suc n) (x ∷ xs) (suc at) byte h = slice_get_take n xs at byte 
 slice_get_drop : (n : ℕ) (xs : List ℕ) (at : ℕ) → slice_get (drop n xs) at ≡ slice_get xs (n + at)
 slice_get_drop zero xs at = let e : 0 + at ≡ at = omega arith in rw e
 slice_get_drop (suc n) [] at = refl
-slice_get_drop (suc n) (x ∷ xs) at = let e : suc n + at ≡ suc (n + at) = omega arith in rw e (slice_get_drop n xs at)
+slice_get_drop (suc n) (x ∷ xs) at =
+    let e : suc n + at ≡ suc (n + at) = omega arith in rw e (slice_get_drop n xs at)
 
 -- an element of a list of zeros, which isn't empty
 slice_get_zeros : (n at byte : ℕ) → slice_get (replicate n 0) at ≡ Some byte → (byte ≡ 0) × (0 < n)
@@ -52,8 +57,10 @@ length_front place old = simp (length-append, length-take, length-replicate) (om
 
 -- the length after a write
 pub length_write : (place : ℕ) (bytes old : List ℕ) →
-    length (applied (Write place bytes) old) ≡ place + length bytes + (length old - (place + length bytes))
-length_write place bytes old = simp (length-append, length-take, length-drop, length-replicate) (omega arith)
+    length (applied (Write place bytes) old)
+    ≡ place + length bytes + (length old - (place + length bytes))
+length_write place bytes old =
+    simp (length-append, length-take, length-drop, length-replicate) (omega arith)
 
 -- the length after a resize
 length_resize : (len : ℕ) (old : List ℕ) → length (applied (Resize len) old) ≡ len
@@ -67,7 +74,8 @@ front_byte n old at byte h =
     elim (slice_get_append (take n old) (replicate (n - length old) 0) at byte h) [
       | inl there ↦ inl (slice_get_take n old at byte there)
       | inr behind ↦
-          let z : (byte ≡ 0) × (0 < n - length old) = slice_get_zeros (n - length old) (at - length (take n old)) byte behind.1 in
+          let skip = length (take n old) in
+          let z = slice_get_zeros (n - length old) (at - skip) byte behind.1 in
           let l : length (take n old) ≤ at = behind.0 in
           let e : length (take n old) ≡ min n (length old) = length-take n old in
           inr (z.0, omega arith)
@@ -82,15 +90,25 @@ applied_byte (Write place bytes) old at byte h =
     let f : length front ≡ place = length_front place old in
     elim (slice_get_append (front ++ bytes) (drop (place + length bytes) old) at byte h) [
       | inl before ↦ elim (slice_get_append front bytes at byte before) [
-        | inl there ↦ elim (front_byte place old at byte there) [ inl a ↦ inl a | inr b ↦ inr (inr b) ]
-        | inr written ↦ inr (inl (omega arith, let e : at - length front ≡ at - place = omega arith in rw e at written.1))
+        | inl there ↦ elim (front_byte place old at byte there) [
+          | inl a ↦ inl a
+          | inr b ↦ inr (inr b)
+        ]
+        | inr written ↦
+            let e : at - length front ≡ at - place = omega arith in
+            inr (inl (omega arith, rw e at written.1))
       ]
       | inr behind ↦
-          let l : place + length bytes ≤ at = omega (arith, behind.0, length-append front bytes) in
-          let e : place + length bytes + (at - length (front ++ bytes)) ≡ at = omega (arith, length-append front bytes) in
-          inl (let g : slice_get old (place + length bytes + (at - length (front ++ bytes))) ≡ Some byte = sym (slice_get_drop (place + length bytes) old (at - length (front ++ bytes))) ∙ behind.1 in rw e at g)
+          let end = place + length bytes in
+          let rest = at - length (front ++ bytes) in
+          let l : end ≤ at = omega (arith, behind.0, length-append front bytes) in
+          let e : end + rest ≡ at = omega (arith, length-append front bytes) in
+          let g : slice_get old (end + rest) ≡ Some byte =
+          sym (slice_get_drop end old rest) ∙ behind.1 in
+          inl (rw e at g)
     ]
-applied_byte (Resize len) old at byte h = elim (front_byte len old at byte h) [ inl a ↦ inl a | inr b ↦ inr (inr b) ]
+applied_byte (Resize len) old at byte h =
+    elim (front_byte len old at byte h) [ inl a ↦ inl a | inr b ↦ inr (inr b) ]
 
 -- the base is a whole state
 base_whole : (base : List ℕ) (os : List Operation) → IsWhole base os base
@@ -147,14 +165,18 @@ longest : (o : Operation) (old other : List ℕ) → (length (applied o old) ≤
 longest (Write place bytes) old other =
     let a = length_write place bytes old in
     let b = length_write place bytes other in
-    elim (cases_lt (length old) (place + length bytes)) [ inl h ↦ inr (omega arith) | inr h ↦ inl (omega arith) ]
+    elim (cases_lt (length old) (place + length bytes)) [
+      | inl h ↦ inr (omega arith)
+      | inr h ↦ inl (omega arith)
+    ]
 longest (Resize len) old other = inr (omega (arith, length_resize len old, length_resize len other))
 
 -- a write leaves no list shorter; and a resize leaves one length
 shortest : (o : Operation) (old other : List ℕ) → (length old ≤ length (applied o old)) ⊎
     (length (applied o other) ≤ length (applied o old))
 shortest (Write place bytes) old other = inl (omega (arith, length_write place bytes old))
-shortest (Resize len) old other = inr (omega (arith, length_resize len old, length_resize len other))
+shortest (Resize len) old other =
+    inr (omega (arith, length_resize len old, length_resize len other))
 
 -- the disk e has one operation more than d
 record Follows (d e : Disk) (o : Operation) : Type 0 where
@@ -169,27 +191,40 @@ new_whole : (d e : Disk) (o : Operation) → Follows d e o → (old : List ℕ) 
     IsWhole e.base e.since (applied o old)
 new_whole d e o f = let r = whole_last d.base d.since o in (r.0, rw (f.base, f.since) r.1)
 
+-- some whole state is no longer than these bytes, and some no shorter
+abbrev NoShorter : Disk → List ℕ → Type 0
+NoShorter e new = (bytes : List ℕ) × IsWhole e.base e.since bytes × (length bytes ≤ length new)
+
+abbrev NoLonger : Disk → List ℕ → Type 0
+NoLonger e new = (bytes : List ℕ) × IsWhole e.base e.since bytes × (length new ≤ length bytes)
+
 torn_no_shorter : (d e : Disk) (o : Operation) (old new : List ℕ) → Follows d e o →
-    IsTorn o old new → IsImage d old → (bytes : List ℕ) × IsWhole e.base e.since bytes ×
-    (length bytes ≤ length new)
+    IsTorn o old new → IsImage d old → NoShorter e new
 torn_no_shorter d e o old new f torn i =
     let w = i.no_shorter in
     let v = new_whole d e o f in
-    let kept : length old ≤ length new → (bytes : List ℕ) × IsWhole e.base e.since bytes × (length bytes ≤ length new) = λ h. (w.0, still_whole d e o w.0 f w.1, omega (arith, w.2)) in
+    let kept : length old ≤ length new → NoShorter e new =
+    λ h. (w.0, still_whole d e o w.0 f w.1, omega (arith, w.2)) in
     elim torn.len [
       | inl a ↦ kept a.0
-      | inr b ↦ elim (shortest o old v.0) [ inl a ↦ kept (omega (arith, b.0)) | inr c ↦ (applied o v.0, v.1, omega (arith, b.0)) ]
+      | inr b ↦ elim (shortest o old v.0) [
+        | inl a ↦ kept (omega (arith, b.0))
+        | inr c ↦ (applied o v.0, v.1, omega (arith, b.0))
+      ]
     ]
 
 torn_no_longer : (d e : Disk) (o : Operation) (old new : List ℕ) → Follows d e o →
-    IsTorn o old new → IsImage d old → (bytes : List ℕ) × IsWhole e.base e.since bytes ×
-    (length new ≤ length bytes)
+    IsTorn o old new → IsImage d old → NoLonger e new
 torn_no_longer d e o old new f torn i =
     let w = i.no_longer in
     let v = new_whole d e o f in
-    let kept : length new ≤ length old → (bytes : List ℕ) × IsWhole e.base e.since bytes × (length new ≤ length bytes) = λ h. (w.0, still_whole d e o w.0 f w.1, omega (arith, w.2)) in
+    let kept : length new ≤ length old → NoLonger e new =
+    λ h. (w.0, still_whole d e o w.0 f w.1, omega (arith, w.2)) in
     elim torn.len [
-      | inl a ↦ elim (longest o old v.0) [ inl b ↦ kept (omega (arith, a.1)) | inr c ↦ (applied o v.0, v.1, omega (arith, a.1)) ]
+      | inl a ↦ elim (longest o old v.0) [
+        | inl b ↦ kept (omega (arith, a.1))
+        | inr c ↦ (applied o v.0, v.1, omega (arith, a.1))
+      ]
       | inr b ↦ kept b.1
     ]
 
@@ -202,7 +237,8 @@ Source d at byte =
 same_source : (d e : Disk) (o : Operation) (at byte : ℕ) → Follows d e o → Source d at byte →
     Source e at byte
 same_source d e o at byte f (inl h) = inl (rw f.base h)
-same_source d e o at byte f (inr (inl h)) = inr (inl (rw f.since (written_more d.since (o ∷ []) at byte h)))
+same_source d e o at byte f (inr (inl h)) =
+    inr (inl (rw f.since (written_more d.since (o ∷ []) at byte h)))
 same_source d e o at byte f (inr (inr h)) =
     inr (inr (h.0, (h.1.0, still_whole d e o h.1.0 f h.1.1, h.1.2)))
 
@@ -210,8 +246,11 @@ torn_each : (d e : Disk) (o : Operation) (old new : List ℕ) → Follows d e o 
     IsImage d old → (at byte : ℕ) → slice_get new at ≡ Some byte → Source e at byte
 torn_each d e o old new f torn i at byte h =
     let w = i.no_shorter in
-    let from_old : slice_get old at ≡ Some byte → Source e at byte = λ k. same_source d e o at byte f (i.each at byte k) in
-    let zero_behind : (byte ≡ 0) × (length old ≤ at) → Source e at byte = λ k. inr (inr (k.0, (w.0, still_whole d e o w.0 f w.1, omega (arith, w.2, k.1)))) in
+    let from_old : slice_get old at ≡ Some byte → Source e at byte =
+    λ k. same_source d e o at byte f (i.each at byte k) in
+    let whole = still_whole d e o w.0 f w.1 in
+    let zero_behind : (byte ≡ 0) × (length old ≤ at) → Source e at byte =
+    λ k. inr (inr (k.0, (w.0, whole, omega (arith, w.2, k.1)))) in
     elim (torn.each at byte h) [
       | inl k ↦ from_old k
       | inr (inl k) ↦ inr (inl (rw f.since (written_last d.since o at byte k)))
@@ -233,7 +272,8 @@ torn_image d e o old new same more torn i =
 pub partial_is_torn : (o : Operation) (old new : List ℕ) → IsPartial o old new → IsTorn o old new
 partial_is_torn o old new p = record {
   len = p.length;
-  each = λ at byte h. elim (p.each at byte h) [ inl k ↦ inl k | inr k ↦ applied_byte o old at byte k ];
+  each =
+      λ at byte h. elim (p.each at byte h) [ inl k ↦ inl k | inr k ↦ applied_byte o old at byte k ];
 }
 
 -- an image stays one through an operation that is done, failed or cut short
@@ -245,14 +285,18 @@ partial_image d e o old new same more p i =
 -- an operation may be done whole
 pub done_is_partial : (o : Operation) (old : List ℕ) → IsPartial o old (applied o old)
 done_is_partial o old = record {
-  length = elim (cases_lt (length old) (length (applied o old))) [ inl h ↦ inl (omega arith, omega arith) | inr h ↦ inr (omega arith, h) ];
+  length =
+      elim (cases_lt (length old) (length (applied o old)))
+      [ inl h ↦ inl (omega arith, omega arith) | inr h ↦ inr (omega arith, h) ];
   each = λ at byte h. inr h;
 }
 
 -- an operation may leave all as it was
 pub same_is_partial : (o : Operation) (old : List ℕ) → IsPartial o old old
 same_is_partial o old = record {
-  length = elim (cases_lt (length old) (length (applied o old))) [ inl h ↦ inl (omega arith, omega arith) | inr h ↦ inr (h, omega arith) ];
+  length =
+      elim (cases_lt (length old) (length (applied o old)))
+      [ inl h ↦ inl (omega arith, omega arith) | inr h ↦ inr (h, omega arith) ];
   each = λ at byte h. inl h;
 }
 
@@ -270,7 +314,9 @@ settled_byte d image at byte settled i h =
     elim (i.each at byte h) [
       | inl k ↦ k
       | inr (inl k) ↦ absurd (let none : SomeWrites [] at byte = rw settled at k in none)
-      | inr (inr k) ↦ absurd (omega (arith, k.1.2, i.no_longer.2, ap length (settled_whole d k.1.0 settled k.1.1)))
+      | inr (inr k) ↦
+          let short = ap length (settled_whole d k.1.0 settled k.1.1) in
+          absurd (omega (arith, k.1.2, i.no_longer.2, short))
     ]
 
 -- where nothing is unsynced the base alone is an image
@@ -279,4 +325,6 @@ only_image d image settled i =
     let short = ap length (settled_whole d i.no_shorter.0 settled i.no_shorter.1) in
     let long = ap length (settled_whole d i.no_longer.0 settled i.no_longer.1) in
     ext_get_or 0 image d.base (omega (arith, i.no_shorter.2, i.no_longer.2)) (λ at h.
-    sym (get_or_from_slice_get d.base at (get_or image at 0) 0 (settled_byte d image at (get_or image at 0) settled i (slice_get-get_or image at 0 h))))
+    let byte = get_or image at 0 in
+    let there = settled_byte d image at byte settled i (slice_get-get_or image at 0 h) in
+    sym (get_or_from_slice_get d.base at byte 0 there))

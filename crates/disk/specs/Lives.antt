@@ -21,9 +21,12 @@ logged_reads request failed d i = same_image d (logged request failed d) d.reada
 operated_reads : (o : Operation) (request : Request) (failed : Bool) (d : Disk) → ReadsImage d →
     ReadsImage (operated o request failed d)
 operated_reads o request true d i =
-    partial_image d (operated o request true d) o d.readable d.readable refl refl (same_is_partial o d.readable) i
+    let same = same_is_partial o d.readable in
+    partial_image d (operated o request true d) o d.readable d.readable refl refl same i
 operated_reads o request false d i =
-    partial_image d (operated o request false d) o d.readable (applied o d.readable) refl refl (done_is_partial o d.readable) i
+    let new = applied o d.readable in
+    let done = done_is_partial o d.readable in
+    partial_image d (operated o request false d) o d.readable new refl refl done i
 
 settled_reads : (d : Disk) → ReadsImage (settle d)
 settled_reads d = base_is_image (settle d)
@@ -37,7 +40,8 @@ lives_reads (actions.Write place bytes false) failed life i =
 lives_reads (actions.Write place bytes true) true life i =
     operated_reads (Write place bytes) (WriteAt place (length bytes) true) true life.present i
 lives_reads (actions.Write place bytes true) false life i =
-    settled_reads (operated (Write place bytes) (WriteAt place (length bytes) true) false life.present)
+    let request = WriteAt place (length bytes) true in
+    settled_reads (operated (Write place bytes) request false life.present)
 lives_reads (actions.Resize len) failed life i =
     operated_reads (Resize len) (ResizeTo len) failed life.present i
 lives_reads actions.Sync true life i = logged_reads SyncAll true life.present i
@@ -52,4 +56,5 @@ goes_on_reads (e ∷ es) life i =
 -- what is readable in such a life is an image
 pub life_reads : (h : History) → IsImage (life_of h).present (life_of h).present.readable
 life_reads h =
-    goes_on_reads h.events (begun h.first h.earlier) (base_is_image (begun h.first h.earlier).present)
+    let life = begun h.first h.earlier in
+    goes_on_reads h.events life (base_is_image life.present)

@@ -20,7 +20,12 @@ entries_of (call ∷ calls) (fault ∷ failed) =
 -- the history of these fields: so many of the calls were made in earlier lives
 abbrev pub history_of : List ℕ → ℕ → List Call → List Bool → List Event → ℕ → History
 history_of first earlier calls failed events failing =
-    record { first = first; earlier = entries_of (take earlier calls) (take earlier failed); events = events; failing = failing }
+    record {
+      first = first;
+      earlier = entries_of (take earlier calls) (take earlier failed);
+      events = events;
+      failing = failing;
+    }
 
 -- the fields agree with the history
 pub record IsKept (h : History) (readable : List ℕ) (calls : List Call) (failed : List Bool)

@@ -7,7 +7,8 @@ abbrev pub torn_write : List Bool → ℕ → List ℕ → List ℕ → List ℕ
 torn_write [] place bytes image = image
 torn_write (flag ∷ keep) place [] image = image
 torn_write (flag ∷ keep) place (byte ∷ bytes) image =
-    torn_write keep (place + 1) bytes (if flag then applied (Write place (byte ∷ [])) image else image)
+    let written = applied (Write place (byte ∷ [])) image in
+    torn_write keep (place + 1) bytes (if flag then written else image)
 
 -- a resize where its flag is true
 abbrev pub torn_resize : List Bool → ℕ → List ℕ → List ℕ

@@ -1,7 +1,9 @@
 // What a device is asked for.
-ghost use Rattle.std.specs.Prelude.{[], ◌∷◌, if◌then◌else◌, ◌≡◌, ◌≤◌, ◌+◌, ◌-◌, ◌<◌, ◌^◌, ◌++◌, length, take, drop, replicate, vec_capacity, OnOk, OnErr, IfOk};
+ghost use Rattle.std.specs.Prelude.{[], ◌∷◌, if◌then◌else◌, ◌≡◌, ◌≤◌, ◌+◌, ◌-◌, ◌<◌, ◌^◌, ◌++◌};
+ghost use Rattle.std.specs.Prelude.{length, take, drop, replicate, vec_capacity, OnOk, OnErr, IfOk};
 ghost use Rattle.disk.specs.Disk.{applied, Write};
-ghost use Rattle.disk.specs.History.{request_of, asked, done, settles, redone, replayed, operations_of, TornBy};
+ghost use Rattle.disk.specs.History.{request_of, asked, done, settles, redone, replayed};
+ghost use Rattle.disk.specs.History.{operations_of, TornBy};
 ghost use Rattle.disk.specs.Memory.{settled_after};
 ghost use Rattle.disk.specs.Torn.{torn, torn_write};
 
@@ -61,10 +63,11 @@ impl Action {
         }
     }
 
-    /// The bytes that a crash leaves where these flags say which bytes of a write, or whether a resize, was done. It
-    /// answers with the flags that are left over.
+    /// The bytes that a crash leaves where these flags say which bytes of a write, or whether a
+    /// resize, was done. It answers with the flags that are left over.
     pub fn tear<'a>(&self, image: &mut Vec<u8>, keep: &'a [bool]) -> Result<&'a [bool], AllocError>
-        ensures { IfOk result (λ rest. TornBy self.now keep.now rest.now image.old.items image.new.items) }
+        ensures { IfOk result (λ rest.
+            TornBy self.now keep.now rest.now image.old.items image.new.items) }
     {
         match self {
             Action::Write(place, bytes, _) => {
@@ -88,7 +91,8 @@ impl Action {
     /// Makes room for the bytes after it.
     pub fn reserve(&self, bytes: &mut Vec<u8>) -> Result<(), AllocError>
         ensures same { bytes.new.items ≡ bytes.old.items }
-        ensures room { OnOk result (length (done self.now bytes.old.items) ≤ vec_capacity bytes.new) }
+        ensures room { OnOk result
+            (length (done self.now bytes.old.items) ≤ vec_capacity bytes.new) }
     {
         let len = match self {
             Action::Write(place, new, _) => (*place as usize).checked_add(new.len()),
@@ -159,7 +163,8 @@ pub fn replay(alloc: Global, first: &[u8], events: &[Event]) -> Result<Vec<u8>, 
 
 /// What a crash leaves of events that aren't durable, where these flags say what was done.
 pub fn tear(image: &mut Vec<u8>, events: &[Event], keep: &[bool]) -> Result<(), AllocError>
-    ensures { OnOk result (image.new.items ≡ torn keep.now (operations_of events.now) image.old.items) }
+    ensures { OnOk result
+        (image.new.items ≡ torn keep.now (operations_of events.now) image.old.items) }
 {
     let mut rest = keep;
     for event in events {
@@ -184,7 +189,8 @@ pub fn write_over(bytes: &mut Vec<u8>, place: usize, new: &[u8]) -> Result<(), A
 
 // Fills up with zeros to a length.
 fn grow(bytes: &mut Vec<u8>, len: usize) -> Result<(), AllocError>
-    ensures ok { OnOk result (bytes.new.items ≡ bytes.old.items ++ replicate (len - length bytes.old.items) 0) }
+    ensures ok { OnOk result
+        (bytes.new.items ≡ bytes.old.items ++ replicate (len - length bytes.old.items) 0) }
     ensures err { OnErr result (bytes.new.items ≡ bytes.old.items) }
 {
     if len <= bytes.len() {
@@ -196,7 +202,8 @@ fn grow(bytes: &mut Vec<u8>, len: usize) -> Result<(), AllocError>
 // Copies bytes to a place among others.
 fn put(bytes: &mut Vec<u8>, place: usize, new: &[u8])
     requires { place + length new.now ≤ length bytes.old.items }
-    ensures { bytes.new.items ≡ take place bytes.old.items ++ new.now ++ drop (place + length new.now) bytes.old.items }
+    ensures { bytes.new.items
+        ≡ take place bytes.old.items ++ new.now ++ drop (place + length new.now) bytes.old.items }
 {
     bytes[place..place + new.len()].copy_from_slice(new);
 }
@@ -223,7 +230,9 @@ fn tear_write(
 
 // Puts a byte where its flag is true.
 fn put_flagged(image: &mut Vec<u8>, place: usize, byte: u8, flag: bool) -> Result<(), AllocError>
-    ensures { OnOk result (image.new.items ≡ (if flag then applied (Write place (byte ∷ [])) image.old.items else image.old.items)) }
+    ensures { let old = image.old.items in
+        let written = applied (Write place (byte ∷ [])) old in
+        OnOk result (image.new.items ≡ (if flag then written else old)) }
 {
     if flag {
         write_over(image, place, &[byte])

@@ -1,7 +1,8 @@
 // The device.
 ghost use Rattle.std.specs.Prelude.{◌≡◌, [], true};
 ghost use Rattle.std.specs.List.{concat};
-ghost use Rattle.disk.specs.Disk.{Life, IsImage, Write, Resize, ReadGoes, WriteGoes, ResizeGoes, SyncGoes};
+ghost use Rattle.disk.specs.Disk.{Life, IsImage, Write, Resize, ReadGoes, WriteGoes, ResizeGoes};
+ghost use Rattle.disk.specs.Disk.{SyncGoes};
 
 use crate::{Error, IoBuf, IoBufs};
 use std::alloc::Global;
@@ -24,20 +25,23 @@ pub struct WriteOptions {
 
 /// A run of bytes on a device, read and written at places in bytes.
 ///
-/// Each call has one clause, by cases on its answer: what it did to the blob's life, and why an error came. A call looks
-/// for an overflow first, then for the end, then for memory, and asks the device last. One that answers
-/// `OffsetOverflow`, `BlobInsufficientLength` or `OutOfMemory` asked no device: it changed nothing and stands in no log.
+/// Each call has one clause, by cases on its answer: what it did to the blob's life, and why an
+/// error came. A call looks for an overflow first, then for the end, then for memory, and asks the
+/// device last. One that answers `OffsetOverflow`, `BlobInsufficientLength` or `OutOfMemory` asked
+/// no device: it changed nothing and stands in no log.
 ///
-/// A sync that failed may be asked for again, also by a recovery that begins on the same blob: where the later one
-/// answers `Ok`, all that is readable is durable, what was written before the failure included. A file's device keeps
-/// this law only where it knows what it lost. After a sync that failed it must not answer `Ok` for bytes that the
-/// system dropped: a device that can't tell has to refuse every later call.
+/// A sync that failed may be asked for again, also by a recovery that begins on the same blob:
+/// where the later one answers `Ok`, all that is readable is durable, what was written before the
+/// failure included. A file's device keeps this law only where it knows what it lost. After a sync
+/// that failed it must not answer `Ok` for bytes that the system dropped: a device that can't tell
+/// has to refuse every later call.
 pub trait Blob {
     /// The blob's present disk and the past ones.
     ghost life: { Self → Life };
 
-    /// The `len` bytes at `offset`. `BlobInsufficientLength` where the range passes the end, `OutOfMemory` only where it
-    /// doesn't, `ReadFailed` where the device failed; an error leaves the bytes as they were.
+    /// The `len` bytes at `offset`. `BlobInsufficientLength` where the range passes the end,
+    /// `OutOfMemory` only where it doesn't, `ReadFailed` where the device failed; an error leaves
+    /// the bytes as they were.
     fn read_at(
         &mut self,
         alloc: Global,
@@ -47,21 +51,22 @@ pub trait Blob {
     ) -> Result<IoBuf, Error>
         ensures goes { ReadGoes offset len (life self.old) (life self.new) result };
 
-    /// Sets the bytes at `offset`; a gap behind the end is filled with zeros. With `sync` they are durable at `Ok`,
-    /// and nothing may be unsynced before. `OffsetOverflow` where the range passes the greatest place, `OutOfMemory`
-    /// only where it doesn't, `WriteFailed` where the device failed: then each byte of the range is the old one or the
-    /// new one.
+    /// Sets the bytes at `offset`; a gap behind the end is filled with zeros. With `sync` they are
+    /// durable at `Ok`, and nothing may be unsynced before. `OffsetOverflow` where the range passes
+    /// the greatest place, `OutOfMemory` only where it doesn't, `WriteFailed` where the device
+    /// failed: then each byte of the range is the old one or the new one.
     fn write_at(&mut self, offset: u64, bufs: &IoBufs, options: WriteOptions) -> Result<(), Error>
         requires settled { options.sync ≡ true → (life self.old).present.since ≡ [] }
-        ensures goes { WriteGoes offset (concat bufs.now) options.sync (life self.old) (life self.new) result };
+        ensures goes { WriteGoes offset (concat bufs.now) options.sync (life self.old)
+            (life self.new) result };
 
-    /// Cuts the blob to `len` bytes, or fills it with zeros up to there. `ResizeFailed` where the device failed:
-    /// then the length lies between. `OutOfMemory`.
+    /// Cuts the blob to `len` bytes, or fills it with zeros up to there. `ResizeFailed` where the
+    /// device failed: then the length lies between. `OutOfMemory`.
     fn resize(&mut self, len: u64) -> Result<(), Error>
         ensures goes { ResizeGoes len (life self.old) (life self.new) result };
 
-    /// Makes all that is readable durable, whatever failed before. `SyncFailed` where the device failed: then what was
-    /// durable is. `OutOfMemory`.
+    /// Makes all that is readable durable, whatever failed before. `SyncFailed` where the device
+    /// failed: then what was durable is. `OutOfMemory`.
     fn sync(&mut self) -> Result<(), Error>
         ensures goes { SyncGoes (life self.old) (life self.new) result };
 

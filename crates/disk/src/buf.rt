@@ -1,5 +1,6 @@
 // Byte buffers that are shared and cut with no copy.
-ghost use Rattle.std.specs.Prelude.{◌≡◌, ◌==◌, ◌≤◌, ◌++◌, [], length, slice_range, take, IfOk, IfErr, IsOkUnless, OnOk, OnErr};
+ghost use Rattle.std.specs.Prelude.{◌≡◌, ◌==◌, ◌≤◌, ◌++◌, [], length, slice_range, take, IfOk};
+ghost use Rattle.std.specs.Prelude.{IfErr, IsOkUnless, OnOk, OnErr};
 ghost use Rattle.std.specs.List.{concat};
 ghost use Rattle.std.specs.Slice.Iter.{iter_rest};
 ghost use Rattle.disk.specs.Bufs.{with_buf};
@@ -42,7 +43,8 @@ impl IoBuf {
         Ok(IoBuf { bytes })
     }
 
-    /// The bytes from `start` to before `end`, shared with this buffer. It answers `OutOfMemory` alone.
+    /// The bytes from `start` to before `end`, shared with this buffer. It answers `OutOfMemory`
+    /// alone.
     pub fn slice(&self, start: usize, end: usize) -> Result<Self, Error>
         requires order { start ≤ end }
         requires bound { end ≤ length self.now }
@@ -120,8 +122,8 @@ impl IoBufs {
         self.len == 0
     }
 
-    /// Adds a buffer at the end; an empty one is dropped. It answers `OutOfMemory` alone, also where all the
-    /// bytes together would pass `usize`, and then the list is as it was.
+    /// Adds a buffer at the end; an empty one is dropped. It answers `OutOfMemory` alone, also
+    /// where all the bytes together would pass `usize`, and then the list is as it was.
     pub fn append(&mut self, buf: IoBuf) -> Result<(), Error>
         ensures bufs { OnOk result (self.new ≡ with_buf self.old buf) }
         ensures bytes { OnOk result (concat self.new ≡ concat self.old ++ buf) }
@@ -139,8 +141,9 @@ impl IoBufs {
         Ok(())
     }
 
-    /// Adds the first `len` bytes of a vector at the end, without a copy; nothing where `len` is 0. Where memory is
-    /// refused, or all the bytes together would pass `usize`, the vector comes back, and the list is as it was.
+    /// Adds the first `len` bytes of a vector at the end, without a copy; nothing where `len` is 0.
+    /// Where memory is refused, or all the bytes together would pass `usize`, the vector comes
+    /// back, and the list is as it was.
     pub fn append_front(&mut self, bytes: Vec<u8>, len: usize) -> Result<(), AllocFailed<Vec<u8>>>
         requires { len ≤ length bytes.items }
         ensures bufs { OnOk result (self.new ≡ with_buf self.old (take len bytes.items)) }

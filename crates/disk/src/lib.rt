@@ -1,5 +1,6 @@
-//! The storage device of the paged blob layer: its errors, the buffers that pass through it, the trait
-//! [`Blob`] with what each call does and what a crash may leave, and [`MemBlob`], a blob in memory.
+//! The storage device of the paged blob layer: its errors, the buffers that pass through it, the
+//! trait [`Blob`] with what each call does and what a crash may leave, and [`MemBlob`], a blob in
+//! memory.
 #![tactic(auto)]
 
 mod action;

@@ -1,7 +1,10 @@
 // A blob in memory, whose calls can be made to fail, and which can crash.
-ghost use Rattle.std.specs.Prelude.{◌≡◌, ◌≤◌, ◌<◌, ◌+◌, ◌-◌, ◌==◌, ◌++◌, [], ◌∷◌, length, map, vec_len, vec_capacity, if◌then◌else◌, IfOk, OnOk, OnErr, IsOkUnless};
+ghost use Rattle.std.specs.Prelude.{◌≡◌, ◌≤◌, ◌<◌, ◌+◌, ◌-◌, ◌==◌, ◌++◌, [], ◌∷◌, length, map};
+ghost use Rattle.std.specs.Prelude.{vec_len, vec_capacity, if◌then◌else◌, IfOk, OnOk, OnErr};
+ghost use Rattle.std.specs.Prelude.{IsOkUnless};
 ghost use Rattle.std.specs.List.{concat};
-ghost use Rattle.disk.specs.Disk.{IsImage, LeavesNoMore, Life, Write, Resize, failures, ReadGoes, WriteGoes, ResizeGoes, SyncGoes};
+ghost use Rattle.disk.specs.Disk.{IsImage, LeavesNoMore, Life, Write, Resize, failures, ReadGoes};
+ghost use Rattle.disk.specs.Disk.{WriteGoes, ResizeGoes, SyncGoes};
 ghost use Rattle.disk.specs.History.{life_of, begun, told, request_of};
 ghost use Rattle.disk.specs.Memory.{settled_after, CountsDown, IsRange};
 ghost use Rattle.disk.specs.Torn.{torn};
@@ -11,11 +14,11 @@ use crate::{Blob, Error, IoBuf, IoBufs, ReadOptions, WriteOptions};
 use std::alloc::{AllocError, Global};
 use std::marker::Model;
 
-/// A blob in memory. It keeps what a crash needs to know: the bytes that its life began with, and each device call
-/// since. One of its calls can be made to fail, and it can crash.
+/// A blob in memory. It keeps what a crash needs to know: the bytes that its life began with, and
+/// each device call since. One of its calls can be made to fail, and it can crash.
 ///
-/// A call that answers `BlobInsufficientLength`, `OffsetOverflow` or `OutOfMemory` asks no device: it changes nothing,
-/// stands in no log, and isn't counted by [`MemBlob::fail_at`].
+/// A call that answers `BlobInsufficientLength`, `OffsetOverflow` or `OutOfMemory` asks no device:
+/// it changes nothing, stands in no log, and isn't counted by [`MemBlob::fail_at`].
 #[derive(Drop)]
 pub struct MemBlob {
     alloc: Global,
@@ -41,7 +44,8 @@ impl Model for MemBlob {
 
     ghost Value = { History };
 
-    ghost view = { λ m. history_of m.first.items m.earlier m.calls.items m.failed.items m.events.items m.failing };
+    ghost view = { λ m. history_of m.first.items m.earlier m.calls.items m.failed.items
+        m.events.items m.failing };
 
     ghost invariant = { λ m. IsKept
         (history_of m.first.items m.earlier m.calls.items m.failed.items m.events.items m.failing)
@@ -125,16 +129,18 @@ impl MemBlob {
         self.failing = n;
     }
 
-    /// Crashes, and begins a new life with what is left: the durable bytes, and of the operations that aren't durable,
-    /// in order, those bytes of a write for which there is a true flag, and each resize whose flag is true. There is
-    /// one flag for each byte of a write and one for a resize. A missing flag is false. A later crash leaves nothing
-    /// that this one might not have left, until something is written.
+    /// Crashes, and begins a new life with what is left: the durable bytes, and of the operations
+    /// that aren't durable, in order, those bytes of a write for which there is a true flag, and
+    /// each resize whose flag is true. There is one flag for each byte of a write and one for a
+    /// resize. A missing flag is false. A later crash leaves nothing that this one might not have
+    /// left, until something is written.
     ///
     /// It answers `OutOfMemory` alone, and then nothing changed.
     pub fn crash(&mut self, keep: &[bool]) -> Result<(), Error>
         ensures life { let old = (life_of self.old).present in
             OnOk result (life_of self.new ≡ begun (torn keep.now old.since old.base) old.log) }
-        ensures image { let old = (life_of self.old).present in IsImage old (torn keep.now old.since old.base) }
+        ensures image { let old = (life_of self.old).present in
+            IsImage old (torn keep.now old.since old.base) }
         ensures leaves { LeavesNoMore (life_of self.old).present (life_of self.new).present }
         ensures failing { self.new.failing ≡ self.old.failing }
         ensures same { OnErr result (self.new ≡ self.old) }
@@ -222,7 +228,8 @@ impl Blob for MemBlob {
 
     // What is unsynced before a durable write is made durable with it.
     fn write_at(&mut self, offset: u64, bufs: &IoBufs, options: WriteOptions) -> Result<(), Error>
-        ensures goes { WriteGoes offset (concat bufs.now) options.sync (life_of self.old) (life_of self.new) result }
+        ensures goes { WriteGoes offset (concat bufs.now) options.sync (life_of self.old)
+            (life_of self.new) result }
         ensures counts { CountsDown self.old.failing self.new.failing result }
     {
         if offset.checked_add(bufs.len() as u64).is_none() {
@@ -267,7 +274,9 @@ fn make_room(
     ensures calls { calls.new.items ≡ calls.old.items }
     ensures failed { failed.new.items ≡ failed.old.items }
     ensures events { events.new.items ≡ events.old.items }
-    ensures room { OnOk result ((vec_len calls.new < vec_capacity calls.new) × (vec_len failed.new < vec_capacity failed.new) × (vec_len events.new < vec_capacity events.new)) }
+    ensures room { OnOk result ((vec_len calls.new < vec_capacity calls.new)
+        × (vec_len failed.new < vec_capacity failed.new)
+        × (vec_len events.new < vec_capacity events.new)) }
 {
     calls.try_reserve(1)?;
     failed.try_reserve(1)?;

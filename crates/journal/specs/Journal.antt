@@ -1,6 +1,7 @@
 -- What a journal's calls do, and what a crash keeps of its records. Pages have the checksum
 -- function sum, records their own.
-use Rattle.std.specs.Prelude.{◌≡◌, ◌⊎◌, ◌<◌, ◌≤◌, ◌+◌, ◌-◌, ◌^◌, ◌++◌, ℕ, List, [], ◌∷◌, length, take, drop, replicate, min, Option, Some, None, Result, Ok, Err, Vec}
+use Rattle.std.specs.Prelude.{◌≡◌, ◌⊎◌, ◌<◌, ◌≤◌, ◌+◌, ◌-◌, ◌^◌, ◌++◌, ℕ, List, [], ◌∷◌, length}
+use Rattle.std.specs.Prelude.{take, drop, replicate, min, Option, Some, None, Result, Ok, Err, Vec}
 use Rattle.std.specs.declared.alloc.Global.{Global}
 use Rattle.disk.specs.Disk.{Disk, Life, IsImage}
 use Rattle.disk.specs.declared.error.Error.{Error}
@@ -18,7 +19,8 @@ use Rattle.paged.specs.Reads.{HasPages, Reads, size_of}
 use Rattle.paged.specs.Recovery.{IsDurable, Recovers}
 use Rattle.paged.specs.Writer.{physical_size}
 use Rattle.journal.specs.declared.frame.Found.{Found}
-use Rattle.journal.specs.Frame.{frame, frame_len, record_of, records, listed, missing, IsWhole, filled, IsPrefix}
+use Rattle.journal.specs.Frame.{frame, frame_len, record_of, records, listed, missing, IsWhole}
+use Rattle.journal.specs.Frame.{filled, IsPrefix}
 
 -- a writer between two calls, as the last of them left it: it is sound, its pages are in the blob,
 -- its size is that of its content, and chance aside a crash leaves only that

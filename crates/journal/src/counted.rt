@@ -6,8 +6,8 @@ ghost use Rattle.disk.specs.Disk.{ReadGoes, WriteGoes, ResizeGoes, SyncGoes};
 use disk::{Blob, Error, IoBuf, IoBufs, ReadOptions, WriteOptions};
 use std::alloc::Global;
 
-/// A blob that hands each call on to another, and counts the calls and the bytes that it is asked to write.
-/// A count stays at the greatest `u64`.
+/// A blob that hands each call on to another, and counts the calls and the bytes that it is asked
+/// to write. A count stays at the greatest `u64`.
 #[derive(Drop)]
 pub struct Counted<B> {
     /// The other blob.

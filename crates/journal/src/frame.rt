@@ -1,6 +1,8 @@
 // Frames: records as bytes, and back.
-ghost use Rattle.std.specs.Prelude.{◌≡◌, true, slice_index, ◌+◌, ◌-◌, ◌<◌, ◌≤◌, ◌^◌, ◌++◌, length, drop, IfOk, OnOk, IsOkUnless};
-ghost use Rattle.journal.specs.Frame.{frame, record_len, is_record, record_of, records, missing, listed};
+ghost use Rattle.std.specs.Prelude.{◌≡◌, true, slice_index, ◌+◌, ◌-◌, ◌<◌, ◌≤◌, ◌^◌, ◌++◌, length};
+ghost use Rattle.std.specs.Prelude.{drop, IfOk, OnOk, IsOkUnless};
+ghost use Rattle.journal.specs.Frame.{frame, record_len, is_record, record_of, records, missing};
+ghost use Rattle.journal.specs.Frame.{listed};
 
 use disk::{Error, IoBuf};
 use page::Sum;
@@ -71,8 +73,8 @@ fn is_record_of<R: Sum>(bytes: &[u8]) -> bool
     sum == R::sum(&bytes[2..len + 2])
 }
 
-/// The record of the frame that begins at a place of some bytes, if it is one. It answers `OutOfMemory`
-/// alone.
+/// The record of the frame that begins at a place of some bytes, if it is one. It answers
+/// `OutOfMemory` alone.
 #[tactic(auto, unfolding(crate::specs::Frame::record_of))]
 pub fn record_at<R: Sum>(bytes: &IoBuf, place: usize) -> Result<Option<IoBuf>, Error>
     requires { place ≤ length bytes.now }
@@ -98,8 +100,8 @@ fn push_record(found: &mut Vec<IoBuf>, more: Option<IoBuf>) -> Result<(), Error>
     Ok(())
 }
 
-/// The records of some bytes, in order, and how many bytes the last frame lacks. It answers `OutOfMemory`
-/// alone.
+/// The records of some bytes, in order, and how many bytes the last frame lacks. It answers
+/// `OutOfMemory` alone.
 pub fn records_of<R: Sum>(alloc: Global, bytes: &IoBuf) -> Result<(Vec<IoBuf>, usize), Error>
     ensures records { IfOk result (λ r. r.0.items ≡ records R.sum_of bytes.now) }
     ensures missing { IfOk result (λ r. r.1 ≡ missing bytes.now) }

@@ -1,5 +1,6 @@
 // Journals: records over a paged blob.
-ghost use Rattle.std.specs.Prelude.{◌≡◌, ◌+◌, ◌*◌, ◌≤◌, ◌++◌, ◌∷◌, [], length, replicate, IfOk, OnOk, IsOkUnless};
+ghost use Rattle.std.specs.Prelude.{◌≡◌, ◌+◌, ◌*◌, ◌≤◌, ◌++◌, ◌∷◌, [], length, replicate, IfOk};
+ghost use Rattle.std.specs.Prelude.{OnOk, IsOkUnless};
 ghost use Rattle.crash.specs.Looks.{Looked};
 ghost use Rattle.crash.specs.Sound.{IsSound, content};
 ghost use Rattle.crash.specs.Stays.{KeepsAll, KeepsAllFloors, LeavesOnly};
@@ -7,7 +8,11 @@ ghost use Rattle.page.specs.Page.{text};
 ghost use Rattle.paged.specs.Calls.{Appends, Syncs};
 ghost use Rattle.paged.specs.Reads.{HasPages, size_of};
 ghost use Rattle.journal.specs.Frame.{filled};
-ghost use Rattle.journal.specs.Journal.{IsJournal, AppendsRecord, CommitGoes, ReadsBytes, ReadsFrame, ReadsRecord, ReadsAll, FillsUp, RecoversJournal, IsReady, OnlyReads, KeepsCommitted, LeavesItsRecords, LeavesOneMore, KeepsAllRecords, LeavesAllRecords, BringsBack};
+ghost use Rattle.journal.specs.Journal.{IsJournal, AppendsRecord, CommitGoes, ReadsBytes};
+ghost use Rattle.journal.specs.Journal.{ReadsFrame, ReadsRecord, ReadsAll, FillsUp};
+ghost use Rattle.journal.specs.Journal.{RecoversJournal, IsReady, OnlyReads, KeepsCommitted};
+ghost use Rattle.journal.specs.Journal.{LeavesItsRecords, LeavesOneMore, KeepsAllRecords};
+ghost use Rattle.journal.specs.Journal.{LeavesAllRecords, BringsBack};
 
 use crate::frame::{Found, frame_of, record_at, record_len_of, records_of};
 use cache::CacheRef;
@@ -21,8 +26,8 @@ use std::num::NonZeroUsize;
 /// A journal: records, one behind another, in a blob of the type `B` with pages under the checksum
 /// function `H`. Each record has a checksum of its own, by `R`.
 ///
-/// The blob and the cache are lent to each call, as a writer's are. A call that takes the journal gives it
-/// back only on success; after an error it is to be recovered.
+/// The blob and the cache are lent to each call, as a writer's are. A call that takes the journal
+/// gives it back only on success; after an error it is to be recovered.
 #[derive(Drop)]
 pub struct Journal<B, H, R> {
     alloc: Global,
@@ -68,11 +73,11 @@ impl<B, H, R> Journal<B, H, R> {
 }
 
 impl<B: Blob, H: Sum, R: Sum> Journal<B, H, R> {
-    /// Appends a record, and answers the place of its frame, in logical bytes. It is committed by the next
-    /// [`Journal::commit`].
+    /// Appends a record, and answers the place of its frame, in logical bytes. It is committed by
+    /// the next [`Journal::commit`].
     ///
-    /// `OffsetOverflow` where the blob has no places for the frame, `WriteFailed` where the device failed,
-    /// `OutOfMemory`. The journal is gone then.
+    /// `OffsetOverflow` where the blob has no places for the frame, `WriteFailed` where the device
+    /// failed, `OutOfMemory`. The journal is gone then.
     pub fn append_record(
         self,
         blob: &mut B,
@@ -115,7 +120,8 @@ impl<B: Blob, H: Sum, R: Sum> Journal<B, H, R> {
 
     /// Commits all records that were appended: whatever crashes from then on, they come back.
     ///
-    /// `WriteFailed` and `SyncFailed` where the device failed, `OutOfMemory`. The journal is gone then.
+    /// `WriteFailed` and `SyncFailed` where the device failed, `OutOfMemory`. The journal is gone
+    /// then.
     pub fn commit(self, blob: &mut B, cache: &mut CacheRef) -> Result<Self, Error>
         requires journal { IsJournal H.sum_of self (B.life blob.old) }
         ensures commits { let old = B.life blob.old in let new = B.life blob.new in
@@ -195,12 +201,13 @@ impl<B: Blob, H: Sum, R: Sum> Journal<B, H, R> {
         }
     }
 
-    /// Recovers the journal of a blob of `size` physical bytes, whatever they are, and answers its records:
-    /// those of the blob's text, in order, which begin with all that were committed. Where the last frame was
-    /// cut short it is filled up with zeros, so that it is passed over, and what is appended behind it is
-    /// found. The other arguments are those of [`paged::recover`].
+    /// Recovers the journal of a blob of `size` physical bytes, whatever they are, and answers its
+    /// records: those of the blob's text, in order, which begin with all that were committed. Where
+    /// the last frame was cut short it is filled up with zeros, so that it is passed over, and what
+    /// is appended behind it is found. The other arguments are those of [`paged::recover`].
     ///
-    /// The errors are those of [`paged::recover`], and `WriteFailed`. What was committed then still is.
+    /// The errors are those of [`paged::recover`], and `WriteFailed`. What was committed then still
+    /// is.
     pub fn recover(
         alloc: Global,
         blob: &mut B,
@@ -270,9 +277,9 @@ impl<B: Blob, H: Sum, R: Sum> Journal<B, H, R> {
         }))
     }
 
-    /// The frame that begins at a place, in logical bytes: one that an append answered, or the place behind
-    /// another frame, the first of which begins at 0. `None` where none begins there: at the end of the
-    /// journal and behind it.
+    /// The frame that begins at a place, in logical bytes: one that an append answered, or the
+    /// place behind another frame, the first of which begins at 0. `None` where none begins there:
+    /// at the end of the journal and behind it.
     ///
     /// `ReadFailed` where the device failed, `OutOfMemory`. An error leaves all as it was.
     pub fn read_record(

@@ -1,8 +1,8 @@
-//! An example of what is built on paged blobs: a journal of records, each with a checksum of its own, over
-//! any blob.
+//! An example of what is built on paged blobs: a journal of records, each with a checksum of its
+//! own, over any blob.
 //!
-//! `main` keeps two records in a blob that counts its calls, and then shows what comes back of a journal
-//! whose blob crashed inside a record.
+//! `main` keeps two records in a blob that counts its calls, and then shows what comes back of a
+//! journal whose blob crashed inside a record.
 #![tactic(auto)]
 
 mod counted;
@@ -70,8 +70,8 @@ fn keep_two(alloc: Global) -> Result<Told, Error> {
     })
 }
 
-/// Commits a record, and answers what comes back where the commit of another is cut short behind its first
-/// page.
+/// Commits a record, and answers what comes back where the commit of another is cut short behind
+/// its first page.
 fn cut_short(alloc: Global) -> Result<Vec<IoBuf>, Error> {
     let mut cache = new_cache(alloc)?;
     let mut blob = MemBlob::new(alloc);

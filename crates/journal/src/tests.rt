@@ -1,5 +1,5 @@
-// Frames by hand, and what comes back of journals that were cut short. Pages have 16 bytes, 28 with their
-// footer, and a buffer has 32.
+// Frames by hand, and what comes back of journals that were cut short. Pages have 16 bytes, 28 with
+// their footer, and a buffer has 32.
 ghost use Rattle.std.specs.Prelude.{◌≤◌, length};
 
 use crate::crashes::crash_and_recover;
@@ -44,8 +44,9 @@ fn frames_that_are_cut_are_passed_over(rt: HostRuntime) -> Result<(), Fail> {
     Ok(())
 }
 
-/// Commits a record, appends another, fails its commit, and crashes so that the first page of that write is
-/// kept whole and nothing behind it; then appends a third behind what came back, and commits it.
+/// Commits a record, appends another, fails its commit, and crashes so that the first page of that
+/// write is kept whole and nothing behind it; then appends a third behind what came back, and
+/// commits it.
 fn cut_short<H: Sum, R: Sum>(rt: &impl Abort, alloc: Global, first: &[u8]) -> Result<MemBlob, Error>
     requires { length first.now ≤ 65535 }
 {
@@ -79,8 +80,8 @@ fn cut_short<H: Sum, R: Sum>(rt: &impl Abort, alloc: Global, first: &[u8]) -> Re
     Ok(blob)
 }
 
-/// The first record and the third one come back then, and a walk over the frames finds these and one that is
-/// passed over.
+/// The first record and the third one come back then, and a walk over the frames finds these and
+/// one that is passed over.
 fn comes_back<H: Sum, R: Sum>(
     rt: &impl Abort,
     alloc: Global,

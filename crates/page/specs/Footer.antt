@@ -1,5 +1,6 @@
 -- A footer of two slots, and its bytes.
-use Rattle.std.specs.Prelude.{ℕ, ◌++◌, ◌&&◌, ◌==◌, Bool, List, length, nat_le, nat_lt, if◌then◌else◌, take, drop}
+use Rattle.std.specs.Prelude.{ℕ, ◌++◌, ◌&&◌, ◌==◌, Bool, List, length, nat_le, nat_lt}
+use Rattle.std.specs.Prelude.{if◌then◌else◌, take, drop}
 use Rattle.page.specs.Page.{slot_bytes, slot_len, slot_crc}
 use Rattle.page.specs.declared.slot.Slot.{Slot}
 use Rattle.page.specs.declared.slot.Slot.TheVariants.{First, Second}
@@ -12,7 +13,12 @@ footer_bytes c = slot_bytes c.len1 c.crc1 ++ slot_bytes c.len2 c.crc2
 
 -- the footer that these bytes are
 abbrev pub footer_of : List ℕ → Checksum
-footer_of bytes = record { len1 = slot_len (take 6 bytes); crc1 = slot_crc (take 6 bytes); len2 = slot_len (drop 6 bytes); crc2 = slot_crc (drop 6 bytes) }
+footer_of bytes = record {
+  len1 = slot_len (take 6 bytes);
+  crc1 = slot_crc (take 6 bytes);
+  len2 = slot_len (drop 6 bytes);
+  crc2 = slot_crc (drop 6 bytes);
+}
 
 -- what one slot says: a length and a checksum
 abbrev pub said : Checksum → Slot → ℕ × ℕ
@@ -28,4 +34,6 @@ active_of c s = record { slot = s; len = (said c s).0; crc = (said c s).1 }
 
 -- whether this is the checksum of the payload's first bytes, as many as it says, and at least one
 abbrev pub is_checksum_of : (List ℕ → ℕ) → ActiveChecksum → List ℕ → Bool
-is_checksum_of sum checksum payload = nat_le 1 checksum.len && nat_le checksum.len (length payload) && (sum (take checksum.len payload) == checksum.crc)
+is_checksum_of sum checksum payload =
+    nat_le 1 checksum.len && nat_le checksum.len (length payload) &&
+    (sum (take checksum.len payload) == checksum.crc)

@@ -1,5 +1,6 @@
 -- How much a buffer of pages holds, and which ranges of a blob can be read.
-use Rattle.std.specs.Prelude.{◌≡◌, ℕ, ◌+◌, ◌-◌, ◌*◌, ◌<◌, ◌≤◌, ◌^◌, ◌&&◌, ◌++◌, Bool, List, [], ◌∷◌, Result, Ok, Err, All, max, nat_le, nat_lt}
+use Rattle.std.specs.Prelude.{◌≡◌, ℕ, ◌+◌, ◌-◌, ◌*◌, ◌<◌, ◌≤◌, ◌^◌, ◌&&◌, ◌++◌, Bool, List, [], ◌∷◌}
+use Rattle.std.specs.Prelude.{Result, Ok, Err, All, max, nat_le, nat_lt}
 use Rattle.std.specs.Int.{next_multiple_of}
 use Rattle.disk.specs.declared.error.Error.{Error}
 use Rattle.disk.specs.declared.error.Error.TheVariants.{OffsetOverflow, BlobInsufficientLength}
@@ -12,14 +13,18 @@ adjusted capacity page_size = max (next_multiple_of capacity page_size) (2 * pag
 abbrev pub fill : ℕ → ℕ → ℕ
 fill len page_size = next_multiple_of len page_size - len
 
--- n bytes behind these pass the capacity, and would leave a whole page behind the one that they fill
+-- n bytes behind these pass the capacity, and would leave a whole page behind the one that they
+-- fill
 abbrev pub is_too_big : ℕ → ℕ → ℕ → ℕ → Bool
-is_too_big len capacity n page_size = nat_lt capacity (len + n) && nat_le (fill len page_size + page_size) n
+is_too_big len capacity n page_size =
+    nat_lt capacity (len + n) && nat_le (fill len page_size + page_size) n
 
--- each range, a place and a length, begins at or behind the end of the one before; the first at or behind this place
+-- each range, a place and a length, begins at or behind the end of the one before; the first at or
+-- behind this place
 abbrev pub AreInOrderFrom : ℕ → List (ℕ × ℕ) → Type 0
 AreInOrderFrom place [] = Unit {0}
-AreInOrderFrom place (range ∷ ranges) = (place ≤ range.0) × AreInOrderFrom (range.0 + range.1) ranges
+AreInOrderFrom place (range ∷ ranges) =
+    (place ≤ range.0) × AreInOrderFrom (range.0 + range.1) ranges
 
 -- each range begins at or behind the end of the one before
 abbrev pub AreInOrder : List (ℕ × ℕ) → Type 0
@@ -33,10 +38,14 @@ EndWithin size ranges = All (λ range. range.0 + range.1 ≤ size) ranges
 abbrev pub RangeGoes : ℕ → ℕ × ℕ → Result (Unit {0}) Error → Type 0
 RangeGoes size range (Ok _) = range.0 + range.1 ≤ size
 RangeGoes size range (Err OffsetOverflow) = 2 ^ 64 ≤ range.0 + range.1
-RangeGoes size range (Err BlobInsufficientLength) = (range.0 + range.1 < 2 ^ 64) × (size < range.0 + range.1)
+RangeGoes size range (Err BlobInsufficientLength) =
+    (range.0 + range.1 < 2 ^ 64) × (size < range.0 + range.1)
 RangeGoes size range (Err _) = ⊥
 
 -- ranges can be read, or the first that can't decides
 abbrev pub RangesGo : ℕ → List (ℕ × ℕ) → Result (Unit {0}) Error → Type 0
 RangesGo size ranges (Ok _) = EndWithin size ranges
-RangesGo size ranges (Err error) = (before behind : List (ℕ × ℕ)) × ((range : ℕ × ℕ) × (ranges ≡ before ++ range ∷ behind) × EndWithin size before × RangeGoes size range (Err error))
+RangesGo size ranges (Err error) =
+    (before behind : List (ℕ × ℕ))
+    × ((range : ℕ × ℕ) × (ranges ≡ before ++ range ∷ behind) × EndWithin size before
+    × RangeGoes size range (Err error))

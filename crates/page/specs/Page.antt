@@ -1,5 +1,7 @@
--- What a physical page and a list of physical pages stand for. P is the logical page size, sum the checksum function.
-use Rattle.std.specs.Prelude.{◌&&◌, ◌==◌, ℕ, zero, suc, ◌+◌, ◌/◌, ◌++◌, List, [], ◌∷◌, length, take, drop, Bool, Option, Some, None, if◌then◌else◌, nat_le, nat_lt, max}
+-- What a physical page and a list of physical pages stand for. P is the logical page size, sum the
+-- checksum function.
+use Rattle.std.specs.Prelude.{◌&&◌, ◌==◌, ℕ, zero, suc, ◌+◌, ◌/◌, ◌++◌, List, [], ◌∷◌, length, take}
+use Rattle.std.specs.Prelude.{drop, Bool, Option, Some, None, if◌then◌else◌, nat_le, nat_lt, max}
 use Rattle.std.specs.Int.{w16, w32, to_be_bytes, from_be_bytes}
 use Rattle.page.specs.Slot.{slot_offset}
 use Rattle.page.specs.declared.slot.Slot.{Slot}
@@ -22,10 +24,12 @@ slot_len slot = from_be_bytes w16 (take 2 slot)
 abbrev pub slot_crc : List ℕ → ℕ
 slot_crc slot = from_be_bytes w32 (drop 2 slot)
 
--- whether a slot verifies over the page's bytes: its length is from 1 to P, and its checksum is that of the page's
--- first bytes of that length
+-- whether a slot verifies over the page's bytes: its length is from 1 to P, and its checksum is
+-- that of the page's first bytes of that length
 abbrev pub slot_verifies : (List ℕ → ℕ) → ℕ → List ℕ → List ℕ → Bool
-slot_verifies sum P slot page = nat_le 1 (slot_len slot) && nat_le (slot_len slot) P && (sum (take (slot_len slot) page) == slot_crc slot)
+slot_verifies sum P slot page =
+    nat_le 1 (slot_len slot) && nat_le (slot_len slot) P &&
+    (sum (take (slot_len slot) page) == slot_crc slot)
 
 abbrev pub verifies : (List ℕ → ℕ) → ℕ → Slot → List ℕ → Bool
 verifies sum P s page = slot_verifies sum P (slot_of P s page) page
@@ -44,11 +48,19 @@ value sum P page = take (value_len sum P page) page
 
 -- the slot of the value: the one that verifies over the greatest length, the first if both do
 abbrev pub value_slot : (List ℕ → ℕ) → ℕ → List ℕ → Slot
-value_slot sum P page = if nat_lt (verified_len sum P First page) (verified_len sum P Second page) then Second else First
+value_slot sum P page =
+    if nat_lt (verified_len sum P First page) (verified_len sum P Second page)
+    then Second
+    else First
 
 -- the slot, length and checksum of a page's value; none where no slot verifies
 abbrev pub active : (List ℕ → ℕ) → ℕ → List ℕ → Option ActiveChecksum
-active sum P page = if value_len sum P page == 0 then None else Some (record { slot = value_slot sum P page; len = value_len sum P page; crc = slot_crc (slot_of P (value_slot sum P page) page) })
+active sum P page =
+    let slot = value_slot sum P page in
+    let len = value_len sum P page in
+    if len == 0
+    then None
+    else Some (record { slot = slot; len = len; crc = slot_crc (slot_of P slot page) })
 
 -- consecutive pieces of one size
 abbrev pub pieces : ℕ → ℕ → List ℕ → List (List ℕ)
@@ -62,7 +74,8 @@ pages P bytes = pieces (length bytes / (P + 12)) (P + 12) bytes
 -- the values of the pages joined while each is full, and the next page's value if it is partial
 abbrev pub text_of_pages : (List ℕ → ℕ) → ℕ → List (List ℕ) → List ℕ
 text_of_pages sum P [] = []
-text_of_pages sum P (page ∷ rest) = value sum P page ++ (if value_len sum P page == P then text_of_pages sum P rest else [])
+text_of_pages sum P (page ∷ rest) =
+    value sum P page ++ (if value_len sum P page == P then text_of_pages sum P rest else [])
 
 -- what a blob's bytes say, to a reader that goes forward from the first page
 abbrev pub text : (List ℕ → ℕ) → ℕ → List ℕ → List ℕ

@@ -1,11 +1,15 @@
--- A tip: the bytes of a blob from a place on that are buffered, and what each call of its buffer does.
-use Rattle.std.specs.Prelude.{◌≡◌, ℕ, ◌+◌, ◌*◌, ◌/◌, ◌%◌, ◌<◌, ◌≤◌, ◌^◌, ◌++◌, Bool, ◌&&◌, if◌then◌else◌, nat_lt, nat_le, min, max, List, [], ◌∷◌, ◌-◌, length, take, drop, All, Option, Some, None, Result, Ok, Err}
+-- A tip: the bytes of a blob from a place on that are buffered, and what each call of its buffer
+-- does.
+use Rattle.std.specs.Prelude.{◌≡◌, ℕ, ◌+◌, ◌*◌, ◌/◌, ◌%◌, ◌<◌, ◌≤◌, ◌^◌, ◌++◌, Bool, ◌&&◌}
+use Rattle.std.specs.Prelude.{if◌then◌else◌, nat_lt, nat_le, min, max, List, [], ◌∷◌, ◌-◌, length}
+use Rattle.std.specs.Prelude.{take, drop, All, Option, Some, None, Result, Ok, Err}
 use Rattle.std.specs.Int.{next_multiple_of}
 use Rattle.std.specs.List.{concat}
 use Rattle.disk.specs.declared.error.Error.{Error}
 use Rattle.disk.specs.declared.error.Error.TheVariants.{OffsetOverflow, OutOfMemory}
 
--- the bytes behind a logical place, in pages of so many bytes; as many as the capacity are to be buffered
+-- the bytes behind a logical place, in pages of so many bytes; as many as the capacity are to be
+-- buffered
 pub record Tip : Type 0 where
   pub page_size : ℕ
   pub capacity : ℕ
@@ -38,29 +42,41 @@ ArePages P pages = All (λ page. length page ≡ P) pages
 
 -- an append: it tells whether the capacity is passed now
 abbrev pub AppendGoes : Tip → List ℕ → Tip → Result Bool Error → Type 0
-AppendGoes old bytes new (Ok passed) = (tip_size old + length bytes < 2 ^ 64) × (new ≡ joined old bytes) × (passed ≡ nat_lt old.capacity (length old.bytes + length bytes))
+AppendGoes old bytes new (Ok passed) =
+    (tip_size old + length bytes < 2 ^ 64) × (new ≡ joined old bytes)
+    × (passed ≡ nat_lt old.capacity (length old.bytes + length bytes))
 AppendGoes old bytes new (Err OffsetOverflow) = (2 ^ 64 ≤ tip_size old + length bytes) × (new ≡ old)
 AppendGoes old bytes new (Err OutOfMemory) = (tip_size old + length bytes < 2 ^ 64) × (new ≡ old)
 AppendGoes old bytes new (Err _) = ⊥
 
 -- an append within the capacity: it tells the place of the first byte, or that they don't fit
 abbrev pub TryAppendGoes : Tip → List ℕ → Tip → Result (Option ℕ) Error → Type 0
-TryAppendGoes old bytes new (Ok (Some place)) = (tip_size old + length bytes < 2 ^ 64) × (length old.bytes + length bytes ≤ old.capacity) × (place ≡ tip_size old) × (new ≡ joined old bytes)
-TryAppendGoes old bytes new (Ok None) = (tip_size old + length bytes < 2 ^ 64) × (old.capacity < length old.bytes + length bytes) × (new ≡ old)
-TryAppendGoes old bytes new (Err OffsetOverflow) = (2 ^ 64 ≤ tip_size old + length bytes) × (new ≡ old)
-TryAppendGoes old bytes new (Err OutOfMemory) = (tip_size old + length bytes < 2 ^ 64) × (length old.bytes + length bytes ≤ old.capacity) × (new ≡ old)
+TryAppendGoes old bytes new (Ok (Some place)) =
+    (tip_size old + length bytes < 2 ^ 64) × (length old.bytes + length bytes ≤ old.capacity)
+    × (place ≡ tip_size old) × (new ≡ joined old bytes)
+TryAppendGoes old bytes new (Ok None) =
+    (tip_size old + length bytes < 2 ^ 64) × (old.capacity < length old.bytes + length bytes)
+    × (new ≡ old)
+TryAppendGoes old bytes new (Err OffsetOverflow) =
+    (2 ^ 64 ≤ tip_size old + length bytes) × (new ≡ old)
+TryAppendGoes old bytes new (Err OutOfMemory) =
+    (tip_size old + length bytes < 2 ^ 64) × (length old.bytes + length bytes ≤ old.capacity)
+    × (new ≡ old)
 TryAppendGoes old bytes new (Err _) = ⊥
 
 -- the whole pages are handed out, in order
 abbrev pub DrainGoes : Tip → Tip → Result (List (List ℕ)) Error → Type 0
-DrainGoes old new (Ok chunks) = (concat chunks ≡ take (full_len old) old.bytes) × AreWholePages old.page_size chunks × (new ≡ drained old)
+DrainGoes old new (Ok chunks) =
+    (concat chunks ≡ take (full_len old) old.bytes) × AreWholePages old.page_size chunks
+    × (new ≡ drained old)
 DrainGoes old new (Err OutOfMemory) = new ≡ old
 DrainGoes old new (Err _) = ⊥
 
 -- other bytes at another place
 abbrev pub ReplaceGoes : Tip → ℕ → List ℕ → Tip → Result (Unit {0}) Error → Type 0
 ReplaceGoes old offset bytes new (Ok _) = new ≡ record old { offset = offset; bytes = bytes }
-ReplaceGoes old offset bytes new (Err OffsetOverflow) = (2 ^ 64 ≤ offset + length bytes) × (new ≡ old)
+ReplaceGoes old offset bytes new (Err OffsetOverflow) =
+    (2 ^ 64 ≤ offset + length bytes) × (new ≡ old)
 ReplaceGoes old offset bytes new (Err OutOfMemory) = (offset + length bytes < 2 ^ 64) × (new ≡ old)
 ReplaceGoes old offset bytes new (Err _) = ⊥
 
@@ -71,26 +87,34 @@ StartGoes tip (Err OffsetOverflow) = 2 ^ 64 ≤ tip_size tip
 StartGoes tip (Err OutOfMemory) = tip_size tip < 2 ^ 64
 StartGoes tip (Err _) = ⊥
 
--- how many bytes a tail has room for that begins with these, less than a page: a page, or none where there is no byte
+-- how many bytes a tail has room for that begins with these, less than a page: a page, or none
+-- where there is no byte
 abbrev pub page_limit : List ℕ → ℕ → ℕ
 page_limit [] P = 0
 page_limit (byte ∷ bytes) P = P
 
--- how many the next tail has room for, behind so many bytes in whole pages, of which this many more are needed: as many as are
--- buffered already, within the capacity; at least a page and what is needed; in whole pages
+-- how many the next tail has room for, behind so many bytes in whole pages, of which this many more
+-- are needed: as many as are buffered already, within the capacity; at least a page and what is
+-- needed; in whole pages
 abbrev pub grown_limit : (filled needed capacity P : ℕ) → ℕ
-grown_limit filled needed capacity P = next_multiple_of (max (max needed P) (min filled (capacity - filled))) P
+grown_limit filled needed capacity P =
+    next_multiple_of (max (max needed P) (min filled (capacity - filled))) P
 
--- how many a tail has room for once its full pages are frozen: what stood in a chunk of more than a page moves to another
+-- how many a tail has room for once its full pages are frozen: what stood in a chunk of more than a
+-- page moves to another
 abbrev pub kept_limit : List ℕ → ℕ → ℕ → ℕ
-kept_limit tail limit P = if nat_lt (length tail) P && nat_le limit P then limit else page_limit (drop (length tail / P * P) tail) P
+kept_limit tail limit P =
+    if nat_lt (length tail) P && nat_le limit P
+    then limit
+    else page_limit (drop (length tail / P * P) tail) P
 
 -- bytes and their limit are these
 abbrev pub AreSame : List ℕ → ℕ → List ℕ → ℕ → Type 0
 AreSame bytes limit as_bytes as_limit = (bytes ≡ as_bytes) × (limit ≡ as_limit)
 
 -- the tip in frozen chunks, each of whole pages, and a tail behind them with room for whole pages
-pub record IsBuffer (page_size capacity offset : ℕ) (chunks : List (List ℕ)) (tail : List ℕ) (limit : ℕ) : Type 0 where
+pub record IsBuffer (page_size capacity offset : ℕ) (chunks : List (List ℕ)) (tail : List ℕ)
+    (limit : ℕ) : Type 0 where
   pub some : 0 < page_size
   pub whole : capacity % page_size ≡ 0
   pub small : offset + length (concat chunks ++ tail) < 2 ^ 64

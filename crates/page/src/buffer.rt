@@ -1,7 +1,9 @@
 // The tip of a blob: the bytes behind its full pages.
-ghost use Rattle.std.specs.Prelude.{◌≡◌, ◌==◌, ◌<◌, ◌≤◌, ◌+◌, ◌-◌, ◌^◌, ◌%◌, ◌↔◌, ◌++◌, length, take, drop, IsTrue, OnOk, IsOkUnless};
+ghost use Rattle.std.specs.Prelude.{◌≡◌, ◌==◌, ◌<◌, ◌≤◌, ◌+◌, ◌-◌, ◌^◌, ◌%◌, ◌↔◌, ◌++◌, length};
+ghost use Rattle.std.specs.Prelude.{take, drop, IsTrue, OnOk, IsOkUnless};
 ghost use Rattle.std.specs.List.{concat};
-ghost use Rattle.page.specs.Tip.{tip_size, AreWholePages, AppendGoes, TryAppendGoes, DrainGoes, ReplaceGoes, StartGoes};
+ghost use Rattle.page.specs.Tip.{tip_size, AreWholePages, AppendGoes, TryAppendGoes, DrainGoes};
+ghost use Rattle.page.specs.Tip.{ReplaceGoes, StartGoes};
 
 use crate::tail::{Tail, next_limit};
 use crate::{EncodeSize, Write};
@@ -12,8 +14,9 @@ use std::mem;
 
 /// Bytes that are appended behind a logical place of a blob, in pages of one size.
 ///
-/// They stand in frozen chunks, each a whole number of pages, and one tail behind them that still grows. An append copies
-/// each byte once, and full pages are handed out where they stand. After an error the buffer is as it was.
+/// They stand in frozen chunks, each a whole number of pages, and one tail behind them that still
+/// grows. An append copies each byte once, and full pages are handed out where they stand. After an
+/// error the buffer is as it was.
 #[derive(Drop)]
 pub struct Buffer {
     alloc: Global,
@@ -31,9 +34,15 @@ impl Model for Buffer {
 
     ghost Value = { Tip };
 
-    ghost view = { λ b. record { page_size = b.page_size; capacity = b.capacity; offset = b.offset; bytes = concat b.chunks ++ b.tail.bytes.items } };
+    ghost view = { λ b. record {
+      page_size = b.page_size;
+      capacity = b.capacity;
+      offset = b.offset;
+      bytes = concat b.chunks ++ b.tail.bytes.items;
+    } };
 
-    ghost invariant = { λ b. IsBuffer b.page_size b.capacity b.offset b.chunks b.tail.bytes.items b.tail.limit };
+    ghost invariant = { λ b. IsBuffer b.page_size b.capacity b.offset b.chunks b.tail.bytes.items
+        b.tail.limit };
 }
 
 /// Whether the places behind one go on for so many bytes.
@@ -44,8 +53,8 @@ fn has_places(place: u64, len: usize) -> bool
 }
 
 impl Buffer {
-    /// A buffer of these bytes at a logical place. As many bytes as `capacity`, in whole pages, are to be buffered; no
-    /// memory is taken for them yet.
+    /// A buffer of these bytes at a logical place. As many bytes as `capacity`, in whole pages, are
+    /// to be buffered; no memory is taken for them yet.
     ///
     /// `OffsetOverflow` where the bytes pass the greatest place, `OutOfMemory`.
     pub fn from(
@@ -58,7 +67,12 @@ impl Buffer {
         requires some { 0 < page_size }
         requires whole { capacity % page_size ≡ 0 }
         requires short { length bytes.now < page_size }
-        ensures { StartGoes (record { page_size = page_size; capacity = capacity; offset = offset; bytes = bytes.now }) result }
+        ensures { StartGoes (record {
+          page_size = page_size;
+          capacity = capacity;
+          offset = offset;
+          bytes = bytes.now;
+        }) result }
     {
         if !has_places(offset, bytes.len()) {
             return Err(Error::OffsetOverflow);
@@ -135,7 +149,8 @@ impl Buffer {
     pub fn read_into(&self, bufs: &mut IoBufs, start: usize, end: usize) -> Result<(), Error>
         requires order { start ≤ end }
         requires within { end ≤ length self.now.bytes }
-        ensures ok { OnOk result (concat bufs.new ≡ concat bufs.old ++ take (end - start) (drop start self.now.bytes)) }
+        ensures ok { OnOk result
+            (concat bufs.new ≡ concat bufs.old ++ take (end - start) (drop start self.now.bytes)) }
         ensures err { IsOkUnless result Error.OutOfMemory }
     {
         let mut at = 0;
@@ -151,7 +166,8 @@ impl Buffer {
 
     /// Appends bytes, and answers whether the capacity is now passed.
     ///
-    /// `OffsetOverflow`, before anything else, where the new size passes the greatest place; `OutOfMemory`.
+    /// `OffsetOverflow`, before anything else, where the new size passes the greatest place;
+    /// `OutOfMemory`.
     pub fn append(&mut self, bytes: &[u8]) -> Result<bool, Error>
         ensures { AppendGoes self.old bytes.now self.new result }
     {
@@ -176,10 +192,11 @@ impl Buffer {
         Ok(end > self.capacity)
     }
 
-    /// Appends bytes where the capacity isn't passed then, and answers the logical place of the first; `None` where it
-    /// would be.
+    /// Appends bytes where the capacity isn't passed then, and answers the logical place of the
+    /// first; `None` where it would be.
     ///
-    /// `OffsetOverflow`, before anything else, where the new size passes the greatest place; `OutOfMemory`.
+    /// `OffsetOverflow`, before anything else, where the new size passes the greatest place;
+    /// `OutOfMemory`.
     pub fn try_append(&mut self, bytes: &[u8]) -> Result<Option<u64>, Error>
         ensures { TryAppendGoes self.old bytes.now self.new result }
     {
@@ -194,10 +211,11 @@ impl Buffer {
         Ok(Some(place))
     }
 
-    /// Appends a value's encoded bytes where the capacity isn't passed then, and answers the logical place of the first;
-    /// `None` where it would be: then the value isn't encoded.
+    /// Appends a value's encoded bytes where the capacity isn't passed then, and answers the
+    /// logical place of the first; `None` where it would be: then the value isn't encoded.
     ///
-    /// `OffsetOverflow`, before anything else, where the new size passes the greatest place; `OutOfMemory`.
+    /// `OffsetOverflow`, before anything else, where the new size passes the greatest place;
+    /// `OutOfMemory`.
     pub fn try_append_value<T: EncodeSize + Write>(
         &mut self,
         value: &T,
@@ -223,7 +241,8 @@ impl Buffer {
         Ok(Some(place))
     }
 
-    /// Hands out the full pages, in order, in chunks of whole pages, and keeps the bytes behind them. `OutOfMemory` alone.
+    /// Hands out the full pages, in order, in chunks of whole pages, and keeps the bytes behind
+    /// them. `OutOfMemory` alone.
     pub fn drain_full_pages(&mut self) -> Result<IoBufs, Error>
         ensures { DrainGoes self.old self.new result }
     {

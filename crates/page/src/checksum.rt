@@ -1,15 +1,17 @@
 // The footer.
 ghost use Rattle.std.specs.Prelude.{◌≡◌, ◌-◌, length};
 ghost use Rattle.page.specs.Page.{active, slot_bytes};
-ghost use Rattle.page.specs.Footer.{footer_bytes, footer_of, said, longer_slot, active_of, is_checksum_of};
+ghost use Rattle.page.specs.Footer.{footer_bytes, footer_of, said, longer_slot, active_of};
+ghost use Rattle.page.specs.Footer.{is_checksum_of};
 ghost use Rattle.std.specs.Int.{w16, to_be_bytes};
 
 use crate::{ActiveChecksum, Slot, Sum};
 
 const FOOTER: usize = 12;
 
-/// A page's footer: two slots, each with a length in bytes and the checksum of the page's first bytes of that
-/// length. Its twelve bytes are the first slot's length and checksum and then the second's, each big-endian.
+/// A page's footer: two slots, each with a length in bytes and the checksum of the page's first
+/// bytes of that length. Its twelve bytes are the first slot's length and checksum and then the
+/// second's, each big-endian.
 #[derive(Clone, Copy, Debug, PartialEq, Eq)]
 pub struct Checksum {
     pub len1: u16,
@@ -99,9 +101,9 @@ impl Checksum {
         len.to_be_bytes()
     }
 
-    /// The slot that tells the value of a physical page, with the value's length and checksum: of the slots that
-    /// verify the one of the greatest length, the first if both have it. `None` where no slot verifies, and for
-    /// fewer bytes than a footer has.
+    /// The slot that tells the value of a physical page, with the value's length and checksum: of
+    /// the slots that verify the one of the greatest length, the first if both have it. `None`
+    /// where no slot verifies, and for fewer bytes than a footer has.
     pub fn validate_page<H: Sum>(page: &[u8]) -> Option<ActiveChecksum>
         ensures { result ≡ active H.sum_of (length page.now - 12) page.now }
     {

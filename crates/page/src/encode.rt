@@ -16,8 +16,10 @@ pub trait EncodeSize {
 
 /// A value that writes its encoding.
 pub trait Write: EncodeSize {
-    /// Writes the encoded bytes behind those that `out` holds. Where `out` has room for all of them it answers `Ok`.
+    /// Writes the encoded bytes behind those that `out` holds. Where `out` has room for all of them
+    /// it answers `Ok`.
     fn write<O: BufMut>(&self, out: &mut O) -> Result<(), AllocError>
-        ensures bytes { OnOk result (O.written out.new ≡ O.written out.old ++ Self.encoded self.now) }
+        ensures bytes { OnOk result
+            (O.written out.new ≡ O.written out.old ++ Self.encoded self.now) }
         ensures room { length (Self.encoded self.now) ≤ O.spare out.old → IsOk result };
 }

@@ -1,5 +1,6 @@
 // Where pages stand in a blob.
-ghost use Rattle.std.specs.Prelude.{◌≡◌, ◌+◌, ◌*◌, ◌-◌, ◌%◌, ◌<◌, ◌≤◌, ◌^◌, IsOkUnless, IfOk, false, sum_by};
+ghost use Rattle.std.specs.Prelude.{◌≡◌, ◌+◌, ◌*◌, ◌-◌, ◌%◌, ◌<◌, ◌≤◌, ◌^◌, IsOkUnless, IfOk};
+ghost use Rattle.std.specs.Prelude.{false, sum_by};
 ghost use Rattle.std.specs.Int.{IsPowerOfTwo, next_multiple_of};
 ghost use Rattle.std.specs.Int.NonZero.{non_zero_u16_get};
 ghost use Rattle.std.specs.Result.{OkIff};
@@ -21,10 +22,11 @@ pub fn page_size(n: u32) -> NonZeroU16
     NonZeroU16::new((n - 12) as u16).unwrap()
 }
 
-/// The place of a physical page, in bytes, and how many bytes it has. `OffsetOverflow` exactly where the page's
-/// end passes the greatest place.
+/// The place of a physical page, in bytes, and how many bytes it has. `OffsetOverflow` exactly
+/// where the page's end passes the greatest place.
 pub fn physical_page(page: u64, page_size: u64) -> Result<(u64, usize), Error>
-    ensures place { OkIff result ((page + 1) * (page_size + 12) < 2 ^ 64) (page * (page_size + 12), page_size + 12) }
+    ensures place { OkIff result ((page + 1) * (page_size + 12) < 2 ^ 64)
+        (page * (page_size + 12), page_size + 12) }
     ensures err { IsOkUnless result Error.OffsetOverflow }
 {
     let size = page_size
@@ -37,11 +39,12 @@ pub fn physical_page(page: u64, page_size: u64) -> Result<(u64, usize), Error>
     Ok((place, size as usize))
 }
 
-/// The capacity of a buffer, in bytes, that holds `capacity` bytes in whole pages, and at least two pages.
-/// `OffsetOverflow` exactly where that passes the greatest length.
+/// The capacity of a buffer, in bytes, that holds `capacity` bytes in whole pages, and at least two
+/// pages. `OffsetOverflow` exactly where that passes the greatest length.
 pub fn adjusted_capacity(capacity: usize, page_size: u64) -> Result<usize, Error>
     requires { 0 < page_size }
-    ensures capacity { OkIff result (adjusted capacity page_size < 2 ^ 64) (adjusted capacity page_size) }
+    ensures capacity { OkIff result (adjusted capacity page_size < 2 ^ 64)
+        (adjusted capacity page_size) }
     ensures err { IsOkUnless result Error.OffsetOverflow }
 {
     let page_size = page_size as usize;
@@ -52,9 +55,10 @@ pub fn adjusted_capacity(capacity: usize, page_size: u64) -> Result<usize, Error
     Ok(whole_pages.max(two_pages))
 }
 
-/// Whether `n` bytes are too many to go through a buffer of `len` bytes: they pass its capacity, and would leave a
-/// whole page behind the one that they fill. `OffsetOverflow` exactly where a sum that this takes passes the
-/// greatest length: the bytes together, those of the pages that hold `len` bytes, or the fewest that are too many.
+/// Whether `n` bytes are too many to go through a buffer of `len` bytes: they pass its capacity,
+/// and would leave a whole page behind the one that they fill. `OffsetOverflow` exactly where a sum
+/// that this takes passes the greatest length: the bytes together, those of the pages that hold
+/// `len` bytes, or the fewest that are too many.
 pub fn too_big_for_buffer(
     len: usize,
     capacity: usize,
@@ -62,9 +66,12 @@ pub fn too_big_for_buffer(
     page_size: usize,
 ) -> Result<bool, Error>
     requires { 0 < page_size }
-    ensures answer { OkIff result ((len + n < 2 ^ 64) × (next_multiple_of len page_size < 2 ^ 64) × (fill len page_size + page_size < 2 ^ 64)) (is_too_big len capacity n page_size) }
+    ensures answer { OkIff result ((len + n < 2 ^ 64)
+        × (next_multiple_of len page_size < 2 ^ 64)
+        × (fill len page_size + page_size < 2 ^ 64)) (is_too_big len capacity n page_size) }
     ensures err { IsOkUnless result Error.OffsetOverflow }
-    ensures room { IfOk result (λ big. big ≡ false → capacity % page_size ≡ 0 → len ≤ capacity → len + n < capacity + page_size) }
+    ensures room { IfOk result (λ big.
+        big ≡ false → capacity % page_size ≡ 0 → len ≤ capacity → len + n < capacity + page_size) }
 {
     let total = len.checked_add(n).ok_or(Error::OffsetOverflow)?;
     let whole_pages = len
@@ -76,10 +83,10 @@ pub fn too_big_for_buffer(
     Ok(total > capacity && n >= too_many)
 }
 
-/// Checks that ranges, each a place and a length in bytes, lie within a blob of `size` bytes. The caller sees to it
-/// that they are in order, without overlaps, and fill a buffer of `buf_len` bytes together. The first that can't be
-/// read decides: `OffsetOverflow` where its end passes the greatest place, and else `BlobInsufficientLength` where
-/// that passes the size.
+/// Checks that ranges, each a place and a length in bytes, lie within a blob of `size` bytes. The
+/// caller sees to it that they are in order, without overlaps, and fill a buffer of `buf_len` bytes
+/// together. The first that can't be read decides: `OffsetOverflow` where its end passes the
+/// greatest place, and else `BlobInsufficientLength` where that passes the size.
 pub fn validate_read_ranges(buf_len: usize, ranges: &[(u64, usize)], size: u64) -> Result<(), Error>
     requires in_order { AreInOrder ranges.now }
     requires filled { buf_len ≡ sum_by (λ range. range.1) ranges.now }

@@ -1,7 +1,8 @@
-//! Pages of the paged blob layer: the footer with its two checksum slots, where pages stand in a blob, and the
-//! checksum functions.
+//! Pages of the paged blob layer: the footer with its two checksum slots, where pages stand in a
+//! blob, and the checksum functions.
 //!
-//! A physical page is `P` payload bytes and a footer of [`CHECKSUM_SIZE`] bytes, where `P` is from 1 to 65535.
+//! A physical page is `P` payload bytes and a footer of [`CHECKSUM_SIZE`] bytes, where `P` is from
+//! 1 to 65535.
 #![tactic(auto)]
 
 mod buffer;

@@ -1,5 +1,6 @@
 // The end of a tip: the one chunk that grows.
-ghost use Rattle.std.specs.Prelude.{◌≡◌, ◌<◌, ◌≤◌, ◌+◌, ◌-◌, ◌*◌, ◌/◌, ◌++◌, length, take, drop, IfOk, OnOk, OnErr, IsOkUnless};
+ghost use Rattle.std.specs.Prelude.{◌≡◌, ◌<◌, ◌≤◌, ◌+◌, ◌-◌, ◌*◌, ◌/◌, ◌++◌, length, take, drop};
+ghost use Rattle.std.specs.Prelude.{IfOk, OnOk, OnErr, IsOkUnless};
 ghost use Rattle.disk.specs.Bufs.{with_buf};
 ghost use Rattle.page.specs.Tip.{page_limit, grown_limit, kept_limit, AreSame};
 
@@ -7,7 +8,8 @@ use disk::{Error, IoBufs};
 use std::alloc::Global;
 use std::mem;
 
-/// The bytes of a tip behind its frozen chunks. When they come to the limit they are frozen too, where they stand.
+/// The bytes of a tip behind its frozen chunks. When they come to the limit they are frozen too,
+/// where they stand.
 #[derive(Drop)]
 pub(crate) struct Tail {
     pub bytes: Vec<u8>,
@@ -15,9 +17,9 @@ pub(crate) struct Tail {
     pub limit: usize,
 }
 
-/// How many bytes the next tail has room for, where a tip of `filled` bytes in whole pages gets `needed` more: as many
-/// as are buffered already, so that the chunks grow with the tip, but not past the capacity where it has room for what
-/// is needed. `OutOfMemory` where that passes `usize`.
+/// How many bytes the next tail has room for, where a tip of `filled` bytes in whole pages gets
+/// `needed` more: as many as are buffered already, so that the chunks grow with the tip, but not
+/// past the capacity where it has room for what is needed. `OutOfMemory` where that passes `usize`.
 pub(crate) fn next_limit(
     filled: usize,
     needed: usize,
@@ -48,7 +50,8 @@ impl Tail {
         Ok(Tail { bytes: tail, limit })
     }
 
-    /// A tail of less than a page: with room for a page, or for nothing where there is no byte. `OutOfMemory` alone.
+    /// A tail of less than a page: with room for a page, or for nothing where there is no byte.
+    /// `OutOfMemory` alone.
     pub fn partial(alloc: Global, bytes: &[u8], page_size: usize) -> Result<Self, Error>
         ensures bytes { IfOk result (λ t. t.bytes.items ≡ bytes.now) }
         ensures limit { IfOk result (λ t. t.limit ≡ page_limit bytes.now page_size) }
@@ -66,8 +69,9 @@ impl Tail {
         self.limit - self.bytes.len()
     }
 
-    /// Adds as many bytes as there is room for at least: the first fill the tail, which is frozen, and the others begin
-    /// a new one with this limit. After an error, `OutOfMemory` alone, nothing has changed.
+    /// Adds as many bytes as there is room for at least: the first fill the tail, which is frozen,
+    /// and the others begin a new one with this limit. After an error, `OutOfMemory` alone, nothing
+    /// has changed.
     pub fn extend(
         &mut self,
         alloc: Global,
@@ -77,10 +81,14 @@ impl Tail {
     ) -> Result<(), Error>
         requires room { length self.old.bytes.items ≤ self.old.limit }
         requires enough { self.old.limit ≤ length self.old.bytes.items + length bytes.now }
-        ensures chunks { OnOk result (chunks.new ≡ with_buf chunks.old (self.old.bytes.items ++ take (self.old.limit - length self.old.bytes.items) bytes.now)) }
-        ensures tail { OnOk result (AreSame self.new.bytes.items self.new.limit (drop (self.old.limit - length self.old.bytes.items) bytes.now) limit) }
+        ensures chunks { let old = self.old.bytes.items in
+            let front = take (self.old.limit - length old) bytes.now in
+            OnOk result (chunks.new ≡ with_buf chunks.old (old ++ front)) }
+        ensures tail { let rest = drop (self.old.limit - length self.old.bytes.items) bytes.now in
+            OnOk result (AreSame self.new.bytes.items self.new.limit rest limit) }
         ensures same_chunks { OnErr result (chunks.new ≡ chunks.old) }
-        ensures same_tail { OnErr result (AreSame self.new.bytes.items self.new.limit self.old.bytes.items self.old.limit) }
+        ensures same_tail { OnErr result
+            (AreSame self.new.bytes.items self.new.limit self.old.bytes.items self.old.limit) }
         ensures err { IsOkUnless result Error.OutOfMemory }
     {
         let (front, rest) = bytes.split_at(self.spare());
@@ -88,13 +96,16 @@ impl Tail {
         self.retire(chunks, front, next)
     }
 
-    /// Fills the tail with these bytes and freezes it behind the chunks; the next takes its place. After an error,
-    /// `OutOfMemory` alone, nothing has changed.
+    /// Fills the tail with these bytes and freezes it behind the chunks; the next takes its place.
+    /// After an error, `OutOfMemory` alone, nothing has changed.
     fn retire(&mut self, chunks: &mut IoBufs, front: &[u8], next: Tail) -> Result<(), Error>
-        ensures chunks { OnOk result (chunks.new ≡ with_buf chunks.old (self.old.bytes.items ++ front.now)) }
-        ensures tail { OnOk result (AreSame self.new.bytes.items self.new.limit next.bytes.items next.limit) }
+        ensures chunks { OnOk result
+            (chunks.new ≡ with_buf chunks.old (self.old.bytes.items ++ front.now)) }
+        ensures tail { OnOk result
+            (AreSame self.new.bytes.items self.new.limit next.bytes.items next.limit) }
         ensures same_chunks { OnErr result (chunks.new ≡ chunks.old) }
-        ensures same_tail { OnErr result (AreSame self.new.bytes.items self.new.limit self.old.bytes.items self.old.limit) }
+        ensures same_tail { OnErr result
+            (AreSame self.new.bytes.items self.new.limit self.old.bytes.items self.old.limit) }
         ensures err { IsOkUnless result Error.OutOfMemory }
     {
         let len = self.bytes.len();
@@ -110,8 +121,9 @@ impl Tail {
         Ok(())
     }
 
-    /// Freezes the tail's full pages behind the chunks, and keeps the bytes behind them: in memory of their own, where
-    /// they stood in a chunk of more than a page. After an error, `OutOfMemory` alone, nothing has changed.
+    /// Freezes the tail's full pages behind the chunks, and keeps the bytes behind them: in memory
+    /// of their own, where they stood in a chunk of more than a page. After an error, `OutOfMemory`
+    /// alone, nothing has changed.
     pub fn freeze_full_pages(
         &mut self,
         alloc: Global,
@@ -119,11 +131,16 @@ impl Tail {
         page_size: usize,
     ) -> Result<(), Error>
         requires { 0 < page_size }
-        ensures chunks { OnOk result (chunks.new ≡ with_buf chunks.old (take (length self.old.bytes.items / page_size * page_size) self.old.bytes.items)) }
-        ensures bytes { OnOk result (self.new.bytes.items ≡ drop (length self.old.bytes.items / page_size * page_size) self.old.bytes.items) }
-        ensures limit { OnOk result (self.new.limit ≡ kept_limit self.old.bytes.items self.old.limit page_size) }
+        ensures chunks { let old = self.old.bytes.items in
+            let pages = take (length old / page_size * page_size) old in
+            OnOk result (chunks.new ≡ with_buf chunks.old pages) }
+        ensures bytes { let old = self.old.bytes.items in
+            OnOk result (self.new.bytes.items ≡ drop (length old / page_size * page_size) old) }
+        ensures limit { OnOk result
+            (self.new.limit ≡ kept_limit self.old.bytes.items self.old.limit page_size) }
         ensures same_chunks { OnErr result (chunks.new ≡ chunks.old) }
-        ensures same_tail { OnErr result (AreSame self.new.bytes.items self.new.limit self.old.bytes.items self.old.limit) }
+        ensures same_tail { OnErr result
+            (AreSame self.new.bytes.items self.new.limit self.old.bytes.items self.old.limit) }
         ensures err { IsOkUnless result Error.OutOfMemory }
     {
         if self.bytes.len() < page_size && self.limit <= page_size {

@@ -232,8 +232,8 @@ fn reads(alloc: Global, buffer: &Buffer, all: &[u8]) -> Result<bool, Error> {
     Ok(true)
 }
 
-/// Whether a buffer that gets so many bytes, and then so many more, is the plain list of them, before its full pages are
-/// handed out and after.
+/// Whether a buffer that gets so many bytes, and then so many more, is the plain list of them,
+/// before its full pages are handed out and after.
 fn is_plain(alloc: Global, page_size: usize, fill: usize, len: usize) -> Result<bool, Error>
     requires some { 0 < page_size }
     requires whole { 2 * page_size % page_size ≡ 0 }

@@ -1,8 +1,10 @@
 -- What each public call of a writer does, by cases on its answer.
-use Rattle.std.specs.Prelude.{◌≡◌, ◌<◌, ◌≤◌, ◌+◌, ◌*◌, ◌^◌, ◌++◌, ℕ, Bool, List, [], length, nat_lt, true, if◌then◌else◌, Option, Some, None, Result, Ok, Err}
+use Rattle.std.specs.Prelude.{◌≡◌, ◌<◌, ◌≤◌, ◌+◌, ◌*◌, ◌^◌, ◌++◌, ℕ, Bool, List, [], length, nat_lt}
+use Rattle.std.specs.Prelude.{true, if◌then◌else◌, Option, Some, None, Result, Ok, Err}
 use Rattle.disk.specs.Disk.{Disk, Life, LogGrows, HasFailed}
 use Rattle.disk.specs.declared.error.Error.{Error}
-use Rattle.disk.specs.declared.error.Error.TheVariants.{WriteFailed, SyncFailed, OffsetOverflow, OutOfMemory}
+use Rattle.disk.specs.declared.error.Error.TheVariants.{WriteFailed, SyncFailed, OffsetOverflow}
+use Rattle.disk.specs.declared.error.Error.TheVariants.{OutOfMemory}
 use Rattle.crash.specs.WriterState.{WriterState, SyncState}
 use Rattle.crash.specs.WriterState.SyncState.{Clean, Dirty}
 use Rattle.crash.specs.Sound.{IsSound, LeavesItsContent, content}
@@ -11,7 +13,8 @@ use Rattle.crash.specs.Built.{kept_len}
 use Rattle.paged.specs.Writer.{physical_size, FitsBlob}
 use Rattle.paged.specs.Flush.{has_work, synced}
 
--- why an append, a flush or a sync may answer this error: a write or a sync of the device failed in it, or memory was refused
+-- why an append, a flush or a sync may answer this error: a write or a sync of the device failed in
+-- it, or memory was refused
 abbrev pub HasCause : Life → Life → Error → Type 0
 HasCause old new WriteFailed = HasFailed WriteFailed old.present new.present
 HasCause old new SyncFailed = HasFailed SyncFailed old.present new.present
@@ -41,19 +44,22 @@ pub record IsSameWriter (old new : WriterState) : Type 0 where
   pub id : new.id ≡ old.id
   pub capacity : new.capacity ≡ old.capacity
 
--- a writer goes on over its blob: it is sound, and stands for the content before and these bytes; and what each moment
--- of the call owes to the one at which it began
-pub record GoesOn (sum : List ℕ → ℕ) (w : WriterState) (old : Life) (more : List ℕ) (now : WriterState) (new : Life) : Type 0 where
+-- a writer goes on over its blob: it is sound, and stands for the content before and these bytes;
+-- and what each moment of the call owes to the one at which it began
+pub record GoesOn (sum : List ℕ → ℕ) (w : WriterState) (old : Life) (more : List ℕ)
+    (now : WriterState) (new : Life) : Type 0 where
   pub sound : IsSound sum now new.present
   pub stays : StaysThrough sum w.page_size (content w old.present.readable ++ more) old new
-  pub size : now.full_pages * now.page_size + length now.tip ≡ length (content now new.present.readable)
+  pub size : now.full_pages * now.page_size + length now.tip
+      ≡ length (content now new.present.readable)
   pub only : LeavesItsContent sum now new.present
   pub content : content now new.present.readable ≡ content w old.present.readable ++ more
   pub same : IsSameWriter w now
   pub log : LogGrows old.present new.present
 
 -- a call is refused: why, and what each of its moments owes
-pub record Refuses (sum : List ℕ → ℕ) (P : ℕ) (content : List ℕ) (old new : Life) (e : Error) : Type 0 where
+pub record Refuses (sum : List ℕ → ℕ) (P : ℕ) (content : List ℕ) (old new : Life) (e : Error)
+    : Type 0 where
   pub cause : HasCause old new e
   pub stays : StaysThrough sum P content old new
 
@@ -79,35 +85,56 @@ Syncs sum w old new (Ok now) = GoesOn sum w old [] now new × IsSettled now
 Syncs sum w old new (Err e) = Refuses sum w.page_size (content w old.present.readable) old new e
 
 -- an append: it answers the size until now
-abbrev pub Appends : (List ℕ → ℕ) → WriterState → List ℕ → Life → Life → Result (WriterState × ℕ) Error → Type 0
-Appends sum w bytes old new (Ok r) = (r.1 ≡ length (content w old.present.readable)) × GoesOn sum w old bytes r.0 new
-Appends sum w bytes old new (Err OffsetOverflow) = (new ≡ old) × (2 ^ 64 ≤ physical_size w.page_size w.full_pages (length w.tip + length bytes))
-Appends sum w bytes old new (Err e) = Refuses sum w.page_size (content w old.present.readable ++ bytes) old new e
+abbrev pub Appends : (List ℕ → ℕ) → WriterState → List ℕ → Life → Life
+    → Result (WriterState × ℕ) Error → Type 0
+Appends sum w bytes old new (Ok r) =
+    (r.1 ≡ length (content w old.present.readable)) × GoesOn sum w old bytes r.0 new
+Appends sum w bytes old new (Err OffsetOverflow) =
+    (new ≡ old) × (2 ^ 64 ≤ physical_size w.page_size w.full_pages (length w.tip + length bytes))
+Appends sum w bytes old new (Err e) =
+    Refuses sum w.page_size (content w old.present.readable ++ bytes) old new e
 
--- an append of bytes that fit what is buffered: they are buffered, and nothing is asked of the device
+-- an append of bytes that fit what is buffered: they are buffered, and nothing is asked of the
+-- device
 abbrev pub BuffersAll : WriterState → List ℕ → Life → Life → Result (WriterState × ℕ) Error → Type 0
 BuffersAll w bytes old new (Ok r) = (r.0 ≡ record w { tip = w.tip ++ bytes }) × (new ≡ old)
 BuffersAll w bytes old new (Err e) = new ≡ old
 
--- bytes are buffered, and nothing is asked of the device: whether what is buffered is more than the capacity now
+-- bytes are buffered, and nothing is asked of the device: whether what is buffered is more than the
+-- capacity now
 abbrev pub Buffers : WriterState → List ℕ → WriterState → Result Bool Error → Type 0
-Buffers w bytes now (Ok passed) = FitsBlob w.page_size w.full_pages (length w.tip + length bytes) × (now ≡ record w { tip = w.tip ++ bytes }) × (passed ≡ nat_lt w.capacity (length w.tip + length bytes))
-Buffers w bytes now (Err OffsetOverflow) = (2 ^ 64 ≤ physical_size w.page_size w.full_pages (length w.tip + length bytes)) × (now ≡ w)
-Buffers w bytes now (Err OutOfMemory) = FitsBlob w.page_size w.full_pages (length w.tip + length bytes) × (now ≡ w)
+Buffers w bytes now (Ok passed) =
+    FitsBlob w.page_size w.full_pages (length w.tip + length bytes)
+    × (now ≡ record w { tip = w.tip ++ bytes })
+    × (passed ≡ nat_lt w.capacity (length w.tip + length bytes))
+Buffers w bytes now (Err OffsetOverflow) =
+    (2 ^ 64 ≤ physical_size w.page_size w.full_pages (length w.tip + length bytes)) × (now ≡ w)
+Buffers w bytes now (Err OutOfMemory) =
+    FitsBlob w.page_size w.full_pages (length w.tip + length bytes) × (now ≡ w)
 Buffers w bytes now (Err _) = ⊥
 
--- an append within the capacity, for which nothing is asked of the device: it answers the size until now, or that the bytes
--- don't fit what is buffered
+-- an append within the capacity, for which nothing is asked of the device: it answers the size
+-- until now, or that the bytes don't fit what is buffered
 abbrev pub TryAppends : WriterState → List ℕ → WriterState → Result (Option ℕ) Error → Type 0
-TryAppends w bytes now (Ok (Some at)) = FitsBlob w.page_size w.full_pages (length w.tip + length bytes) × (length w.tip + length bytes ≤ w.capacity) × (at ≡ w.full_pages * w.page_size + length w.tip) × (now ≡ record w { tip = w.tip ++ bytes })
-TryAppends w bytes now (Ok None) = FitsBlob w.page_size w.full_pages (length w.tip + length bytes) × (w.capacity < length w.tip + length bytes) × (now ≡ w)
-TryAppends w bytes now (Err OffsetOverflow) = (2 ^ 64 ≤ physical_size w.page_size w.full_pages (length w.tip + length bytes)) × (now ≡ w)
-TryAppends w bytes now (Err OutOfMemory) = FitsBlob w.page_size w.full_pages (length w.tip + length bytes) × (length w.tip + length bytes ≤ w.capacity) × (now ≡ w)
+TryAppends w bytes now (Ok (Some at)) =
+    FitsBlob w.page_size w.full_pages (length w.tip + length bytes)
+    × (length w.tip + length bytes ≤ w.capacity) × (at ≡ w.full_pages * w.page_size + length w.tip)
+    × (now ≡ record w { tip = w.tip ++ bytes })
+TryAppends w bytes now (Ok None) =
+    FitsBlob w.page_size w.full_pages (length w.tip + length bytes)
+    × (w.capacity < length w.tip + length bytes) × (now ≡ w)
+TryAppends w bytes now (Err OffsetOverflow) =
+    (2 ^ 64 ≤ physical_size w.page_size w.full_pages (length w.tip + length bytes)) × (now ≡ w)
+TryAppends w bytes now (Err OutOfMemory) =
+    FitsBlob w.page_size w.full_pages (length w.tip + length bytes)
+    × (length w.tip + length bytes ≤ w.capacity) × (now ≡ w)
 TryAppends w bytes now (Err _) = ⊥
 
 -- bytes that were buffered are an append, whatever the blob over which the writer is sound
-abbrev pub BuffersOver : (List ℕ → ℕ) → WriterState → List ℕ → WriterState → Result (Option ℕ) Error → Type 0
-BuffersOver sum w bytes now (Ok (Some at)) = (life : Life) → IsSound sum w life.present → Appends sum w bytes life life (Ok (now, at))
+abbrev pub BuffersOver : (List ℕ → ℕ) → WriterState → List ℕ → WriterState → Result (Option ℕ) Error
+    → Type 0
+BuffersOver sum w bytes now (Ok (Some at)) =
+    (life : Life) → IsSound sum w life.present → Appends sum w bytes life life (Ok (now, at))
 BuffersOver sum w bytes now _ = Unit {0}
 
 -- a writer that was sound over a blob still is

@@ -1,12 +1,15 @@
 -- What a flush writes, and what the writer is after it.
-use Rattle.std.specs.Prelude.{ℕ, ◌+◌, ◌*◌, ◌/◌, ◌%◌, ◌==◌, ◌&&◌, ◌||◌, ◌++◌, Bool, not, nat_le, true, false, List, [], ◌∷◌, length, take, drop, Option, None, Result, Ok, Err}
+use Rattle.std.specs.Prelude.{ℕ, ◌+◌, ◌*◌, ◌/◌, ◌%◌, ◌==◌, ◌&&◌, ◌||◌, ◌++◌, Bool, not, nat_le}
+use Rattle.std.specs.Prelude.{true, false, List, [], ◌∷◌, length, take, drop, Option, None, Result}
+use Rattle.std.specs.Prelude.{Ok, Err}
 use Rattle.disk.specs.declared.error.Error.{Error}
 use Rattle.page.specs.declared.slot.ActiveChecksum.{ActiveChecksum}
 use Rattle.crash.specs.WriterState.{WriterState, SyncState}
 use Rattle.crash.specs.WriterState.SyncState.{Clean}
 use Rattle.crash.specs.Sound.{guard_slot}
 use Rattle.page.specs.Page.{slot_bytes}
-use Rattle.crash.specs.Built.{kept_slot, kept_len, kept_bytes, footer, durable_after, after_write, page_of, built, written_pages}
+use Rattle.crash.specs.Built.{kept_slot, kept_len, kept_bytes, footer, durable_after, after_write}
+use Rattle.crash.specs.Built.{page_of, built, written_pages}
 use Rattle.paged.specs.Writer.{state_after_write}
 
 -- how many full pages the tip has
@@ -17,9 +20,13 @@ full_in w = length w.tip / w.page_size
 abbrev pub rest_of : WriterState → List ℕ
 rest_of w = drop (full_in w * w.page_size) w.tip
 
--- whether a flush writes: a full page, or, with the rest, a partial page that isn't written at its present length
+-- whether a flush writes: a full page, or, with the rest, a partial page that isn't written at its
+-- present length
 abbrev pub has_work : WriterState → Bool → Bool
-has_work w rest = nat_le w.page_size (length w.tip) || (rest && (not (length w.tip % w.page_size == 0) && not (length w.tip % w.page_size == kept_len w.flushed)))
+has_work w rest =
+    let partial = length w.tip % w.page_size in
+    nat_le w.page_size (length w.tip) ||
+    (rest && (not (partial == 0) && not (partial == kept_len w.flushed)))
 
 -- the writer with its durable slot brought up to date
 abbrev pub carried : WriterState → WriterState
@@ -41,7 +48,8 @@ synced w = record w { sync = Clean }
 
 -- the writer once the tip's full pages are written, and the rest where asked, durably or not
 abbrev pub written : (List ℕ → ℕ) → WriterState → (rest sync : Bool) → WriterState
-written sum w rest sync = record (after_write sum w (full_in w) rest) { sync = state_after_write sync }
+written sum w rest sync =
+    record (after_write sum w (full_in w) rest) { sync = state_after_write sync }
 
 -- where a flush writes
 abbrev pub place_of : WriterState → ℕ
@@ -59,12 +67,15 @@ rest_bytes sum w true = page_of sum w.page_size (durable_after w.durable (full_i
 -- the footers of full pages, joined, of which the first repeats the durable slot
 abbrev pub footers_of : (List ℕ → ℕ) → Option ActiveChecksum → List (List ℕ) → List ℕ
 footers_of sum durable [] = []
-footers_of sum durable (page ∷ pages) = footer (kept_slot durable) (kept_bytes durable) (slot_bytes (length page) (sum page)) ++ footers_of sum None pages
+footers_of sum durable (page ∷ pages) =
+    footer (kept_slot durable) (kept_bytes durable) (slot_bytes (length page) (sum page))
+    ++ footers_of sum None pages
 
 -- pages with twelve of these bytes behind each
 abbrev pub with_footers : List (List ℕ) → List ℕ → List ℕ
 with_footers [] footers = []
-with_footers (page ∷ pages) footers = page ++ take 12 footers ++ with_footers pages (drop 12 footers)
+with_footers (page ∷ pages) footers =
+    page ++ take 12 footers ++ with_footers pages (drop 12 footers)
 
 -- an answer without its value
 abbrev pub outcome : {A : Type 0} → Result A Error → Result (Unit {0}) Error

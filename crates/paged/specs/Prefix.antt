@@ -1,5 +1,6 @@
 -- The pages of a blob that a recovery keeps.
-use Rattle.std.specs.Prelude.{◌==◌, ◌+◌, ◌*◌, ◌<◌, ℕ, zero, suc, List, [], ◌∷◌, take, drop, get_or, Option, Some, None, if◌then◌else◌}
+use Rattle.std.specs.Prelude.{◌==◌, ◌+◌, ◌*◌, ◌<◌, ℕ, zero, suc, List, [], ◌∷◌, take, drop, get_or}
+use Rattle.std.specs.Prelude.{Option, Some, None, if◌then◌else◌}
 use Rattle.page.specs.Page.{value_len, active}
 use Rattle.page.specs.declared.slot.ActiveChecksum.{ActiveChecksum}
 use Rattle.crash.specs.WriterState.{WriterState, SyncState}
@@ -21,15 +22,19 @@ value_and_slot (Some slot) page = Some (take slot.len page, slot)
 -- the full pages at the front of some pages, and the value of the page behind them, if it has one
 abbrev pub prefix_of : (List ℕ → ℕ) → ℕ → List (List ℕ) → Prefix
 prefix_of sum P [] = record { full_pages = 0; partial = None }
-prefix_of sum P (page ∷ rest) = if value_len sum P page == P then behind 1 (prefix_of sum P rest) else record { full_pages = 0; partial = value_and_slot (active sum P page) page }
+prefix_of sum P (page ∷ rest) =
+    if value_len sum P page == P
+    then behind 1 (prefix_of sum P rest)
+    else record { full_pages = 0; partial = value_and_slot (active sum P page) page }
 
 -- the first pages of a blob up to the last that has a value; those before that one count as full
 abbrev pub last_prefix : (List ℕ → ℕ) → ℕ → ℕ → List ℕ → Prefix
 last_prefix sum P zero bytes = record { full_pages = 0; partial = None }
 last_prefix sum P (suc n) bytes =
-    if value_len sum P (page_at P n bytes) == 0 then last_prefix sum P n bytes
-    else (if value_len sum P (page_at P n bytes) == P then record { full_pages = n + 1; partial = None }
-    else record { full_pages = n; partial = value_and_slot (active sum P (page_at P n bytes)) (page_at P n bytes) })
+    let page = page_at P n bytes in
+    if value_len sum P page == 0 then last_prefix sum P n bytes
+    else (if value_len sum P page == P then record { full_pages = n + 1; partial = None }
+    else record { full_pages = n; partial = value_and_slot (active sum P page) page })
 
 abbrev pub partial_pages : Option (List ℕ × ActiveChecksum) → ℕ
 partial_pages None = 0
@@ -47,7 +52,8 @@ abbrev pub slot_of_tip : Option (List ℕ × ActiveChecksum) → Option ActiveCh
 slot_of_tip None = None
 slot_of_tip (Some p) = Some p.1
 
--- a writer whose blob ends with this prefix: its partial page is the tip, under the slot that tells it
+-- a writer whose blob ends with this prefix: its partial page is the tip, under the slot that tells
+-- it
 abbrev pub at_prefix : (P id capacity : ℕ) → Prefix → SyncState → WriterState
 at_prefix P id capacity p sync = record {
   page_size = P;
@@ -60,7 +66,8 @@ at_prefix P id capacity p sync = record {
   sync = sync;
 }
 
--- a partial page that was read holds bytes: its slots are those that the slot's length and checksum are written as
+-- a partial page that was read holds bytes: its slots are those that the slot's length and checksum
+-- are written as
 abbrev pub HasBytes : ℕ → ℕ → List ℕ → Option (List ℕ × ActiveChecksum) → Type 0
 HasBytes P page readable None = Unit {0}
 HasBytes P page readable (Some p) = (i : ℕ) → get_or (page_at P page readable) i 0 < 256

@@ -1,9 +1,11 @@
 -- What opening and recovering a blob do, by cases on the answer.
-use Rattle.std.specs.Prelude.{◌≡◌, ◌≢◌, ◌⊎◌, ◌≤◌, ◌+◌, ◌*◌, ◌/◌, ◌^◌, ℕ, List, [], length, take, Option, Some, None, Result, Ok, Err}
+use Rattle.std.specs.Prelude.{◌≡◌, ◌≢◌, ◌⊎◌, ◌≤◌, ◌+◌, ◌*◌, ◌/◌, ◌^◌, ℕ, List, [], length, take}
+use Rattle.std.specs.Prelude.{Option, Some, None, Result, Ok, Err}
 use Rattle.page.specs.Geometry.{adjusted}
 use Rattle.disk.specs.Disk.{Disk, Life, LogGrows, HasFailed, ResizeGoes, SyncGoes}
 use Rattle.disk.specs.declared.error.Error.{Error}
-use Rattle.disk.specs.declared.error.Error.TheVariants.{ReadFailed, ResizeFailed, SyncFailed, OffsetOverflow, OutOfMemory, IdsExhausted}
+use Rattle.disk.specs.declared.error.Error.TheVariants.{ReadFailed, ResizeFailed, SyncFailed}
+use Rattle.disk.specs.declared.error.Error.TheVariants.{OffsetOverflow, OutOfMemory, IdsExhausted}
 use Rattle.page.specs.Page.{pages, text}
 use Rattle.page.specs.declared.slot.ActiveChecksum.{ActiveChecksum}
 use Rattle.cache.specs.CacheState.{CacheState}
@@ -43,18 +45,22 @@ pub record IsDurable (d : Disk) : Type 0 where
 -- a cut to so many bytes: a resize, and a sync behind it
 abbrev pub Cuts : ℕ → Life → Life → Result (Unit {0}) Error → Type 0
 Cuts kept old new (Ok u) = (mid : Life) × ResizeGoes kept old mid (Ok u) × SyncGoes mid new (Ok u)
-Cuts kept old new (Err e) = ResizeGoes kept old new (Err e) ⊎ ((mid : Life) × ResizeGoes kept old mid (Ok tt) × SyncGoes mid new (Err e))
+Cuts kept old new (Err e) =
+    ResizeGoes kept old new (Err e)
+    ⊎ ((mid : Life) × ResizeGoes kept old mid (Ok tt) × SyncGoes mid new (Err e))
 
 -- the same, where there is more
 abbrev pub CutsBack : ℕ → Life → Life → Result State Error → Type 0
 CutsBack kept old new (Ok IsDirty) = (kept ≡ length old.present.readable) × (new ≡ old)
-CutsBack kept old new (Ok IsClean) = (kept ≢ length old.present.readable) × Cuts kept old new (Ok tt)
+CutsBack kept old new (Ok IsClean) =
+    (kept ≢ length old.present.readable) × Cuts kept old new (Ok tt)
 CutsBack kept old new (Err e) = Cuts kept old new (Err e)
 
 -- the blob keeps its first bytes: all of them and nothing was written, or the cut is durable
 pub data IsKept (old new : Life) (kept : ℕ) : SyncState → Type 0 where
   whole : kept ≡ length old.present.readable → Looked old new → IsKept old new kept Dirty
-  cut : kept ≢ length old.present.readable → new.present.readable ≡ take kept old.present.readable → IsDurable new.present → IsKept old new kept Clean
+  cut : kept ≢ length old.present.readable → new.present.readable ≡ take kept old.present.readable
+      → IsDurable new.present → IsKept old new kept Clean
 
 -- a writer that stands behind these pages gets an id
 abbrev pub Stands : CacheState → ℕ → Prefix → SyncState → Result WriterState Error → Type 0
@@ -66,6 +72,12 @@ Stands cache capacity p sync (Err _) = ⊥
 -- the pages of some bytes up to the last that has a value
 abbrev pub opened_prefix : (List ℕ → ℕ) → ℕ → List ℕ → Prefix
 opened_prefix sum P bytes = last_prefix sum P (length bytes / (P + 12)) bytes
+
+-- the writer that stands there
+abbrev pub opened_writer : (List ℕ → ℕ) → CacheState → ℕ → List ℕ → SyncState → WriterState
+opened_writer sum cache capacity bytes sync =
+    let P = cache.page_size in
+    at_prefix P cache.ids_given (adjusted capacity P) (opened_prefix sum P bytes) sync
 
 -- the bytes of those pages
 abbrev pub opened_size : (List ℕ → ℕ) → ℕ → List ℕ → ℕ
@@ -81,35 +93,46 @@ abbrev pub SyncsIn : SyncState → Life → Life → Result (Unit {0}) Error →
 SyncsIn Clean old new answer = (answer ≡ Ok tt) × (new ≡ old)
 SyncsIn Dirty old new answer = SyncGoes old new answer
 
--- all that is written is made durable and what stands behind these pages is cut, durably; the writer stands there
+-- all that is written is made durable and what stands behind these pages is cut, durably; the
+-- writer stands there
 abbrev pub Keeps : WriterState → Prefix → Life → Life → Result WriterState Error → Type 0
-Keeps w p old new (Ok now) = (now ≡ at_prefix w.page_size w.id w.capacity p Clean) × (new.present.readable ≡ take (prefix_pages p * (w.page_size + 12)) old.present.readable) × IsDurable new.present × LogGrows old.present new.present
+Keeps w p old new (Ok now) =
+    (now ≡ at_prefix w.page_size w.id w.capacity p Clean)
+    × (new.present.readable ≡ take (prefix_pages p * (w.page_size + 12)) old.present.readable)
+    × IsDurable new.present × LogGrows old.present new.present
 Keeps w p old new (Err e) = RecoveryCause old new e
 
 -- the blob was synced at most once, and then cut to so many bytes at most once
 abbrev pub EndsAt : ℕ → Life → Life → Type 0
-EndsAt kept old new = (mid : Life) × ((mid ≡ old) ⊎ ((answer : Result (Unit {0}) Error) × SyncGoes old mid answer)) × ((new ≡ mid) ⊎ ((answer : Result (Unit {0}) Error) × Cuts kept mid new answer))
+EndsAt kept old new =
+    (mid : Life) × ((mid ≡ old) ⊎ ((answer : Result (Unit {0}) Error) × SyncGoes old mid answer))
+    × ((new ≡ mid) ⊎ ((answer : Result (Unit {0}) Error) × Cuts kept mid new answer))
 
--- where all was durable and the pages below the tip are full, a writer is sound, and its content the
--- text
+-- where all was durable and the pages below the tip are full, a writer is sound, and its content
+-- the text
 abbrev pub SoundWhereFull : (List ℕ → ℕ) → ℕ → Life → Life → WriterState → Type 0
 SoundWhereFull sum P old new w =
     IsDurable old.present → AreFull sum P (take w.full_pages (pages P old.present.readable))
     → IsSound sum w new.present × (content w new.present.readable ≡ text sum P old.present.readable)
 
 -- how opening ends, where it does: the writer stands at the pages up to the last that has a value
-pub record IsOpened (sum : List ℕ → ℕ) (cache : CacheState) (capacity : ℕ) (old new : Life) (w : WriterState) : Type 0 where
+pub record IsOpened (sum : List ℕ → ℕ) (cache : CacheState) (capacity : ℕ) (old new : Life)
+    (w : WriterState) : Type 0 where
   pub sync : SyncState
-  pub state : w ≡ at_prefix cache.page_size cache.ids_given (adjusted capacity cache.page_size) (opened_prefix sum cache.page_size old.present.readable) sync
+  pub state : w ≡ opened_writer sum cache capacity old.present.readable sync
   pub kept : IsKept old new (opened_size sum cache.page_size old.present.readable) sync
-  pub bytes : HasBytes cache.page_size w.full_pages old.present.readable (opened_prefix sum cache.page_size old.present.readable).partial
+  pub bytes : HasBytes cache.page_size w.full_pages old.present.readable
+      (opened_prefix sum cache.page_size old.present.readable).partial
   pub sound : SoundWhereFull sum cache.page_size old new w
   pub log : LogGrows old.present new.present
 
 abbrev pub Opens : (List ℕ → ℕ) → CacheState → ℕ → Life → Life → Result WriterState Error → Type 0
 Opens sum cache capacity old new (Ok w) = IsOpened sum cache capacity old new w
-Opens sum cache capacity old new (Err OffsetOverflow) = (new ≡ old) × (2 ^ 64 ≤ adjusted capacity cache.page_size)
-Opens sum cache capacity old new (Err IdsExhausted) = (2 ^ 64 ≤ cache.ids_given) × (sync : SyncState) × IsKept old new (opened_size sum cache.page_size old.present.readable) sync
+Opens sum cache capacity old new (Err OffsetOverflow) =
+    (new ≡ old) × (2 ^ 64 ≤ adjusted capacity cache.page_size)
+Opens sum cache capacity old new (Err IdsExhausted) =
+    (2 ^ 64 ≤ cache.ids_given) × (sync : SyncState)
+    × IsKept old new (opened_size sum cache.page_size old.present.readable) sync
 Opens sum cache capacity old new (Err e) = RecoveryCause old new e
 
 -- the cache once it was asked for an id, where the call came so far
@@ -122,30 +145,52 @@ abbrev pub GivesId : Result WriterState Error → CacheState → CacheState → 
 GivesId (Ok w) old new = new ≡ cache_after (Ok w) old
 GivesId (Err e) old new = (new ≡ old) ⊎ (new ≡ record old { ids_given = old.ids_given + 1 })
 
--- how a recovery ends, where it does: the writer stands at the full pages from the first on and the value behind them,
--- nothing else is left in the blob, and all of it is durable
-pub record IsRecovered (sum : List ℕ → ℕ) (cache : CacheState) (capacity : ℕ) (old new : Life) (w : WriterState) : Type 0 where
-  pub state : w ≡ at_prefix cache.page_size cache.ids_given (adjusted capacity cache.page_size) (prefix_of sum cache.page_size (pages cache.page_size old.present.readable)) Clean
+-- the full pages from the first on, and the value behind them
+abbrev pub recovered_prefix : (List ℕ → ℕ) → ℕ → List ℕ → Prefix
+recovered_prefix sum P bytes = prefix_of sum P (pages P bytes)
+
+-- the writer that stands there, with nothing unsynced
+abbrev pub recovered_writer : (List ℕ → ℕ) → CacheState → ℕ → List ℕ → WriterState
+recovered_writer sum cache capacity bytes =
+    let P = cache.page_size in
+    at_prefix P cache.ids_given (adjusted capacity P) (recovered_prefix sum P bytes) Clean
+
+-- the bytes of those pages
+abbrev pub recovered_size : (List ℕ → ℕ) → ℕ → List ℕ → ℕ
+recovered_size sum P bytes = prefix_pages (recovered_prefix sum P bytes) * (P + 12)
+
+-- how a recovery ends, where it does: the writer stands at the full pages from the first on and the
+-- value behind them, nothing else is left in the blob, and all of it is durable
+pub record IsRecovered (sum : List ℕ → ℕ) (cache : CacheState) (capacity : ℕ) (old new : Life)
+    (w : WriterState) : Type 0 where
+  pub state : w ≡ recovered_writer sum cache capacity old.present.readable
   pub sound : IsSound sum w new.present
   pub page_size : w.page_size ≡ cache.page_size
   pub size : w.full_pages * w.page_size + length w.tip ≡ length (content w new.present.readable)
   pub only : LeavesItsContent sum w new.present
   pub content : content w new.present.readable ≡ text sum cache.page_size old.present.readable
-  pub readable : new.present.readable ≡ take (prefix_pages (prefix_of sum cache.page_size (pages cache.page_size old.present.readable)) * (cache.page_size + 12)) old.present.readable
+  pub readable : new.present.readable
+      ≡ take (recovered_size sum cache.page_size old.present.readable) old.present.readable
   pub durable : IsDurable new.present
   pub settled : IsSettled w
   pub log : LogGrows old.present new.present
 
-abbrev pub Recovers : (List ℕ → ℕ) → CacheState → ℕ → Life → Life → Result WriterState Error → Type 0
+abbrev pub Recovers : (List ℕ → ℕ) → CacheState → ℕ → Life → Life → Result WriterState Error
+    → Type 0
 Recovers sum cache capacity old new (Ok w) = IsRecovered sum cache capacity old new w
-Recovers sum cache capacity old new (Err OffsetOverflow) = (new ≡ old) × (2 ^ 64 ≤ adjusted capacity cache.page_size)
+Recovers sum cache capacity old new (Err OffsetOverflow) =
+    (new ≡ old) × (2 ^ 64 ≤ adjusted capacity cache.page_size)
 Recovers sum cache capacity old new (Err IdsExhausted) = 2 ^ 64 ≤ cache.ids_given
 Recovers sum cache capacity old new (Err e) = RecoveryCause old new e
 
 -- where all was durable as the call began, every image at each moment since keeps the whole text
 abbrev pub KeepsText : (List ℕ → ℕ) → ℕ → Life → Life → Type 0
-KeepsText sum P old new = IsDurable old.present → Through (AllKeep sum P (text sum P old.present.readable) (length (text sum P old.present.readable))) old new
+KeepsText sum P old new =
+    let held = text sum P old.present.readable in
+    IsDurable old.present → Through (AllKeep sum P held (length held)) old new
 
 -- and the text of every chance-free one is a prefix of it
 abbrev pub LeavesText : (List ℕ → ℕ) → ℕ → Life → Life → Type 0
-LeavesText sum P old new = IsDurable old.present → LeavesOnly sum P (text sum P old.present.readable) (text sum P old.present.readable) old new
+LeavesText sum P old new =
+    let held = text sum P old.present.readable in
+    IsDurable old.present → LeavesOnly sum P held held old new

@@ -24,7 +24,8 @@ physical_size P full_pages more = (full_pages + div_ceil more P) * (P + 12)
 abbrev pub FitsBlob : ℕ → ℕ → ℕ → Type 0
 FitsBlob P full_pages more = physical_size P full_pages more < 2 ^ 64
 
--- what holds of the tip of every writer: it begins behind whole pages of this size, and a page may be buffered
+-- what holds of the tip of every writer: it begins behind whole pages of this size, and a page may
+-- be buffered
 pub record IsWriter (P : ℕ) (tip : Tip) : Type 0 where
   pub page_size : tip.page_size ≡ P
   pub whole : tip.offset ≡ tip.offset / P * P

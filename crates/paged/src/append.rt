@@ -3,7 +3,8 @@ ghost use Rattle.std.specs.Prelude.{◌≡◌, ◌↔◌, ◌+◌, ◌^◌, ◌�
 ghost use Rattle.crash.specs.Sound.{IsSound, content};
 ghost use Rattle.crash.specs.Stays.{KeepsAllFloors, LeavesOnly};
 ghost use Rattle.paged.specs.Writer.{physical_size, FitsBlob};
-ghost use Rattle.paged.specs.Calls.{AsksAtMost, HoldsWithin, Appends, Buffers, BuffersAll, TryAppends, BuffersOver, KeepsSound, KeepsPages};
+ghost use Rattle.paged.specs.Calls.{AsksAtMost, HoldsWithin, Appends, Buffers, BuffersAll};
+ghost use Rattle.paged.specs.Calls.{TryAppends, BuffersOver, KeepsSound, KeepsPages};
 ghost use Rattle.paged.specs.Reads.{HasPages};
 
 use crate::Writer;
@@ -14,7 +15,8 @@ use page::{CHECKSUM_SIZE, EncodeSize, Sum, Write};
 impl<B, H, Phase> Writer<B, H, Phase> {
     /// Whether the blob has places for so many bytes more.
     fn fits(&self, more: usize) -> bool
-        ensures { IsTrue result ↔ FitsBlob self.now.page_size self.now.full_pages (length self.now.tip + more) }
+        ensures { IsTrue result
+            ↔ FitsBlob self.now.page_size self.now.full_pages (length self.now.tip + more) }
     {
         let page_size = u64::from(self.page_size.get());
         let greatest_size = u64::MAX / (page_size + CHECKSUM_SIZE) * page_size;
@@ -24,7 +26,8 @@ impl<B, H, Phase> Writer<B, H, Phase> {
         size <= greatest_size
     }
 
-    /// Adds bytes to the tip, and answers whether it then holds more than its capacity. An error changes nothing.
+    /// Adds bytes to the tip, and answers whether it then holds more than its capacity. An error
+    /// changes nothing.
     fn buffer(&mut self, bytes: &[u8]) -> Result<bool, Error>
         ensures { Buffers self.old bytes.now self.new result }
     {
@@ -36,11 +39,13 @@ impl<B, H, Phase> Writer<B, H, Phase> {
 }
 
 impl<B: Blob, H: Sum, Phase> Writer<B, H, Phase> {
-    /// Appends bytes, and answers the logical place of the first: the size until now. They are buffered; where the
-    /// buffer then holds more than its capacity, its full pages are written, without a sync.
+    /// Appends bytes, and answers the logical place of the first: the size until now. They are
+    /// buffered; where the buffer then holds more than its capacity, its full pages are written,
+    /// without a sync.
     ///
-    /// `OffsetOverflow`, before anything else, where the new size or the physical size that it needs passes the
-    /// greatest `u64`; `WriteFailed` where the device failed, `OutOfMemory`. The writer is gone then.
+    /// `OffsetOverflow`, before anything else, where the new size or the physical size that it
+    /// needs passes the greatest `u64`; `WriteFailed` where the device failed, `OutOfMemory`. The
+    /// writer is gone then.
     pub fn append(
         mut self,
         blob: &mut B,
@@ -48,18 +53,26 @@ impl<B: Blob, H: Sum, Phase> Writer<B, H, Phase> {
         bytes: &[u8],
     ) -> Result<(Self, u64), Error>
         requires sound { IsSound H.sum_of self (B.life blob.old).present }
-        ensures appends { Appends H.sum_of self bytes.now (B.life blob.old) (B.life blob.new) result }
-        ensures overflow { 2 ^ 64 ≤ physical_size self.page_size self.full_pages (length self.tip + length bytes.now) → result ≡ Err Error.OffsetOverflow }
+        ensures appends { let old = B.life blob.old in let new = B.life blob.new in
+            Appends H.sum_of self bytes.now old new result }
+        ensures overflow { let buffered = length self.tip + length bytes.now in
+            2 ^ 64 ≤ physical_size self.page_size self.full_pages buffered
+            → result ≡ Err Error.OffsetOverflow }
         ensures sound { IfOk result (λ r. IsSound H.sum_of r.0 (B.life blob.new).present) }
         ensures there { IfOk result (λ r. HasPages r.0 (B.life blob.new)) }
         ensures within { IfOk result (λ r. HoldsWithin r.0) }
-        ensures buffered { length self.tip + length bytes.now ≤ self.capacity → BuffersAll self bytes.now (B.life blob.old) (B.life blob.new) result }
-        ensures flushed { self.capacity < length self.tip + length bytes.now → IfOk result (λ r. length r.0.tip < self.page_size) }
+        ensures buffered { let old = B.life blob.old in let new = B.life blob.new in
+            length self.tip + length bytes.now ≤ self.capacity
+            → BuffersAll self bytes.now old new result }
+        ensures flushed { self.capacity < length self.tip + length bytes.now
+            → IfOk result (λ r. length r.0.tip < self.page_size) }
         ensures calls { AsksAtMost 1 (B.life blob.old) (B.life blob.new) }
 
         // At each moment since the call began, and at every answer.
         ensures kept { KeepsAllFloors H.sum_of self.page_size (B.life blob.old) (B.life blob.new) }
-        ensures only { LeavesOnly H.sum_of self.page_size (content self (B.life blob.old).present.readable) (content self (B.life blob.old).present.readable ++ bytes.now) (B.life blob.old) (B.life blob.new) }
+        ensures only { let old = B.life blob.old in let new = B.life blob.new in
+            let held = content self old.present.readable in
+            LeavesOnly H.sum_of self.page_size held (held ++ bytes.now) old new }
     {
         let at = self.size();
         if self.buffer(bytes)? {
@@ -69,11 +82,13 @@ impl<B: Blob, H: Sum, Phase> Writer<B, H, Phase> {
         Ok((self, at))
     }
 
-    /// Appends bytes where they fit what is buffered, and answers the logical place of the first: the size until now.
-    /// `None` exactly where what is buffered would then hold more than its capacity. No device is asked.
+    /// Appends bytes where they fit what is buffered, and answers the logical place of the first:
+    /// the size until now. `None` exactly where what is buffered would then hold more than its
+    /// capacity. No device is asked.
     ///
-    /// `OffsetOverflow`, before anything else, where the new size or the physical size that it needs passes the
-    /// greatest `u64`; `OutOfMemory`. After `None` or an error the writer is as it was.
+    /// `OffsetOverflow`, before anything else, where the new size or the physical size that it
+    /// needs passes the greatest `u64`; `OutOfMemory`. After `None` or an error the writer is as it
+    /// was.
     pub fn try_append(&mut self, bytes: &[u8]) -> Result<Option<u64>, Error>
         ensures tries { TryAppends self.old bytes.now self.new result }
         ensures appends { BuffersOver H.sum_of self.old bytes.now self.new result }
@@ -88,8 +103,9 @@ impl<B: Blob, H: Sum, Phase> Writer<B, H, Phase> {
 
     /// Appends a value's encoded bytes in the same way. A value that doesn't fit isn't encoded.
     ///
-    /// `OffsetOverflow`, before anything else, where the new size or the physical size that it needs passes the
-    /// greatest `u64`; `OutOfMemory`. After `None` or an error the writer is as it was.
+    /// `OffsetOverflow`, before anything else, where the new size or the physical size that it
+    /// needs passes the greatest `u64`; `OutOfMemory`. After `None` or an error the writer is as it
+    /// was.
     pub fn try_append_value<T: EncodeSize + Write>(
         &mut self,
         value: &T,

@@ -1,5 +1,6 @@
 // The bytes of a flush: physical pages, of which the first repeats the durable slot.
-ghost use Rattle.std.specs.Prelude.{◌≡◌, ◌<◌, ◌≤◌, ◌^◌, ◌*◌, ◌++◌, ◌+◌, length, replicate, All, IfOk, OnOk, IsOkUnless};
+ghost use Rattle.std.specs.Prelude.{◌≡◌, ◌<◌, ◌≤◌, ◌^◌, ◌*◌, ◌++◌, ◌+◌, length, replicate, All};
+ghost use Rattle.std.specs.Prelude.{IfOk, OnOk, IsOkUnless};
 ghost use Rattle.std.specs.List.{concat};
 ghost use Rattle.page.specs.Slot.{other};
 ghost use Rattle.page.specs.Page.{slot_bytes};
@@ -18,7 +19,11 @@ const FOOTER: usize = CHECKSUM_SIZE as usize;
 /// The slot that a page with these bytes gets: the one that isn't kept.
 fn new_slot<H: Sum>(durable: Option<ActiveChecksum>, chunk: &[u8]) -> ActiveChecksum
     requires { length chunk.now < 2 ^ 16 }
-    ensures { result ≡ record { slot = other (kept_slot durable); len = length chunk.now; crc = H.sum_of chunk.now } }
+    ensures { result ≡ record {
+      slot = other (kept_slot durable);
+      len = length chunk.now;
+      crc = H.sum_of chunk.now;
+    } }
 {
     let slot = match durable {
         None => Slot::First,
@@ -29,7 +34,8 @@ fn new_slot<H: Sum>(durable: Option<ActiveChecksum>, chunk: &[u8]) -> ActiveChec
 
 /// A footer with the durable slot as it is, and the new checksum in the other one.
 fn footer_with(durable: Option<ActiveChecksum>, new: ActiveChecksum) -> Checksum
-    ensures { footer_bytes result ≡ footer (kept_slot durable) (kept_bytes durable) (slot_bytes new.len new.crc) }
+    ensures { footer_bytes result
+        ≡ footer (kept_slot durable) (kept_bytes durable) (slot_bytes new.len new.crc) }
 {
     let Some(kept) = durable else {
         return Checksum::new(new.len, new.crc);
@@ -60,8 +66,8 @@ fn push_zeros(out: &mut Vec<u8>, count: usize) -> Result<(), Error>
     Ok(())
 }
 
-/// Adds one physical page: the chunk, zeros up to the page size, and the footer. It answers the slot that tells the
-/// chunk. `OutOfMemory` alone.
+/// Adds one physical page: the chunk, zeros up to the page size, and the footer. It answers the
+/// slot that tells the chunk. `OutOfMemory` alone.
 pub(crate) fn push_page<H: Sum>(
     out: &mut Vec<u8>,
     page_size: usize,
@@ -70,8 +76,13 @@ pub(crate) fn push_page<H: Sum>(
 ) -> Result<ActiveChecksum, Error>
     requires small { page_size < 2 ^ 16 }
     requires fits { length chunk.now ≤ page_size }
-    ensures page { OnOk result (out.new.items ≡ out.old.items ++ page_of H.sum_of page_size durable chunk.now) }
-    ensures slot { IfOk result (λ new. new ≡ record { slot = other (kept_slot durable); len = length chunk.now; crc = H.sum_of chunk.now }) }
+    ensures page { OnOk result
+        (out.new.items ≡ out.old.items ++ page_of H.sum_of page_size durable chunk.now) }
+    ensures slot { IfOk result (λ new. new ≡ record {
+      slot = other (kept_slot durable);
+      len = length chunk.now;
+      crc = H.sum_of chunk.now;
+    }) }
     ensures err { IsOkUnless result Error.OutOfMemory }
 {
     let new = new_slot::<H>(durable, chunk);
@@ -118,15 +129,16 @@ fn with_footers(alloc: Global, pages: Vec<IoBuf>, footers: &IoBuf) -> Result<IoB
     Ok(bufs)
 }
 
-/// The physical pages of full pages, of which the first repeats the durable slot. The pages aren't copied, and their
-/// footers are parts of one buffer. `OutOfMemory` alone.
+/// The physical pages of full pages, of which the first repeats the durable slot. The pages aren't
+/// copied, and their footers are parts of one buffer. `OutOfMemory` alone.
 pub(crate) fn physical_pages<H: Sum>(
     alloc: Global,
     durable: Option<ActiveChecksum>,
     pages: Vec<IoBuf>,
 ) -> Result<IoBufs, Error>
     requires { All (λ page. length page < 2 ^ 16) pages.items }
-    ensures bytes { IfOk result (λ bufs. concat bufs ≡ with_footers pages.items (footers_of H.sum_of durable pages.items)) }
+    ensures bytes { IfOk result (λ bufs.
+        concat bufs ≡ with_footers pages.items (footers_of H.sum_of durable pages.items)) }
     ensures err { IsOkUnless result Error.OutOfMemory }
 {
     let footers = footers_of::<H>(alloc, durable, &pages)?;

@@ -1,16 +1,19 @@
 // Writing the tip out, and syncing.
-ghost use Rattle.std.specs.Prelude.{◌≡◌, ◌+◌, ◌*◌, ◌<◌, ◌^◌, ◌++◌, IfOk, OnOk, IsOkUnless, IsErrOf, Ok, not, ◌==◌, ◌%◌, ◌≤◌, length, All, true, false, [], take};
+ghost use Rattle.std.specs.Prelude.{◌≡◌, ◌+◌, ◌*◌, ◌<◌, ◌^◌, ◌++◌, IfOk, OnOk, IsOkUnless, IsErrOf};
+ghost use Rattle.std.specs.Prelude.{Ok, not, ◌==◌, ◌%◌, ◌≤◌, length, All, true, false, [], take};
 ghost use Rattle.std.specs.List.{concat};
 ghost use Rattle.disk.specs.Disk.{WriteGoes, SyncGoes};
 ghost use Rattle.crash.specs.WriterState.SyncState.{Clean, Dirty};
 ghost use Rattle.crash.specs.Built.{durable_after, rest_written};
 ghost use Rattle.crash.specs.Sound.{CanWrite, IsSound, content};
 ghost use Rattle.crash.specs.Stays.{KeepsAll, KeepsAllFloors, LeavesOnly};
-ghost use Rattle.paged.specs.Calls.{AsksAtMost, HoldsWithin, settle_calls, sync_calls, Flushes, Settles, Syncs};
+ghost use Rattle.paged.specs.Calls.{AsksAtMost, HoldsWithin, settle_calls, sync_calls, Flushes};
+ghost use Rattle.paged.specs.Calls.{Settles, Syncs};
 ghost use Rattle.paged.specs.Reads.{HasPages};
 ghost use Rattle.page.specs.Tip.{ArePages};
 ghost use Rattle.paged.specs.Writer.{FitsBlob};
-ghost use Rattle.paged.specs.Flush.{full_in, rest_of, rest_bytes, has_work, carried, advanced, place_of, flush_bytes, synced, written, outcome};
+ghost use Rattle.paged.specs.Flush.{full_in, rest_of, rest_bytes, has_work, carried, advanced};
+ghost use Rattle.paged.specs.Flush.{place_of, flush_bytes, synced, written, outcome};
 
 use crate::Writer;
 use crate::build::{physical_pages, push_page};
@@ -28,8 +31,8 @@ impl<B, H, Phase> Writer<B, H, Phase> {
         u64::from(self.page_size.get()) + CHECKSUM_SIZE
     }
 
-    /// Whether a flush has something to write: a full page, or, with `rest`, a partial page that isn't written at
-    /// its present length.
+    /// Whether a flush has something to write: a full page, or, with `rest`, a partial page that
+    /// isn't written at its present length.
     pub(crate) fn has_flush_work(&self, rest: bool) -> bool
         ensures work { result ≡ has_work self.now rest }
         ensures room { self.now.page_size ≤ self.now.capacity }
@@ -71,7 +74,8 @@ impl<B, H, Phase> Writer<B, H, Phase> {
 
     /// The tip's full pages, which are taken out of it. `OutOfMemory` alone.
     fn drain(&mut self) -> Result<Vec<IoBuf>, Error>
-        ensures bytes { IfOk result (λ pages. concat pages.items ≡ take (full_in self.old * self.old.page_size) self.old.tip) }
+        ensures bytes { IfOk result (λ pages.
+            concat pages.items ≡ take (full_in self.old * self.old.page_size) self.old.tip) }
         ensures pages { IfOk result (λ pages. ArePages self.old.page_size pages.items) }
         ensures small { IfOk result (λ pages. All (λ page. length page < 2 ^ 16) pages.items) }
         ensures state { OnOk result (self.new ≡ advanced self.old self.old.flushed self.old.sync) }
@@ -88,12 +92,14 @@ impl<B, H, Phase> Writer<B, H, Phase> {
 }
 
 impl<B, H: Sum, Phase> Writer<B, H, Phase> {
-    /// Adds the physical page of the bytes of a tip without full pages, where asked, and answers the slot that tells
-    /// them. `OutOfMemory` alone.
+    /// Adds the physical page of the bytes of a tip without full pages, where asked, and answers
+    /// the slot that tells them. `OutOfMemory` alone.
     fn push_rest(&self, bufs: &mut IoBufs, rest: bool) -> Result<Option<ActiveChecksum>, Error>
         requires { length self.now.tip < self.now.page_size }
-        ensures bytes { OnOk result (concat bufs.new ≡ concat bufs.old ++ rest_bytes H.sum_of self.now rest) }
-        ensures slot { IfOk result (λ slot. slot ≡ rest_written H.sum_of self.now.durable self.now.tip rest) }
+        ensures bytes { OnOk result
+            (concat bufs.new ≡ concat bufs.old ++ rest_bytes H.sum_of self.now rest) }
+        ensures slot { IfOk result (λ slot.
+            slot ≡ rest_written H.sum_of self.now.durable self.now.tip rest) }
         ensures err { IsOkUnless result Error.OutOfMemory }
     {
         if !rest {
@@ -106,11 +112,13 @@ impl<B, H: Sum, Phase> Writer<B, H, Phase> {
         Ok(Some(slot))
     }
 
-    /// Takes the tip's full pages out of it, and answers the physical pages of these and of the rest where asked: the
-    /// writer stands then as once they are written. `OutOfMemory` alone.
+    /// Takes the tip's full pages out of it, and answers the physical pages of these and of the
+    /// rest where asked: the writer stands then as once they are written. `OutOfMemory` alone.
     fn take_pages(&mut self, rest: bool) -> Result<IoBufs, Error>
         ensures bytes { IfOk result (λ bufs. concat bufs ≡ flush_bytes H.sum_of self.old rest) }
-        ensures state { OnOk result (self.new ≡ advanced self.old (rest_written H.sum_of (durable_after self.old.durable (full_in self.old)) (rest_of self.old) rest) self.old.sync) }
+        ensures state { let durable = durable_after self.old.durable (full_in self.old) in
+            let flushed = rest_written H.sum_of durable (rest_of self.old) rest in
+            OnOk result (self.new ≡ advanced self.old flushed self.old.sync) }
         ensures err { IsOkUnless result Error.OutOfMemory }
     {
         let durable = self.durable;
@@ -122,13 +130,15 @@ impl<B, H: Sum, Phase> Writer<B, H, Phase> {
 }
 
 impl<B: Blob, H: Sum, Phase> Writer<B, H, Phase> {
-    /// Writes the tip's full pages, and the rest where asked, in one write. With `sync` it is durable at once, and nothing
-    /// is unsynced before it.
+    /// Writes the tip's full pages, and the rest where asked, in one write. With `sync` it is
+    /// durable at once, and nothing is unsynced before it.
     fn write_pages(mut self, blob: &mut B, rest: bool, sync: bool) -> Result<Self, Error>
         requires can { CanWrite self.page_size self.tip (full_in self) rest }
         requires settled { sync ≡ true → (B.life blob.old).present.since ≡ [] }
         ensures fits { IsErrOf result Error.OffsetOverflow → ⊥ }
-        ensures goes { WriteGoes (place_of self) (flush_bytes H.sum_of self rest) sync (B.life blob.old) (B.life blob.new) (outcome result) }
+        ensures goes { let old = B.life blob.old in let new = B.life blob.new in
+            WriteGoes (place_of self) (flush_bytes H.sum_of self rest) sync old new
+            (outcome result) }
         ensures state { IfOk result (λ w. w ≡ written H.sum_of self rest sync) }
     {
         let place = self.place();
@@ -152,7 +162,8 @@ impl<B: Blob, H: Sum, Phase> Writer<B, H, Phase> {
         Ok(self)
     }
 
-    /// Writes the tip's full pages out, without a sync. It makes no device call where there is none.
+    /// Writes the tip's full pages out, without a sync. It makes no device call where there is
+    /// none.
     pub(crate) fn flush(self, blob: &mut B) -> Result<Self, Error>
         requires sound { IsSound H.sum_of self (B.life blob.old).present }
         ensures flushes { Flushes H.sum_of self (B.life blob.old) (B.life blob.new) result }
@@ -166,10 +177,12 @@ impl<B: Blob, H: Sum, Phase> Writer<B, H, Phase> {
         self.carry().write_pages(blob, false, false)
     }
 
-    /// Makes all that was appended durable. It makes two device calls at most, a write and a sync of the blob; one, a
-    /// write that is durable at once, where nothing was unsynced; and none where there is nothing to do.
+    /// Makes all that was appended durable. It makes two device calls at most, a write and a sync
+    /// of the blob; one, a write that is durable at once, where nothing was unsynced; and none
+    /// where there is nothing to do.
     ///
-    /// `WriteFailed` and `SyncFailed` where the device failed, `OutOfMemory`; the writer is gone then.
+    /// `WriteFailed` and `SyncFailed` where the device failed, `OutOfMemory`; the writer is gone
+    /// then.
     pub fn sync(self, blob: &mut B, _cache: &mut CacheRef) -> Result<Self, Error>
         requires sound { IsSound H.sum_of self (B.life blob.old).present }
         ensures syncs { Syncs H.sum_of self (B.life blob.old) (B.life blob.new) result }
@@ -177,15 +190,20 @@ impl<B: Blob, H: Sum, Phase> Writer<B, H, Phase> {
         ensures there { IfOk result (λ w. HasPages w (B.life blob.new)) }
         ensures within { IfOk result (λ w. HoldsWithin w) }
         ensures calls { AsksAtMost (sync_calls self) (B.life blob.old) (B.life blob.new) }
-        ensures idle { sync_calls self ≡ 0 → (result ≡ Ok self) × (B.life blob.new ≡ B.life blob.old) }
-        ensures unwritten { has_work self true ≡ false → self.sync ≡ Dirty → SyncGoes (B.life blob.old) (B.life blob.new) (outcome result) }
+        ensures idle { sync_calls self ≡ 0
+            → (result ≡ Ok self) × (B.life blob.new ≡ B.life blob.old) }
+        ensures unwritten { let old = B.life blob.old in let new = B.life blob.new in
+            has_work self true ≡ false → self.sync ≡ Dirty → SyncGoes old new (outcome result) }
 
         // From then on every image keeps the whole content.
-        ensures durable { OnOk result (KeepsAll H.sum_of self.page_size (content self (B.life blob.old).present.readable) (B.life blob.new)) }
+        ensures durable { let old = B.life blob.old in let new = B.life blob.new in
+            OnOk result (KeepsAll H.sum_of self.page_size (content self old.present.readable) new) }
 
         // At each moment since the call began, and at every answer.
         ensures kept { KeepsAllFloors H.sum_of self.page_size (B.life blob.old) (B.life blob.new) }
-        ensures only { LeavesOnly H.sum_of self.page_size (content self (B.life blob.old).present.readable) (content self (B.life blob.old).present.readable) (B.life blob.old) (B.life blob.new) }
+        ensures only { let old = B.life blob.old in let new = B.life blob.new in
+            let held = content self old.present.readable in
+            LeavesOnly H.sum_of self.page_size held held old new }
     {
         if self.has_flush_work(true) {
             self.sync_pages(blob)
@@ -194,13 +212,15 @@ impl<B: Blob, H: Sum, Phase> Writer<B, H, Phase> {
         }
     }
 
-    /// Writes the tip out and makes it durable: at once where nothing was unsynced, else by a write and a sync.
+    /// Writes the tip out and makes it durable: at once where nothing was unsynced, else by a write
+    /// and a sync.
     fn sync_pages(self, blob: &mut B) -> Result<Self, Error>
         requires sound { IsSound H.sum_of self (B.life blob.old).present }
         requires work { has_work self true ≡ true }
         ensures syncs { Syncs H.sum_of self (B.life blob.old) (B.life blob.new) result }
         ensures calls { AsksAtMost (sync_calls self) (B.life blob.old) (B.life blob.new) }
-        ensures idle { sync_calls self ≡ 0 → (result ≡ Ok self) × (B.life blob.new ≡ B.life blob.old) }
+        ensures idle { sync_calls self ≡ 0
+            → (result ≡ Ok self) × (B.life blob.new ≡ B.life blob.old) }
     {
         let rest = self.has_rest();
         match self.sync_state {
@@ -214,8 +234,10 @@ impl<B: Blob, H: Sum, Phase> Writer<B, H, Phase> {
         requires sound { IsSound H.sum_of self (B.life blob.old).present }
         ensures settles { Settles H.sum_of self (B.life blob.old) (B.life blob.new) result }
         ensures calls { AsksAtMost (settle_calls self.sync) (B.life blob.old) (B.life blob.new) }
-        ensures idle { settle_calls self.sync ≡ 0 → (result ≡ Ok self) × (B.life blob.new ≡ B.life blob.old) }
-        ensures unwritten { self.sync ≡ Dirty → SyncGoes (B.life blob.old) (B.life blob.new) (outcome result) }
+        ensures idle { settle_calls self.sync ≡ 0
+            → (result ≡ Ok self) × (B.life blob.new ≡ B.life blob.old) }
+        ensures unwritten { let old = B.life blob.old in let new = B.life blob.new in
+            self.sync ≡ Dirty → SyncGoes old new (outcome result) }
     {
         match self.sync_state {
             SyncState::Clean => Ok(self),

@@ -1,5 +1,5 @@
-//! A blob of pages with one writer: appends are buffered and reach the blob in whole pages, a sync makes them
-//! durable, and a recovery takes over what a crash left.
+//! A blob of pages with one writer: appends are buffered and reach the blob in whole pages, a sync
+//! makes them durable, and a recovery takes over what a crash left.
 #![tactic(auto)]
 
 mod append;

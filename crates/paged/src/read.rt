@@ -1,5 +1,6 @@
 // Reading.
-ghost use Rattle.std.specs.Prelude.{◌≡◌, ◌+◌, ◌*◌, ◌-◌, ◌<◌, ◌≤◌, ◌^◌, ◌++◌, length, take, drop, OnOk, Err, IfErr, IsTrue, ◌↔◌, IsOkUnless};
+ghost use Rattle.std.specs.Prelude.{◌≡◌, ◌+◌, ◌*◌, ◌-◌, ◌<◌, ◌≤◌, ◌^◌, ◌++◌, length, take, drop};
+ghost use Rattle.std.specs.Prelude.{OnOk, Err, IfErr, IsTrue, ◌↔◌, IsOkUnless};
 ghost use Rattle.std.specs.Int.NonZero.{non_zero_u16_get};
 ghost use Rattle.disk.specs.Disk.{ReadGoes};
 ghost use Rattle.page.specs.Page.{value_len};
@@ -18,7 +19,8 @@ use std::num::NonZeroU16;
 /// Whether a physical page is full.
 fn is_full<H: Sum>(page_size: NonZeroU16, page: &[u8]) -> bool
     requires { length page.now ≡ non_zero_u16_get page_size + 12 }
-    ensures { IsTrue result ↔ (value_len H.sum_of (non_zero_u16_get page_size) page.now ≡ non_zero_u16_get page_size) }
+    ensures { let P = non_zero_u16_get page_size in
+        IsTrue result ↔ (value_len H.sum_of P page.now ≡ P) }
 {
     let full = page_size.get();
     match Checksum::validate_page::<H>(page) {
@@ -28,11 +30,14 @@ fn is_full<H: Sum>(page_size: NonZeroU16, page: &[u8]) -> bool
 }
 
 impl<B, H, Phase> Writer<B, H, Phase> {
-    /// Adds the buffered bytes from one logical place to before another, if there are any. `OutOfMemory` alone.
+    /// Adds the buffered bytes from one logical place to before another, if there are any.
+    /// `OutOfMemory` alone.
     fn read_tip(&self, bufs: &mut IoBufs, at: u64, end: u64) -> Result<(), Error>
         requires buffered { at < end → self.now.full_pages * self.now.page_size ≤ at }
         requires within { at < end → end ≤ size_of self.now }
-        ensures ok { OnOk result (concat bufs.new ≡ concat bufs.old ++ take (end - at) (drop (at - self.now.full_pages * self.now.page_size) self.now.tip)) }
+        ensures ok { let skip = at - self.now.full_pages * self.now.page_size in
+            let bytes = take (end - at) (drop skip self.now.tip) in
+            OnOk result (concat bufs.new ≡ concat bufs.old ++ bytes) }
         ensures err { IsOkUnless result Error.OutOfMemory }
     {
         if end <= at {
@@ -48,7 +53,8 @@ impl<B: Blob, H: Sum, Phase> Writer<B, H, Phase> {
     /// The bytes of a physical page below the tip.
     fn read_physical(&self, blob: &mut B, page: u64) -> Result<IoBuf, Error>
         requires { page < self.now.full_pages }
-        ensures { ReadGoes (page * (self.now.page_size + 12)) (self.now.page_size + 12) (B.life blob.old) (B.life blob.new) result }
+        ensures { let old = B.life blob.old in let new = B.life blob.new in
+            ReadGoes (page * (self.now.page_size + 12)) (self.now.page_size + 12) old new result }
     {
         let size = self.physical_page_size();
         blob.read_at(
@@ -59,12 +65,14 @@ impl<B: Blob, H: Sum, Phase> Writer<B, H, Phase> {
         )
     }
 
-    /// The `len` bytes from byte `skip` on of a page below the tip. `InvalidChecksum` where the page isn't full.
+    /// The `len` bytes from byte `skip` on of a page below the tip. `InvalidChecksum` where the
+    /// page isn't full.
     fn read_page(&self, blob: &mut B, page: u64, skip: usize, len: usize) -> Result<IoBuf, Error>
         requires below { page < self.now.full_pages }
         requires within { skip + len ≤ self.now.page_size }
         requires there { HasPages self.now (B.life blob.old) }
-        ensures reads { ReadsPage H.sum_of self.now.page_size page skip len (B.life blob.old) (B.life blob.new) result }
+        ensures reads { let old = B.life blob.old in let new = B.life blob.new in
+            ReadsPage H.sum_of self.now.page_size page skip len old new result }
         ensures looked { Looked (B.life blob.old) (B.life blob.new) }
     {
         let bytes = self.read_physical(blob, page)?;
@@ -85,9 +93,13 @@ impl<B: Blob, H: Sum, Phase> Writer<B, H, Phase> {
     ) -> Result<(), Error>
         requires below { end ≤ self.now.full_pages * self.now.page_size }
         requires there { HasPages self.now (B.life blob.old) }
-        ensures ok { OnOk result (concat bufs.new ≡ concat bufs.old ++ take (end - at) (drop at (content self.now (B.life blob.old).present.readable))) }
-        ensures full { OnOk result (AreTouchedFull H.sum_of self.now at end (B.life blob.old).present.readable) }
-        ensures err { IfErr result (ReadFault H.sum_of self.now at end (B.life blob.old) (B.life blob.new)) }
+        ensures ok { let old = B.life blob.old in
+            let held = content self.now old.present.readable in
+            OnOk result (concat bufs.new ≡ concat bufs.old ++ take (end - at) (drop at held)) }
+        ensures full { let old = B.life blob.old in
+            OnOk result (AreTouchedFull H.sum_of self.now at end old.present.readable) }
+        ensures err { let old = B.life blob.old in let new = B.life blob.new in
+            IfErr result (ReadFault H.sum_of self.now at end old new) }
         ensures looked { Looked (B.life blob.old) (B.life blob.new) }
     {
         let page_size = u64::from(self.page_size.get());
@@ -101,12 +113,13 @@ impl<B: Blob, H: Sum, Phase> Writer<B, H, Phase> {
         Ok(())
     }
 
-    /// The `len` logical bytes at `offset`: those below the tip from the blob, page by page, each page in one read,
-    /// and then those that are buffered.
+    /// The `len` logical bytes at `offset`: those below the tip from the blob, page by page, each
+    /// page in one read, and then those that are buffered.
     ///
-    /// `OffsetOverflow` where the range passes the greatest `u64`, else `BlobInsufficientLength` where it passes the
-    /// size: both before anything is asked for. `ReadFailed` where the device failed, `InvalidChecksum` where a page
-    /// below the tip isn't full, which it always is in a sound blob, `OutOfMemory`. An error leaves all as it was.
+    /// `OffsetOverflow` where the range passes the greatest `u64`, else `BlobInsufficientLength`
+    /// where it passes the size: both before anything is asked for. `ReadFailed` where the device
+    /// failed, `InvalidChecksum` where a page below the tip isn't full, which it always is in a
+    /// sound blob, `OutOfMemory`. An error leaves all as it was.
     pub fn read_at(
         &self,
         blob: &mut B,
@@ -115,15 +128,24 @@ impl<B: Blob, H: Sum, Phase> Writer<B, H, Phase> {
         len: usize,
     ) -> Result<IoBufs, Error>
         requires there { HasPages self.now (B.life blob.old) }
-        ensures reads { Reads H.sum_of self.now offset len (B.life blob.old) (B.life blob.new) result }
+        ensures reads { let old = B.life blob.old in let new = B.life blob.new in
+            Reads H.sum_of self.now offset len old new result }
         ensures overflow { 2 ^ 64 ≤ offset + len → result ≡ Err Error.OffsetOverflow }
-        ensures end { offset + len < 2 ^ 64 → size_of self.now < offset + len → result ≡ Err Error.BlobInsufficientLength }
+        ensures end { offset + len < 2 ^ 64 → size_of self.now < offset + len
+            → result ≡ Err Error.BlobInsufficientLength }
         ensures looked { Looked (B.life blob.old) (B.life blob.new) }
 
-        // Of a sound writer: it stays so, and a crash at any moment of the read keeps and leaves what it did before.
-        ensures sound { IsSound H.sum_of self.now (B.life blob.old).present → IsSound H.sum_of self.now (B.life blob.new).present }
-        ensures kept { IsSound H.sum_of self.now (B.life blob.old).present → KeepsAllFloors H.sum_of self.now.page_size (B.life blob.old) (B.life blob.new) }
-        ensures only { IsSound H.sum_of self.now (B.life blob.old).present → LeavesOnly H.sum_of self.now.page_size (content self.now (B.life blob.old).present.readable) (content self.now (B.life blob.old).present.readable) (B.life blob.old) (B.life blob.new) }
+        // Of a sound writer: it stays so, and a crash at any moment of the read keeps and leaves
+        // what it did before.
+        ensures sound { let old = B.life blob.old in let new = B.life blob.new in
+            IsSound H.sum_of self.now old.present → IsSound H.sum_of self.now new.present }
+        ensures kept { let old = B.life blob.old in let new = B.life blob.new in
+            IsSound H.sum_of self.now old.present
+            → KeepsAllFloors H.sum_of self.now.page_size old new }
+        ensures only { let old = B.life blob.old in let new = B.life blob.new in
+            let held = content self.now old.present.readable in
+            IsSound H.sum_of self.now old.present
+            → LeavesOnly H.sum_of self.now.page_size held held old new }
     {
         let end = offset.checked_add(len as u64).ok_or(Error::OffsetOverflow)?;
         if end > self.size() {

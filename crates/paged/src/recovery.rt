@@ -6,7 +6,9 @@ ghost use Rattle.crash.specs.WriterState.SyncState.{Clean};
 ghost use Rattle.paged.specs.Prefix.{prefix_pages, at_prefix, tip_of, slot_of_tip};
 ghost use Rattle.paged.specs.Writer.{state_of, FitsBlob};
 ghost use Rattle.paged.specs.Calls.{HoldsWithin};
-ghost use Rattle.paged.specs.Recovery.{Opens, Recovers, IsDurable, Cuts, CutsBack, Stands, SyncsIn, Keeps, EndsAt, slot_pages, cache_after, GivesId, KeepsText, LeavesText};
+ghost use Rattle.paged.specs.Recovery.{Opens, Recovers, IsDurable, Cuts, CutsBack, Stands, SyncsIn};
+ghost use Rattle.paged.specs.Recovery.{Keeps, EndsAt, slot_pages, cache_after, GivesId, KeepsText};
+ghost use Rattle.paged.specs.Recovery.{LeavesText};
 ghost use Rattle.paged.specs.Searches.{ReadsBack, ReadsWithin, scan_bytes};
 ghost use Rattle.page.specs.Page.{text};
 ghost use Rattle.paged.specs.Reads.{HasPages};
@@ -32,8 +34,8 @@ fn cut<B: Blob>(blob: &mut B, kept: u64) -> Result<(), Error>
     blob.sync()
 }
 
-/// Cuts a blob of `size` bytes to so many, durably, where it has more. It answers the state of the blob's writer then: a
-/// blob that wasn't cut may have something unsynced.
+/// Cuts a blob of `size` bytes to so many, durably, where it has more. It answers the state of the
+/// blob's writer then: a blob that wasn't cut may have something unsynced.
 fn cut_back<B: Blob>(blob: &mut B, size: u64, kept: u64) -> Result<SyncState, Error>
     requires { size ≡ length (B.life blob.old).present.readable }
     ensures cuts { CutsBack kept (B.life blob.old) (B.life blob.new) result }
@@ -67,8 +69,8 @@ fn tip_and_slot(partial: &Partial) -> (&[u8], Option<ActiveChecksum>)
 }
 
 impl<B, H> Recovery<B, H> {
-    /// A writer with an id of its own that stands behind these pages of its blob. `OutOfMemory`; `IdsExhausted` where
-    /// the cache has no id left.
+    /// A writer with an id of its own that stands behind these pages of its blob. `OutOfMemory`;
+    /// `IdsExhausted` where the cache has no id left.
     fn at_prefix(
         alloc: Global,
         cache: &mut CacheRef,
@@ -78,7 +80,8 @@ impl<B, H> Recovery<B, H> {
     ) -> Result<Self, Error>
         requires room { cache.old.page_size ≤ capacity }
         requires whole { capacity % cache.old.page_size ≡ 0 }
-        requires fits { FitsBlob cache.old.page_size prefix.full_pages (length (tip_of prefix.partial)) }
+        requires fits { FitsBlob cache.old.page_size prefix.full_pages
+            (length (tip_of prefix.partial)) }
         requires short { length (tip_of prefix.partial) < cache.old.page_size }
         ensures stands { Stands cache.old capacity prefix (state_of sync_state) result }
         ensures ids { cache.new ≡ cache_after result cache.old }
@@ -114,14 +117,16 @@ impl<B, H> Recovery<B, H> {
 }
 
 impl<B: Blob, H: Sum> Recovery<B, H> {
-    /// Opens a blob of `size` physical bytes, in which nothing need be sound or synced: keeps its pages up to the last
-    /// that has a value, and cuts what follows, durably. Each page is read once at most, from the last one back, and
-    /// those before the last that has a value aren't. The page size is the cache's, the id its next one; the buffer has
-    /// `capacity` bytes, taken up to a multiple of the page size, and at least two pages.
+    /// Opens a blob of `size` physical bytes, in which nothing need be sound or synced: keeps its
+    /// pages up to the last that has a value, and cuts what follows, durably. Each page is read
+    /// once at most, from the last one back, and those before the last that has a value aren't. The
+    /// page size is the cache's, the id its next one; the buffer has `capacity` bytes, taken up to
+    /// a multiple of the page size, and at least two pages.
     ///
-    /// `OffsetOverflow` where that capacity passes `usize`: then no device was called. `ReadFailed`, `ResizeFailed` and
-    /// `SyncFailed` where the device failed, `OutOfMemory`; `IdsExhausted` where the cache has no id left: the blob was
-    /// cut then. After an error the cache is as it was.
+    /// `OffsetOverflow` where that capacity passes `usize`: then no device was called.
+    /// `ReadFailed`, `ResizeFailed` and `SyncFailed` where the device failed, `OutOfMemory`;
+    /// `IdsExhausted` where the cache has no id left: the blob was cut then. After an error the
+    /// cache is as it was.
     pub fn open(
         alloc: Global,
         blob: &mut B,
@@ -130,14 +135,17 @@ impl<B: Blob, H: Sum> Recovery<B, H> {
         cache: &mut CacheRef,
     ) -> Result<Self, Error>
         requires length { size ≡ length (B.life blob.old).present.readable }
-        ensures opens { Opens H.sum_of cache.old capacity (B.life blob.old) (B.life blob.new) result }
-        ensures overflow { 2 ^ 64 ≤ adjusted capacity cache.old.page_size → result ≡ Err Error.OffsetOverflow }
+        ensures opens { let old = B.life blob.old in let new = B.life blob.new in
+            Opens H.sum_of cache.old capacity old new result }
+        ensures overflow { 2 ^ 64 ≤ adjusted capacity cache.old.page_size
+            → result ≡ Err Error.OffsetOverflow }
         ensures there { IfOk result (λ w. HasPages w (B.life blob.new)) }
         ensures within { IfOk result (λ w. HoldsWithin w) }
         ensures ids { cache.new ≡ cache_after result cache.old }
 
         // At each moment since the call began, and at every answer.
-        ensures floors { KeepsAllFloors H.sum_of cache.old.page_size (B.life blob.old) (B.life blob.new) }
+        ensures floors { let old = B.life blob.old in let new = B.life blob.new in
+            KeepsAllFloors H.sum_of cache.old.page_size old new }
 
         // The same, where all was durable.
         ensures kept { KeepsText H.sum_of cache.old.page_size (B.life blob.old) (B.life blob.new) }
@@ -155,9 +163,9 @@ impl<B: Blob, H: Sum> Recovery<B, H> {
         Self::at_prefix(alloc, cache, capacity, last, sync_state)
     }
 
-    /// Ends a recovery whose blob has `pages` pages, of which these are kept: all that is written is made durable, then
-    /// what stands behind them is cut, durably, and the writer stands there. `ResizeFailed` and `SyncFailed` where the
-    /// device failed, `OutOfMemory`.
+    /// Ends a recovery whose blob has `pages` pages, of which these are kept: all that is written
+    /// is made durable, then what stands behind them is cut, durably, and the writer stands there.
+    /// `ResizeFailed` and `SyncFailed` where the device failed, `OutOfMemory`.
     fn keep(mut self, blob: &mut B, pages: u64, prefix: Prefix) -> Result<Self, Error>
         requires clean { self.sync ≡ Clean → IsDurable (B.life blob.old).present }
         requires size { length (B.life blob.old).present.readable ≡ pages * (self.page_size + 12) }
@@ -165,7 +173,8 @@ impl<B: Blob, H: Sum> Recovery<B, H> {
         requires within { prefix_pages prefix ≤ pages }
         requires short { length (tip_of prefix.partial) < self.page_size }
         ensures keeps { Keeps self prefix (B.life blob.old) (B.life blob.new) result }
-        ensures ends { EndsAt (prefix_pages prefix * (self.page_size + 12)) (B.life blob.old) (B.life blob.new) }
+        ensures ends { let old = B.life blob.old in let new = B.life blob.new in
+            EndsAt (prefix_pages prefix * (self.page_size + 12)) old new }
     {
         sync_dirty(blob, self.sync_state)?;
         let size = self.physical_page_size();
@@ -180,13 +189,14 @@ impl<B: Blob, H: Sum> Recovery<B, H> {
     }
 }
 
-/// Recovers a blob of `size` physical bytes, whatever they are, also where something is unsynced, as after a call that
-/// was refused: the writer's content is the text of the bytes, which are the values of the pages from the first on
-/// joined while each is full, and the next page's value. What else the blob had is cut, and all of it is durable. Each
-/// read has at most as many pages as fit `buffer_size`, and at least one.
+/// Recovers a blob of `size` physical bytes, whatever they are, also where something is unsynced,
+/// as after a call that was refused: the writer's content is the text of the bytes, which are the
+/// values of the pages from the first on joined while each is full, and the next page's value. What
+/// else the blob had is cut, and all of it is durable. Each read has at most as many pages as fit
+/// `buffer_size`, and at least one.
 ///
-/// Errors are those of [`Recovery::open`]; what the blob then holds has the same text. After one the cache may have
-/// given an id.
+/// Errors are those of [`Recovery::open`]; what the blob then holds has the same text. After one
+/// the cache may have given an id.
 pub fn recover<B: Blob, H: Sum>(
     alloc: Global,
     blob: &mut B,
@@ -196,25 +206,31 @@ pub fn recover<B: Blob, H: Sum>(
     buffer_size: NonZeroUsize,
 ) -> Result<Recovery<B, H>, Error>
     requires length { size ≡ length (B.life blob.old).present.readable }
-    ensures recovers { Recovers H.sum_of cache.old capacity (B.life blob.old) (B.life blob.new) result }
-    ensures overflow { 2 ^ 64 ≤ adjusted capacity cache.old.page_size → result ≡ Err Error.OffsetOverflow }
+    ensures recovers { let old = B.life blob.old in let new = B.life blob.new in
+        Recovers H.sum_of cache.old capacity old new result }
+    ensures overflow { 2 ^ 64 ≤ adjusted capacity cache.old.page_size
+        → result ≡ Err Error.OffsetOverflow }
     ensures sound { IfOk result (λ w. IsSound H.sum_of w (B.life blob.new).present) }
     ensures there { IfOk result (λ w. HasPages w (B.life blob.new)) }
     ensures within { IfOk result (λ w. HoldsWithin w) }
     ensures ids { GivesId result cache.old cache.new }
 
     // From then on every image keeps the whole text.
-    ensures durable { OnOk result (KeepsAll H.sum_of cache.old.page_size (text H.sum_of cache.old.page_size (B.life blob.old).present.readable) (B.life blob.new)) }
+    ensures durable { let old = B.life blob.old in let new = B.life blob.new in
+        let all = text H.sum_of cache.old.page_size old.present.readable in
+        OnOk result (KeepsAll H.sum_of cache.old.page_size all new) }
 
     // At each moment since the call began, and at every answer.
-    ensures floors { KeepsAllFloors H.sum_of cache.old.page_size (B.life blob.old) (B.life blob.new) }
+    ensures floors { let old = B.life blob.old in let new = B.life blob.new in
+        KeepsAllFloors H.sum_of cache.old.page_size old new }
 
     // The same, where all was durable.
     ensures kept { KeepsText H.sum_of cache.old.page_size (B.life blob.old) (B.life blob.new) }
     ensures only { LeavesText H.sum_of cache.old.page_size (B.life blob.old) (B.life blob.new) }
 
     // No read has more pages than fit `buffer_size`, but for one page.
-    ensures reads { ReadsWithin (scan_bytes cache.old.page_size (non_zero_usize_get buffer_size)) (B.life blob.old) (B.life blob.new) }
+    ensures reads { let old = B.life blob.old in let new = B.life blob.new in
+        ReadsWithin (scan_bytes cache.old.page_size (non_zero_usize_get buffer_size)) old new }
 {
     let recovery = Recovery::<B, H>::open(alloc, blob, size, capacity, cache)?;
     let pages = recovery.flushed_pages();

@@ -1,9 +1,11 @@
 // Looking through the pages of a blob.
-ghost use Rattle.std.specs.Prelude.{◌≡◌, ◌==◌, ◌+◌, ◌-◌, ◌*◌, ◌≤◌, ◌<◌, ◌^◌, ℕ, length, take, drop, slice_index, IfOk, IsOkUnless, MatchOption};
+ghost use Rattle.std.specs.Prelude.{◌≡◌, ◌==◌, ◌+◌, ◌-◌, ◌*◌, ◌≤◌, ◌<◌, ◌^◌, ℕ, length, take, drop};
+ghost use Rattle.std.specs.Prelude.{slice_index, IfOk, IsOkUnless, MatchOption};
 ghost use Rattle.std.specs.Int.NonZero.{non_zero_u16_get, non_zero_usize_get};
 ghost use Rattle.page.specs.Page.{active, pages, pieces};
 ghost use Rattle.crash.specs.Built.{kept_len};
-ghost use Rattle.paged.specs.Prefix.{prefix_of, last_prefix, prefix_pages, value_and_slot, HasBytes};
+ghost use Rattle.paged.specs.Prefix.{prefix_of, last_prefix, prefix_pages, value_and_slot};
+ghost use Rattle.paged.specs.Prefix.{HasBytes};
 ghost use Rattle.paged.specs.Recovery.{Finds};
 ghost use Rattle.paged.specs.Searches.{ReadsBack, ReadsWithin, scan_bytes};
 
@@ -63,8 +65,10 @@ fn value_at(bytes: &IoBuf, at: usize, slot: Option<ActiveChecksum>) -> Result<Pa
 
 /// The prefix of the physical pages that these bytes are. `OutOfMemory` alone.
 pub(crate) fn leading_pages<H: Sum>(page_size: NonZeroU16, bytes: &IoBuf) -> Result<Prefix, Error>
-    ensures ok { IfOk result (λ p. p ≡ prefix_of H.sum_of (non_zero_u16_get page_size) (pages (non_zero_u16_get page_size) bytes.now)) }
-    ensures bytes { IfOk result (λ p. HasBytes (non_zero_u16_get page_size) p.full_pages bytes.now p.partial) }
+    ensures ok { let P = non_zero_u16_get page_size in
+        IfOk result (λ p. p ≡ prefix_of H.sum_of P (pages P bytes.now)) }
+    ensures bytes { let P = non_zero_u16_get page_size in
+        IfOk result (λ p. HasBytes P p.full_pages bytes.now p.partial) }
     ensures err { IsOkUnless result Error.OutOfMemory }
 {
     let size = physical_size(page_size) as usize;
@@ -84,8 +88,8 @@ pub(crate) fn leading_pages<H: Sum>(page_size: NonZeroU16, bytes: &IoBuf) -> Res
     })
 }
 
-/// The prefix of the first `pages` pages of a blob, which has them. Each read has at most as many pages as fit
-/// `buffer_size`, and at least one.
+/// The prefix of the first `pages` pages of a blob, which has them. Each read has at most as many
+/// pages as fit `buffer_size`, and at least one.
 pub(crate) fn scan<B: Blob, H: Sum>(
     alloc: Global,
     blob: &mut B,
@@ -93,11 +97,17 @@ pub(crate) fn scan<B: Blob, H: Sum>(
     pages: u64,
     buffer_size: NonZeroUsize,
 ) -> Result<Prefix, Error>
-    requires there { pages * (non_zero_u16_get page_size + 12) ≤ length (B.life blob.old).present.readable }
+    requires there { let old = B.life blob.old in let P = non_zero_u16_get page_size in
+        pages * (P + 12) ≤ length old.present.readable }
     requires fits { pages * (non_zero_u16_get page_size + 12) < 2 ^ 64 }
-    ensures finds { Finds (prefix_of H.sum_of (non_zero_u16_get page_size) (pieces pages (non_zero_u16_get page_size + 12) (B.life blob.old).present.readable)) (B.life blob.old) (B.life blob.new) result }
-    ensures bytes { IfOk result (λ p. HasBytes (non_zero_u16_get page_size) p.full_pages (B.life blob.old).present.readable p.partial) }
-    ensures reads { ReadsWithin (scan_bytes (non_zero_u16_get page_size) (non_zero_usize_get buffer_size)) (B.life blob.old) (B.life blob.new) }
+    ensures finds { let old = B.life blob.old in let new = B.life blob.new in
+        let P = non_zero_u16_get page_size in
+        Finds (prefix_of H.sum_of P (pieces pages (P + 12) old.present.readable)) old new result }
+    ensures bytes { let old = B.life blob.old in let P = non_zero_u16_get page_size in
+        IfOk result (λ p. HasBytes P p.full_pages old.present.readable p.partial) }
+    ensures reads { let old = B.life blob.old in let new = B.life blob.new in
+        let P = non_zero_u16_get page_size in
+        ReadsWithin (scan_bytes P (non_zero_usize_get buffer_size)) old new }
 {
     let size = physical_size(page_size);
     let most = (buffer_size.get() as u64 / size).max(1);
@@ -125,19 +135,25 @@ pub(crate) fn scan<B: Blob, H: Sum>(
     })
 }
 
-/// The first `pages` pages of a blob, which has them, up to the last that has a value. Each is read once at most, from
-/// the last one back, and those before that one aren't.
+/// The first `pages` pages of a blob, which has them, up to the last that has a value. Each is read
+/// once at most, from the last one back, and those before that one aren't.
 pub(crate) fn last_pages<B: Blob, H: Sum>(
     alloc: Global,
     blob: &mut B,
     page_size: NonZeroU16,
     mut pages: u64,
 ) -> Result<Prefix, Error>
-    requires there { pages * (non_zero_u16_get page_size + 12) ≤ length (B.life blob.old).present.readable }
+    requires there { let old = B.life blob.old in let P = non_zero_u16_get page_size in
+        pages * (P + 12) ≤ length old.present.readable }
     requires fits { pages * (non_zero_u16_get page_size + 12) < 2 ^ 64 }
-    ensures finds { Finds (last_prefix H.sum_of (non_zero_u16_get page_size) pages (B.life blob.old).present.readable) (B.life blob.old) (B.life blob.new) result }
-    ensures bytes { IfOk result (λ p. HasBytes (non_zero_u16_get page_size) p.full_pages (B.life blob.old).present.readable p.partial) }
-    ensures reads { ReadsBack (non_zero_u16_get page_size + 12) (B.life blob.old) (B.life blob.new) }
+    ensures finds { let old = B.life blob.old in let new = B.life blob.new in
+        let P = non_zero_u16_get page_size in
+        Finds (last_prefix H.sum_of P pages old.present.readable) old new result }
+    ensures bytes { let old = B.life blob.old in let P = non_zero_u16_get page_size in
+        IfOk result (λ p. HasBytes P p.full_pages old.present.readable p.partial) }
+    ensures reads { let old = B.life blob.old in let new = B.life blob.new in
+        let P = non_zero_u16_get page_size in
+        ReadsBack (P + 12) old new }
 {
     let size = physical_size(page_size);
     while pages > 0 {

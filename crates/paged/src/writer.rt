@@ -35,9 +35,10 @@ impl SyncState {
 
 /// The one writer of a blob of the type `B`, with pages under the checksum function `H`.
 ///
-/// Appended bytes are buffered behind the full pages that the blob has. The blob and the cache are lent to each call:
-/// always the ones with which the writer was opened, and nobody else writes that blob meanwhile. A call that takes the
-/// writer gives it back only on success; after an error the writer is gone, and what the blob holds is to be recovered.
+/// Appended bytes are buffered behind the full pages that the blob has. The blob and the cache are
+/// lent to each call: always the ones with which the writer was opened, and nobody else writes that
+/// blob meanwhile. A call that takes the writer gives it back only on success; after an error the
+/// writer is gone, and what the blob holds is to be recovered.
 #[derive(Drop)]
 pub struct Writer<B, H, Phase = Append> {
     pub(crate) alloc: Global,
@@ -61,7 +62,16 @@ impl<B, H, Phase> Model for Writer<B, H, Phase> {
 
     ghost Value = { WriterState };
 
-    ghost view = { λ w. record { page_size = non_zero_u16_get w.page_size; id = w.id; capacity = w.tip.capacity; full_pages = w.tip.offset / non_zero_u16_get w.page_size; tip = w.tip.bytes; flushed = w.flushed; durable = w.durable; sync = state_of w.sync_state } };
+    ghost view = { λ w. record {
+      page_size = non_zero_u16_get w.page_size;
+      id = w.id;
+      capacity = w.tip.capacity;
+      full_pages = w.tip.offset / non_zero_u16_get w.page_size;
+      tip = w.tip.bytes;
+      flushed = w.flushed;
+      durable = w.durable;
+      sync = state_of w.sync_state;
+    } };
 
     ghost invariant = { λ w. IsWriter (non_zero_u16_get w.page_size) w.tip };
 }

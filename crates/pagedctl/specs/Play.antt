@@ -14,8 +14,10 @@ IsScript bytes = (read : Script) × ReadsScript (lines_of bytes) (Ok read)
 abbrev pub IsNoScript : ℕ → List ℕ → Type 0
 IsNoScript number bytes = ReadsScript (lines_of bytes) (Err (Unreadable number))
 
--- a play of this input, where it is known, and what was written then: the whole script, or nothing where a line can't be read
-abbrev pub Plays : Option (List ℕ) → Option (List ℕ) → Option (List ℕ) → Result (Unit {0}) Stop → Type 0
+-- a play of this input, where it is known, and what was written then: the whole script, or nothing
+-- where a line can't be read
+abbrev pub Plays : Option (List ℕ) → Option (List ℕ) → Option (List ℕ) → Result (Unit {0}) Stop
+    → Type 0
 Plays input old new (Ok u) = IfSome input IsScript
 Plays input old new (Err (Unreadable number)) = IfSome input (IsNoScript number) × Keeps old new
 Plays input old new (Err Failed) = Unit {0}

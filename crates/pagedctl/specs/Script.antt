@@ -1,5 +1,7 @@
 -- How a script is written.
-use Rattle.std.specs.Prelude.{◌≡◌, ◌⊎◌, length, ◌≢◌, ◌<◌, ◌^◌, ℕ, Bool, List, [], ◌∷◌, Result, Ok, Err, slice_index, slice_index_or, codes, map, take, drop, ◌-◌, ◌+◌, ◌≤◌, ◌==◌, zero, suc, nat_eq, if◌then◌else◌}
+use Rattle.std.specs.Prelude.{◌≡◌, ◌⊎◌, length, ◌≢◌, ◌<◌, ◌^◌, ℕ, Bool, List, [], ◌∷◌, Result, Ok}
+use Rattle.std.specs.Prelude.{Err, slice_index, slice_index_or, codes, map, take, drop, ◌-◌, ◌+◌}
+use Rattle.std.specs.Prelude.{◌≤◌, ◌==◌, zero, suc, nat_eq, if◌then◌else◌}
 use Rattle.std.specs.List.{slice_split, starts_with}
 use Rattle.std.specs.Fmt.{decimal}
 use Rattle.std.specs.Int.NonZero.{non_zero_u16_get, non_zero_u64_get, non_zero_usize_get}
@@ -19,7 +21,8 @@ use Rattle.session.specs.declared.steps.Step as step
 use Rattle.session.specs.declared.steps.Step.TheVariants.{Append, TryAppend, Sync, Size, Read}
 use Rattle.pagedctl.specs.Text.{hex_of}
 
--- what reading answers, where each value has a text: the value of which this is the text, or that it is the text of none
+-- what reading answers, where each value has a text: the value of which this is the text, or that
+-- it is the text of none
 abbrev pub Reads : {V T : Type 0} → (V → T) → (V → Type 0) → T → Result V ReadError → Type 0
 Reads text IsOne read (Ok v) = (read ≡ text v) × IsOne v
 Reads {V} text IsOne read (Err Unreadable) = (v : V) → IsOne v → read ≢ text v
@@ -61,7 +64,10 @@ words_of line = parts_of 32 line
 
 -- all but the line feed at the end, where there is one
 abbrev pub without_last_feed : List ℕ → List ℕ
-without_last_feed input = if starts_with nat_eq (drop (length input - 1) input) (10 ∷ []) then take (length input - 1) input else input
+without_last_feed input =
+    if starts_with nat_eq (drop (length input - 1) input) (10 ∷ [])
+    then take (length input - 1) input
+    else input
 
 -- the lines of an input: each ends in a line feed, which the last may lack
 abbrev pub lines_of : List ℕ → List (List ℕ)
@@ -74,7 +80,9 @@ sum_word Const = codes "const"
 
 -- the words of a script's first line
 abbrev pub start_words : Start → List (List ℕ)
-start_words start = codes "start" ∷ decimal (non_zero_u16_get start.page_size) ∷ decimal start.capacity ∷ decimal (non_zero_usize_get start.pages) ∷ sum_word start.sum ∷ []
+start_words start =
+    codes "start" ∷ decimal (non_zero_u16_get start.page_size) ∷ decimal start.capacity
+    ∷ decimal (non_zero_usize_get start.pages) ∷ sum_word start.sum ∷ []
 
 -- the words of a step
 abbrev pub step_words : step.Step → List (List ℕ)
@@ -110,7 +118,9 @@ IsPages n = (0 < n) × (n ≤ 4096)
 
 -- the numbers of a first line are in range
 abbrev pub IsStart : Start → Type 0
-IsStart start = IsPageSize (non_zero_u16_get start.page_size) × IsU64 start.capacity × IsPages (non_zero_usize_get start.pages)
+IsStart start =
+    IsPageSize (non_zero_u16_get start.page_size) × IsU64 start.capacity
+    × IsPages (non_zero_usize_get start.pages)
 
 -- the line at this place can be read: place 0 has the first line
 abbrev pub IsReadable : ℕ → List ℕ → Type 0
@@ -122,9 +132,14 @@ abbrev pub IsUnreadable : ℕ → List ℕ → Type 0
 IsUnreadable zero line = (start : Start) → IsStart start → words_of line ≢ start_words start
 IsUnreadable (suc place) line = (read : Line) → IsLine read → words_of line ≢ line_words read
 
--- what reading these lines answers: the script whose lines they are, or the number of the first that can't be read, from 1
+-- what reading these lines answers: the script whose lines they are, or the number of the first
+-- that can't be read, from 1
 abbrev pub ReadsScript : List (List ℕ) → Result Script Stop → Type 0
-ReadsScript lines (Ok script) = (map words_of lines ≡ start_words script.start ∷ map line_words script.lines.items) × IsStart script.start
-ReadsScript lines (Err (stop.Unreadable number)) = (0 < number) × (number ≤ length lines) × IsUnreadable (number - 1) (slice_index_or lines (number - 1) [])
+ReadsScript lines (Ok script) =
+    (map words_of lines ≡ start_words script.start ∷ map line_words script.lines.items)
+    × IsStart script.start
+ReadsScript lines (Err (stop.Unreadable number)) =
+    (0 < number) × (number ≤ length lines)
+    × IsUnreadable (number - 1) (slice_index_or lines (number - 1) [])
     × ((place : ℕ) → place + 1 < number → IsReadable place (slice_index_or lines place []))
 ReadsScript lines (Err stop.Failed) = Unit {0}

@@ -4,7 +4,8 @@ use Rattle.std.specs.List.{flat_map}
 use Rattle.std.specs.Fmt.{decimal, digit_glyph}
 use Rattle.disk.specs.Error.{number_of, name_of}
 use Rattle.session.specs.declared.steps.Reply.{Reply}
-use Rattle.session.specs.declared.steps.Reply.TheVariants.{At, Nothing, Done, Length, Bytes, Fault, Closed}
+use Rattle.session.specs.declared.steps.Reply.TheVariants.{At, Nothing, Done, Length, Bytes, Fault}
+use Rattle.session.specs.declared.steps.Reply.TheVariants.{Closed}
 
 -- a byte as two hexadecimal digits
 abbrev pub hex_digits : ℕ → List ℕ
@@ -22,5 +23,6 @@ reply_text Nothing = codes "none"
 reply_text Done = codes "ok"
 reply_text (Length size) = codes "size " ++ decimal size
 reply_text (Bytes bytes) = codes "bytes " ++ hex_of bytes.items
-reply_text (Fault error) = codes "fault E" ++ decimal (number_of error) ++ codes " " ++ name_of error
+reply_text (Fault error) =
+    codes "fault E" ++ decimal (number_of error) ++ codes " " ++ name_of error
 reply_text Closed = codes "closed"

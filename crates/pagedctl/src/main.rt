@@ -1,8 +1,9 @@
-//! Plays a script of steps over a blob in memory, with failing device calls and crashes, and writes one line a reply.
+//! Plays a script of steps over a blob in memory, with failing device calls and crashes, and writes
+//! one line a reply.
 //!
-//! The script comes on standard input. The exit status is 0 where it was played to its end (a fault is a reply), 2 where a
-//! line can't be read (then nothing was played), and 1 where the input or the output failed or there was no memory for the
-//! script.
+//! The script comes on standard input. The exit status is 0 where it was played to its end (a fault
+//! is a reply), 2 where a line can't be read (then nothing was played), and 1 where the input or
+//! the output failed or there was no memory for the script.
 #![tactic(auto)]
 
 ghost use Rattle.std.specs.Prelude.{◌≡◌, ◌<◌, ℕ, IfSome, IfOk};
@@ -26,8 +27,8 @@ use std::io;
 use std::io::{BufWriter, Read, Write};
 use std::process::ExitCode;
 
-/// Plays the script that `input` holds, writes its replies to `out`, and answers the exit status. Where that isn't 0,
-/// `err` gets one line that says why.
+/// Plays the script that `input` holds, writes its replies to `out`, and answers the exit status.
+/// Where that isn't 0, `err` gets one line that says why.
 pub fn play_on<R: Read, W: Write, E: Write>(
     alloc: Global,
     input: &mut R,
@@ -36,7 +37,8 @@ pub fn play_on<R: Read, W: Write, E: Write>(
 ) -> u8
     ensures status { result < 3 }
     ensures played { result ≡ 0 → IfSome (R.remaining input.old) IsScript }
-    ensures unreadable { result ≡ 2 → IfSome (R.remaining input.old) (λ bytes. (number : ℕ) × IsNoScript number bytes) }
+    ensures unreadable { result ≡ 2
+        → IfSome (R.remaining input.old) (λ bytes. (number : ℕ) × IsNoScript number bytes) }
     ensures nothing { result ≡ 2 → Keeps (W.contents out.old) (W.contents out.new) }
 {
     match play_input(alloc, input, out) {
@@ -57,7 +59,8 @@ pub fn play<R: Read + Drop, W: Write + Drop, E: Write + Drop>(
 ) -> u8
     ensures status { result < 3 }
     ensures played { result ≡ 0 → IfSome (R.remaining input) IsScript }
-    ensures unreadable { result ≡ 2 → IfSome (R.remaining input) (λ bytes. (number : ℕ) × IsNoScript number bytes) }
+    ensures unreadable { result ≡ 2
+        → IfSome (R.remaining input) (λ bytes. (number : ℕ) × IsNoScript number bytes) }
 {
     play_on(alloc, &mut input, &mut out, &mut err)
 }

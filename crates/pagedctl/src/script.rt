@@ -2,7 +2,9 @@
 ghost use Rattle.std.specs.Prelude.{◌≡◌, ◌<◌, [], ◌∷◌, vec_len, codes, map, IfOk, ⊤};
 ghost use Rattle.std.specs.Fmt.{decimal};
 ghost use Rattle.std.specs.Int.NonZero.{non_zero_u16_get, non_zero_usize_get};
-ghost use Rattle.pagedctl.specs.Script.{Reads, ReadsScript, IsLine, IsStart, IsPageSize, IsPages, parts_of, lines_of, words_of, without_last_feed, line_words, start_words, sum_word};
+ghost use Rattle.pagedctl.specs.Script.{Reads, ReadsScript, IsLine, IsStart, IsPageSize, IsPages};
+ghost use Rattle.pagedctl.specs.Script.{parts_of, lines_of, words_of, without_last_feed};
+ghost use Rattle.pagedctl.specs.Script.{line_words, start_words, sum_word};
 
 use crate::stop::Stop;
 use crate::word::{ReadError, parse_flags, parse_hex, parse_number};
@@ -79,7 +81,8 @@ fn without_last_feed(input: &[u8]) -> &[u8]
 
 // The parts of some bytes between those that are this one.
 fn parts<'a>(alloc: Global, bytes: &'a [u8], at: u8) -> Result<Vec<&'a [u8]>, AllocError>
-    ensures parts { IfOk result (λ parts. map (λ part. part.now) parts.items ≡ parts_of at bytes.now) }
+    ensures parts { IfOk result (λ parts.
+        map (λ part. part.now) parts.items ≡ parts_of at bytes.now) }
     ensures some { IfOk result (λ parts. 0 < vec_len parts) }
 {
     bytes.split(|byte| *byte == at).collect(alloc)
@@ -121,7 +124,8 @@ fn parse_settings(
     pages: &[u8],
     sum: &[u8],
 ) -> Result<Start, ReadError>
-    ensures reads { Reads start_words IsStart (codes "start" ∷ page_size.now ∷ capacity.now ∷ pages.now ∷ sum.now ∷ []) result }
+    ensures reads { Reads start_words IsStart
+        (codes "start" ∷ page_size.now ∷ capacity.now ∷ pages.now ∷ sum.now ∷ []) result }
 {
     let page_size = parse_page_size(page_size)?;
     let capacity = parse_number(capacity)? as usize;
@@ -136,7 +140,8 @@ fn parse_settings(
 }
 
 fn parse_page_size(word: &[u8]) -> Result<NonZeroU16, ReadError>
-    ensures reads { Reads (λ size. decimal (non_zero_u16_get size)) (λ size. IsPageSize (non_zero_u16_get size)) word.now result }
+    ensures reads { Reads (λ size. decimal (non_zero_u16_get size))
+        (λ size. IsPageSize (non_zero_u16_get size)) word.now result }
 {
     let Ok(size) = u16::try_from(parse_number(word)?) else {
         return Err(ReadError::Unreadable);
@@ -148,7 +153,8 @@ fn parse_page_size(word: &[u8]) -> Result<NonZeroU16, ReadError>
 }
 
 fn parse_pages(word: &[u8]) -> Result<NonZeroUsize, ReadError>
-    ensures reads { Reads (λ pages. decimal (non_zero_usize_get pages)) (λ pages. IsPages (non_zero_usize_get pages)) word.now result }
+    ensures reads { Reads (λ pages. decimal (non_zero_usize_get pages))
+        (λ pages. IsPages (non_zero_usize_get pages)) word.now result }
 {
     let pages = parse_number(word)?;
     if MOST_PAGES < pages {

@@ -33,9 +33,14 @@ impl<H: Sum> Model for Stage<H> {
 
     ghost Value = { StageState };
 
-    ghost view = { λ s. record { writer = s.session; crashed = s.crashed; disk = (life_of s.blob).present } };
+    ghost view = { λ s. record {
+      writer = s.session;
+      crashed = s.crashed;
+      disk = (life_of s.blob).present;
+    } };
 
-    ghost invariant = { λ s. IsSet H.sum_of (record { writer = s.session; crashed = s.crashed; disk = (life_of s.blob).present }) };
+    ghost invariant = { λ s. IsSet H.sum_of
+        (record { writer = s.session; crashed = s.crashed; disk = (life_of s.blob).present }) };
 }
 
 impl<H: Sum> Stage<H> {
@@ -53,7 +58,8 @@ impl<H: Sum> Stage<H> {
         }
     }
 
-    /// Recovers the blob, and writes how many bytes are left. A session begins, but where the recovery is refused.
+    /// Recovers the blob, and writes how many bytes are left. A session begins, but where the
+    /// recovery is refused.
     pub fn open<W: Write>(&mut self, out: &mut W) -> io::Result<()>
         requires { IsDurable self.old.disk }
     {

@@ -9,7 +9,8 @@ use std::{fmt, io};
 /// Why a script isn't played to its end.
 #[derive(Clone, Copy, Debug, PartialEq, Eq)]
 pub enum Stop {
-    /// The line of this number can't be read, and each before it can. The first has the number 1. Nothing is played then.
+    /// The line of this number can't be read, and each before it can. The first has the number 1.
+    /// Nothing is played then.
     Unreadable(u64),
     /// The input or the output failed, or there was no memory for the script.
     Failed,

@@ -1,5 +1,6 @@
 // The words of a line.
-ghost use Rattle.std.specs.Prelude.{◌≡◌, ◌≢◌, ◌<◌, ◌^◌, ◌↔◌, ℕ, codes, IsTrue, IfSome, IfNone, MatchOption, ⊤};
+ghost use Rattle.std.specs.Prelude.{◌≡◌, ◌≢◌, ◌<◌, ◌^◌, ◌↔◌, ℕ, codes, IsTrue, IfSome, IfNone};
+ghost use Rattle.std.specs.Prelude.{MatchOption, ⊤};
 ghost use Rattle.std.specs.Fmt.{decimal};
 ghost use Rattle.std.specs.List.{list_any};
 ghost use Rattle.std.specs.Char.{is_ascii_uppercase};
@@ -87,7 +88,8 @@ fn has_lead(word: &[u8]) -> bool
 
 /// Bytes in lower-case hexadecimal digits, two a byte, or `-` for none.
 pub fn parse_hex(alloc: Global, word: &[u8]) -> Result<Vec<u8>, ReadError>
-    ensures reads { Reads (λ bytes. hex_of bytes.items) (λ bytes. AreBytes bytes.items) word.now result }
+    ensures reads { Reads (λ bytes. hex_of bytes.items) (λ bytes. AreBytes bytes.items) word.now
+        result }
 {
     if is_none(word) {
         return Ok(Vec::new(alloc));

@@ -1,17 +1,21 @@
 -- What one step of a session does, and each call behind it.
-use Rattle.std.specs.Prelude.{◌≡◌, ◌<◌, ◌≤◌, ◌+◌, ◌^◌, ℕ, List, length, Option, Some, None, Result, Ok, Err, IfOk}
+use Rattle.std.specs.Prelude.{◌≡◌, ◌<◌, ◌≤◌, ◌+◌, ◌^◌, ℕ, List, length, Option, Some, None, Result}
+use Rattle.std.specs.Prelude.{Ok, Err, IfOk}
 use Rattle.std.specs.List.{concat}
 use Rattle.disk.specs.Disk.{Disk, Life, after}
 use Rattle.disk.specs.declared.error.Error.{Error}
-use Rattle.disk.specs.declared.error.Error.TheVariants.{BlobInsufficientLength, OffsetOverflow, OutOfMemory}
+use Rattle.disk.specs.declared.error.Error.TheVariants.{BlobInsufficientLength, OffsetOverflow}
+use Rattle.disk.specs.declared.error.Error.TheVariants.{OutOfMemory}
 use Rattle.crash.specs.WriterState.{WriterState}
 use Rattle.crash.specs.Looks.{Looked}
 use Rattle.paged.specs.Writer.{physical_size}
-use Rattle.paged.specs.Calls.{Appends, BuffersAll, TryAppends, BuffersOver, Syncs, HoldsWithin, AsksAtMost, sync_calls}
+use Rattle.paged.specs.Calls.{Appends, BuffersAll, TryAppends, BuffersOver, Syncs, HoldsWithin}
+use Rattle.paged.specs.Calls.{AsksAtMost, sync_calls}
 use Rattle.paged.specs.Reads.{Reads, size_of}
 use Rattle.session.specs.declared.steps.Step.{Step}
 use Rattle.session.specs.declared.steps.Reply.{Reply}
-use Rattle.session.specs.declared.steps.Reply.TheVariants.{At, Nothing, Done, Length, Bytes, Fault, Closed}
+use Rattle.session.specs.declared.steps.Reply.TheVariants.{At, Nothing, Done, Length, Bytes, Fault}
+use Rattle.session.specs.declared.steps.Reply.TheVariants.{Closed}
 use Rattle.session.specs.Run.{Standing, Did, StandsFor, IsReady}
 
 -- a session with no writer

@@ -1,7 +1,8 @@
 -- What a user may rely on: a crash at any moment of a run, whatever it leaves of what isn't synced,
 -- any number of further crashes and of recoveries that are cut short, and then a recovery that
 -- answers Ok.
-use Rattle.std.specs.Prelude.{◌≡◌, ◌⊎◌, ◌≤◌, ◌+◌, ◌%◌, ◌++◌, ℕ, List, [], ◌∷◌, length, take, Bool, true, false, Option, Some, Result, Ok, Err}
+use Rattle.std.specs.Prelude.{◌≡◌, ◌⊎◌, ◌≤◌, ◌+◌, ◌%◌, ◌++◌, ℕ, List, [], ◌∷◌, length, take, Bool}
+use Rattle.std.specs.Prelude.{true, false, Option, Some, Result, Ok, Err}
 use Rattle.disk.specs.Disk.{Disk, IsImage, Life, after}
 use Rattle.disk.specs.declared.error.Error.{Error}
 use Rattle.page.specs.Page.{text}
@@ -18,7 +19,8 @@ use Rattle.session.specs.declared.steps.Step.{Step}
 use Rattle.session.specs.declared.steps.Step.TheVariants.{Append, TryAppend, Sync}
 use Rattle.session.specs.declared.steps.Reply.{Reply}
 use Rattle.session.specs.declared.steps.Reply.TheVariants.{Nothing, Fault, Closed}
-use Rattle.session.specs.Run.{Standing, appended, synced, ended, other_content, last, Answers, StandsFor}
+use Rattle.session.specs.Run.{Standing, appended, synced, ended, other_content, last, Answers}
+use Rattle.session.specs.Run.{StandsFor}
 
 -- ---- the way back
 

@@ -1,9 +1,13 @@
 -- What a list of steps did to a session, moment by moment.
-use Rattle.std.specs.Prelude.{◌≡◌, ◌<◌, ◌≤◌, ◌+◌, ◌%◌, ◌^◌, ◌++◌, ℕ, List, [], ◌∷◌, length, take, drop, Bool, true, false, nat_le, if◌then◌else◌, is_some, Option, Some, None}
+use Rattle.std.specs.Prelude.{◌≡◌, ◌<◌, ◌≤◌, ◌+◌, ◌%◌, ◌^◌, ◌++◌, ℕ, List, [], ◌∷◌, length, take}
+use Rattle.std.specs.Prelude.{drop, Bool, true, false, nat_le, if◌then◌else◌, is_some, Option, Some}
+use Rattle.std.specs.Prelude.{None}
 use Rattle.std.specs.List.{Contains}
 use Rattle.disk.specs.Disk.{Disk, Life, after, HasFailed}
 use Rattle.disk.specs.declared.error.Error.{Error}
-use Rattle.disk.specs.declared.error.Error.TheVariants.{ReadFailed, WriteFailed, ResizeFailed, SyncFailed, BlobInsufficientLength, OffsetOverflow, OutOfMemory}
+use Rattle.disk.specs.declared.error.Error.TheVariants.{ReadFailed, WriteFailed, ResizeFailed}
+use Rattle.disk.specs.declared.error.Error.TheVariants.{SyncFailed, BlobInsufficientLength}
+use Rattle.disk.specs.declared.error.Error.TheVariants.{OffsetOverflow, OutOfMemory}
 use Rattle.crash.specs.Kept.{AllKeep, AllOnly, Each}
 use Rattle.crash.specs.Looks.{SameButLog}
 use Rattle.crash.specs.WriterState.{WriterState}
@@ -13,7 +17,8 @@ use Rattle.paged.specs.Calls.{sync_calls}
 use Rattle.session.specs.declared.steps.Step.{Step}
 use Rattle.session.specs.declared.steps.Step.TheVariants.{Append, TryAppend, Sync, Size, Read}
 use Rattle.session.specs.declared.steps.Reply.{Reply}
-use Rattle.session.specs.declared.steps.Reply.TheVariants.{At, Nothing, Done, Length, Bytes, Fault, Closed}
+use Rattle.session.specs.declared.steps.Reply.TheVariants.{At, Nothing, Done, Length, Bytes, Fault}
+use Rattle.session.specs.declared.steps.Reply.TheVariants.{Closed}
 
 -- ---- what a session stands for
 

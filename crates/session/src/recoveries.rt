@@ -1,5 +1,6 @@
 // How a session begins, and what a crash leaves of one.
-ghost use Rattle.std.specs.Prelude.{◌≡◌, ◌⊎◌, ◌≤◌, ◌^◌, None, length, IfOk, OnOk, OnErr, IsOkUnless, Err};
+ghost use Rattle.std.specs.Prelude.{◌≡◌, ◌⊎◌, ◌≤◌, ◌^◌, None, length, IfOk, OnOk, OnErr};
+ghost use Rattle.std.specs.Prelude.{IsOkUnless, Err};
 ghost use Rattle.std.specs.Int.NonZero.{non_zero_usize_get};
 ghost use Rattle.disk.specs.History.{life_of};
 ghost use Rattle.disk.specs.Torn.{torn};
@@ -7,7 +8,8 @@ ghost use Rattle.page.specs.Page.{text};
 ghost use Rattle.page.specs.Geometry.{adjusted};
 ghost use Rattle.paged.specs.Searches.{ReadsWithin, scan_bytes};
 ghost use Rattle.session.specs.Run.{StandsFor, IsReady};
-ghost use Rattle.session.specs.Promise.{HasCrashed, AttemptsThrough, BeginsBy, GivesId, GivesBack, GivesBackLeft, LeadsOn, fresh};
+ghost use Rattle.session.specs.Promise.{HasCrashed, AttemptsThrough, BeginsBy, GivesId, GivesBack};
+ghost use Rattle.session.specs.Promise.{GivesBackLeft, LeadsOn, fresh};
 
 use crate::Session;
 use cache::CacheRef;
@@ -50,8 +52,8 @@ impl<B: Blob, H: Sum> Session<B, H> {
         // At each moment since the call began, and at every answer.
         ensures attempts { let old = B.life blob.old in
             AttemptsThrough H.sum_of cache.old.page_size old (B.life blob.new) }
-        ensures reads { let P = cache.old.page_size in
-            ReadsWithin (scan_bytes P (non_zero_usize_get buffer_size)) (B.life blob.old) (B.life blob.new) }
+        ensures reads { let old = B.life blob.old in let new = B.life blob.new in
+            ReadsWithin (scan_bytes cache.old.page_size (non_zero_usize_get buffer_size)) old new }
     {
         let writer = paged::recover::<B, H>(alloc, blob, size, capacity, cache, buffer_size)?;
         Ok(Session::new(alloc, writer))

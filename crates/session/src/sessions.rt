@@ -4,7 +4,8 @@ ghost use Rattle.std.specs.List.{concat};
 ghost use Rattle.session.specs.Run.{IsReady, RunsAlways};
 ghost use Rattle.paged.specs.Reads.{size_of};
 ghost use Rattle.session.specs.Promise.{Promises, StandsWhereSound};
-ghost use Rattle.session.specs.Calls.{Appended, TriedAppend, Synced, Sized, DidRead, IsBytes, Steps};
+ghost use Rattle.session.specs.Calls.{Appended, TriedAppend, Synced, Sized, DidRead, IsBytes};
+ghost use Rattle.session.specs.Calls.{Steps};
 
 use crate::steps::{Reply, Step};
 use cache::CacheRef;

@@ -11,7 +11,8 @@ const DURABLE: WriteOptions = WriteOptions {
     dont_cache: false,
 };
 
-// A step of a test: a call with what it answers, a plan, a crash with its flags, or a look at what is readable.
+// A step of a test: a call with what it answers, a plan, a crash with its flags, or a look at what
+// is readable.
 #[derive(Clone, Copy)]
 enum Step {
     Write(u64, &'static [u8], WriteOptions, Result<(), Error>),

@@ -88,8 +88,8 @@ fn an_append_may_pass_the_buffer(rt: HostRuntime) -> Result<(), Fail> {
     Ok(())
 }
 
-// What is appended once "abc" is durable, whether a sync follows, and the device calls of both. The last of them fails,
-// and the blob then holds the text `readable`.
+// What is appended once "abc" is durable, whether a sync follows, and the device calls of both. The
+// last of them fails, and the blob then holds the text `readable`.
 struct Row {
     bytes: &'static [u8],
     sync: bool,
@@ -188,8 +188,8 @@ fn recover_at_once(rt: &impl Abort, alloc: Global, row: &Row, keep: bool) -> Res
     Ok(())
 }
 
-// What the blob holds is there, and a crash behind the recovery keeps that and no more, whatever it would have left of
-// the refused call.
+// What the blob holds is there, and a crash behind the recovery keeps that and no more, whatever it
+// would have left of the refused call.
 #[test]
 fn a_refused_call_is_recovered_at_once(rt: HostRuntime) -> Result<(), Fail> {
     for row in &ROWS {

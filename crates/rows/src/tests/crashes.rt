@@ -6,12 +6,14 @@ use std::alloc::Global;
 use std::process::Abort;
 use std::test::Fail;
 
-// The write that tells "efg" rewrites page 1. Its first slot and its first two bytes are as they were.
+// The write that tells "efg" rewrites page 1. Its first slot and its first two bytes are as they
+// were.
 const WRITE: usize = 16;
 // The bytes of page 0, before it.
 const PAGE: usize = 16;
 
-/// Syncs "abcdef", and then "g", whose write fails, and crashes with these flags for the write's bytes.
+/// Syncs "abcdef", and then "g", whose write fails, and crashes with these flags for the write's
+/// bytes.
 fn torn<H: Sum>(rt: &impl Abort, alloc: Global, keep: &[bool]) -> Result<Store<H>, Error> {
     let mut store = Store::<H>::empty(alloc)?;
     store.append(b"abcdef")?;
@@ -62,7 +64,8 @@ fn a_torn_write_leaves_what_was_durable(rt: HostRuntime) -> Result<(), Fail> {
     Ok(())
 }
 
-// A sum that tells nothing can't tell that a byte is missing; what was durable is there all the same.
+// A sum that tells nothing can't tell that a byte is missing; what was durable is there all the
+// same.
 #[test]
 fn a_constant_sum_lets_a_zero_in(rt: HostRuntime) -> Result<(), Fail> {
     let ef: Page = [
@@ -113,7 +116,8 @@ fn one_byte_of_a_write(rt: HostRuntime) -> Result<(), Fail> {
     Ok(())
 }
 
-/// What that crash leaves, made of a store without any of the write's bytes and one with all of them.
+/// What that crash leaves, made of a store without any of the write's bytes and one with all of
+/// them.
 fn left<H: Sum>(
     alloc: Global,
     none: &Store<H>,

@@ -44,8 +44,9 @@ pub fn new_cache(alloc: Global) -> Result<CacheRef, Error> {
 
 /// What a test runs over: a blob, its cache, and the writer on it, if there is one.
 ///
-/// A call that takes the writer and is refused ends it. Where there is none, a call that needs one answers
-/// `IdsExhausted`, which no row expects. No call requires anything of a test, and none tells it what it did.
+/// A call that takes the writer and is refused ends it. Where there is none, a call that needs one
+/// answers `IdsExhausted`, which no row expects. No call requires anything of a test, and none
+/// tells it what it did.
 #[derive(Drop)]
 pub struct Store<H: Sum> {
     alloc: Global,

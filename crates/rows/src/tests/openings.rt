@@ -119,8 +119,8 @@ fn a_recovery_reads_by_any_number_of_pages(rt: HostRuntime) -> Result<(), Fail> 
     Ok(())
 }
 
-// The bytes that a recovery of four pages reads at a time, and its device calls: the opening reads the last page, then
-// the scan reads all of them in order, and then what was there is made durable.
+// The bytes that a recovery of four pages reads at a time, and its device calls: the opening reads
+// the last page, then the scan reads all of them in order, and then what was there is made durable.
 const SCANS: [(usize, &[Call]); 5] = [
     (
         1,

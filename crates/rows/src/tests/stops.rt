@@ -128,8 +128,9 @@ fn stop_at_each_call(rt: &impl Abort, alloc: Global, row: &Row) -> Result<(), Er
     Ok(())
 }
 
-// Each row is recovered whole, and then with each of the device calls of that recovery failing: with a crash behind it
-// that keeps nothing, or all; and with none, where the blob is recovered again at once, and a crash keeps that.
+// Each row is recovered whole, and then with each of the device calls of that recovery failing:
+// with a crash behind it that keeps nothing, or all; and with none, where the blob is recovered
+// again at once, and a crash keeps that.
 #[test]
 fn a_recovery_may_be_stopped(rt: HostRuntime) -> Result<(), Fail> {
     for row in &ROWS {
