@@ -3,7 +3,8 @@
 use Rattle.std.proofs.Common.{◌≡◌, ◌⊎◌, inl, inr, ℕ, zero, suc, ◌+◌, ◌<◌, ◌≤◌, List, [], ◌∷◌, ◌++◌, length, take, drop, refl, sym, ◌∙◌, ap, subst, arith, length-take-le, lit<}
 use Rattle.std.specs.Prelude.{Some, None, true, false, slice_get, get_or}
 use Rattle.std.proofs.lemmas.Option.{same_Some}
-use Rattle.disk.specs.Disk.{Disk, Operation, Operated, Request, Life, IsWhole, IsImage, IsPartial, applied, failures, logged, next, after, settle}
+use Rattle.disk.specs.Images.{only_image}
+use Rattle.disk.specs.Disk.{Disk, Operation, Operated, Request, Life, IsWhole, IsImage, LeavesNoMore, IsPartial, applied, failures, logged, next, after, settle}
 use Rattle.disk.specs.Disk.Operation.{Write, Resize}
 use Rattle.disk.specs.Disk.Request.{ReadAt, WriteAt, SyncAll}
 use Rattle.page.specs.Page.{text, pages, verified_len}
@@ -18,15 +19,16 @@ use Rattle.crash.specs.Full.{AreFull}
 use Rattle.crash.specs.Built.{built, after_write}
 use Rattle.crash.specs.Guard.{Fixed, Held, Guards, IsTruthful, IsChanceFree}
 use Rattle.crash.specs.Kept.{Keeps, AllKeep, AllOnly, Each, Through}
-use Rattle.crash.specs.Stays.{Stays, StaysThrough, KeepsFloors, LeavesOnly, KeepsAll}
+use Rattle.crash.specs.Stays.{Stays, StaysThrough, KeepsFloors, KeepsAllFloors, LeavesOnly, KeepsAll}
+use Rattle.crash.proofs.FloorLaws.{floors_of_sound}
 use Rattle.crash.specs.Looks.{SameButLog, Looked}
-use Rattle.crash.specs.Sound.{latest, stored, content, HasPage, Stands, guard_slot, IsSafe, Soundness}
+use Rattle.crash.specs.Sound.{latest, stored, content, HasPage, Stands, guard_slot, IsSafe, Soundness, IsSound, LeavesItsContent}
 use Rattle.crash.proofs.Lists.{joined_element, taken_element, slice_get-drop}
-use Rattle.crash.proofs.Disks.{torn_is_image, base_is_image, partial_whole, fixed_at_rest}
+use Rattle.crash.proofs.Disks.{whole_is_image, torn_is_image, base_is_image, partial_whole, fixed_at_rest}
 use Rattle.crash.proofs.Promise.{keeps_at_rest, guards_at_rest, whole_is_chance_free}
 use Rattle.crash.proofs.Moments.{stays_itself, kept_through, only_through}
 use Rattle.crash.proofs.Spared.{held_through_flush}
-use Rattle.crash.proofs.Soundness.{page_sound, empty_sound, operated_stays, operated_sound}
+use Rattle.crash.proofs.Soundness.{sound_leaves, page_sound, empty_sound, operated_stays, operated_sound}
 
 -- ---- disks
 
@@ -292,6 +294,28 @@ six_of_seven = all_keep
 -- in the midst of the flush, whatever a crash tears off, it leaves "abcdef" at least
 pub six_are_kept : Through (AllKeep add_sum 4 seven 6) before behind
 six_are_kept = keeps_floors 6 (omega arith) six_of_seven
+
+-- and each floor of any other content, since the writer was sound: that can only begin as "abcdef" does
+pub keeps_all_floors : KeepsAllFloors add_sum 4 before behind
+unfolding IsSound
+keeps_all_floors = floors_of_sound add_sum with_g before behind a_sound_writer keeps_floors
+
+-- chance aside, a crash before it leaves of its writer's content a beginning
+pub leaves_its_content : LeavesItsContent add_sum with_g durable
+unfolding IsSound
+leaves_its_content = sound_leaves add_sum with_g durable a_sound_writer
+
+-- a crash that did nothing of the flush left `durable`, of which a later one leaves nothing else
+pub leaves_no_more : LeavesNoMore rewritten durable
+leaves_no_more = λ image is_image. subst (IsImage rewritten) (sym (only_image durable image refl is_image)) (base_is_image rewritten)
+
+-- while the flush may leave what was not there before it
+pub leaves_more : LeavesNoMore durable rewritten → ⊥
+leaves_more less =
+    let flushed = less rewritten.readable (whole_is_image rewritten rewritten.readable (inr refl)) in
+    let same = only_image durable rewritten.readable refl flushed in
+    let byte : 103 ≡ 0 = ap (λ (l : List ℕ). get_or l 18 0) same in
+    omega (arith, byte)
 
 -- and chance aside a prefix of "abcdefg", the content on both sides of the flush
 pub leaves_only : LeavesOnly add_sum 4 seven seven before behind

@@ -17,7 +17,8 @@ use Rattle.crash.proofs.Texts.{bytes_from_all}
 use Rattle.crash.proofs.Examples.{durable, rewritten, seven, before, behind}
 use Rattle.paged.specs.Prefix.{prefix_of, last_prefix, prefix_pages, at_prefix}
 use Rattle.paged.specs.Calls.{AsksAtMost, IsSettled}
-use Rattle.paged.specs.Recovery.{IsDurable, KeepsText, LeavesText, SoundWhereFull, opened_prefix, opened_size}
+use Rattle.paged.specs.Recovery.{IsDurable, KeepsText, LeavesText, SoundWhereFull, opened_prefix, opened_size, recovered_size, recovered_writer}
+use Rattle.cache.specs.CacheState.{CacheState}
 use Rattle.paged.specs.Recovery.IsKept.{whole}
 use Rattle.paged.specs.Searches.{AreWithin, FallFrom, ReadsWithin, ReadsBack, scan_bytes}
 use Rattle.paged.proofs.Opened.{opened_sound}
@@ -30,6 +31,10 @@ slot_of_ef = record { slot = First; len = 2; crc = 203 }
 -- a page of zeros, which has no value
 abbrev pub no_page : List ℕ
 no_page = 0 ∷ 0 ∷ 0 ∷ 0 ∷ 0 ∷ 0 ∷ 0 ∷ 0 ∷ 0 ∷ 0 ∷ 0 ∷ 0 ∷ 0 ∷ 0 ∷ 0 ∷ 0 ∷ []
+
+-- a cache of pages of 4 bytes that has given no id
+abbrev a_cache : CacheState
+a_cache = record { page_size = 4; capacity = 4; ids_given = 0 }
 
 -- forward: one full page, and "ef" behind it; the page behind that doesn't count
 pub a_prefix : prefix_of add_sum 4 (pages 4 (abcd_page ++ ef_page ++ abcd_page)) ≡ record { full_pages = 1; partial = Some (101 ∷ 102 ∷ [], slot_of_ef) }
@@ -55,8 +60,15 @@ pages_of_a_prefix = refl
 pub an_opened_size : opened_size add_sum 4 (abcd_page ++ ef_page ++ no_page) ≡ 32
 an_opened_size = refl
 
--- a writer that stands behind them: one full page, and a tip of "ef" under its slot
-pub a_recovered_writer : at_prefix 4 0 8 (opened_prefix add_sum 4 (abcd_page ++ ef_page ++ no_page)) Clean
+-- of zeros, a full page and "ef", opening keeps all three; a recovery keeps none, since the first has no value
+pub a_recovered_size : recovered_size add_sum 4 (no_page ++ abcd_page ++ ef_page) ≡ 0
+a_recovered_size = refl
+
+pub all_is_opened : opened_size add_sum 4 (no_page ++ abcd_page ++ ef_page) ≡ 48
+all_is_opened = refl
+
+-- a writer that stands behind two pages: one full page, and a tip of "ef" under its slot
+pub a_recovered_writer : recovered_writer add_sum a_cache 8 (abcd_page ++ ef_page ++ no_page)
     ≡ record { page_size = 4; id = 0; capacity = 8; full_pages = 1; tip = 101 ∷ 102 ∷ []; flushed = Some slot_of_ef; durable = Some slot_of_ef; sync = Clean }
 a_recovered_writer = refl
 
