@@ -283,6 +283,3 @@ fn make_room(
     events.try_reserve(1)?;
     Ok(())
 }
-
-#[cfg(test)]
-mod tests;

@@ -3,6 +3,8 @@ mod calls;
 mod crashes;
 mod kit;
 mod layout;
+mod memory;
 mod openings;
+mod sessions;
 mod stops;
 mod tries;

@@ -5,8 +5,6 @@
 mod recoveries;
 mod sessions;
 mod steps;
-#[cfg(test)]
-mod tests;
 
 pub use sessions::{Session, run};
 pub use steps::{Reply, Step};

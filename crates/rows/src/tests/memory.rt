@@ -1,4 +1,6 @@
-use super::*;
+// The blob in memory: what each call does and logs, and what a crash leaves.
+use disk::{Blob, Call, Error, IoBuf, IoBufs, MemBlob, ReadOptions, WriteOptions};
+use std::alloc::Global;
 use std::test::Fail;
 
 const PLAIN: WriteOptions = WriteOptions {

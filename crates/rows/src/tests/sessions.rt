@@ -4,10 +4,10 @@ ghost use Rattle.disk.specs.History.{life_of};
 ghost use Rattle.page.specs.Sums.{add_sum};
 ghost use Rattle.session.specs.Run.{IsReady};
 
-use super::*;
 use cache::CacheRef;
 use disk::{Error, MemBlob};
 use page::AddSum;
+use session::{Reply, Session, Step, run};
 use std::alloc::Global;
 use std::num::{NonZeroU16, NonZeroUsize};
 use std::process::Abort;
