@@ -423,34 +423,4 @@ cut_sync_stays sum P k content old mid new cut synced some at_rest base within s
     let second = sync_stays sum P content mid new synced (stays_then_itself sum P content old.present mid.present reached) (resize_says sum P k content old mid cut some within says cut_says cuts) syncs in
     stays_through_joins sum P content old mid new first second
 
--- where both are done, the blob is cut, nothing is unsynced, and the text is the same: it may be cut again
-pub cut_sync_done : (sum : List ℕ → ℕ) (P k : ℕ) (content : List ℕ) (old mid new : Life) → old.present.since ≡ []
-    → k * (P + 12) ≤ length old.present.readable → text sum P (take (k * (P + 12)) old.present.readable) ≡ content
-    → ResizeGoes (k * (P + 12)) old mid (Ok tt) → SyncGoes mid new (Ok tt)
-    → (new.present.since ≡ []) × (new.present.base ≡ new.present.readable) × (new.present.readable ≡ take (k * (P + 12)) old.present.readable) × (text sum P new.present.readable ≡ content)
-cut_sync_done sum P k content old mid new at_rest within cut_says cuts syncs =
-    let done = resize_done (k * (P + 12)) old mid at_rest within cuts in
-    let settled = sync_done mid new syncs in
-    let is : new.present.readable ≡ take (k * (P + 12)) old.present.readable = settled.2 ∙ done.2 in
-    (settled.0, settled.1, is, ap (λ (l : List ℕ). text sum P l) is ∙ cut_says)
-
--- two cuts, the first made durable before the second
-pub two_cuts_stay : (sum : List ℕ → ℕ) (P j k : ℕ) (content : List ℕ) (old one mid two new : Life) (cut synced : Result (Unit {0}) Error) → 0 < P → old.present.since ≡ [] → old.present.base ≡ old.present.readable
-    → j * (P + 12) ≤ length old.present.readable → text sum P old.present.readable ≡ content → text sum P (take (j * (P + 12)) old.present.readable) ≡ content
-    → ResizeGoes (j * (P + 12)) old one (Ok tt) → SyncGoes one mid (Ok tt)
-    → k * (P + 12) ≤ length mid.present.readable → text sum P (take (k * (P + 12)) mid.present.readable) ≡ content
-    → ResizeGoes (k * (P + 12)) mid two cut → SyncGoes two new synced → StaysThrough sum P content old new
-two_cuts_stay sum P j k content old one mid two new cut synced some at_rest base reach says first_says cuts syncs within cut_says cuts_more syncs_more =
-    let done = cut_sync_done sum P j content old one mid at_rest reach first_says cuts syncs in
-    stays_through_joins sum P content old mid new
-    (cut_sync_stays sum P j content old one mid (Ok tt) (Ok tt) some at_rest base reach says first_says cuts syncs)
-    (cut_sync_stays sum P k content mid two new cut synced some done.0 done.1 within done.3 cut_says cuts_more syncs_more)
-
 -- ---- what that says of each moment
-
--- what keeps the whole text, and chance aside says nothing else, says just that
-pub says_just : (sum : List ℕ → ℕ) (P : ℕ) (content image : List ℕ) → take (length content) (text sum P image) ≡ take (length content) content
-    → text sum P image ≡ take (length (text sum P image)) content → text sum P image ≡ content
-says_just sum P content image keeps only =
-    let at_most : length (text sum P image) ≤ length content = omega (arith, ap length only, length-take (length (text sum P image)) content) in
-    sym (take_all (length content) (text sum P image) at_most) ∙ keeps ∙ take_all (length content) content (omega arith)

@@ -22,11 +22,6 @@ some_behind : (e : Error) (xs ys : List Entry) → SomeFailed e ys → SomeFaile
 some_behind e [] ys some = some
 some_behind e (x ∷ xs) ys some = inr (some_behind e xs ys some)
 
-some_before : (e : Error) (xs ys : List Entry) → SomeFailed e xs → SomeFailed e (xs ++ ys)
-some_before e [] ys some = absurd some
-some_before e (x ∷ xs) ys (inl some) = inl some
-some_before e (x ∷ xs) ys (inr some) = inr (some_before e xs ys some)
-
 -- an entry that is marked
 pub failed_once : (request : Request) (a b : Disk)
     → b.log ≡ a.log ++ record { request = request; failed = true } ∷ [] → HasFailed (fault_of request) a b
@@ -36,11 +31,6 @@ failed_once request a b is = (record { request = request; failed = true } ∷ []
 pub failed_later : (e : Error) (a b c : Disk) → LogGrows a b → HasFailed e b c → HasFailed e a c
 failed_later e a b c (first, one) (second, two, some) =
     (first ++ second, two ∙ ap (λ l. l ++ second) one ∙ append_assoc a.log first second, some_behind e first second some)
-
--- and what failed in an earlier part
-pub failed_earlier : (e : Error) (a b c : Disk) → HasFailed e a b → LogGrows b c → HasFailed e a c
-failed_earlier e a b c (first, one, some) (second, two) =
-    (first ++ second, two ∙ ap (λ l. l ++ second) one ∙ append_assoc a.log first second, some_before e first second some)
 
 -- one entry more is one call more
 pub one_more : (log new : List Entry) (entry : Entry) → new ≡ log ++ entry ∷ [] → length new ≤ length log + 1

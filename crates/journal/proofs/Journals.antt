@@ -202,9 +202,6 @@ frame_read sum w place rest len head old mid new (Ok bytes) left long first is s
     second ∙ ap₂ (λ k (l : List ℕ). take k (drop place l)) n left.holds
 frame_read sum w place rest len head old mid new (Err e) left long first is second = (mid, inr left.looked, second)
 
-pub frame_not_read : (sum : List ℕ → ℕ) (w : WriterState) (place rest : ℕ) (old new : Life) (e : Error) → ReadRefused sum w old new e → ReadsFrame sum w place rest old new (Err e)
-frame_not_read sum w place rest old new e refused = (old, inl refl, refused)
-
 -- the frame at a place
 pub found : (own : List ℕ → ℕ) (content : List ℕ) (place rest : ℕ) (framed : List ℕ) (bytes : Option (List ℕ)) (end : ℕ) → place + rest ≡ length content → 0 < rest
     → framed ≡ take (min (frame_len (drop place content)) rest) (drop place content) → bytes ≡ record_of own (drop 0 framed) → end ≡ place + length framed → IsFound own content place bytes end
@@ -351,11 +348,6 @@ recovery_goes sum own cache capacity old mid new w (Ok r) recovers all keeps fil
           (subst (λ (n : ℕ). Commits sum own P (filled T) n new.present) (ap length (sym (records-filled own T))) commits);
     }
 recovery_goes sum own cache capacity old mid new w (Err e) recovers all keeps fills = inr (mid, w, recovers, fills)
-
-pub recovery_gives : (sum own : List ℕ → ℕ) (cache : CacheState) (capacity : ℕ) (old new : Life) (result : Result (WriterState × Vec (List ℕ) Global) Error)
-    → RecoversJournal sum own cache capacity old new result → IfOk result (λ r. IsJournal sum r.0 new)
-recovery_gives sum own cache capacity old new (Ok r) is = is.journal
-recovery_gives sum own cache capacity old new (Err e) is = tt
 
 -- a recovery of what a crash left
 pub brought_back : (sum own : List ℕ → ℕ) (cache : CacheState) (capacity : ℕ) (d : Disk) (image : List ℕ) (old new : Life) (result : Result (WriterState × Vec (List ℕ) Global) Error) → IsImage d image

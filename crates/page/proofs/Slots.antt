@@ -1,21 +1,9 @@
 -- A slot's six bytes, and what they say.
-use Rattle.std.proofs.Common.{◌≡◌, ◌∙◌, ap, refl, ℕ, zero, suc, [], ◌∷◌, ◌+◌, ◌<◌, ◌^◌, ◌++◌, List, length, take, drop, get_or, arith}
+use Rattle.std.proofs.Common.{◌≡◌, ◌∙◌, ap, refl, ℕ, zero, suc, [], ◌∷◌, ◌+◌, ◌<◌, ◌++◌, List, length, take, drop, get_or, arith}
 use Rattle.std.proofs.lemmas.List.{take-append-drop, get_or-drop, length-take, length-drop}
-use Rattle.std.proofs.lemmas.Nat.{be_bytes_2, be_bytes_4, from_be_bytes-to_be_bytes_2, from_be_bytes-to_be_bytes_4}
+use Rattle.std.proofs.lemmas.Nat.{be_bytes_2, be_bytes_4}
 use Rattle.std.specs.Int.{w32, to_be_bytes}
 use Rattle.page.specs.Page.{slot_bytes, slot_len, slot_crc}
-
--- a slot's bytes say the length that was written
-pub slot_len-slot_bytes : (len crc : ℕ) → len < 2 ^ 16 → slot_len (slot_bytes len crc) ≡ len
-slot_len-slot_bytes len crc small = from_be_bytes-to_be_bytes_2 len small
-
--- and the checksum
-pub slot_crc-slot_bytes : (len crc : ℕ) → crc < 2 ^ 32 → slot_crc (slot_bytes len crc) ≡ crc
-slot_crc-slot_bytes len crc small = from_be_bytes-to_be_bytes_4 crc small
-
--- a slot has six bytes
-pub length-slot_bytes : (len crc : ℕ) → length (slot_bytes len crc) ≡ 6
-length-slot_bytes len crc = refl
 
 -- the first bytes of bytes are bytes
 pub take-below : (n bound : ℕ) (xs : List ℕ) → 0 < bound → ((i : ℕ) → get_or xs i 0 < bound) → (i : ℕ) → get_or (take n xs) i 0 < bound

@@ -45,15 +45,6 @@ ran_more sum P (x ∷ xs) (r ∷ rs) step reply from to moments more before mid 
 ran_more sum P [] (r ∷ rs) step reply from to moments more before mid behind ran reaches did kept only = absurd ran
 ran_more sum P (x ∷ xs) [] step reply from to moments more before mid behind ran reaches did kept only = absurd ran
 
--- no step was taken
-pub runs_start : (sum : List ℕ → ℕ) (writer : Option WriterState) (life : Life) (replies : List Reply) → RunsAlways sum [] writer writer life life replies replies
-runs_start sum writer life replies = record {
-  added = [];
-  adds = sym (append-nil replies);
-  count = refl;
-  runs = λ P before stands. record { moments = []; goes = refl; behind = before; ran = (refl, refl, stands.kept, stands.only); stands = stands };
-}
-
 -- and one step more
 pub runs_more : (sum : List ℕ → ℕ) (steps : List Step) (step : Step) (reply : Reply) (was mid now : Option WriterState) (old between new : Life) (earlier replies more : List Reply)
     → RunsAlways sum steps was mid old between earlier replies → Steps sum step reply mid now between new → more ≡ replies ++ reply ∷ [] → RunsAlways sum (steps ++ step ∷ []) was now old new earlier more
