@@ -7,6 +7,7 @@ use Rattle.disk.specs.declared.action.Action.TheVariants as actions
 use Rattle.disk.specs.declared.action.Event.{Event}
 use Rattle.disk.specs.declared.action.Call.{Call}
 use Rattle.disk.specs.History.{History, life_of, lives, goes_on, begun, told, asked, settles, operation_of, redone, replayed, operations_of, request_of}
+use Rattle.disk.specs.Past.{went}
 use Rattle.disk.specs.Memory.{entries_of, history_of, IsKept, settled_after}
 
 abbrev event : Action → Bool → Event
@@ -122,6 +123,15 @@ history_more first earlier calls failed events failing a c before outcomes =
 -- the life of a history with one event more
 pub life_told : (a : Action) (h : History) → life_of (told a h) ≡ lives a (h.failing == 1) (life_of h)
 life_told a h = goes_on-append h.events (begun h.first h.earlier) (event a (h.failing == 1))
+
+-- the same, whatever its outcome
+pub life_went : (a : Action) (failed : Bool) (old new : History) → new ≡ went a failed old → life_of new ≡ lives a failed (life_of old)
+life_went a failed old new e = rw e (goes_on-append old.events (begun old.first old.earlier) (event a failed))
+
+-- what is readable then
+pub reads_went : (a : Action) (failed : Bool) (old new : History) (bytes after : List ℕ) → new ≡ went a failed old → bytes ≡ (life_of old).present.readable → after ≡ redone (event a failed) bytes → after ≡ (life_of new).present.readable
+reads_went a failed old new bytes after e same moved =
+    moved ∙ ap (redone (event a failed)) same ∙ sym (ap (λ l. l.present.readable) (life_went a failed old new e) ∙ lives_readable a failed (life_of old))
 
 -- what the events do to the bytes that the life began with is what is readable
 pub readable_is : (h : History) → (life_of h).present.readable ≡ replayed h.events h.first

@@ -4,3 +4,4 @@ pub mod Torn
 pub mod Histories
 pub mod Device
 pub mod Logs
+pub mod Examples

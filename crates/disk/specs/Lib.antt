@@ -6,3 +6,4 @@ pub mod History
 pub mod Torn
 pub mod Lives
 pub mod Memory
+pub mod Past

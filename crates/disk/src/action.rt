@@ -187,8 +187,8 @@ pub fn write_over(bytes: &mut Vec<u8>, place: usize, new: &[u8]) -> Result<(), A
     Ok(())
 }
 
-// Fills up with zeros to a length.
-fn grow(bytes: &mut Vec<u8>, len: usize) -> Result<(), AllocError>
+/// Fills up with zeros to a length. An `Err` leaves all as it was.
+pub fn grow(bytes: &mut Vec<u8>, len: usize) -> Result<(), AllocError>
     ensures ok { OnOk result
         (bytes.new.items ≡ bytes.old.items ++ replicate (len - length bytes.old.items) 0) }
     ensures err { OnErr result (bytes.new.items ≡ bytes.old.items) }
@@ -199,8 +199,8 @@ fn grow(bytes: &mut Vec<u8>, len: usize) -> Result<(), AllocError>
     bytes.resize(len, 0)
 }
 
-// Copies bytes to a place among others.
-fn put(bytes: &mut Vec<u8>, place: usize, new: &[u8])
+/// Copies bytes to a place among others.
+pub fn put(bytes: &mut Vec<u8>, place: usize, new: &[u8])
     requires { place + length new.now ≤ length bytes.old.items }
     ensures { bytes.new.items
         ≡ take place bytes.old.items ++ new.now ++ drop (place + length new.now) bytes.old.items }

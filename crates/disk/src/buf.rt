@@ -4,6 +4,7 @@ ghost use Rattle.std.specs.Prelude.{IfErr, IsOkUnless, OnOk, OnErr};
 ghost use Rattle.std.specs.List.{concat};
 ghost use Rattle.std.specs.Slice.Iter.{iter_rest};
 ghost use Rattle.disk.specs.Bufs.{with_buf};
+ghost use Rattle.disk.specs.Memory.{IsRange};
 
 use crate::Error;
 use bytes::Bytes;
@@ -41,6 +42,23 @@ impl IoBuf {
     {
         let bytes = Bytes::copy_from_slice(alloc, bytes)?;
         Ok(IoBuf { bytes })
+    }
+
+    /// A buffer with a copy of the `len` bytes at a place of these. `BlobInsufficientLength` where the
+    /// range passes their end, and else `OutOfMemory` alone.
+    pub(crate) fn copy_range(
+        alloc: Global,
+        bytes: &[u8],
+        place: u64,
+        len: usize,
+    ) -> Result<Self, Error>
+        ensures { IsRange place len bytes.now result }
+    {
+        if bytes.len() < len || ((bytes.len() - len) as u64) < place {
+            return Err(Error::BlobInsufficientLength);
+        }
+        let start = place as usize;
+        Self::copy_from_slice(alloc, &bytes[start..start + len])
     }
 
     /// The bytes from `start` to before `end`, shared with this buffer. It answers `OutOfMemory`

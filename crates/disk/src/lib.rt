@@ -8,9 +8,12 @@ mod blob;
 mod buf;
 mod error;
 mod memory;
+mod past;
+mod vec_blob;
 
 pub use action::Call;
 pub use blob::{Blob, ReadOptions, WriteOptions};
 pub use buf::{IoBuf, IoBufs};
 pub use error::Error;
 pub use memory::MemBlob;
+pub use vec_blob::VecBlob;

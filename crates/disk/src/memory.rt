@@ -171,12 +171,7 @@ impl MemBlob {
     fn range(&self, alloc: Global, place: u64, len: usize) -> Result<IoBuf, Error>
         ensures { IsRange place len (life_of self.now).present.readable result }
     {
-        let readable = self.bytes();
-        if readable.len() < len || ((readable.len() - len) as u64) < place {
-            return Err(Error::BlobInsufficientLength);
-        }
-        let start = place as usize;
-        IoBuf::copy_from_slice(alloc, &readable[start..start + len])
+        IoBuf::copy_range(alloc, self.bytes(), place, len)
     }
 
     // Asks the device, and answers whether it failed. An `Err` leaves all as it was.

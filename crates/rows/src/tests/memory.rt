@@ -1,5 +1,5 @@
 // The blob in memory: what each call does and logs, and what a crash leaves.
-use disk::{Blob, Call, Error, IoBuf, IoBufs, MemBlob, ReadOptions, WriteOptions};
+use disk::{Blob, Call, Error, IoBuf, IoBufs, MemBlob, ReadOptions, VecBlob, WriteOptions};
 use std::alloc::Global;
 use std::test::Fail;
 
@@ -203,5 +203,109 @@ fn the_planned_call_fails_alone(rt: HostRuntime) -> Result<(), Fail> {
     ];
     assert_eq!(rt; blob.calls(), calls.as_slice());
     assert_eq!(rt; blob.failures(), 1);
+    Ok(())
+}
+
+#[test]
+fn a_plain_blob_keeps_its_bytes(rt: HostRuntime) -> Result<(), Fail> {
+    let alloc = rt.alloc();
+    let mut blob = VecBlob::new(alloc);
+    assert_eq!(rt; blob.len(), 0);
+    let mut parts = bufs(alloc, b"ab")?;
+    parts.append(IoBuf::copy_from_slice(alloc, b"cde")?)?;
+    // Behind the end the gap is filled with zeros, and each buffer stands behind the one before.
+    blob.write_at(2, &parts, PLAIN)?;
+    assert_eq!(rt; blob.bytes(), b"\0\0abcde".as_slice());
+    blob.write_at(1, &bufs(alloc, b"xy")?, DURABLE)?;
+    assert_eq!(rt; blob.bytes(), b"\0xybcde".as_slice());
+    blob.resize(3)?;
+    blob.resize(5)?;
+    blob.sync()?;
+    assert_eq!(rt; blob.bytes(), b"\0xy\0\0".as_slice());
+    let read = blob.read_at(alloc, 1, 3, ReadOptions::default());
+    assert!(rt; read_as(&read, Ok(b"xy\0")));
+    let past = blob.read_at(alloc, 3, 3, ReadOptions::default());
+    assert!(rt; read_as(&past, Err(Error::BlobInsufficientLength)));
+    let refused = blob.write_at(u64::MAX, &parts, PLAIN);
+    assert_eq!(rt; refused, Err(Error::OffsetOverflow));
+    assert_eq!(rt; blob.len(), 5);
+    let begun = VecBlob::from_vec(Vec::from_slice(alloc, b"abc")?);
+    assert_eq!(rt; begun.bytes(), b"abc".as_slice());
+    Ok(())
+}
+
+// Numbers that look random, and are the same each time.
+#[derive(Drop)]
+struct Numbers {
+    state: u64,
+}
+
+impl Numbers {
+    fn below(&mut self, end: u64) -> u64 {
+        self.state = self
+            .state
+            .wrapping_mul(6364136223846793005)
+            .wrapping_add(1442695040888963407);
+        (self.state >> 33) % end.max(1)
+    }
+}
+
+// Up to eleven bytes.
+fn some_bytes(alloc: Global, numbers: &mut Numbers) -> Result<Vec<u8>, Error> {
+    let mut bytes = Vec::new(alloc);
+    for _ in 0..numbers.below(12) {
+        bytes.push(numbers.below(256) as u8)?;
+    }
+    Ok(bytes)
+}
+
+// Makes one call of both blobs, and tells whether they answered the same.
+fn answer_alike(
+    alloc: Global,
+    numbers: &mut Numbers,
+    one: &mut MemBlob,
+    other: &mut VecBlob,
+) -> Result<bool, Error> {
+    let place = numbers.below(40);
+    match numbers.below(8) {
+        0..=3 => {
+            let mut parts = bufs(alloc, &some_bytes(alloc, numbers)?)?;
+            parts.append(IoBuf::copy_from_slice(alloc, &some_bytes(alloc, numbers)?)?)?;
+            let options = if numbers.below(4) == 0 { DURABLE } else { PLAIN };
+            let first = one.write_at(place, &parts, options);
+            Ok(first == other.write_at(place, &parts, options))
+        }
+        4 => {
+            let first = one.resize(place);
+            Ok(first == other.resize(place))
+        }
+        5 => {
+            let first = one.sync();
+            Ok(first == other.sync())
+        }
+        _ => {
+            let len = numbers.below(16) as usize;
+            let first = one.read_at(alloc, place, len, ReadOptions::default());
+            let second = other.read_at(alloc, place, len, ReadOptions::default());
+            Ok(match second {
+                Ok(bytes) => read_as(&first, Ok(bytes.as_ref())),
+                Err(error) => read_as(&first, Err(error)),
+            })
+        }
+    }
+}
+
+#[test]
+fn both_blobs_answer_alike(rt: HostRuntime) -> Result<(), Fail> {
+    let alloc = rt.alloc();
+    let mut one = MemBlob::new(alloc);
+    let mut other = VecBlob::new(alloc);
+    let mut numbers = Numbers { state: 1 };
+    for _ in 0..2000u32 {
+        assert!(rt; answer_alike(alloc, &mut numbers, &mut one, &mut other)?);
+        assert!(rt; one.bytes() == other.bytes());
+    }
+    // All kinds of calls were made, by the log of the first.
+    assert!(rt; one.calls().len() > 1500);
     Ok(())
 }

@@ -1,0 +1,55 @@
+-- The words of the blobs in memory, at a few bytes.
+use Rattle.std.proofs.Common.{◌≡◌, ℕ, List, [], ◌∷◌, length, true, false, refl}
+use Rattle.disk.specs.Disk.{Write, Resize, Life, settle, logged, SyncAll, next}
+use Rattle.disk.specs.declared.action.Action.TheVariants as actions
+use Rattle.disk.specs.History.{History, begun, life_of, told}
+use Rattle.disk.specs.Past.{went}
+use Rattle.disk.specs.Torn.{torn}
+
+-- of a write of 7, 8 and 9 over 1, 2 and 3 a crash keeps the bytes with a true flag
+pub flagged_bytes : torn (true ∷ false ∷ true ∷ []) (Write 0 (7 ∷ 8 ∷ 9 ∷ []) ∷ []) (1 ∷ 2 ∷ 3 ∷ []) ≡ 7 ∷ 2 ∷ 9 ∷ []
+flagged_bytes = refl
+
+-- a missing flag is false
+pub missing_flags : torn (true ∷ []) (Write 0 (7 ∷ 8 ∷ 9 ∷ []) ∷ []) (1 ∷ 2 ∷ 3 ∷ []) ≡ 7 ∷ 2 ∷ 3 ∷ []
+missing_flags = refl
+
+-- a write takes a flag for each byte, and a resize behind it one
+pub flags_in_turn : torn (false ∷ true ∷ []) (Write 0 (7 ∷ []) ∷ Resize 1 ∷ []) (1 ∷ 2 ∷ []) ≡ 1 ∷ []
+flags_in_turn = refl
+
+-- a blob that began with one byte, and was asked for nothing
+abbrev pub at_first : History
+at_first = record { first = 1 ∷ []; earlier = []; events = []; failing = 0 }
+
+-- its life has just begun
+pub a_begun_life : life_of at_first ≡ begun (1 ∷ []) []
+a_begun_life = refl
+
+-- a write that was done behind its byte
+abbrev pub written : History
+written = went (actions.Write 1 (7 ∷ []) false) false at_first
+
+pub a_write_went : (life_of written).present.readable ≡ 1 ∷ 7 ∷ []
+a_write_went = refl
+
+-- it isn't durable before a sync
+pub not_durable : (life_of written).present.base ≡ 1 ∷ []
+not_durable = refl
+
+pub a_sync_went : life_of (went actions.Sync false written) ≡ next (life_of written) (settle (logged SyncAll false (life_of written).present))
+a_sync_went = refl
+
+-- a write that failed left all as it was, though a crash may do some of it
+pub a_failed_write : (life_of (went (actions.Write 1 (7 ∷ []) false) true at_first)).present.readable ≡ 1 ∷ []
+a_failed_write = refl
+
+pub it_is_unsynced : length (life_of (went (actions.Write 1 (7 ∷ []) false) true at_first)).present.since ≡ 1
+it_is_unsynced = refl
+
+-- the call that is to fail does, and no other
+pub a_planned_failure : (told actions.Sync (record at_first { failing = 1 })).events ≡ record { action = actions.Sync; failed = true } ∷ []
+a_planned_failure = refl
+
+pub not_yet : told actions.Sync (record at_first { failing = 2 }) ≡ record at_first { events = record { action = actions.Sync; failed = false } ∷ []; failing = 1 }
+not_yet = refl

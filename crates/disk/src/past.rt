@@ -1,0 +1,104 @@
+// What a device was asked for, as ghost data: nothing of it is left at run time.
+ghost use Rattle.std.specs.Prelude.{◌≡◌, []};
+ghost use Rattle.std.specs.List.{concat};
+ghost use Rattle.disk.specs.declared.action.Action.TheVariants as actions;
+ghost use Rattle.disk.specs.History.{life_of, begun};
+ghost use Rattle.disk.specs.Past.{went};
+
+use crate::IoBufs;
+use std::marker::Model;
+use std::snapshot::Snapshot;
+
+/// What a device was asked for so far, from the bytes on that it began with.
+#[cycle(past)]
+#[derive(Drop)]
+pub struct Past {
+    last: Asked,
+}
+
+// The last thing that it was asked for, whether that failed, and what stood before it.
+#[cycle(past)]
+#[derive(Drop)]
+enum Asked {
+    Nothing(Snapshot<Vec<u8>>),
+    Read(Snapshot<Snapshot<Past>>, u64, usize, bool),
+    Write(Snapshot<Snapshot<Past>>, u64, Snapshot<IoBufs>, bool, bool),
+    Resize(Snapshot<Snapshot<Past>>, u64, bool),
+    Sync(Snapshot<Snapshot<Past>>, bool),
+}
+
+impl Model for Past {
+    ghost use Rattle.std.specs.Prelude.{length};
+    ghost use Rattle.disk.specs.History.{History};
+
+    ghost Value = { History };
+
+    ghost use Rattle.disk.specs.Past.{past_of};
+
+    ghost view = { λ p. past_of p.last };
+
+    ghost size = { λ h. length h.events };
+
+    ghost use Rattle.std.proofs.Common.{arith, length-append};
+
+    ghost size_decreases = { λ a h. Prim.grind (arith, length-append) };
+}
+
+impl Past {
+    /// A device that begins with these bytes was asked for nothing yet.
+    pub fn begun(bytes: &Vec<u8>) -> Snapshot<Self>
+        ensures life { life_of result.value ≡ begun bytes.now.items [] }
+    {
+        let past = Past {
+            last: Asked::Nothing(Snapshot::of(bytes)),
+        };
+        Snapshot::of(&past)
+    }
+
+    /// A read more.
+    pub fn read(before: &Snapshot<Self>, place: u64, len: usize, failed: bool) -> Snapshot<Self>
+        ensures { result.value ≡ went (actions.Read place len) failed before.now.value }
+    {
+        let past = Past {
+            last: Asked::Read(Snapshot::of(before), place, len, failed),
+        };
+        Snapshot::of(&past)
+    }
+
+    /// A write more.
+    pub fn write(
+        before: &Snapshot<Self>,
+        place: u64,
+        bufs: &IoBufs,
+        sync: bool,
+        failed: bool,
+    ) -> Snapshot<Self>
+        ensures { let bytes = concat bufs.now in
+            result.value ≡ went (actions.Write place bytes sync) failed before.now.value }
+    {
+        let past = Past {
+            last: Asked::Write(Snapshot::of(before), place, Snapshot::of(bufs), sync, failed),
+        };
+        Snapshot::of(&past)
+    }
+
+    /// A resize more.
+    pub fn resize(before: &Snapshot<Self>, len: u64, failed: bool) -> Snapshot<Self>
+        ensures { result.value ≡ went (actions.Resize len) failed before.now.value }
+    {
+        let past = Past {
+            last: Asked::Resize(Snapshot::of(before), len, failed),
+        };
+        Snapshot::of(&past)
+    }
+
+    /// A sync more.
+    pub fn sync(before: &Snapshot<Self>, failed: bool) -> Snapshot<Self>
+        ensures { result.value ≡ went actions.Sync failed before.now.value }
+    {
+        let past = Past {
+            last: Asked::Sync(Snapshot::of(before), failed),
+        };
+        Snapshot::of(&past)
+    }
+}

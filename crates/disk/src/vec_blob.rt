@@ -1,0 +1,128 @@
+// A blob in memory that keeps its bytes and nothing else.
+ghost use Rattle.std.specs.Prelude.{◌≡◌, ◌≤◌, ◌+◌, ◌++◌, [], length, take, drop, OnErr, IsOkUnless};
+ghost use Rattle.std.specs.List.{concat};
+ghost use Rattle.disk.specs.Disk.{ReadGoes, WriteGoes, ResizeGoes, SyncGoes};
+ghost use Rattle.disk.specs.History.{life_of, begun};
+
+use crate::action::{grow, put};
+use crate::past::Past;
+use crate::{Blob, Error, IoBuf, IoBufs, ReadOptions, WriteOptions};
+use std::alloc::Global;
+use std::marker::Model;
+use std::snapshot::Snapshot;
+
+/// A blob in memory, for whoever wants no more than its bytes. No call of it fails but for want of
+/// memory, and it can't crash; [`crate::MemBlob`] can do both.
+///
+/// Its life, which contracts speak of, is ghost data: nothing of it is kept, so it takes as much
+/// memory as its bytes however often it is called. A write goes in place.
+#[derive(Drop)]
+pub struct VecBlob {
+    bytes: Vec<u8>,
+    past: Snapshot<Past>,
+}
+
+impl Model for VecBlob {
+    ghost use Rattle.std.specs.Prelude.{◌≡◌};
+    ghost use Rattle.disk.specs.History.{History, life_of};
+
+    ghost Value = { History };
+
+    ghost view = { λ b. b.past.value };
+
+    ghost invariant = { λ b. b.bytes.items ≡ (life_of b.past.value).present.readable };
+}
+
+impl VecBlob {
+    /// An empty blob.
+    pub fn new(alloc: Global) -> Self
+        ensures life { life_of result ≡ begun [] [] }
+    {
+        Self::from_vec(Vec::new(alloc))
+    }
+
+    /// A blob of these bytes, all of them durable. They aren't copied.
+    pub fn from_vec(bytes: Vec<u8>) -> Self
+        ensures life { life_of result ≡ begun bytes.items [] }
+    {
+        let past = Past::begun(&bytes);
+        VecBlob { bytes, past }
+    }
+
+    /// What a read of all bytes would give.
+    pub fn bytes(&self) -> &[u8]
+        ensures { result.now ≡ (life_of self.now).present.readable }
+    {
+        &self.bytes
+    }
+
+    /// How many bytes it has.
+    pub fn len(&self) -> u64
+        ensures { result ≡ length (life_of self.now).present.readable }
+    {
+        self.bytes.len() as u64
+    }
+}
+
+// Copies buffers to a place among bytes, one behind another.
+fn put_all(bytes: &mut Vec<u8>, place: usize, bufs: &IoBufs)
+    requires { place + length (concat bufs.now) ≤ length bytes.old.items }
+    ensures { let new = concat bufs.now in let old = bytes.old.items in
+        bytes.new.items ≡ take place old ++ new ++ drop (place + length new) old }
+{
+    let mut at = place;
+    for buf in bufs.as_slice() {
+        put(bytes, at, buf.as_ref());
+        at += buf.len();
+    }
+}
+
+impl Blob for VecBlob {
+    ghost use Rattle.disk.specs.Lives.{life_reads};
+
+    ghost life = { life_of };
+
+    fn read_at(
+        &mut self,
+        alloc: Global,
+        offset: u64,
+        len: usize,
+        _options: ReadOptions,
+    ) -> Result<IoBuf, Error>
+        ensures goes { ReadGoes offset len (life_of self.old) (life_of self.new) result }
+    {
+        let bytes = IoBuf::copy_range(alloc, &self.bytes, offset, len)?;
+        self.past = Past::read(&self.past, offset, len, false);
+        Ok(bytes)
+    }
+
+    fn write_at(&mut self, offset: u64, bufs: &IoBufs, options: WriteOptions) -> Result<(), Error>
+        ensures goes { let bytes = concat bufs.now in
+            WriteGoes offset bytes options.sync (life_of self.old) (life_of self.new) result }
+    {
+        let Some(end) = offset.checked_add(bufs.len() as u64) else {
+            return Err(Error::OffsetOverflow);
+        };
+        grow(&mut self.bytes, end as usize)?;
+        put_all(&mut self.bytes, offset as usize, bufs);
+        self.past = Past::write(&self.past, offset, bufs, options.sync, false);
+        Ok(())
+    }
+
+    fn resize(&mut self, len: u64) -> Result<(), Error>
+        ensures goes { ResizeGoes len (life_of self.old) (life_of self.new) result }
+    {
+        self.bytes.resize(len as usize, 0)?;
+        self.past = Past::resize(&self.past, len, false);
+        Ok(())
+    }
+
+    fn sync(&mut self) -> Result<(), Error>
+        ensures goes { SyncGoes (life_of self.old) (life_of self.new) result }
+    {
+        self.past = Past::sync(&self.past, false);
+        Ok(())
+    }
+
+    ghost readable_is_image = { life_reads };
+}
