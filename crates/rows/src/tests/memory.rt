@@ -254,7 +254,7 @@ impl Numbers {
 fn some_bytes(alloc: Global, numbers: &mut Numbers) -> Result<Vec<u8>, Error> {
     let mut bytes = Vec::new(alloc);
     for _ in 0..numbers.below(12) {
-        bytes.push(numbers.below(256) as u8)?;
+        bytes.push(u8::try_from(numbers.below(256)).unwrap_or(0))?;
     }
     Ok(bytes)
 }
@@ -271,7 +271,11 @@ fn answer_alike(
         0..=3 => {
             let mut parts = bufs(alloc, &some_bytes(alloc, numbers)?)?;
             parts.append(IoBuf::copy_from_slice(alloc, &some_bytes(alloc, numbers)?)?)?;
-            let options = if numbers.below(4) == 0 { DURABLE } else { PLAIN };
+            let options = if numbers.below(4) == 0 {
+                DURABLE
+            } else {
+                PLAIN
+            };
             let first = one.write_at(place, &parts, options);
             Ok(first == other.write_at(place, &parts, options))
         }
