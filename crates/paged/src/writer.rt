@@ -39,17 +39,19 @@ impl SyncState {
 /// lent to each call: always the ones with which the writer was opened, and nobody else writes that
 /// blob meanwhile. A call that takes the writer gives it back only on success; after an error the
 /// writer is gone, and what the blob holds is to be recovered.
+// The small fields stand together, at the end: so it has 128 bytes. One of more is moved by a call
+// of `memmove`, and each call on it moves it.
 #[derive(Drop)]
 pub struct Writer<B, H, Phase = Append> {
     pub(crate) alloc: Global,
     pub(crate) id: u64,
-    pub(crate) page_size: NonZeroU16,
     /// The bytes behind the full pages.
     pub(crate) tip: Buffer,
     /// Of the page in which the tip begins: the slot that was written last.
     pub(crate) flushed: Option<ActiveChecksum>,
     /// Of the same page: the slot that was durable when it was last written. A rewrite repeats it.
     pub(crate) durable: Option<ActiveChecksum>,
+    pub(crate) page_size: NonZeroU16,
     pub(crate) sync_state: SyncState,
     pub(crate) of: PhantomData<(B, H, Phase)>,
 }
