@@ -1,6 +1,6 @@
 -- The words of the blobs in memory, at a few bytes.
-use Rattle.std.proofs.Common.{◌≡◌, ℕ, List, [], ◌∷◌, length, true, false, refl}
-use Rattle.disk.specs.Disk.{Write, Resize, Life, settle, logged, SyncAll, next}
+use Rattle.std.proofs.Common.{◌≡◌, [], ◌∷◌, length, true, false, refl}
+use Rattle.disk.specs.Disk.{Write, Resize, settle, logged, SyncAll, next}
 use Rattle.disk.specs.declared.action.Action.TheVariants as actions
 use Rattle.disk.specs.History.{History, begun, life_of, told}
 use Rattle.disk.specs.Past.{went}

@@ -1,5 +1,5 @@
 -- The history that a ghost past stands for.
-use Rattle.std.specs.Prelude.{List, [], ◌∷◌, ◌++◌, Bool}
+use Rattle.std.specs.Prelude.{[], ◌∷◌, ◌++◌, Bool}
 use Rattle.std.specs.List.{concat}
 use Rattle.disk.specs.declared.action.Action.{Action}
 use Rattle.disk.specs.declared.action.Action.TheVariants as actions

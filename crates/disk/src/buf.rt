@@ -44,8 +44,8 @@ impl IoBuf {
         Ok(IoBuf { bytes })
     }
 
-    /// A buffer with a copy of the `len` bytes at a place of these. `BlobInsufficientLength` where the
-    /// range passes their end, and else `OutOfMemory` alone.
+    /// A buffer with a copy of the `len` bytes at a place of these. `BlobInsufficientLength` where
+    /// the range passes their end, and else `OutOfMemory` alone.
     pub(crate) fn copy_range(
         alloc: Global,
         bytes: &[u8],

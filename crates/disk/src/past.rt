@@ -77,7 +77,13 @@ impl Past {
             result.value ≡ went (actions.Write place bytes sync) failed before.now.value }
     {
         let past = Past {
-            last: Asked::Write(Snapshot::of(before), place, Snapshot::of(bufs), sync, failed),
+            last: Asked::Write(
+                Snapshot::of(before),
+                place,
+                Snapshot::of(bufs),
+                sync,
+                failed,
+            ),
         };
         Snapshot::of(&past)
     }

@@ -1,6 +1,6 @@
 use Rattle.std.proofs.Common.{◌≡◌, ◌++◌, ◌-◌, false, take, replicate, ap, ◌∙◌}
 use Rattle.disk.specs.declared.action.Action.TheVariants as actions
-use Rattle.disk.specs.History.{History, life_of}
+use Rattle.disk.specs.History.{life_of}
 use Rattle.disk.specs.Past.{went}
 use Rattle.disk.proofs.Histories.{life_went, reads_went}
 use Rattle.disk.proofs.Device.{resize_goes}

@@ -1,7 +1,7 @@
 use Rattle.std.proofs.Common.{◌≡◌, ◌+◌, ◌-◌, ◌++◌, ℕ, List, length, take, drop, replicate, false, ap, ◌∙◌, arith}
 use Rattle.std.specs.List.{concat}
 use Rattle.disk.specs.declared.action.Action.TheVariants as actions
-use Rattle.disk.specs.History.{History, life_of}
+use Rattle.disk.specs.History.{life_of}
 use Rattle.disk.specs.Past.{went}
 use Rattle.disk.proofs.Histories.{life_went, reads_went}
 use Rattle.disk.proofs.Device.{write_goes}
