@@ -1,5 +1,5 @@
 -- CRC-32C, bit by bit.
-use Rattle.std.specs.Prelude.{◌≡◌, ◌==◌, ◌<◌, ◌/◌, ◌%◌, ◌^◌, ℕ, zero, suc, List, [], ◌∷◌}
+use Rattle.std.specs.Prelude.{◌==◌, ◌<◌, ◌/◌, ◌%◌, ◌^◌, ℕ, zero, suc, List, [], ◌∷◌}
 use Rattle.std.specs.Prelude.{if◌then◌else◌}
 use Rattle.std.specs.Int.Bits.{bit_xor}
 use Rattle.std.proofs.Common.{lit<, arith, Bool, true, false}
@@ -18,7 +18,7 @@ abbrev pub after_bit : ℕ → ℕ
 after_bit state = bit_xor (state / 2) (added (state % 2))
 
 -- once so many are
-abbrev pub after_bits : ℕ → ℕ → ℕ
+unfoldable pub after_bits : ℕ → ℕ → ℕ
 after_bits zero state = state
 after_bits (suc n) state = after_bits n (after_bit state)
 
@@ -45,6 +45,7 @@ small_bit state small =
     xor_lt 32 (state / 2) (added (state % 2)) (omega arith) (small_added (state % 2 == 0))
 
 small_bits : (n state : ℕ) → state < 2 ^ 32 → after_bits n state < 2 ^ 32
+unfolding after_bits
 small_bits zero state small = small
 small_bits (suc n) state small = small_bits n (after_bit state) (small_bit state small)
 

@@ -7,4 +7,5 @@ mod memory;
 mod openings;
 mod sessions;
 mod stops;
+mod sums;
 mod tries;
