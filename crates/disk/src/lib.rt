@@ -1,11 +1,13 @@
 //! The storage device of the paged blob layer: its errors, the buffers that pass through it, the
-//! trait [`Blob`] with what each call does and what a crash may leave, and [`MemBlob`], a blob in
-//! memory.
+//! trait [`Blob`] with what each call does and what a crash may leave, and three blobs: [`VecBlob`],
+//! bytes in memory; [`MemBlob`], which fails and crashes as it is told; and [`Counted`], which counts
+//! what another is asked for.
 #![tactic(auto)]
 
 mod action;
 mod blob;
 mod buf;
+mod counted;
 mod error;
 mod memory;
 mod past;
@@ -14,6 +16,7 @@ mod vec_blob;
 pub use action::Call;
 pub use blob::{Blob, ReadOptions, WriteOptions};
 pub use buf::{IoBuf, IoBufs};
+pub use counted::Counted;
 pub use error::Error;
 pub use memory::MemBlob;
 pub use vec_blob::VecBlob;

@@ -5,18 +5,16 @@
 //! journal whose blob crashed inside a record.
 #![tactic(auto)]
 
-mod counted;
 mod crashes;
 mod frame;
 mod journal;
 #[cfg(test)]
 mod tests;
 
-use crate::counted::Counted;
 use crate::crashes::crash_and_recover;
 use crate::journal::Journal;
 use cache::CacheRef;
-use disk::{Error, IoBuf, MemBlob};
+use disk::{Counted, Error, IoBuf, MemBlob};
 use page::AddSum;
 use std::alloc::Global;
 use std::io;

@@ -3,17 +3,19 @@ ghost use Rattle.std.specs.Prelude.{◌≡◌, ◌+◌, ◌-◌, ◌^◌, [], mi
 ghost use Rattle.std.specs.List.{concat};
 ghost use Rattle.disk.specs.Disk.{ReadGoes, WriteGoes, ResizeGoes, SyncGoes};
 
-use disk::{Blob, Error, IoBuf, IoBufs, ReadOptions, WriteOptions};
+use crate::{Blob, Error, IoBuf, IoBufs, ReadOptions, WriteOptions};
 use std::alloc::Global;
 
 /// A blob that hands each call on to another, and counts the calls and the bytes that it is asked
-/// to write. A count stays at the greatest `u64`.
+/// to read and to write. A count stays at the greatest `u64`.
 #[derive(Drop)]
 pub struct Counted<B> {
     /// The other blob.
     pub inner: B,
     /// How many calls there were, whatever they answered.
     pub calls: u64,
+    /// The bytes of all reads, whatever they answered.
+    pub read: u64,
     /// The bytes of all writes, whatever they answered.
     pub written: u64,
 }
@@ -23,11 +25,13 @@ impl<B> Counted<B> {
     pub fn new(inner: B) -> Self
         ensures inner { result.inner ≡ inner }
         ensures calls { result.calls ≡ 0 }
+        ensures read { result.read ≡ 0 }
         ensures written { result.written ≡ 0 }
     {
         Counted {
             inner,
             calls: 0,
+            read: 0,
             written: 0,
         }
     }
@@ -45,9 +49,11 @@ impl<B: Blob> Blob for Counted<B> {
     ) -> Result<IoBuf, Error>
         ensures goes { ReadGoes offset len (B.life self.old.inner) (B.life self.new.inner) result }
         ensures calls { self.new.calls ≡ min (self.old.calls + 1) (2 ^ 64 - 1) }
+        ensures read { self.new.read ≡ min (self.old.read + len) (2 ^ 64 - 1) }
         ensures written { self.new.written ≡ self.old.written }
     {
         self.calls = self.calls.saturating_add(1);
+        self.read = self.read.saturating_add(len as u64);
         self.inner.read_at(alloc, offset, len, options)
     }
 
@@ -56,6 +62,7 @@ impl<B: Blob> Blob for Counted<B> {
         ensures goes { let old = B.life self.old.inner in let new = B.life self.new.inner in
             WriteGoes offset (concat bufs.now) options.sync old new result }
         ensures calls { self.new.calls ≡ min (self.old.calls + 1) (2 ^ 64 - 1) }
+        ensures read { self.new.read ≡ self.old.read }
         ensures written { let bytes = concat bufs.now in
             self.new.written ≡ min (self.old.written + length bytes) (2 ^ 64 - 1) }
     {
@@ -67,6 +74,7 @@ impl<B: Blob> Blob for Counted<B> {
     fn resize(&mut self, len: u64) -> Result<(), Error>
         ensures goes { ResizeGoes len (B.life self.old.inner) (B.life self.new.inner) result }
         ensures calls { self.new.calls ≡ min (self.old.calls + 1) (2 ^ 64 - 1) }
+        ensures read { self.new.read ≡ self.old.read }
         ensures written { self.new.written ≡ self.old.written }
     {
         self.calls = self.calls.saturating_add(1);
@@ -76,6 +84,7 @@ impl<B: Blob> Blob for Counted<B> {
     fn sync(&mut self) -> Result<(), Error>
         ensures goes { SyncGoes (B.life self.old.inner) (B.life self.new.inner) result }
         ensures calls { self.new.calls ≡ min (self.old.calls + 1) (2 ^ 64 - 1) }
+        ensures read { self.new.read ≡ self.old.read }
         ensures written { self.new.written ≡ self.old.written }
     {
         self.calls = self.calls.saturating_add(1);

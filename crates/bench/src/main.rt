@@ -1,0 +1,104 @@
+//! Plays workloads on a blob in memory, to see what they take.
+//!
+//! With no argument each is played a few rounds, and a line says what it did: its operations, the
+//! logical bytes that they were asked for, and the pages and calls that the device was. `time
+//! ROUNDS` says what each operation took, and `time ROUNDS NAME` plays only the workloads whose line
+//! has that name in it.
+#![tactic(auto)]
+
+mod done;
+mod play;
+mod stage;
+mod work;
+mod workload;
+
+use crate::play::play;
+use crate::workload::workloads;
+use anyhow::Result;
+use clap::{Arg, ArgMatches, Command, value_parser};
+use crc32c::Crc32c;
+use page::{AddSum, ConstSum, Sum};
+use std::alloc::Global;
+use std::env;
+use std::num::NonZeroU64;
+use std::process::ExitCode;
+
+/// How often a workload is played where no time is asked for.
+const FEW: u64 = 3;
+
+/// What is asked of the program.
+#[derive(Clone, Copy)]
+struct Request<'a> {
+    rounds: u64,
+    timed: bool,
+    /// What is in the line of each workload that is played.
+    name: &'a str,
+}
+
+impl<'a> Request<'a> {
+    /// What the words of the command line ask.
+    fn of(matches: &ArgMatches<'a>) -> Self {
+        match matches.subcommand_matches("time") {
+            None => Request {
+                rounds: FEW,
+                timed: false,
+                name: "",
+            },
+            Some(time) => Request {
+                rounds: time.get_one::<u64>("ROUNDS").unwrap_or(FEW),
+                timed: true,
+                name: time.get_str("NAME").unwrap_or(""),
+            },
+        }
+    }
+}
+
+/// The command line.
+fn command<'a>(alloc: Global) -> Result<Command<'a>> {
+    let rounds = Arg::new(alloc, "ROUNDS")
+        .help("how often each workload is played")
+        .value_parser(value_parser!(u64).range(1..))
+        .required(true);
+    let name = Arg::new(alloc, "NAME").help("plays the workloads whose line has this in it");
+    let time = Command::new(alloc, "time")
+        .about("prints what each operation took")
+        .arg(rounds)?
+        .arg(name)?;
+    let command = Command::new(alloc, "bench")
+        .about("plays workloads on a blob in memory")
+        .subcommand(time)?;
+    Ok(command)
+}
+
+/// Plays the workloads that are asked for under a checksum function, whose name is `sum`.
+fn play_all<H: Sum>(rt: &HostRuntime, request: &Request, sum: &str) -> Result<()> {
+    for workload in &workloads() {
+        let line = format!(in rt.alloc(); "{}, {sum}", workload.name)?;
+        if line.contains(request.name) {
+            let done = play::<H>(rt, workload, request.rounds)?;
+            if request.timed {
+                println!(rt; "{line}: {}", done.took())?;
+            } else {
+                println!(rt; "{line}: {done}")?;
+            }
+        }
+    }
+    Ok(())
+}
+
+fn main(rt: HostRuntime) -> Result<ExitCode> {
+    let alloc = rt.alloc();
+    let words: Vec<String> = env::args(&rt)?.collect(alloc)?;
+    let matches = match command(alloc)?.try_get_matches_from(words.as_slice()) {
+        Ok(matches) => matches,
+        Err(error) => {
+            error.print(&rt)?;
+            return Ok(ExitCode::from(error.exit_code() as u8));
+        }
+    };
+    let request = Request::of(&matches);
+    play_all::<ConstSum>(&rt, &request, "const")?;
+    play_all::<AddSum>(&rt, &request, "add")?;
+    play_all::<Crc32c>(&rt, &request, "crc32c")?;
+    Ok(ExitCode::SUCCESS)
+}

@@ -1,0 +1,76 @@
+// The blob that workloads are played on.
+ghost use Rattle.std.specs.Prelude.{◌≡◌, IfOk};
+ghost use Rattle.disk.specs.History.{life_of};
+ghost use Rattle.bench.specs.Ready.{IsReady};
+
+use anyhow::Result;
+use cache::CacheRef;
+use disk::{Blob, Counted, Error, VecBlob};
+use page::{CHECKSUM_SIZE, Sum};
+use paged::{Writer, recover};
+use std::alloc::Global;
+use std::num::{NonZeroU16, NonZeroUsize};
+
+/// The logical bytes of a page; with its footer it has 4,096.
+pub const PAGE_SIZE: u16 = 4084;
+
+/// The bytes that a writer is to buffer.
+pub const CAPACITY: usize = 65536;
+
+/// The physical bytes of a page.
+pub const PHYSICAL_PAGE: u64 = PAGE_SIZE as u64 + CHECKSUM_SIZE;
+
+/// A blob in memory that counts what it is asked for.
+pub type Device = Counted<VecBlob>;
+
+/// A blob and its cache.
+#[derive(Drop)]
+pub struct Stage {
+    pub alloc: Global,
+    pub blob: Device,
+    pub cache: CacheRef,
+}
+
+impl Stage {
+    /// An empty blob, with memory for the pages of so many logical bytes that was written to
+    /// before.
+    pub fn new(alloc: Global, bytes: u64) -> Result<Self> {
+        let page_size = NonZeroU16::new(PAGE_SIZE).unwrap_or(NonZeroU16::MIN);
+        let pages = (bytes / u64::from(PAGE_SIZE)).saturating_add(2);
+        let room = pages.saturating_mul(PHYSICAL_PAGE) as usize;
+        let mut memory = Vec::with_capacity(alloc, room)?;
+        memory.resize(room, 0)?;
+        memory.clear();
+        Ok(Stage {
+            alloc,
+            blob: Counted::new(VecBlob::from_vec(memory)),
+            cache: CacheRef::new(alloc, page_size, NonZeroUsize::MIN)?,
+        })
+    }
+
+    /// The writer of the blob, emptied.
+    pub fn restart<H: Sum>(&mut self) -> Result<Writer<Device, H>, Error>
+        ensures { IfOk result (λ writer.
+            IsReady H.sum_of writer (life_of self.new.blob.inner)) }
+    {
+        self.blob.resize(0)?;
+        self.recover::<H>(NonZeroUsize::MIN)
+    }
+
+    /// The writer of the blob, recovered with a buffer of so many bytes.
+    pub fn recover<H: Sum>(&mut self, buffer_size: NonZeroUsize) -> Result<Writer<Device, H>, Error>
+        ensures { IfOk result (λ writer.
+            IsReady H.sum_of writer (life_of self.new.blob.inner)) }
+    {
+        let size = self.blob.inner.len();
+        let recovery = recover::<Device, H>(
+            self.alloc,
+            &mut self.blob,
+            size,
+            CAPACITY,
+            &mut self.cache,
+            buffer_size,
+        )?;
+        Ok(Writer::from(recovery))
+    }
+}

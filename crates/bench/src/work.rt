@@ -1,0 +1,95 @@
+// The loops that are timed.
+ghost use Rattle.std.specs.Prelude.{IfOk};
+ghost use Rattle.bench.specs.Ready.{IsReady};
+
+use cache::CacheRef;
+use disk::{Blob, Error};
+use page::Sum;
+use paged::Writer;
+
+/// So many appends of a record.
+pub fn append_all<B: Blob, H: Sum>(
+    mut writer: Writer<B, H>,
+    blob: &mut B,
+    cache: &mut CacheRef,
+    record: &[u8],
+    count: u64,
+) -> Result<Writer<B, H>, Error>
+    requires { IsReady H.sum_of writer (B.life blob.old) }
+    ensures { IfOk result (λ writer. IsReady H.sum_of writer (B.life blob.new)) }
+{
+    for _ in 0..count {
+        let (next, _) = writer.append(blob, cache, record)?;
+        writer = next;
+    }
+    Ok(writer)
+}
+
+/// So many appends of a record, each tried first.
+pub fn try_append_all<B: Blob, H: Sum>(
+    mut writer: Writer<B, H>,
+    blob: &mut B,
+    cache: &mut CacheRef,
+    record: &[u8],
+    count: u64,
+) -> Result<Writer<B, H>, Error>
+    requires { IsReady H.sum_of writer (B.life blob.old) }
+    ensures { IfOk result (λ writer. IsReady H.sum_of writer (B.life blob.new)) }
+{
+    for _ in 0..count {
+        if writer.try_append(record)?.is_none() {
+            let (next, _) = writer.append(blob, cache, record)?;
+            writer = next;
+        }
+    }
+    Ok(writer)
+}
+
+/// So many times some appends of a record, and a sync.
+pub fn append_synced<B: Blob, H: Sum>(
+    mut writer: Writer<B, H>,
+    blob: &mut B,
+    cache: &mut CacheRef,
+    record: &[u8],
+    syncs: u64,
+    each: u64,
+) -> Result<Writer<B, H>, Error>
+    requires { IsReady H.sum_of writer (B.life blob.old) }
+    ensures { IfOk result (λ writer. IsReady H.sum_of writer (B.life blob.new)) }
+{
+    for _ in 0..syncs {
+        writer = append_all(writer, blob, cache, record, each)?;
+        writer = writer.sync(blob, cache)?;
+    }
+    Ok(writer)
+}
+
+/// A read of so many bytes at each of these places.
+pub fn read_all<B: Blob, H: Sum>(
+    writer: &Writer<B, H>,
+    blob: &mut B,
+    cache: &mut CacheRef,
+    places: &[u64],
+    len: usize,
+) -> Result<(), Error>
+    requires { IsReady H.sum_of writer.now (B.life blob.old) }
+    ensures { IsReady H.sum_of writer.now (B.life blob.new) }
+{
+    for &place in places {
+        writer.read_at(blob, cache, place, len)?;
+    }
+    Ok(())
+}
+
+/// The checksum of these bytes, so often, each written over the first four before the next. It
+/// answers the last.
+pub fn checksum_all<H: Sum>(bytes: &mut [u8], count: u64) -> u32 {
+    let mut last = 0;
+    for _ in 0..count {
+        last = H::sum(bytes);
+        if let Some(front) = bytes.first_chunk_mut::<4>() {
+            *front = last.to_be_bytes();
+        }
+    }
+    last
+}

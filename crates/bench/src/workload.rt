@@ -1,0 +1,83 @@
+// What is played.
+use crate::stage::PAGE_SIZE;
+
+/// What an operation of a workload does. Bytes are logical.
+#[derive(Clone, Copy)]
+pub enum Work {
+    /// Appends so many bytes.
+    Append(usize),
+    /// Appends so many bytes where they fit what is buffered, and else all the same.
+    TryAppend(usize),
+    /// Appends so many bytes, with a sync behind every so many appends.
+    AppendSynced(usize, u64),
+    /// Reads so many bytes of what is buffered.
+    ReadTip(usize),
+    /// Reads so many bytes of the pages below.
+    ReadBelow(usize),
+    /// Recovers a blob of so many bytes, with a buffer of so many.
+    Recover(usize, usize),
+    /// The checksum of a page.
+    Checksum,
+}
+
+/// Something that is played round by round. Each round of appends begins with an empty blob.
+#[derive(Clone, Copy)]
+pub struct Workload {
+    pub name: &'static str,
+    pub work: Work,
+    /// The operations of a round.
+    pub count: u64,
+}
+
+impl Workload {
+    fn new(name: &'static str, work: Work, count: u64) -> Self {
+        Workload { name, work, count }
+    }
+
+    /// The bytes that an operation is asked for.
+    pub fn bytes(&self) -> usize {
+        match self.work {
+            Work::Append(len)
+            | Work::TryAppend(len)
+            | Work::AppendSynced(len, _)
+            | Work::ReadTip(len)
+            | Work::ReadBelow(len)
+            | Work::Recover(len, _) => len,
+            Work::Checksum => usize::from(PAGE_SIZE),
+        }
+    }
+}
+
+const KIB: usize = 1 << 10;
+
+const MIB: usize = 1 << 20;
+
+/// All of them, in the order in which they are played.
+pub fn workloads() -> [Workload; 12] {
+    [
+        Workload::new("append 16 B", Work::Append(16), 16384),
+        Workload::new("append 100 B", Work::Append(100), 8192),
+        Workload::new("append 64 KiB", Work::Append(64 * KIB), 64),
+        Workload::new("try 16 B", Work::TryAppend(16), 16384),
+        Workload::new("append 100 B, sync each", Work::AppendSynced(100, 1), 4096),
+        Workload::new(
+            "append 100 B, sync every 16",
+            Work::AppendSynced(100, 16),
+            4096,
+        ),
+        Workload::new(
+            "append 100 B, sync every 256",
+            Work::AppendSynced(100, 256),
+            4096,
+        ),
+        Workload::new("read 100 B in the tip", Work::ReadTip(100), 512),
+        Workload::new("read 100 B below the tip", Work::ReadBelow(100), 512),
+        Workload::new(
+            "recover 64 MiB by 64 KiB",
+            Work::Recover(64 * MIB, 64 * KIB),
+            1,
+        ),
+        Workload::new("recover 64 MiB by 1 MiB", Work::Recover(64 * MIB, MIB), 1),
+        Workload::new("checksum of a page", Work::Checksum, 256),
+    ]
+}
