@@ -15,7 +15,9 @@ use Rattle.page.specs.Tip.{Tip, TryAppendGoes}
 use Rattle.page.specs.declared.slot.ActiveChecksum.{ActiveChecksum}
 use Rattle.paged.specs.Writer.{FitsBlob, IsWriter}
 use Rattle.paged.proofs.Sizes.{size_fits}
-use Rattle.paged.specs.Calls.{GoesOn, Refuses, Appends, Buffers, TryAppends, BuffersOver, KeepsSound, KeepsPages}
+use Rattle.paged.specs.Flush.{answered}
+use Rattle.paged.specs.Reads.{size_of}
+use Rattle.paged.specs.Calls.{GoesOn, Refuses, Flushes, Appends, Buffers, TryAppends, BuffersOver, KeepsSound, KeepsPages}
 
 -- bytes are buffered, and what is written then leaves the content
 pub append_goes : (sum : List ℕ → ℕ) (w v now : WriterState) (old new : Life) (bytes : List ℕ) → IsSound sum w old.present → v ≡ record w { tip = w.tip ++ bytes }
@@ -72,6 +74,12 @@ append_fails sum w bytes old new BlobInsufficientLength refused = refused
 append_fails sum w bytes old new OffsetOverflow refused = absurd refused.cause
 append_fails sum w bytes old new OutOfMemory refused = refused
 append_fails sum w bytes old new IdsExhausted refused = refused
+
+-- an append that flushes, whatever the flush answers
+pub append_flushed : (sum : List ℕ → ℕ) (w v now : WriterState) (old new : Life) (bytes : List ℕ) (result : Result (Unit {0}) Error) → IsSound sum w old.present → v ≡ record w { tip = w.tip ++ bytes }
+    → Flushes sum v old new (answered now result) → Appends sum w bytes old new (answered (now, size_of w) result)
+append_flushed sum w v now old new bytes (Ok done) sound is flushes = (size_is_length sum w old sound, append_goes sum w v now old new bytes sound is flushes)
+append_flushed sum w v now old new bytes (Err e) sound is refused = append_fails sum w bytes old new e (append_refused sum w v old new bytes e sound is refused)
 
 -- bytes that are buffered are an append
 pub buffered_goes : (sum : List ℕ → ℕ) (w now : WriterState) (bytes : List ℕ) (life : Life) → IsSound sum w life.present → now ≡ record w { tip = w.tip ++ bytes } → GoesOn sum w life bytes now life

@@ -1,6 +1,6 @@
 -- From what a device call did to what a flush and a sync owe.
 use Rattle.std.proofs.Common.{◌≡◌, ℕ, ◌+◌, ◌*◌, ◌%◌, ◌<◌, ◌≤◌, List, [], ◌++◌, length, take, refl, sym, ap, ◌∙◌, subst, arith, append-nil, Bool, true, false, Result, Ok, Err}
-use Rattle.std.specs.Prelude.{IfOk, IsErrOf, not, ◌==◌, if◌then◌else◌}
+use Rattle.std.specs.Prelude.{IfOk, OnOk, IsErrOf, not, ◌==◌, if◌then◌else◌}
 use Rattle.std.proofs.lemmas.List.{take_at}
 use Rattle.std.proofs.lemmas.Bool.Decides.{nat_tests}
 use Rattle.std.proofs.Math.Nat.{mod-lt, mod-eq_of_lt}
@@ -20,7 +20,7 @@ use Rattle.crash.proofs.CallLaws.{sync_stays, sync_sound, sync_content, write_st
 use Rattle.disk.proofs.Logs.{grows_same, grows_once, grows_joins}
 use Rattle.paged.proofs.Flushing.{length-rest}
 use Rattle.paged.proofs.Causes.{write_cause, sync_cause, cause_later, sync_asks}
-use Rattle.paged.specs.Flush.{full_in, rest_of, has_work, carried, synced, written, place_of, flush_bytes, outcome}
+use Rattle.paged.specs.Flush.{full_in, rest_of, has_work, carried, synced, written, place_of, flush_bytes, answered}
 use Rattle.paged.specs.Calls.{AsksAtMost, settle_calls, sync_calls, HoldsWithin, IsSameWriter, GoesOn, Flushes, Syncs, Settles, IsSettled}
 
 -- a content is the beginning of a longer one
@@ -37,11 +37,11 @@ stays_nil : (sum : List ℕ → ℕ) (P : ℕ) (content : List ℕ) (old new : L
 stays_nil sum P content old new stays = subst (λ c. StaysThrough sum P c old new) (sym (append-nil content)) stays
 
 -- a flush of the full pages, and of the rest where asked, by a writer whose durable slot is up to date
-pub flush_goes : (sum : List ℕ → ℕ) (w : WriterState) (rest : Bool) (old new : Life) (result : Result WriterState Error) → IsSmall sum → IsSound sum w old.present
-    → w.durable ≡ guard_slot w.sync w.flushed w.durable → CanWrite w.page_size w.tip (full_in w) rest → WriteGoes (place_of w) (flush_bytes sum w rest) false old new (outcome result)
-    → IfOk result (λ now. now ≡ after_write sum w (full_in w) rest) → (IsErrOf result OffsetOverflow → ⊥) → Flushes sum w old new result
+pub flush_goes : (sum : List ℕ → ℕ) (w now : WriterState) (rest : Bool) (old new : Life) (result : Result (Unit {0}) Error) → IsSmall sum → IsSound sum w old.present
+    → w.durable ≡ guard_slot w.sync w.flushed w.durable → CanWrite w.page_size w.tip (full_in w) rest → WriteGoes (place_of w) (flush_bytes sum w rest) false old new result
+    → OnOk result (now ≡ after_write sum w (full_in w) rest) → (IsErrOf result OffsetOverflow → ⊥) → Flushes sum w old new (answered now result)
 unfolding IsSound
-flush_goes sum w rest old new (Ok now) small sound is can goes state fits = record {
+flush_goes sum w now rest old new (Ok done) small sound is can goes state fits = record {
   sound = subst (λ n. IsSound sum n new.present) (sym state) (write_sound sum w old new (full_in w) rest (flush_bytes sum w rest) small sound is can refl tt goes);
   size = size_is_length sum now new (subst (λ n. IsSound sum n new.present) (sym state) (write_sound sum w old new (full_in w) rest (flush_bytes sum w rest) small sound is can refl tt goes));
   only = sound_leaves sum now new.present (subst (λ n. IsSound sum n new.present) (sym state) (write_sound sum w old new (full_in w) rest (flush_bytes sum w rest) small sound is can refl tt goes));
@@ -50,7 +50,7 @@ flush_goes sum w rest old new (Ok now) small sound is can goes state fits = reco
   log = grows_once (WriteAt (place_of w) (length (flush_bytes sum w rest)) false) false old.present new.present (ap (λ l. l.present.log) goes.1 ∙ ap (λ e. e.log) goes.2.rest);
   stays = stays_nil sum w.page_size (content w old.present.readable) old new (write_stays sum w old new (full_in w) rest (flush_bytes sum w rest) small sound is can refl false (Ok tt) goes);
 }
-flush_goes sum w rest old new (Err e) small sound is can goes state fits = record {
+flush_goes sum w now rest old new (Err e) small sound is can goes state fits = record {
   cause = write_cause (place_of w) (flush_bytes sum w rest) false old new e goes (λ h. fits (ap Err h));
   stays = write_stays sum w old new (full_in w) rest (flush_bytes sum w rest) small sound is can refl false (Err e) goes;
 }
@@ -64,14 +64,14 @@ flushes_carried sum w old new (Ok now) h = carried_goes_on sum w now old new h
 flushes_carried sum w old new (Err e) h = record { cause = h.cause; stays = h.stays }
 
 -- a flush by a writer whose durable slot was brought up to date
-pub flush_call : (sum : List ℕ → ℕ) (w v : WriterState) (rest : Bool) (old new : Life) (result : Result WriterState Error) → IsSmall sum → IsSound sum w old.present → v ≡ carried w
-    → CanWrite v.page_size v.tip (full_in v) rest → WriteGoes (place_of v) (flush_bytes sum v rest) false old new (outcome result)
-    → IfOk result (λ now. now ≡ after_write sum v (full_in v) rest) → (IsErrOf result OffsetOverflow → ⊥) → Flushes sum w old new result
+pub flush_call : (sum : List ℕ → ℕ) (w v now : WriterState) (rest : Bool) (old new : Life) (result : Result (Unit {0}) Error) → IsSmall sum → IsSound sum w old.present → v ≡ carried w
+    → CanWrite v.page_size v.tip (full_in v) rest → WriteGoes (place_of v) (flush_bytes sum v rest) false old new result
+    → OnOk result (now ≡ after_write sum v (full_in v) rest) → (IsErrOf result OffsetOverflow → ⊥) → Flushes sum w old new (answered now result)
 unfolding IsSound
-flush_call sum w v rest old new result small sound is =
-    subst (λ v. CanWrite v.page_size v.tip (full_in v) rest → WriteGoes (place_of v) (flush_bytes sum v rest) false old new (outcome result)
-    → IfOk result (λ now. now ≡ after_write sum v (full_in v) rest) → (IsErrOf result OffsetOverflow → ⊥) → Flushes sum w old new result) (sym is)
-    (λ can goes state fits. flushes_carried sum w old new result (flush_goes sum (carried w) rest old new result small (carry_sound sum w old.present sound) (guard_slot-again w.sync w.flushed w.durable) can goes state fits))
+flush_call sum w v now rest old new result small sound is =
+    subst (λ v. CanWrite v.page_size v.tip (full_in v) rest → WriteGoes (place_of v) (flush_bytes sum v rest) false old new result
+    → OnOk result (now ≡ after_write sum v (full_in v) rest) → (IsErrOf result OffsetOverflow → ⊥) → Flushes sum w old new (answered now result)) (sym is)
+    (λ can goes state fits. flushes_carried sum w old new (answered now result) (flush_goes sum (carried w) now rest old new result small (carry_sound sum w old.present sound) (guard_slot-again w.sync w.flushed w.durable) can goes state fits))
 
 -- one call after another
 pub goes_on_more : (sum : List ℕ → ℕ) (w m n : WriterState) (old mid new : Life) → GoesOn sum w old [] m mid → GoesOn sum m mid [] n new → GoesOn sum w old [] n new
@@ -113,11 +113,11 @@ settle_ok sum w now old new small sound goes state = record {
   stays = stays_nil sum w.page_size (content w old.present.readable) old new (sync_stays sum w old sound new (Ok tt) goes);
 }
 
-pub settle_goes : (sum : List ℕ → ℕ) (w : WriterState) (old new : Life) (result : Result WriterState Error) → IsSmall sum → IsSound sum w old.present → SyncGoes old new (outcome result)
-    → IfOk result (λ now. now ≡ synced w) → Settles sum w old new result
+pub settle_goes : (sum : List ℕ → ℕ) (w now : WriterState) (old new : Life) (result : Result (Unit {0}) Error) → IsSmall sum → IsSound sum w old.present → SyncGoes old new result
+    → OnOk result (now ≡ synced w) → Settles sum w old new (answered now result)
 unfolding IsSound
-settle_goes sum w old new (Ok now) small sound goes state = (settle_ok sum w now old new small sound goes state, state)
-settle_goes sum w old new (Err e) small sound goes state = record { cause = sync_cause old new e goes; stays = sync_stays sum w old sound new (Err e) goes }
+settle_goes sum w now old new (Ok done) small sound goes state = (settle_ok sum w now old new small sound goes state, state)
+settle_goes sum w now old new (Err e) small sound goes state = record { cause = sync_cause old new e goes; stays = sync_stays sum w old sound new (Err e) goes }
 
 -- a clean writer has nothing to settle
 pub settled_already : (sum : List ℕ → ℕ) (w : WriterState) (life : Life) → IsSound sum w life.present → w.sync ≡ Clean → Settles sum w life life (Ok w)
@@ -137,12 +137,12 @@ settled_after sum w true some is = record {
 }
 
 -- a write that is durable at once
-sync_durably : (sum : List ℕ → ℕ) (w : WriterState) (rest : Bool) (old new : Life) (result : Result WriterState Error) → IsSmall sum → IsSound sum w old.present
+sync_durably : (sum : List ℕ → ℕ) (w now : WriterState) (rest : Bool) (old new : Life) (result : Result (Unit {0}) Error) → IsSmall sum → IsSound sum w old.present
     → w.durable ≡ guard_slot w.sync w.flushed w.durable → rest ≡ not (length w.tip % w.page_size == 0) → CanWrite w.page_size w.tip (full_in w) rest
-    → WriteGoes (place_of w) (flush_bytes sum w rest) true old new (outcome result)
-    → IfOk result (λ now. now ≡ synced (after_write sum w (full_in w) rest)) → (IsErrOf result OffsetOverflow → ⊥) → Syncs sum w old new result
+    → WriteGoes (place_of w) (flush_bytes sum w rest) true old new result
+    → OnOk result (now ≡ synced (after_write sum w (full_in w) rest)) → (IsErrOf result OffsetOverflow → ⊥) → Syncs sum w old new (answered now result)
 unfolding IsSound
-sync_durably sum w rest old new (Ok now) small sound is rests can goes state fits = (
+sync_durably sum w now rest old new (Ok done) small sound is rests can goes state fits = (
   record {
     sound = subst (λ n. IsSound sum n new.present) (sym state) (durable_write_sound sum w old new (full_in w) rest (flush_bytes sum w rest) small sound is can refl tt goes);
     size = size_is_length sum now new (subst (λ n. IsSound sum n new.present) (sym state) (durable_write_sound sum w old new (full_in w) rest (flush_bytes sum w rest) small sound is can refl tt goes));
@@ -154,7 +154,7 @@ sync_durably sum w rest old new (Ok now) small sound is rests can goes state fit
   },
   subst IsSettled (sym state) (settled_after sum w rest sound.stands.some rests),
 )
-sync_durably sum w rest old new (Err e) small sound is rests can goes state fits = record {
+sync_durably sum w now rest old new (Err e) small sound is rests can goes state fits = record {
   cause = write_cause (place_of w) (flush_bytes sum w rest) true old new e goes (λ h. fits (ap Err h));
   stays = write_stays sum w old new (full_in w) rest (flush_bytes sum w rest) small sound is can refl true (Err e) goes;
 }
@@ -164,31 +164,31 @@ syncs_carried sum w old new (Ok now) h = (carried_goes_on sum w now old new h.0,
 syncs_carried sum w old new (Err e) h = record { cause = h.cause; stays = h.stays }
 
 -- the same by a writer whose durable slot was brought up to date
-pub sync_write : (sum : List ℕ → ℕ) (w v : WriterState) (rest : Bool) (old new : Life) (result : Result WriterState Error) → IsSmall sum → IsSound sum w old.present → v ≡ carried w
-    → rest ≡ not (length w.tip % w.page_size == 0) → CanWrite v.page_size v.tip (full_in v) rest → WriteGoes (place_of v) (flush_bytes sum v rest) true old new (outcome result)
-    → IfOk result (λ now. now ≡ synced (after_write sum v (full_in v) rest)) → (IsErrOf result OffsetOverflow → ⊥) → Syncs sum w old new result
+pub sync_write : (sum : List ℕ → ℕ) (w v now : WriterState) (rest : Bool) (old new : Life) (result : Result (Unit {0}) Error) → IsSmall sum → IsSound sum w old.present → v ≡ carried w
+    → rest ≡ not (length w.tip % w.page_size == 0) → CanWrite v.page_size v.tip (full_in v) rest → WriteGoes (place_of v) (flush_bytes sum v rest) true old new result
+    → OnOk result (now ≡ synced (after_write sum v (full_in v) rest)) → (IsErrOf result OffsetOverflow → ⊥) → Syncs sum w old new (answered now result)
 unfolding IsSound
-sync_write sum w v rest old new result small sound is rests =
-    subst (λ v. CanWrite v.page_size v.tip (full_in v) rest → WriteGoes (place_of v) (flush_bytes sum v rest) true old new (outcome result)
-    → IfOk result (λ now. now ≡ synced (after_write sum v (full_in v) rest)) → (IsErrOf result OffsetOverflow → ⊥) → Syncs sum w old new result) (sym is)
-    (λ can goes state fits. syncs_carried sum w old new result (sync_durably sum (carried w) rest old new result small (carry_sound sum w old.present sound) (guard_slot-again w.sync w.flushed w.durable) rests can goes state fits))
+sync_write sum w v now rest old new result small sound is rests =
+    subst (λ v. CanWrite v.page_size v.tip (full_in v) rest → WriteGoes (place_of v) (flush_bytes sum v rest) true old new result
+    → OnOk result (now ≡ synced (after_write sum v (full_in v) rest)) → (IsErrOf result OffsetOverflow → ⊥) → Syncs sum w old new (answered now result)) (sym is)
+    (λ can goes state fits. syncs_carried sum w old new (answered now result) (sync_durably sum (carried w) now rest old new result small (carry_sound sum w old.present sound) (guard_slot-again w.sync w.flushed w.durable) rests can goes state fits))
 
 -- a dirty writer's durable slot is up to date
 pub dirty_carried : (w : WriterState) → w.sync ≡ Dirty → w.durable ≡ guard_slot w.sync w.flushed w.durable
 dirty_carried w dirty = ap (λ s. guard_slot s w.flushed w.durable) (sym dirty)
 
 -- a write, and a sync of the blob
-pub sync_second : (sum : List ℕ → ℕ) (w now : WriterState) (rest : Bool) (old mid new : Life) (result : Result WriterState Error) → IsSmall sum → IsSound sum w old.present → w.sync ≡ Dirty
+pub sync_second : (sum : List ℕ → ℕ) (w now n : WriterState) (rest : Bool) (old mid new : Life) (result : Result (Unit {0}) Error) → IsSmall sum → IsSound sum w old.present → w.sync ≡ Dirty
     → rest ≡ not (length w.tip % w.page_size == 0) → CanWrite w.page_size w.tip (full_in w) rest → WriteGoes (place_of w) (flush_bytes sum w rest) false old mid (Ok tt)
-    → now ≡ after_write sum w (full_in w) rest → SyncGoes mid new (outcome result) → IfOk result (λ n. n ≡ synced now) → Syncs sum w old new result
+    → now ≡ after_write sum w (full_in w) rest → SyncGoes mid new result → OnOk result (n ≡ synced now) → Syncs sum w old new (answered n result)
 unfolding IsSound
-sync_second sum w now rest old mid new (Ok n) small sound dirty rests can goes state synced_blob last =
-    let first : GoesOn sum w old [] now mid = flush_goes sum w rest old mid (Ok now) small sound (dirty_carried w dirty) can goes state (λ is. cc) in (
+sync_second sum w now n rest old mid new (Ok done) small sound dirty rests can goes state synced_blob last =
+    let first : GoesOn sum w old [] now mid = flush_goes sum w now rest old mid (Ok tt) small sound (dirty_carried w dirty) can goes state (λ is. cc) in (
       goes_on_more sum w now n old mid new first (settle_ok sum now n mid new small first.sound synced_blob last),
       subst IsSettled (sym (last ∙ ap synced state)) (settled_after sum w rest sound.stands.some rests),
     )
-sync_second sum w now rest old mid new (Err e) small sound dirty rests can goes state synced_blob last =
-    let first : GoesOn sum w old [] now mid = flush_goes sum w rest old mid (Ok now) small sound (dirty_carried w dirty) can goes state (λ is. cc) in
+sync_second sum w now n rest old mid new (Err e) small sound dirty rests can goes state synced_blob last =
+    let first : GoesOn sum w old [] now mid = flush_goes sum w now rest old mid (Ok tt) small sound (dirty_carried w dirty) can goes state (λ is. cc) in
     let second = sync_stays sum now mid first.sound new (Err e) synced_blob in
     record {
       cause = cause_later old mid new e first.log (sync_cause mid new e synced_blob);
@@ -216,13 +216,13 @@ sync_settles sum w old new (Ok now) sound idle (goes, state) = (goes, subst IsSe
 sync_settles sum w old new (Err e) sound idle refused = refused
 
 -- after a flush less than a page is buffered
-pub flush_short : (sum : List ℕ → ℕ) (w v : WriterState) (result : Result WriterState Error) → 0 < w.page_size → v ≡ carried w → IfOk result (λ now. now ≡ written sum v false false)
-    → IfOk result (λ now. length now.tip < w.page_size)
-flush_short sum w v (Ok now) some is state =
+pub flush_short : (sum : List ℕ → ℕ) (w v now : WriterState) (result : Result (Unit {0}) Error) → 0 < w.page_size → v ≡ carried w → OnOk result (now ≡ written sum v false false)
+    → OnOk result (length now.tip < w.page_size)
+flush_short sum w v now (Ok done) some is state =
     let same : v.page_size ≡ w.page_size = ap (λ (s : WriterState). s.page_size) is in
     let tip : length now.tip ≡ length (rest_of v) = ap (λ (s : WriterState). length s.tip) state in
     omega (arith, length-rest v, mod-lt (length v.tip) (let page : 0 < v.page_size = omega (arith, some, same) in page), same, tip)
-flush_short sum w v (Err e) some is state = tt
+flush_short sum w v now (Err e) some is state = tt
 
 -- and where no full page is
 pub idle_short : (w : WriterState) → has_work w false ≡ false → length w.tip < w.page_size
@@ -240,8 +240,8 @@ sync_within sum w old new (Ok now) room syncs = omega (arith, syncs.1.short, syn
 sync_within sum w old new (Err e) room syncs = tt
 
 -- what is written is made durable in one call, or none
-pub settle_asks : (w : WriterState) (old new : Life) (result : Result WriterState Error) → w.sync ≡ Dirty → SyncGoes old new (outcome result) → AsksAtMost (settle_calls w.sync) old new
-settle_asks w old new result dirty goes = omega (arith, sync_asks old new (outcome result) goes, ap settle_calls dirty)
+pub settle_asks : (w : WriterState) (old new : Life) (result : Result (Unit {0}) Error) → w.sync ≡ Dirty → SyncGoes old new result → AsksAtMost (settle_calls w.sync) old new
+settle_asks w old new result dirty goes = omega (arith, sync_asks old new result goes, ap settle_calls dirty)
 
 -- a sync that writes and syncs, in two
 pub sync_asks_twice : (w : WriterState) (old mid new : Life) → has_work w true ≡ true → w.sync ≡ Dirty → AsksAtMost 1 old mid → AsksAtMost 1 mid new → AsksAtMost (sync_calls w) old new

@@ -81,3 +81,8 @@ with_footers (page ∷ pages) footers =
 abbrev pub outcome : {A : Type 0} → Result A Error → Result (Unit {0}) Error
 outcome (Ok a) = Ok tt
 outcome (Err e) = Err e
+
+-- an answer with this value at Ok
+abbrev pub answered : {A : Type 0} → A → Result (Unit {0}) Error → Result A Error
+answered a (Ok done) = Ok a
+answered a (Err e) = Err e

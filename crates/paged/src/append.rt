@@ -1,11 +1,12 @@
 // Appending.
-ghost use Rattle.std.specs.Prelude.{◌≡◌, ◌↔◌, ◌+◌, ◌^◌, ◌≤◌, ◌++◌, length, ◌<◌, IsTrue, IfOk, Err};
+ghost use Rattle.std.specs.Prelude.{◌≡◌, ◌↔◌, ◌+◌, ◌^◌, ◌≤◌, ◌++◌, length, ◌<◌, IsTrue, IfOk, OnOk, Err};
 ghost use Rattle.crash.specs.Sound.{IsSound, content};
 ghost use Rattle.crash.specs.Stays.{KeepsAllFloors, LeavesOnly};
 ghost use Rattle.paged.specs.Writer.{physical_size, FitsBlob};
 ghost use Rattle.paged.specs.Calls.{AsksAtMost, HoldsWithin, Appends, Buffers, BuffersAll};
 ghost use Rattle.paged.specs.Calls.{TryAppends, BuffersOver, KeepsSound, KeepsPages};
-ghost use Rattle.paged.specs.Reads.{HasPages};
+ghost use Rattle.paged.specs.Reads.{HasPages, size_of};
+ghost use Rattle.paged.specs.Flush.{answered};
 
 use crate::Writer;
 use cache::CacheRef;
@@ -75,11 +76,33 @@ impl<B: Blob, H: Sum, Phase> Writer<B, H, Phase> {
             LeavesOnly H.sum_of self.page_size held (held ++ bytes.now) old new }
     {
         let at = self.size();
-        if self.buffer(bytes)? {
-            let flushed = self.flush(blob)?;
-            return Ok((flushed, at));
-        }
+        self.append_bytes(blob, bytes)?;
         Ok((self, at))
+    }
+
+    /// Adds bytes to the tip, and writes its full pages out where it then holds more than its
+    /// capacity. After an error the writer is of no use.
+    fn append_bytes(&mut self, blob: &mut B, bytes: &[u8]) -> Result<(), Error>
+        requires sound { IsSound H.sum_of self.old (B.life blob.old).present }
+        ensures appends { let old = B.life blob.old in let new = B.life blob.new in
+            let at = size_of self.old in
+            Appends H.sum_of self.old bytes.now old new (answered (self.new, at) result) }
+        ensures overflow { let buffered = length self.old.tip + length bytes.now in
+            2 ^ 64 ≤ physical_size self.old.page_size self.old.full_pages buffered
+            → result ≡ Err Error.OffsetOverflow }
+        ensures within { OnOk result (HoldsWithin self.new) }
+        ensures buffered { let old = B.life blob.old in let new = B.life blob.new in
+            length self.old.tip + length bytes.now ≤ self.old.capacity
+            → BuffersAll self.old bytes.now old new (answered (self.new, size_of self.old) result) }
+        ensures flushed { self.old.capacity < length self.old.tip + length bytes.now
+            → OnOk result (length self.new.tip < self.old.page_size) }
+        ensures calls { AsksAtMost 1 (B.life blob.old) (B.life blob.new) }
+    {
+        if self.buffer(bytes)? {
+            self.flush(blob)
+        } else {
+            Ok(())
+        }
     }
 
     /// Appends bytes where they fit what is buffered, and answers the logical place of the first:

@@ -13,7 +13,7 @@ ghost use Rattle.paged.specs.Reads.{HasPages};
 ghost use Rattle.page.specs.Tip.{ArePages};
 ghost use Rattle.paged.specs.Writer.{FitsBlob};
 ghost use Rattle.paged.specs.Flush.{full_in, rest_of, rest_bytes, has_work, carried, advanced};
-ghost use Rattle.paged.specs.Flush.{place_of, flush_bytes, synced, written, outcome};
+ghost use Rattle.paged.specs.Flush.{place_of, flush_bytes, synced, written, outcome, answered};
 
 use crate::Writer;
 use crate::build::{physical_pages, push_page};
@@ -54,14 +54,13 @@ impl<B, H, Phase> Writer<B, H, Phase> {
     }
 
     /// Takes the slot that was written last over as the durable one, where nothing is unsynced.
-    fn carry(mut self) -> Self
-        ensures { result ≡ carried self }
+    fn carry(&mut self)
+        ensures { self.new ≡ carried self.old }
     {
         match self.sync_state {
             SyncState::Clean => self.durable = self.flushed,
             SyncState::Dirty => {}
         }
-        self
     }
 
     /// Where a flush writes.
@@ -131,15 +130,15 @@ impl<B, H: Sum, Phase> Writer<B, H, Phase> {
 
 impl<B: Blob, H: Sum, Phase> Writer<B, H, Phase> {
     /// Writes the tip's full pages, and the rest where asked, in one write. With `sync` it is
-    /// durable at once, and nothing is unsynced before it.
-    fn write_pages(mut self, blob: &mut B, rest: bool, sync: bool) -> Result<Self, Error>
-        requires can { CanWrite self.page_size self.tip (full_in self) rest }
+    /// durable at once, and nothing is unsynced before it. After an error the writer is of no use.
+    fn write_pages(&mut self, blob: &mut B, rest: bool, sync: bool) -> Result<(), Error>
+        requires can { CanWrite self.old.page_size self.old.tip (full_in self.old) rest }
         requires settled { sync ≡ true → (B.life blob.old).present.since ≡ [] }
         ensures fits { IsErrOf result Error.OffsetOverflow → ⊥ }
         ensures goes { let old = B.life blob.old in let new = B.life blob.new in
-            WriteGoes (place_of self) (flush_bytes H.sum_of self rest) sync old new
-            (outcome result) }
-        ensures state { IfOk result (λ w. w ≡ written H.sum_of self rest sync) }
+            let bytes = flush_bytes H.sum_of self.old rest in
+            WriteGoes (place_of self.old) bytes sync old new result }
+        ensures state { OnOk result (self.new ≡ written H.sum_of self.old rest sync) }
     {
         let place = self.place();
         let bufs = self.take_pages(rest)?;
@@ -149,32 +148,34 @@ impl<B: Blob, H: Sum, Phase> Writer<B, H, Phase> {
         };
         blob.write_at(place, &bufs, options)?;
         self.sync_state = SyncState::after_write(sync);
-        Ok(self)
+        Ok(())
     }
 
     /// Syncs the blob.
-    pub(crate) fn sync_blob(mut self, blob: &mut B) -> Result<Self, Error>
-        ensures goes { SyncGoes (B.life blob.old) (B.life blob.new) (outcome result) }
-        ensures state { IfOk result (λ w. w ≡ synced self) }
+    fn sync_blob(&mut self, blob: &mut B) -> Result<(), Error>
+        ensures goes { SyncGoes (B.life blob.old) (B.life blob.new) result }
+        ensures state { OnOk result (self.new ≡ synced self.old) }
     {
         blob.sync()?;
         self.sync_state = SyncState::Clean;
-        Ok(self)
+        Ok(())
     }
 
     /// Writes the tip's full pages out, without a sync. It makes no device call where there is
-    /// none.
-    pub(crate) fn flush(self, blob: &mut B) -> Result<Self, Error>
-        requires sound { IsSound H.sum_of self (B.life blob.old).present }
-        ensures flushes { Flushes H.sum_of self (B.life blob.old) (B.life blob.new) result }
+    /// none. After an error the writer is of no use.
+    pub(crate) fn flush(&mut self, blob: &mut B) -> Result<(), Error>
+        requires sound { IsSound H.sum_of self.old (B.life blob.old).present }
+        ensures flushes { let old = B.life blob.old in let new = B.life blob.new in
+            Flushes H.sum_of self.old old new (answered self.new result) }
         ensures calls { AsksAtMost 1 (B.life blob.old) (B.life blob.new) }
-        ensures short { IfOk result (λ w. length w.tip < self.page_size) }
-        ensures room { self.page_size ≤ self.capacity }
+        ensures short { OnOk result (length self.new.tip < self.old.page_size) }
+        ensures room { self.old.page_size ≤ self.old.capacity }
     {
         if !self.has_flush_work(false) {
-            return Ok(self);
+            return Ok(());
         }
-        self.carry().write_pages(blob, false, false)
+        self.carry();
+        self.write_pages(blob, false, false)
     }
 
     /// Makes all that was appended durable. It makes two device calls at most, a write and a sync
@@ -183,7 +184,7 @@ impl<B: Blob, H: Sum, Phase> Writer<B, H, Phase> {
     ///
     /// `WriteFailed` and `SyncFailed` where the device failed, `OutOfMemory`; the writer is gone
     /// then.
-    pub fn sync(self, blob: &mut B, _cache: &mut CacheRef) -> Result<Self, Error>
+    pub fn sync(mut self, blob: &mut B, _cache: &mut CacheRef) -> Result<Self, Error>
         requires sound { IsSound H.sum_of self (B.life blob.old).present }
         ensures syncs { Syncs H.sum_of self (B.life blob.old) (B.life blob.new) result }
         ensures sound { IfOk result (λ w. IsSound H.sum_of w (B.life blob.new).present) }
@@ -205,6 +206,22 @@ impl<B: Blob, H: Sum, Phase> Writer<B, H, Phase> {
             let held = content self old.present.readable in
             LeavesOnly H.sum_of self.page_size held held old new }
     {
+        self.sync_all(blob)?;
+        Ok(self)
+    }
+
+    /// The same. After an error the writer is of no use.
+    fn sync_all(&mut self, blob: &mut B) -> Result<(), Error>
+        requires sound { IsSound H.sum_of self.old (B.life blob.old).present }
+        ensures syncs { let old = B.life blob.old in let new = B.life blob.new in
+            Syncs H.sum_of self.old old new (answered self.new result) }
+        ensures room { self.old.page_size ≤ self.old.capacity }
+        ensures calls { AsksAtMost (sync_calls self.old) (B.life blob.old) (B.life blob.new) }
+        ensures idle { sync_calls self.old ≡ 0
+            → (result ≡ Ok tt) × (self.new ≡ self.old) × (B.life blob.new ≡ B.life blob.old) }
+        ensures unwritten { has_work self.old true ≡ false → self.old.sync ≡ Dirty
+            → SyncGoes (B.life blob.old) (B.life blob.new) result }
+    {
         if self.has_flush_work(true) {
             self.sync_pages(blob)
         } else {
@@ -213,34 +230,40 @@ impl<B: Blob, H: Sum, Phase> Writer<B, H, Phase> {
     }
 
     /// Writes the tip out and makes it durable: at once where nothing was unsynced, else by a write
-    /// and a sync.
-    fn sync_pages(self, blob: &mut B) -> Result<Self, Error>
-        requires sound { IsSound H.sum_of self (B.life blob.old).present }
-        requires work { has_work self true ≡ true }
-        ensures syncs { Syncs H.sum_of self (B.life blob.old) (B.life blob.new) result }
-        ensures calls { AsksAtMost (sync_calls self) (B.life blob.old) (B.life blob.new) }
-        ensures idle { sync_calls self ≡ 0
-            → (result ≡ Ok self) × (B.life blob.new ≡ B.life blob.old) }
+    /// and a sync. After an error the writer is of no use.
+    fn sync_pages(&mut self, blob: &mut B) -> Result<(), Error>
+        requires sound { IsSound H.sum_of self.old (B.life blob.old).present }
+        requires work { has_work self.old true ≡ true }
+        ensures syncs { let old = B.life blob.old in let new = B.life blob.new in
+            Syncs H.sum_of self.old old new (answered self.new result) }
+        ensures calls { AsksAtMost (sync_calls self.old) (B.life blob.old) (B.life blob.new) }
     {
         let rest = self.has_rest();
         match self.sync_state {
-            SyncState::Clean => self.carry().write_pages(blob, rest, true),
-            SyncState::Dirty => self.write_pages(blob, rest, false)?.sync_blob(blob),
+            SyncState::Clean => {
+                self.carry();
+                self.write_pages(blob, rest, true)
+            }
+            SyncState::Dirty => {
+                self.write_pages(blob, rest, false)?;
+                self.sync_blob(blob)
+            }
         }
     }
 
     /// Makes durable what is written.
-    pub(crate) fn settle(self, blob: &mut B) -> Result<Self, Error>
-        requires sound { IsSound H.sum_of self (B.life blob.old).present }
-        ensures settles { Settles H.sum_of self (B.life blob.old) (B.life blob.new) result }
-        ensures calls { AsksAtMost (settle_calls self.sync) (B.life blob.old) (B.life blob.new) }
-        ensures idle { settle_calls self.sync ≡ 0
-            → (result ≡ Ok self) × (B.life blob.new ≡ B.life blob.old) }
-        ensures unwritten { let old = B.life blob.old in let new = B.life blob.new in
-            self.sync ≡ Dirty → SyncGoes old new (outcome result) }
+    fn settle(&mut self, blob: &mut B) -> Result<(), Error>
+        requires sound { IsSound H.sum_of self.old (B.life blob.old).present }
+        ensures settles { let old = B.life blob.old in let new = B.life blob.new in
+            Settles H.sum_of self.old old new (answered self.new result) }
+        ensures calls { AsksAtMost (settle_calls self.old.sync) (B.life blob.old) (B.life blob.new) }
+        ensures idle { settle_calls self.old.sync ≡ 0
+            → (result ≡ Ok tt) × (self.new ≡ self.old) × (B.life blob.new ≡ B.life blob.old) }
+        ensures unwritten { self.old.sync ≡ Dirty
+            → SyncGoes (B.life blob.old) (B.life blob.new) result }
     {
         match self.sync_state {
-            SyncState::Clean => Ok(self),
+            SyncState::Clean => Ok(()),
             SyncState::Dirty => self.sync_blob(blob),
         }
     }

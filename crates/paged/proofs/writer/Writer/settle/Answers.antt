@@ -6,18 +6,24 @@ use Rattle.paged.proofs.writer.Writer.settle.Goals as goal
 
 pub returns-in-Dirty : goal.returns-in-Dirty
 unfolding IsSound
-returns-in-Dirty g c = record {
-  settles = settle_goes g.H.Sum.sum_of c.args.self (g.B.Blob.life c.args.blob.now) (g.B.Blob.life c.sync_blob.new.blob) c.sync_blob.result g.met.H.Sum.small c.requires.sound c.sync_blob.ensures.goes c.sync_blob.ensures.state;
-  calls = settle_asks c.args.self (g.B.Blob.life c.args.blob.now) (g.B.Blob.life c.sync_blob.new.blob) c.sync_blob.result (sym (ap (λ s. s.sync) c.self.view_is) ∙ ap state_of c.in-Dirty.is) c.sync_blob.ensures.goes;
-  unwritten = λ dirty. c.sync_blob.ensures.goes;
-  idle = λ none. absurd (settle_due c.args.self (sym (ap (λ s. s.sync) c.self.view_is) ∙ ap state_of c.in-Dirty.is) none);
-}
+returns-in-Dirty g c =
+    let old = g.B.Blob.life c.args.blob.now in
+    let new = g.B.Blob.life c.sync_blob.new.blob in
+    let dirty = sym (ap (λ s. s.sync) c.self.view_is) ∙ ap state_of c.in-Dirty.is in
+    record {
+      settles = settle_goes g.H.Sum.sum_of c.args.self.now c.sync_blob.new.self old new c.sync_blob.result g.met.H.Sum.small c.requires.sound c.sync_blob.ensures.goes c.sync_blob.ensures.state;
+      calls = settle_asks c.args.self.now old new c.sync_blob.result dirty c.sync_blob.ensures.goes;
+      unwritten = λ _. c.sync_blob.ensures.goes;
+      idle = λ none. absurd (settle_due c.args.self.now dirty none);
+    }
 
 pub returns-in-Clean : goal.returns-in-Clean
 unfolding IsSound
-returns-in-Clean g c = record {
-  settles = settled_already g.H.Sum.sum_of c.args.self (g.B.Blob.life c.args.blob.now) c.requires.sound (sym (ap (λ s. s.sync) c.self.view_is) ∙ ap state_of c.in-Clean.is);
-  calls = omega arith;
-  unwritten = λ dirty. let clean = sym (ap (λ s. s.sync) c.self.view_is) ∙ ap state_of c.in-Clean.is in absurd (cc);
-  idle = λ none. (refl, refl);
-}
+returns-in-Clean g c =
+    let clean = sym (ap (λ s. s.sync) c.self.view_is) ∙ ap state_of c.in-Clean.is in
+    record {
+      settles = settled_already g.H.Sum.sum_of c.args.self.now (g.B.Blob.life c.args.blob.now) c.requires.sound clean;
+      calls = omega arith;
+      unwritten = λ dirty. absurd (cc);
+      idle = λ none. (refl, refl, refl);
+    }

@@ -5,9 +5,9 @@ use Rattle.crash.specs.WriterState.SyncState.{Clean}
 use Rattle.crash.specs.Sound.{IsSound, CanWrite, StateFits}
 use Rattle.std.specs.Prelude.{Ok, Err}
 use Rattle.paged.specs.Writer.{state_of}
-use Rattle.paged.specs.Flush.{full_in, place_of, flush_bytes, outcome}
+use Rattle.paged.specs.Flush.{full_in, place_of, flush_bytes}
 use Rattle.paged.proofs.Flushing.{can_sync}
-use Rattle.paged.proofs.Flushes.{flush_goes, dirty_carried, sync_write, sync_second, sync_asks_once, sync_asks_twice, sync_due}
+use Rattle.paged.proofs.Flushes.{flush_goes, dirty_carried, sync_write, sync_second, sync_asks_once, sync_asks_twice}
 use Rattle.paged.proofs.Causes.{write_asks, sync_asks}
 use Rattle.paged.proofs.writer.Writer.sync_pages.Goals as goal
 
@@ -15,48 +15,65 @@ pub write_pages-requires-clause-can : goal.write_pages-requires-clause-can
 unfolding IsSound
 write_pages-requires-clause-can g c =
     subst (λ (v : WriterState). CanWrite v.page_size v.tip (full_in v) c.has_rest-rest.result) (sym c.carry.ensures)
-    (can_sync c.args.self c.has_rest-rest.result c.requires.sound.stands.some c.requires.work c.has_rest-rest.ensures)
+    (can_sync c.args.self.now c.has_rest-rest.result c.requires.sound.stands.some c.requires.work c.has_rest-rest.ensures)
 
 pub write_pages-requires-clause-settled : goal.write_pages-requires-clause-settled
 unfolding IsSound
 write_pages-requires-clause-settled g c =
-    let clean : c.args.self.sync ≡ Clean = sym (ap (λ s. s.sync) c.self.view_is) ∙ ap state_of c.in-Clean.is in
+    let clean : c.args.self.now.sync ≡ Clean = sym (ap (λ s. s.sync) c.self.view_is) ∙ ap state_of c.in-Clean.is in
     λ durable. (subst (λ (s : SyncState). StateFits (g.B.Blob.life c.args.blob.now).present s) clean c.requires.sound.stands.state).0
 
 pub returns-in_err-write_pages-in-Dirty : goal.returns-in_err-write_pages-in-Dirty
 unfolding IsSound
 returns-in_err-write_pages-in-Dirty g c =
+    let sum = g.H.Sum.sum_of in
+    let w = c.args.self.now in
+    let rest = c.has_rest-rest.result in
+    let old = g.B.Blob.life c.args.blob.now in
+    let mid = g.B.Blob.life c.write_pages-in-Dirty.new.blob in
+    let e = c.in_err-write_pages-in-Dirty.field-0.0 in
+    let dirty = sym (ap (λ s. s.sync) c.self.view_is) ∙ ap state_of c.in-Dirty.is in
+    let can = can_sync w rest c.requires.sound.stands.some c.requires.work c.has_rest-rest.ensures in
     let p = err_from_is_err_and c.from_residual.result c.from_residual.ensures.1 in
     rw (p.1, p.2) (record {
-      syncs = flush_goes g.H.Sum.sum_of c.args.self c.has_rest-rest.result (g.B.Blob.life c.args.blob.now) (g.B.Blob.life c.write_pages-in-Dirty.new.blob) (Err c.in_err-write_pages-in-Dirty.field-0.0)
-          g.met.H.Sum.small c.requires.sound (dirty_carried c.args.self (sym (ap (λ s. s.sync) c.self.view_is) ∙ ap state_of c.in-Dirty.is)) (can_sync c.args.self c.has_rest-rest.result c.requires.sound.stands.some c.requires.work c.has_rest-rest.ensures)
+      syncs = flush_goes sum w c.write_pages-in-Dirty.new.self rest old mid (Err e) g.met.H.Sum.small c.requires.sound (dirty_carried w dirty) can
           c.in_err-write_pages-in-Dirty.ensures.goes c.in_err-write_pages-in-Dirty.ensures.state c.in_err-write_pages-in-Dirty.ensures.fits;
-      calls = sync_asks_once c.args.self (g.B.Blob.life c.args.blob.now) (g.B.Blob.life c.write_pages-in-Dirty.new.blob) c.requires.work
-          (write_asks (place_of c.args.self) (flush_bytes g.H.Sum.sum_of c.args.self c.has_rest-rest.result) false (g.B.Blob.life c.args.blob.now) (g.B.Blob.life c.write_pages-in-Dirty.new.blob) (Err c.in_err-write_pages-in-Dirty.field-0.0) c.in_err-write_pages-in-Dirty.ensures.goes);
-      idle = λ none. absurd (sync_due c.args.self c.requires.work none);
+      calls = sync_asks_once w old mid c.requires.work (write_asks (place_of w) (flush_bytes sum w rest) false old mid (Err e) c.in_err-write_pages-in-Dirty.ensures.goes);
     })
 
 pub returns-in-Clean : goal.returns-in-Clean
 unfolding IsSound
 returns-in-Clean g c =
-    let can = can_sync c.args.self c.has_rest-rest.result c.requires.sound.stands.some c.requires.work c.has_rest-rest.ensures in
+    let sum = g.H.Sum.sum_of in
+    let w = c.args.self.now in
+    let v = c.carry.new.self in
+    let rest = c.has_rest-rest.result in
+    let old = g.B.Blob.life c.args.blob.now in
+    let new = g.B.Blob.life c.write_pages.new.blob in
+    let can = can_sync w rest c.requires.sound.stands.some c.requires.work c.has_rest-rest.ensures in
     record {
-      syncs = sync_write g.H.Sum.sum_of c.args.self c.carry.result c.has_rest-rest.result (g.B.Blob.life c.args.blob.now) (g.B.Blob.life c.write_pages.new.blob) c.write_pages.result
-          g.met.H.Sum.small c.requires.sound c.carry.ensures c.has_rest-rest.ensures (subst (λ (v : WriterState). CanWrite v.page_size v.tip (full_in v) c.has_rest-rest.result) (sym c.carry.ensures) can)
+      syncs = sync_write sum w v c.write_pages.new.self rest old new c.write_pages.result
+          g.met.H.Sum.small c.requires.sound c.carry.ensures c.has_rest-rest.ensures (subst (λ (v : WriterState). CanWrite v.page_size v.tip (full_in v) rest) (sym c.carry.ensures) can)
           c.write_pages.ensures.goes c.write_pages.ensures.state c.write_pages.ensures.fits;
-      calls = sync_asks_once c.args.self (g.B.Blob.life c.args.blob.now) (g.B.Blob.life c.write_pages.new.blob) c.requires.work
-          (write_asks (place_of c.carry.result) (flush_bytes g.H.Sum.sum_of c.carry.result c.has_rest-rest.result) true (g.B.Blob.life c.args.blob.now) (g.B.Blob.life c.write_pages.new.blob) (outcome c.write_pages.result) c.write_pages.ensures.goes);
-      idle = λ none. absurd (sync_due c.args.self c.requires.work none);
+      calls = sync_asks_once w old new c.requires.work (write_asks (place_of v) (flush_bytes sum v rest) true old new c.write_pages.result c.write_pages.ensures.goes);
     }
 
 pub returns-in_ok-write_pages-in-Dirty : goal.returns-in_ok-write_pages-in-Dirty
 unfolding IsSound
-returns-in_ok-write_pages-in-Dirty g c = record {
-  syncs = sync_second g.H.Sum.sum_of c.args.self c.in_ok-write_pages-in-Dirty.field-0 c.has_rest-rest.result (g.B.Blob.life c.args.blob.now) (g.B.Blob.life c.write_pages-in-Dirty.new.blob) (g.B.Blob.life c.sync_blob.new.blob) c.sync_blob.result
-      g.met.H.Sum.small c.requires.sound (sym (ap (λ s. s.sync) c.self.view_is) ∙ ap state_of c.in-Dirty.is) c.has_rest-rest.ensures (can_sync c.args.self c.has_rest-rest.result c.requires.sound.stands.some c.requires.work c.has_rest-rest.ensures)
-      c.in_ok-write_pages-in-Dirty.ensures.goes c.in_ok-write_pages-in-Dirty.ensures.state c.sync_blob.ensures.goes c.sync_blob.ensures.state;
-  calls = sync_asks_twice c.args.self (g.B.Blob.life c.args.blob.now) (g.B.Blob.life c.write_pages-in-Dirty.new.blob) (g.B.Blob.life c.sync_blob.new.blob) c.requires.work (sym (ap (λ s. s.sync) c.self.view_is) ∙ ap state_of c.in-Dirty.is)
-      (write_asks (place_of c.args.self) (flush_bytes g.H.Sum.sum_of c.args.self c.has_rest-rest.result) false (g.B.Blob.life c.args.blob.now) (g.B.Blob.life c.write_pages-in-Dirty.new.blob) (Ok tt) c.in_ok-write_pages-in-Dirty.ensures.goes)
-      (sync_asks (g.B.Blob.life c.write_pages-in-Dirty.new.blob) (g.B.Blob.life c.sync_blob.new.blob) (outcome c.sync_blob.result) c.sync_blob.ensures.goes);
-  idle = λ none. absurd (sync_due c.args.self c.requires.work none);
-}
+returns-in_ok-write_pages-in-Dirty g c =
+    let sum = g.H.Sum.sum_of in
+    let w = c.args.self.now in
+    let m = c.write_pages-in-Dirty.new.self in
+    let rest = c.has_rest-rest.result in
+    let old = g.B.Blob.life c.args.blob.now in
+    let mid = g.B.Blob.life c.write_pages-in-Dirty.new.blob in
+    let new = g.B.Blob.life c.sync_blob.new.blob in
+    let dirty = sym (ap (λ s. s.sync) c.self.view_is) ∙ ap state_of c.in-Dirty.is in
+    let can = can_sync w rest c.requires.sound.stands.some c.requires.work c.has_rest-rest.ensures in
+    record {
+      syncs = sync_second sum w m c.sync_blob.new.self rest old mid new c.sync_blob.result g.met.H.Sum.small c.requires.sound dirty c.has_rest-rest.ensures can
+          c.in_ok-write_pages-in-Dirty.ensures.goes c.in_ok-write_pages-in-Dirty.ensures.state c.sync_blob.ensures.goes c.sync_blob.ensures.state;
+      calls = sync_asks_twice w old mid new c.requires.work dirty
+          (write_asks (place_of w) (flush_bytes sum w rest) false old mid (Ok tt) c.in_ok-write_pages-in-Dirty.ensures.goes)
+          (sync_asks mid new c.sync_blob.result c.sync_blob.ensures.goes);
+    }

@@ -1,0 +1,28 @@
+use Rattle.std.proofs.Common.{◌∙◌, sym, subst}
+use Rattle.std.proofs.lemmas.Result.{err_from_is_err_and}
+use Rattle.paged.proofs.Flushes.{size_is_length}
+use Rattle.paged.proofs.Appends.{append_flushed, append_unbuffered, buffered_goes}
+use Rattle.crash.specs.WriterState.{WriterState}
+use Rattle.crash.specs.Sound.{IsSound}
+use Rattle.crash.proofs.Soundness.{longer_sound}
+use Rattle.paged.proofs.writer.Writer.append_bytes.Goals as goal
+
+pub returns-in_err-buffer-clause-appends : goal.returns-in_err-buffer-clause-appends
+returns-in_err-buffer-clause-appends g c =
+    let p = err_from_is_err_and c.from_residual.result c.from_residual.ensures.1 in
+    rw (p.1, p.2) (append_unbuffered g.H.Sum.sum_of c.args.self.now c.buffer.new.self (g.B.Blob.life c.args.blob.now) c.args.bytes.now c.in_err-buffer.field-0.0 c.requires.sound c.in_err-buffer.ensures)
+
+pub flush-requires : goal.flush-requires
+unfolding IsSound
+flush-requires g c = record {
+  sound = subst (λ (v : WriterState). IsSound g.H.Sum.sum_of v (g.B.Blob.life c.args.blob.now).present) (sym c.in_ok-buffer.ensures.1) (longer_sound g.H.Sum.sum_of c.args.self.now (g.B.Blob.life c.args.blob.now).present c.requires.sound c.args.bytes.now);
+}
+
+pub returns-then-branch-clause-appends : goal.returns-then-branch-clause-appends
+returns-then-branch-clause-appends g c =
+    append_flushed g.H.Sum.sum_of c.args.self.now c.buffer.new.self c.flush.new.self (g.B.Blob.life c.args.blob.now) (g.B.Blob.life c.flush.new.blob) c.args.bytes.now c.flush.result c.requires.sound c.in_ok-buffer.ensures.1 c.flush.ensures.flushes
+
+pub returns-else-branch-clause-appends : goal.returns-else-branch-clause-appends
+returns-else-branch-clause-appends g c =
+    let old = g.B.Blob.life c.args.blob.now in
+    (size_is_length g.H.Sum.sum_of c.args.self.now old c.requires.sound, buffered_goes g.H.Sum.sum_of c.args.self.now c.buffer.new.self c.args.bytes.now old c.requires.sound c.in_ok-buffer.ensures.1)

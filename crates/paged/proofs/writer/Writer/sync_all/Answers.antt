@@ -1,0 +1,28 @@
+use Rattle.std.proofs.Common.{sym, ◌∙◌, arith}
+use Rattle.paged.specs.Flush.{answered}
+use Rattle.paged.proofs.Flushes.{sync_settles, settle_none, sync_due}
+use Rattle.paged.proofs.writer.Writer.sync_all.Goals as goal
+
+pub returns-then-has_flush_work : goal.returns-then-has_flush_work
+returns-then-has_flush_work g c =
+    let work = sym c.has_flush_work.ensures.work ∙ c.if-has_flush_work.true in
+    record {
+      syncs = c.sync_pages.ensures.syncs;
+      room = c.has_flush_work.ensures.room;
+      calls = c.sync_pages.ensures.calls;
+      idle = λ none. absurd (sync_due c.args.self.now work none);
+      unwritten = λ none dirty. absurd (cc);
+    }
+
+pub returns-else-has_flush_work : goal.returns-else-has_flush_work
+returns-else-has_flush_work g c =
+    let old = g.B.Blob.life c.args.blob.now in
+    let new = g.B.Blob.life c.settle.new.blob in
+    let none_due = sym c.has_flush_work.ensures.work ∙ c.if-has_flush_work.false in
+    record {
+      syncs = sync_settles g.H.Sum.sum_of c.args.self.now old new (answered c.settle.new.self c.settle.result) c.requires.sound none_due c.settle.ensures.settles;
+      room = c.has_flush_work.ensures.room;
+      calls = omega (arith, c.settle.ensures.calls);
+      idle = λ none. c.settle.ensures.idle (settle_none c.args.self.now none);
+      unwritten = λ none dirty. c.settle.ensures.unwritten dirty;
+    }
