@@ -1,6 +1,6 @@
 // What a device is asked for.
 ghost use Rattle.std.specs.Prelude.{[], ◌∷◌, if◌then◌else◌, ◌≡◌, ◌≤◌, ◌+◌, ◌-◌, ◌<◌, ◌^◌, ◌++◌};
-ghost use Rattle.std.specs.Prelude.{length, take, drop, replicate, vec_capacity, OnOk, OnErr, IfOk};
+ghost use Rattle.std.specs.Prelude.{length, take, drop, replicate, vec_capacity, OnOk, OnErr, IfOk, IsOk};
 ghost use Rattle.disk.specs.Disk.{applied, Write};
 ghost use Rattle.disk.specs.History.{request_of, asked, done, settles, redone, replayed};
 ghost use Rattle.disk.specs.History.{operations_of, TornBy};
@@ -192,6 +192,8 @@ pub fn grow(bytes: &mut Vec<u8>, len: usize) -> Result<(), AllocError>
     ensures ok { OnOk result
         (bytes.new.items ≡ bytes.old.items ++ replicate (len - length bytes.old.items) 0) }
     ensures err { OnErr result (bytes.new.items ≡ bytes.old.items) }
+    ensures room { len ≤ vec_capacity bytes.old → IsOk result }
+    ensures capacity { vec_capacity bytes.old ≤ vec_capacity bytes.new }
 {
     if len <= bytes.len() {
         return Ok(());
@@ -202,8 +204,9 @@ pub fn grow(bytes: &mut Vec<u8>, len: usize) -> Result<(), AllocError>
 /// Copies bytes to a place among others.
 pub fn put(bytes: &mut Vec<u8>, place: usize, new: &[u8])
     requires { place + length new.now ≤ length bytes.old.items }
-    ensures { bytes.new.items
+    ensures items { bytes.new.items
         ≡ take place bytes.old.items ++ new.now ++ drop (place + length new.now) bytes.old.items }
+    ensures capacity { vec_capacity bytes.new ≡ vec_capacity bytes.old }
 {
     bytes[place..place + new.len()].copy_from_slice(new);
 }

@@ -126,6 +126,18 @@ impl IoBufs {
         }
     }
 
+    /// A list with no buffer, and with memory for so many. It answers `OutOfMemory` alone.
+    pub fn with_capacity(alloc: Global, buffers: usize) -> Result<Self, Error>
+        ensures made { IfOk result (λ b. b ≡ []) }
+        ensures err { IsOkUnless result Error.OutOfMemory }
+    {
+        Ok(IoBufs {
+            alloc,
+            bufs: Vec::with_capacity(alloc, buffers)?,
+            len: 0,
+        })
+    }
+
     /// The number of bytes in all the buffers.
     pub fn len(&self) -> usize
         ensures { result ≡ length (concat self.now) }

@@ -1,5 +1,6 @@
 // A blob in memory that keeps its bytes and nothing else.
-ghost use Rattle.std.specs.Prelude.{◌≡◌, ◌≤◌, ◌+◌, ◌++◌, [], length, take, drop, OnErr, IsOkUnless};
+ghost use Rattle.std.specs.Prelude.{◌≡◌, ◌≤◌, ◌<◌, ◌+◌, ◌^◌, ◌++◌, [], length, take, drop, OnOk};
+ghost use Rattle.std.specs.Prelude.{OnErr, IsOk, IsOkUnless, vec_capacity};
 ghost use Rattle.std.specs.List.{concat};
 ghost use Rattle.disk.specs.Disk.{ReadGoes, WriteGoes, ResizeGoes, SyncGoes};
 ghost use Rattle.disk.specs.History.{life_of, begun};
@@ -7,7 +8,7 @@ ghost use Rattle.disk.specs.History.{life_of, begun};
 use crate::action::{grow, put};
 use crate::past::Past;
 use crate::{Blob, Error, IoBuf, IoBufs, ReadOptions, WriteOptions};
-use std::alloc::Global;
+use std::alloc::{AllocError, Global};
 use std::marker::Model;
 use std::snapshot::Snapshot;
 
@@ -64,17 +65,34 @@ impl VecBlob {
     }
 }
 
-// Copies buffers to a place among bytes, one behind another.
-fn put_all(bytes: &mut Vec<u8>, place: usize, bufs: &IoBufs)
-    requires { place + length (concat bufs.now) ≤ length bytes.old.items }
-    ensures { let new = concat bufs.now in let old = bytes.old.items in
-        bytes.new.items ≡ take place old ++ new ++ drop (place + length new) old }
+// Writes bytes at a place among others, over those that stand there, and then behind them. Where
+// there is room for all, it answers Ok.
+fn put_over(bytes: &mut Vec<u8>, place: usize, new: &[u8]) -> Result<(), AllocError>
+    requires { place ≤ length bytes.old.items }
+    ensures ok { let old = bytes.old.items in OnOk result
+        (bytes.new.items ≡ take place old ++ new.now ++ drop (place + length new.now) old) }
+    ensures room { place + length new.now ≤ vec_capacity bytes.old → IsOk result }
+    ensures capacity { vec_capacity bytes.old ≤ vec_capacity bytes.new }
+{
+    let (over, behind) = new.split_at(new.len().min(bytes.len() - place));
+    put(bytes, place, over);
+    bytes.extend_from_slice(behind)
+}
+
+// The same with buffers, one behind another.
+fn put_all(bytes: &mut Vec<u8>, place: usize, bufs: &IoBufs) -> Result<(), AllocError>
+    requires among { place ≤ length bytes.old.items }
+    requires small { place + length (concat bufs.now) < 2 ^ 64 }
+    ensures ok { let new = concat bufs.now in let old = bytes.old.items in OnOk result
+        (bytes.new.items ≡ take place old ++ new ++ drop (place + length new) old) }
+    ensures room { place + length (concat bufs.now) ≤ vec_capacity bytes.old → IsOk result }
 {
     let mut at = place;
     for buf in bufs.as_slice() {
-        put(bytes, at, buf.as_ref());
+        put_over(bytes, at, buf.as_ref())?;
         at += buf.len();
     }
+    Ok(())
 }
 
 impl Blob for VecBlob {
@@ -103,8 +121,10 @@ impl Blob for VecBlob {
         let Some(end) = offset.checked_add(bufs.len() as u64) else {
             return Err(Error::OffsetOverflow);
         };
-        grow(&mut self.bytes, end as usize)?;
-        put_all(&mut self.bytes, offset as usize, bufs);
+        let more = (end as usize).saturating_sub(self.bytes.len());
+        self.bytes.try_reserve(more)?;
+        grow(&mut self.bytes, offset as usize)?;
+        put_all(&mut self.bytes, offset as usize, bufs)?;
         self.past = Past::write(&self.past, offset, bufs, options.sync, false);
         Ok(())
     }

@@ -127,20 +127,20 @@ append_goes P cap off len spare chunks grown tail bytes rest len_is small grown_
     rw (len_is, grown_is, rest_is) (small, ap (λ bytes. record { page_size = P; capacity = cap; offset = off; bytes = bytes }) (grown_bytes chunks tail bytes spare), refl)
 
 -- a range read so far, with what of it stands in the next chunk
-pub read_more : (front chunk : List ℕ) (start end at len from to : ℕ) (old so_far more read : List ℕ) → start ≤ end → at ≡ length front → len ≡ length chunk
-    → from ≡ min (start - at) len → to ≡ min (end - at) len → so_far ≡ old ++ slice_range front start end → more ≡ slice_range chunk from to → read ≡ so_far ++ more
+pub read_more : (front chunk : List ℕ) (start end at len from to : ℕ) (old so_far read : List ℕ) → start ≤ end → at ≡ length front → len ≡ length chunk
+    → from ≡ min (start - at) len → to ≡ min (end - at) len → so_far ≡ old ++ slice_range front start end → read ≡ so_far ++ slice_range chunk from to
     → read ≡ old ++ slice_range (front ++ chunk) start end
-read_more front chunk start end at len from to old so_far more read order at_is len_is from_is to_is so_far_is more_is read_is =
+read_more front chunk start end at len from to old so_far read order at_is len_is from_is to_is so_far_is read_is =
     let later : start - length front ≤ end - length front = omega (arith, order) in
-    rw (read_is, so_far_is, more_is, from_is, to_is, at_is, len_is, range_min chunk (start - length front) (end - length front) later, range_join front chunk start end order)
+    rw (read_is, so_far_is, from_is, to_is, at_is, len_is, range_min chunk (start - length front) (end - length front) later, range_join front chunk start end order)
     (append_assoc old (slice_range front start end) (slice_range chunk (start - length front) (end - length front)))
 
 -- and at last in the tail
-pub read_rest : (front tail : List ℕ) (start end at from to : ℕ) (old so_far more read : List ℕ) → start ≤ end → at ≡ length front
-    → from ≡ start - at → to ≡ end - at → so_far ≡ old ++ slice_range front start end → more ≡ slice_range tail from to → read ≡ so_far ++ more
+pub read_rest : (front tail : List ℕ) (start end at from to : ℕ) (old so_far read : List ℕ) → start ≤ end → at ≡ length front
+    → from ≡ start - at → to ≡ end - at → so_far ≡ old ++ slice_range front start end → read ≡ so_far ++ slice_range tail from to
     → read ≡ old ++ slice_range (front ++ tail) start end
-read_rest front tail start end at from to old so_far more read order at_is from_is to_is so_far_is more_is read_is =
-    rw (read_is, so_far_is, more_is, from_is, to_is, at_is, range_join front tail start end order)
+read_rest front tail start end at from to old so_far read order at_is from_is to_is so_far_is read_is =
+    rw (read_is, so_far_is, from_is, to_is, at_is, range_join front tail start end order)
     (append_assoc old (slice_range front start end) (slice_range tail (start - length front) (end - length front)))
 
 -- some chunks are within all

@@ -1,6 +1,6 @@
 // The tip of a blob: the bytes behind its full pages.
 ghost use Rattle.std.specs.Prelude.{◌≡◌, ◌==◌, ◌<◌, ◌≤◌, ◌+◌, ◌-◌, ◌^◌, ◌%◌, ◌↔◌, ◌++◌, length};
-ghost use Rattle.std.specs.Prelude.{take, drop, IsTrue, OnOk, IsOkUnless};
+ghost use Rattle.std.specs.Prelude.{take, drop, slice_range, IsTrue, OnOk, IsOkUnless};
 ghost use Rattle.std.specs.List.{concat};
 ghost use Rattle.page.specs.Tip.{tip_size, AreWholePages, AppendGoes, TryAppendGoes, DrainGoes};
 ghost use Rattle.page.specs.Tip.{ReplaceGoes, StartGoes};
@@ -50,6 +50,31 @@ fn has_places(place: u64, len: usize) -> bool
     ensures { IsTrue result ↔ place + len < 2 ^ 64 }
 {
     place.checked_add(len as u64).is_some()
+}
+
+/// Adds the bytes of a chunk from `start` to before `end`, shared with it. `OutOfMemory` alone.
+fn append_part(bufs: &mut IoBufs, chunk: &IoBuf, start: usize, end: usize) -> Result<(), Error>
+    requires order { start ≤ end }
+    requires within { end ≤ length chunk.now }
+    ensures ok { OnOk result
+        (concat bufs.new ≡ concat bufs.old ++ slice_range chunk.now start end) }
+    ensures err { IsOkUnless result Error.OutOfMemory }
+{
+    if start == end {
+        return Ok(());
+    }
+    bufs.append(chunk.slice(start, end)?)
+}
+
+/// Adds a copy of these bytes. `OutOfMemory` alone.
+fn append_copy(alloc: Global, bufs: &mut IoBufs, bytes: &[u8]) -> Result<(), Error>
+    ensures ok { OnOk result (concat bufs.new ≡ concat bufs.old ++ bytes.now) }
+    ensures err { IsOkUnless result Error.OutOfMemory }
+{
+    if bytes.is_empty() {
+        return Ok(());
+    }
+    bufs.append(IoBuf::copy_from_slice(alloc, bytes)?)
 }
 
 impl Buffer {
@@ -157,11 +182,11 @@ impl Buffer {
         for chunk in self.chunks.as_slice() {
             let from = start.saturating_sub(at).min(chunk.len());
             let to = end.saturating_sub(at).min(chunk.len());
-            bufs.append(chunk.slice(from, to)?)?;
+            append_part(bufs, chunk, from, to)?;
             at += chunk.len();
         }
         let bytes = &self.tail.bytes[start.saturating_sub(at)..end.saturating_sub(at)];
-        bufs.append(IoBuf::copy_from_slice(self.alloc, bytes)?)
+        append_copy(self.alloc, bufs, bytes)
     }
 
     /// Appends bytes, and answers whether the capacity is now passed.

@@ -1,7 +1,7 @@
 -- Sizes of a blob: which of them its places fit.
 use Rattle.std.proofs.Common.{ℕ, ◌+◌, ◌*◌, ◌/◌, ◌<◌, ◌≤◌, ◌^◌, ◌↔◌, arith, inl, inr}
 use Rattle.std.specs.Int.{div_ceil}
-use Rattle.std.proofs.Math.Nat.{mul-le-mul_right, add-mul, le-div_iff_mul-le}
+use Rattle.std.proofs.Math.Nat.{mul-le-mul_right, le-mul_of_pos_right, add-mul, mul-add, le-div_iff_mul-le}
 use Rattle.std.proofs.lemmas.Grind.{div_ceil_times}
 use Rattle.std.proofs.lemmas.Bool.{cases_lt}
 use Rattle.paged.specs.Writer.{FitsBlob}
@@ -31,3 +31,10 @@ size_fits P full n some fits =
     let c = div_ceil n P in
     let bounds = div_ceil_times n P some in
     omega (arith, add-mul full c P, bounds.0, fits)
+
+-- up to 2^60 bytes fit, whatever the size of a page
+pub small_fits : (P full n : ℕ) → 0 < P → P < 2 ^ 16 → full * P + n < 2 ^ 60 → FitsBlob P full n
+small_fits P full n some small less =
+    let c = div_ceil n P in
+    let bounds = div_ceil_times n P some in
+    omega (arith, less, bounds.1, add-mul full c P, mul-add (full + c) P 12, le-mul_of_pos_right (full + c) some)

@@ -1,5 +1,5 @@
 // Appending.
-ghost use Rattle.std.specs.Prelude.{◌≡◌, ◌↔◌, ◌+◌, ◌^◌, ◌≤◌, ◌++◌, length, ◌<◌, IsTrue, IfOk, OnOk, Err};
+ghost use Rattle.std.specs.Prelude.{◌≡◌, ◌↔◌, ◌+◌, ◌-◌, ◌*◌, ◌/◌, ◌^◌, ◌≤◌, ◌++◌, length, ◌<◌, IsTrue, IfOk, OnOk, Err};
 ghost use Rattle.crash.specs.Sound.{IsSound, content};
 ghost use Rattle.crash.specs.Stays.{KeepsAllFloors, LeavesOnly};
 ghost use Rattle.paged.specs.Writer.{physical_size, FitsBlob};
@@ -13,6 +13,14 @@ use cache::CacheRef;
 use disk::{Blob, Error};
 use page::{CHECKSUM_SIZE, EncodeSize, Sum, Write};
 
+/// The most bytes for which a blob has places.
+fn greatest_size(page_size: u64) -> u64
+    requires { page_size < 2 ^ 16 }
+    ensures { result ≡ (2 ^ 64 - 1) / (page_size + 12) * page_size }
+{
+    u64::MAX / (page_size + CHECKSUM_SIZE) * page_size
+}
+
 impl<B, H, Phase> Writer<B, H, Phase> {
     /// Whether the blob has places for so many bytes more.
     fn fits(&self, more: usize) -> bool
@@ -20,11 +28,11 @@ impl<B, H, Phase> Writer<B, H, Phase> {
             ↔ FitsBlob self.now.page_size self.now.full_pages (length self.now.tip + more) }
     {
         let page_size = u64::from(self.page_size.get());
-        let greatest_size = u64::MAX / (page_size + CHECKSUM_SIZE) * page_size;
         let Some(size) = self.size().checked_add(more as u64) else {
             return false;
         };
-        size <= greatest_size
+        // With pages of one byte, the smallest, there are places for more.
+        size < 1 << 60 || size <= greatest_size(page_size)
     }
 
     /// Adds bytes to the tip, and answers whether it then holds more than its capacity. An error

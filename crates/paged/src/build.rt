@@ -112,14 +112,15 @@ fn footers_of<H: Sum>(
     Ok(out)
 }
 
-/// Each page with its part of the footers behind it. The pages aren't copied. `OutOfMemory` alone.
+/// Each page with its part of the footers behind it, in a list with room for one buffer more. The
+/// pages aren't copied. `OutOfMemory` alone.
 fn with_footers(alloc: Global, pages: Vec<IoBuf>, footers: &IoBuf) -> Result<IoBufs, Error>
     requires all { length footers.now ≡ 12 * length pages.items }
     requires small { length footers.now < 2 ^ 64 }
     ensures bytes { IfOk result (λ bufs. concat bufs ≡ with_footers pages.items footers.now) }
     ensures err { IsOkUnless result Error.OutOfMemory }
 {
-    let mut bufs = IoBufs::new(alloc);
+    let mut bufs = IoBufs::with_capacity(alloc, pages.len().saturating_mul(2).saturating_add(1))?;
     let mut at = 0;
     for page in pages {
         bufs.append(page)?;
