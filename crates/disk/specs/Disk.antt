@@ -1,5 +1,6 @@
 -- A disk: what a read gives, what is durable, what isn't synced yet, and what a crash may leave.
-use Rattle.std.specs.Prelude.{◌≡◌, ◌⊎◌, ◌^◌, ℕ, ◌+◌, ◌-◌, ◌<◌, ◌≤◌, List, [], ◌∷◌, ◌++◌, length}
+use Rattle.std.specs.Prelude.{◌≡◌, ◌⊎◌, ◌^◌, ℕ, zero, suc, ◌+◌, ◌-◌, ◌<◌, ◌≤◌, List, [], ◌∷◌}
+use Rattle.std.specs.Prelude.{◌++◌, length}
 use Rattle.std.specs.Prelude.{take, drop, replicate, Bool, true, false, slice_get, Some, None}
 use Rattle.std.specs.Prelude.{Result, Ok, Err, map, All, if◌then◌else◌, nat_lt}
 use Rattle.disk.specs.declared.error.Error.{Error}
@@ -32,6 +33,11 @@ Writes (Resize len) at byte = ⊥
 abbrev pub SomeWrites : List Operation → ℕ → ℕ → Type 0
 SomeWrites [] at byte = ⊥
 SomeWrites (o ∷ os) at byte = Writes o at byte ⊎ SomeWrites os at byte
+
+-- what starting a sync answers: nothing was unsynced, or a name to wait for
+pub data StartedSync : Type 0 where
+  IsDone : StartedSync
+  Named : (name : ℕ) → StartedSync
 
 -- one device call
 pub data Request : Type 0 where
@@ -168,17 +174,32 @@ pub record Operated (o : Operation) (request : Request) (failed : Bool) (old new
 abbrev pub settle : Disk → Disk
 settle d = record d { base = d.readable; since = []; settled = d.settled + length d.since }
 
+-- what the started syncs cover: how many operations of the blob's life, and what was readable when each began
+abbrev pub coverings : Disk → List (ℕ × List ℕ)
+coverings d = map (λ s. (s.covers, s.bytes)) d.started
+
 -- what a started sync covers is durable, if it isn't yet
-abbrev pub settle_started : Started → Disk → Disk
-settle_started s d =
-    let covered = s.covers - d.settled in
-    if nat_lt d.settled s.covers
-    then record d { base = s.bytes; since = drop covered d.since; settled = s.covers }
+abbrev pub settle_to : ℕ × List ℕ → Disk → Disk
+settle_to c d =
+    if nat_lt d.settled c.0
+    then record d { base = c.1; since = drop (c.0 - d.settled) d.since; settled = c.0 }
     else d
+
+-- no started sync covers an operation that is still to come
+abbrev pub AreCovered : Disk → Type 0
+AreCovered d =
+    (name : ℕ) (c : ℕ × List ℕ) → slice_get (coverings d) name ≡ Some c
+    → c.0 ≤ d.settled + length d.since
 
 -- whether this sync had failed when it started, or a wait for it
 abbrev pub had_failed : List Started → ℕ → Bool
 had_failed started name = elim (slice_get started name) [ None ↦ true | Some s ↦ s.failed ]
+
+-- this sync has failed
+abbrev pub failed_at : ℕ → List Started → List Started
+failed_at name [] = []
+failed_at zero (s ∷ ss) = record s { failed = true } ∷ ss
+failed_at (suc name) (s ∷ ss) = s ∷ failed_at name ss
 
 -- what each call of a blob does to its life, by what it answers
 
@@ -247,26 +268,28 @@ IsWithin ranges bytes = All (λ r. r.0 + r.1 ≤ length bytes) ranges
 abbrev pub bytes_of : List (ℕ × ℕ) → List ℕ → List (List ℕ)
 bytes_of ranges bytes = map (λ r. take r.1 (drop r.0 bytes)) ranges
 
--- a sync is started; its name is its number
+-- a sync is started, or fails to start; its name is its number
 abbrev pub starts : Bool → Disk → Disk
 starts failed d =
-    record d {
-      started = d.started ++
-          record { covers = d.settled + length d.since; bytes = d.readable; failed = failed } ∷ [];
-      log =
-          d.log ++ record { request = StartSync; failed = failed } ∷ [];
-    }
+    let s : Started =
+    record { covers = d.settled + length d.since; bytes = d.readable; failed = failed } in
+    logged StartSync failed (record d { started = d.started ++ s ∷ [] })
 
+-- the device names each sync that it starts, also one that fails: that shows when it is waited for
+abbrev pub StartGoes : Life → Life → Result StartedSync Error → Type 0
+StartGoes old new (Ok (Named name)) = (name ≡ length old.present.started) × ((failed : Bool) × (new ≡ next old (starts failed old.present)))
+StartGoes old new (Ok IsDone) = ⊥
+StartGoes old new (Err OutOfMemory) = new ≡ old
+StartGoes old new (Err _) = ⊥
+
+-- a wait for a sync: what it covers is durable; or it failed, now or before, and then so does each wait for it from then on
 abbrev pub WaitGoes : ℕ → Life → Life → Result (Unit {0}) Error → Type 0
 WaitGoes name old new (Ok _) =
-    (s : Started) × (slice_get old.present.started name ≡ Some s) × (s.failed ≡ false) ×
-    (new ≡ next old (logged (WaitSync name) false (settle_started s old.present)))
+    (s : Started) × (slice_get old.present.started name ≡ Some s) × (s.failed ≡ false)
+    × (new ≡ next old (logged (WaitSync name) false (settle_to (s.covers, s.bytes) old.present)))
 WaitGoes name old new (Err SyncFailed) =
-    (d : Disk) × (new ≡ next old d) ×
-    (d ≡ record old.present { started = d.started; log = d.log }) ×
-    (length d.started ≡ length old.present.started) ×
-    ((failed : Bool) ×
-    (d.log ≡ old.present.log ++ record { request = WaitSync name; failed = failed } ∷ []) ×
-    ((failed ≡ true) ⊎ (had_failed old.present.started name ≡ true)))
+    (failed : Bool) × ((failed ≡ true) ⊎ (had_failed old.present.started name ≡ true))
+    × (new ≡ next old (logged (WaitSync name) failed
+    (record old.present { started = failed_at name old.present.started })))
 WaitGoes name old new (Err OutOfMemory) = new ≡ old
 WaitGoes name old new (Err _) = ⊥
