@@ -5,3 +5,4 @@ pub mod Histories
 pub mod Device
 pub mod Logs
 pub mod Examples
+pub mod Starts

@@ -1,12 +1,14 @@
 -- A disk: what a read gives, what is durable, what isn't synced yet, and what a crash may leave.
 use Rattle.std.specs.Prelude.{◌≡◌, ◌⊎◌, ◌^◌, ℕ, zero, suc, ◌+◌, ◌-◌, ◌<◌, ◌≤◌, List, [], ◌∷◌}
 use Rattle.std.specs.Prelude.{◌++◌, length}
-use Rattle.std.specs.Prelude.{take, drop, replicate, Bool, true, false, slice_get, Some, None}
+use Rattle.std.specs.Prelude.{take, drop, replicate, min, Bool, true, false, slice_get, Option, Some, None}
 use Rattle.std.specs.Prelude.{Result, Ok, Err, map, All, if◌then◌else◌, nat_lt}
 use Rattle.disk.specs.declared.error.Error.{Error}
 use Rattle.disk.specs.declared.error.Error.TheVariants.{ReadFailed, WriteFailed, ResizeFailed}
 use Rattle.disk.specs.declared.error.Error.TheVariants.{SyncFailed, BlobInsufficientLength}
 use Rattle.disk.specs.declared.error.Error.TheVariants.{OffsetOverflow, OutOfMemory}
+use Rattle.disk.specs.declared.started_sync.StartedSync.{StartedSync}
+use Rattle.disk.specs.declared.started_sync.StartedSync.TheVariants.{Done, Named}
 
 -- a write or a resize
 pub data Operation : Type 0 where
@@ -33,11 +35,6 @@ Writes (Resize len) at byte = ⊥
 abbrev pub SomeWrites : List Operation → ℕ → ℕ → Type 0
 SomeWrites [] at byte = ⊥
 SomeWrites (o ∷ os) at byte = Writes o at byte ⊎ SomeWrites os at byte
-
--- what starting a sync answers: nothing was unsynced, or a name to wait for
-pub data StartedSync : Type 0 where
-  IsDone : StartedSync
-  Named : (name : ℕ) → StartedSync
 
 -- one device call
 pub data Request : Type 0 where
@@ -174,7 +171,8 @@ pub record Operated (o : Operation) (request : Request) (failed : Bool) (old new
 abbrev pub settle : Disk → Disk
 settle d = record d { base = d.readable; since = []; settled = d.settled + length d.since }
 
--- what the started syncs cover: how many operations of the blob's life, and what was readable when each began
+-- what the started syncs cover: how many operations of the blob's life, and what was readable when
+-- each began
 abbrev pub coverings : Disk → List (ℕ × List ℕ)
 coverings d = map (λ s. (s.covers, s.bytes)) d.started
 
@@ -191,15 +189,30 @@ AreCovered d =
     (name : ℕ) (c : ℕ × List ℕ) → slice_get (coverings d) name ≡ Some c
     → c.0 ≤ d.settled + length d.since
 
--- whether this sync had failed when it started, or a wait for it
+-- whether this sync had failed when it started, or a wait for it, or there is none
+abbrev pub is_failed : Option Started → Bool
+is_failed None = true
+is_failed (Some s) = s.failed
+
+-- the same of the sync of this name
 abbrev pub had_failed : List Started → ℕ → Bool
-had_failed started name = elim (slice_get started name) [ None ↦ true | Some s ↦ s.failed ]
+had_failed started name = is_failed (slice_get started name)
 
 -- this sync has failed
 abbrev pub failed_at : ℕ → List Started → List Started
 failed_at name [] = []
 failed_at zero (s ∷ ss) = record s { failed = true } ∷ ss
 failed_at (suc name) (s ∷ ss) = s ∷ failed_at name ss
+
+-- what this sync covers is durable, unless it had failed, or there is none
+abbrev pub waited_for : Option Started → Disk → Disk
+waited_for None d = d
+waited_for (Some s) d = if s.failed then d else settle_to (s.covers, s.bytes) d
+
+-- a disk once the sync of this name was waited for, and that failed or didn't
+abbrev pub waited : ℕ → Bool → Disk → Disk
+waited name true d = record d { started = failed_at name d.started }
+waited name false d = waited_for (slice_get d.started name) d
 
 -- what each call of a blob does to its life, by what it answers
 
@@ -277,12 +290,15 @@ starts failed d =
 
 -- the device names each sync that it starts, also one that fails: that shows when it is waited for
 abbrev pub StartGoes : Life → Life → Result StartedSync Error → Type 0
-StartGoes old new (Ok (Named name)) = (name ≡ length old.present.started) × ((failed : Bool) × (new ≡ next old (starts failed old.present)))
-StartGoes old new (Ok IsDone) = ⊥
+StartGoes old new (Ok (Named name)) =
+    (name ≡ length old.present.started) × (failed : Bool)
+    × (new ≡ next old (starts failed old.present))
+StartGoes old new (Ok Done) = ⊥
 StartGoes old new (Err OutOfMemory) = new ≡ old
 StartGoes old new (Err _) = ⊥
 
--- a wait for a sync: what it covers is durable; or it failed, now or before, and then so does each wait for it from then on
+-- a wait for a sync of this name: what it covers is durable; or it failed, now or before, or there is
+-- none, and then so does each wait for it from then on
 abbrev pub WaitGoes : ℕ → Life → Life → Result (Unit {0}) Error → Type 0
 WaitGoes name old new (Ok _) =
     (s : Started) × (slice_get old.present.started name ≡ Some s) × (s.failed ≡ false)
@@ -293,3 +309,14 @@ WaitGoes name old new (Err SyncFailed) =
     (record old.present { started = failed_at name old.present.started })))
 WaitGoes name old new (Err OutOfMemory) = new ≡ old
 WaitGoes name old new (Err _) = ⊥
+
+-- a count of device calls after a wait for it, which stays at the greatest number
+abbrev pub calls_after_wait : StartedSync → ℕ → ℕ
+calls_after_wait Done calls = calls
+calls_after_wait (Named name) calls = min (calls + 1) (2 ^ 64 - 1)
+
+-- a wait for what starting a sync answered; where nothing was to be made durable no device is asked
+abbrev pub WaitsFor : StartedSync → Life → Life → Result (Unit {0}) Error → Type 0
+WaitsFor Done old new (Ok _) = new ≡ old
+WaitsFor Done old new (Err _) = ⊥
+WaitsFor (Named name) old new result = WaitGoes name old new result

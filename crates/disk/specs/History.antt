@@ -1,8 +1,9 @@
 -- A blob's life, told by what its device was asked for.
 use Rattle.std.specs.Prelude.{◌≡◌, ℕ, ◌-◌, ◌==◌, List, [], ◌∷◌, ◌++◌, length, Bool, true, false}
-use Rattle.std.specs.Prelude.{if◌then◌else◌}
+use Rattle.std.specs.Prelude.{if◌then◌else◌, replicate, ◌+◌}
 use Rattle.disk.specs.Disk.{Operation, Write, Resize, applied, Disk, Life, Entry, Request, ReadAt}
-use Rattle.disk.specs.Disk.{WriteAt, ResizeTo, SyncAll, next, logged, settle}
+use Rattle.disk.specs.Disk.{WriteAt, ResizeTo, SyncAll, StartSync, WaitSync, next, logged, settle}
+use Rattle.disk.specs.Disk.{Started, starts, waited}
 use Rattle.disk.specs.Torn.{torn}
 use Rattle.disk.specs.declared.action.Action.{Action}
 use Rattle.disk.specs.declared.action.Action.TheVariants as actions
@@ -16,6 +17,8 @@ request_of (calls.ReadAt place len) = ReadAt place len
 request_of (calls.WriteAt place len sync) = WriteAt place len sync
 request_of (calls.Resize len) = ResizeTo len
 request_of calls.Sync = SyncAll
+request_of calls.StartSync = StartSync
+request_of (calls.WaitSync name) = WaitSync name
 
 -- what stands in the log for an action
 abbrev pub asked : Action → Request
@@ -23,6 +26,8 @@ asked (actions.Read place len) = ReadAt place len
 asked (actions.Write place bytes sync) = WriteAt place (length bytes) sync
 asked (actions.Resize len) = ResizeTo len
 asked actions.Sync = SyncAll
+asked actions.StartSync = StartSync
+asked (actions.WaitSync name) = WaitSync name
 
 -- the bytes after an action that is done
 abbrev pub done : Action → List ℕ → List ℕ
@@ -30,13 +35,8 @@ done (actions.Read place len) bytes = bytes
 done (actions.Write place new sync) bytes = applied (Write place new) bytes
 done (actions.Resize len) bytes = applied (Resize len) bytes
 done actions.Sync bytes = bytes
-
--- an action that makes all durable when it is done
-abbrev pub settles : Action → Bool
-settles (actions.Read place len) = false
-settles (actions.Write place bytes sync) = sync
-settles (actions.Resize len) = false
-settles actions.Sync = true
+done actions.StartSync bytes = bytes
+done (actions.WaitSync name) bytes = bytes
 
 -- the write or resize of an action
 abbrev pub operation_of : Action → List Operation
@@ -44,6 +44,8 @@ operation_of (actions.Read place len) = []
 operation_of (actions.Write place bytes sync) = Write place bytes ∷ []
 operation_of (actions.Resize len) = Resize len ∷ []
 operation_of actions.Sync = []
+operation_of actions.StartSync = []
+operation_of (actions.WaitSync name) = []
 
 -- the disk after a write or a resize that is done, or that failed and left all readable bytes as
 -- they were
@@ -86,11 +88,23 @@ lives (actions.Resize len) failed life =
     next life (operated (Resize len) (ResizeTo len) failed life.present)
 lives actions.Sync true life = next life (logged SyncAll true life.present)
 lives actions.Sync false life = next life (settle (logged SyncAll false life.present))
+lives actions.StartSync failed life = next life (starts failed life.present)
+lives (actions.WaitSync name) failed life =
+    next life (logged (WaitSync name) failed (waited name failed life.present))
 
 -- a life goes on by these events
 abbrev pub goes_on : Life → List Event → Life
 goes_on life [] = life
 goes_on life (e ∷ es) = goes_on (lives e.action e.failed life) es
+
+-- how many syncs these calls started, or failed to start: so many names were given
+abbrev pub names_in : List Entry → ℕ
+names_in [] = 0
+names_in (e ∷ es) = elim e.request [ StartSync ↦ 1 | _ ↦ 0 ] + names_in es
+
+-- a sync of an earlier life, which can't be waited for any more
+abbrev pub spent : List ℕ → Started
+spent bytes = record { covers = 0; bytes = bytes; failed = true }
 
 -- a disk with these bytes, all durable, and this log
 abbrev pub at_rest : List ℕ → List Entry → Disk
@@ -99,7 +113,7 @@ at_rest bytes log = record {
   base = bytes;
   since = [];
   settled = 0;
-  started = [];
+  started = replicate (names_in log) (spent bytes);
   log = log;
 }
 

@@ -1,14 +1,31 @@
 -- A blob in memory: what its fields stand for, and what they say of one another.
 use Rattle.std.specs.Prelude.{◌≡◌, ◌≤◌, ◌<◌, ◌≢◌, ℕ, ◌+◌, ◌-◌, List, [], ◌∷◌, length, take, drop}
-use Rattle.std.specs.Prelude.{Bool, Result, Ok, Err, if◌then◌else◌, ◌&&◌, not}
-use Rattle.disk.specs.Disk.{Entry, failures}
+use Rattle.std.specs.Prelude.{Bool, true, false, Result, Ok, Err, if◌then◌else◌, ◌++◌, suc, zero}
+use Rattle.std.specs.Prelude.{Option, Some, None, slice_get, max, map, All}
+use Rattle.disk.specs.Disk.{Entry, Disk, Started, failures}
 use Rattle.disk.specs.declared.action.Event.{Event}
 use Rattle.disk.specs.declared.action.Call.{Call}
 use Rattle.disk.specs.declared.error.Error.{Error}
+use Rattle.disk.specs.declared.started_sync.StartedSync.{StartedSync}
+use Rattle.disk.specs.declared.started_sync.StartedSync.TheVariants.{Done, Named}
 use Rattle.disk.specs.declared.error.Error.TheVariants.{ReadFailed, WriteFailed, ResizeFailed}
 use Rattle.disk.specs.declared.error.Error.TheVariants.{SyncFailed, BlobInsufficientLength}
 use Rattle.disk.specs.declared.error.Error.TheVariants.{OutOfMemory}
-use Rattle.disk.specs.History.{History, life_of, request_of, settles, replayed, operations_of}
+use Rattle.disk.specs.History.{History, life_of, request_of, replayed, operations_of, names_in}
+use Rattle.disk.specs.declared.action.Action.{Action}
+use Rattle.disk.specs.declared.action.Action.TheVariants as actions
+use Rattle.disk.specs.declared.action.Start.{Start}
+
+-- none of them failed
+abbrev pub AreWell : List Started → Type 0
+AreWell [] = Unit {0}
+AreWell (s ∷ ss) = (s.failed ≡ false) × AreWell ss
+
+-- a disk with these bytes and so many started syncs, of which none failed
+pub record IsPlain (d : Disk) (bytes : List ℕ) (starts : ℕ) : Type 0 where
+  pub reads : bytes ≡ d.readable
+  pub names : length d.started ≡ starts
+  pub well : AreWell d.started
 
 -- the entries of calls, with whether each failed
 abbrev pub entries_of : List Call → List Bool → List Entry
@@ -27,22 +44,71 @@ history_of first earlier calls failed events failing =
       failing = failing;
     }
 
+-- a started sync of a history, that stands behind so many of its events
+abbrev pub started_by : History → Start → Started
+started_by h s =
+    let before = take s.events h.events in
+    record {
+      covers = length (operations_of before);
+      bytes = replayed before h.first;
+      failed = s.failed;
+    }
+
+-- each stands behind no more events than these
+abbrev pub AreWithin : ℕ → List Start → Type 0
+AreWithin n [] = Unit {0}
+AreWithin n (s ∷ ss) = (s.events ≤ n) × AreWithin n ss
+
 -- the fields agree with the history
 pub record IsKept (h : History) (readable : List ℕ) (calls : List Call) (failed : List Bool)
-    (faults earlier settled : ℕ) : Type 0 where
+    (faults earlier settled : ℕ) (starts : List Start) : Type 0 where
   pub bytes : readable ≡ (life_of h).present.readable
   -- the events up to here are durable, and no later one made anything so
   pub base : (life_of h).present.base ≡ replayed (take settled h.events) h.first
   pub since : (life_of h).present.since ≡ operations_of (drop settled h.events)
+  pub count : (life_of h).present.settled ≡ length (operations_of (take settled h.events))
   pub within : settled ≤ length h.events
+  pub started : (life_of h).present.started ≡ map (started_by h) starts
+  pub covers : AreWithin (length h.events) starts
+  pub names : length starts ≡ names_in (life_of h).present.log
   pub log : entries_of calls failed ≡ (life_of h).present.log
   pub outcomes : length failed ≡ length calls
   pub before : earlier ≤ length calls
   pub failures : faults ≡ failures (life_of h).present.log
 
--- how many events are settled after one more
-abbrev pub settled_after : Event → ℕ → ℕ → ℕ
-settled_after e settled events = if settles e.action && not e.failed then events + 1 else settled
+-- how many events are settled once this sync was waited for
+abbrev pub settled_for : Option Start → ℕ → ℕ
+settled_for None settled = settled
+settled_for (Some s) settled = if s.failed then settled else max settled s.events
+
+-- how many events are settled after one more, which stands behind so many
+abbrev pub settled_after : Action → (failed : Bool) → List Start → (settled events : ℕ) → ℕ
+settled_after action true starts settled events = settled
+settled_after (actions.Read place len) false starts settled events = settled
+settled_after (actions.Write place bytes sync) false starts settled events =
+    if sync then events + 1 else settled
+settled_after (actions.Resize len) false starts settled events = settled
+settled_after actions.Sync false starts settled events = events + 1
+settled_after actions.StartSync false starts settled events = settled
+settled_after (actions.WaitSync name) false starts settled events =
+    settled_for (slice_get starts name) settled
+
+-- a started sync has failed
+abbrev pub failing_at : ℕ → List Start → List Start
+failing_at name [] = []
+failing_at zero (s ∷ ss) = record s { failed = true } ∷ ss
+failing_at (suc name) (s ∷ ss) = s ∷ failing_at name ss
+
+-- the started syncs after one event more
+abbrev pub starts_after : Action → (failed : Bool) → List Start → (events : ℕ) → List Start
+starts_after actions.StartSync failed starts events =
+    starts ++ record { events = events; failed = failed } ∷ []
+starts_after (actions.WaitSync name) true starts events = failing_at name starts
+starts_after (actions.WaitSync name) false starts events = starts
+starts_after (actions.Read place len) failed starts events = starts
+starts_after (actions.Write place bytes sync) failed starts events = starts
+starts_after (actions.Resize len) failed starts events = starts
+starts_after actions.Sync failed starts events = starts
 
 -- a call of the device counts, and fails just where it is the one that is to fail; what asks no
 -- device doesn't count
@@ -53,6 +119,18 @@ CountsDown old new (Err WriteFailed) = (old ≡ 1) × (new ≡ 0)
 CountsDown old new (Err ResizeFailed) = (old ≡ 1) × (new ≡ 0)
 CountsDown old new (Err SyncFailed) = (old ≡ 1) × (new ≡ 0)
 CountsDown old new (Err _) = new ≡ old
+
+-- a start of a sync counts; that it is the one that is to fail shows at the wait
+abbrev pub CountsStart : {T : Type 0} → ℕ → ℕ → Result T Error → Type 0
+CountsStart old new (Ok _) = new ≡ old - 1
+CountsStart old new (Err _) = new ≡ old
+
+-- a wait counts, whether the sync had failed or not
+abbrev pub CountsWait : StartedSync → ℕ → ℕ → Result (Unit {0}) Error → Type 0
+CountsWait Done old new result = new ≡ old
+CountsWait (Named name) old new (Ok _) = (old ≢ 1) × (new ≡ old - 1)
+CountsWait (Named name) old new (Err SyncFailed) = new ≡ old - 1
+CountsWait (Named name) old new (Err _) = new ≡ old
 
 -- the bytes of a range, or none where it passes the end, or no memory
 abbrev pub IsRange : ℕ → ℕ → List ℕ → Result (List ℕ) Error → Type 0

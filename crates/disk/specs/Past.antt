@@ -5,6 +5,7 @@ use Rattle.disk.specs.declared.action.Action.{Action}
 use Rattle.disk.specs.declared.action.Action.TheVariants as actions
 use Rattle.disk.specs.declared.past.Asked.{Asked}
 use Rattle.disk.specs.declared.past.Asked.TheVariants.{Nothing, Read, Write, Resize, Sync}
+use Rattle.disk.specs.declared.past.Asked.TheVariants.{StartSync, WaitSync}
 use Rattle.disk.specs.History.{History}
 
 -- one action more, done or failed
@@ -21,3 +22,5 @@ past_of (Write before place bufs sync failed) =
     went (actions.Write place (concat bufs.value) sync) failed before.value.value
 past_of (Resize before len failed) = went (actions.Resize len) failed before.value.value
 past_of (Sync before failed) = went actions.Sync failed before.value.value
+past_of (StartSync before failed) = went actions.StartSync failed before.value.value
+past_of (WaitSync before name failed) = went (actions.WaitSync name) failed before.value.value

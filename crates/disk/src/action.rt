@@ -1,10 +1,10 @@
 // What a device is asked for.
 ghost use Rattle.std.specs.Prelude.{[], ◌∷◌, if◌then◌else◌, ◌≡◌, ◌≤◌, ◌+◌, ◌-◌, ◌<◌, ◌^◌, ◌++◌};
-ghost use Rattle.std.specs.Prelude.{length, take, drop, replicate, vec_capacity, OnOk, OnErr, IfOk, IsOk};
+ghost use Rattle.std.specs.Prelude.{length, take, drop, replicate, vec_len, vec_capacity, OnOk, OnErr, IfOk, IsOk};
 ghost use Rattle.disk.specs.Disk.{applied, Write};
-ghost use Rattle.disk.specs.History.{request_of, asked, done, settles, redone, replayed};
+ghost use Rattle.disk.specs.History.{request_of, asked, done, redone, replayed};
 ghost use Rattle.disk.specs.History.{operations_of, TornBy};
-ghost use Rattle.disk.specs.Memory.{settled_after};
+ghost use Rattle.disk.specs.Memory.{settled_after, starts_after, failing_at};
 ghost use Rattle.disk.specs.Torn.{torn, torn_write};
 
 use crate::IoBuf;
@@ -21,6 +21,10 @@ pub enum Call {
     Resize(u64),
     /// A sync.
     Sync,
+    /// The start of a sync.
+    StartSync,
+    /// A wait for a started sync, by its name.
+    WaitSync(u64),
 }
 
 /// What a device is asked for, with all that it takes to do it.
@@ -30,12 +34,22 @@ pub enum Action {
     Write(u64, IoBuf, bool),
     Resize(u64),
     Sync,
+    StartSync,
+    WaitSync(u64),
 }
 
 /// What a device was asked for, and whether it failed.
 #[derive(Drop)]
 pub struct Event {
     pub action: Action,
+    pub failed: bool,
+}
+
+/// A sync that was started: how many of the life's events it covers, and whether it or a wait for it
+/// failed.
+#[derive(Clone, Copy)]
+pub struct Start {
+    pub events: usize,
     pub failed: bool,
 }
 
@@ -49,17 +63,8 @@ impl Action {
             Action::Write(place, bytes, sync) => Call::WriteAt(*place, bytes.len(), *sync),
             Action::Resize(len) => Call::Resize(*len),
             Action::Sync => Call::Sync,
-        }
-    }
-
-    /// Whether all is durable once it is done.
-    pub fn settles(&self) -> bool
-        ensures { result ≡ settles self.now }
-    {
-        match self {
-            Action::Write(_, _, sync) => *sync,
-            Action::Sync => true,
-            Action::Read(_, _) | Action::Resize(_) => false,
+            Action::StartSync => Call::StartSync,
+            Action::WaitSync(name) => Call::WaitSync(*name),
         }
     }
 
@@ -84,7 +89,7 @@ impl Action {
                 }
                 None => Ok(keep),
             },
-            Action::Read(_, _) | Action::Sync => Ok(keep),
+            _ => Ok(keep),
         }
     }
 
@@ -97,7 +102,7 @@ impl Action {
         let len = match self {
             Action::Write(place, new, _) => (*place as usize).checked_add(new.len()),
             Action::Resize(len) => Some(*len as usize),
-            Action::Read(_, _) | Action::Sync => Some(0),
+            _ => Some(0),
         };
         match len {
             Some(len) => bytes.try_reserve(len.saturating_sub(bytes.len())),
@@ -113,21 +118,46 @@ impl Action {
         match self {
             Action::Write(place, new, _) => write_over(bytes, *place as usize, new.as_ref()),
             Action::Resize(len) => bytes.resize(*len as usize, 0),
-            Action::Read(_, _) | Action::Sync => Ok(()),
+            _ => Ok(()),
         }
     }
 }
 
 impl Event {
-    /// How many events are durable after this one, where `settled` of the `events` before it were.
-    pub fn settled_after(&self, settled: usize, events: usize) -> usize
+    /// How many events are durable after this one, where `settled` of the `events` before it were,
+    /// and these syncs were started.
+    pub fn settled_after(&self, starts: &[Start], settled: usize, events: usize) -> usize
         requires { events + 1 < 2 ^ 64 }
-        ensures { result ≡ settled_after self.now settled events }
+        ensures { result
+            ≡ settled_after self.now.action self.now.failed starts.now settled events }
     {
-        if self.action.settles() && !self.failed {
-            events + 1
-        } else {
-            settled
+        if self.failed {
+            return settled;
+        }
+        match &self.action {
+            Action::Sync | Action::Write(_, _, true) => events + 1,
+            Action::WaitSync(name) => match starts.get(*name as usize) {
+                Some(start) if !start.failed => settled.max(start.events),
+                _ => settled,
+            },
+            _ => settled,
+        }
+    }
+
+    /// Adds the sync that it starts, behind so many events, or marks the one that it waited for in
+    /// vain.
+    pub fn record_start(&self, starts: &mut Vec<Start>, events: usize)
+        requires { vec_len starts.old < vec_capacity starts.old }
+        ensures { starts.new.items
+            ≡ starts_after self.now.action self.now.failed starts.old.items events }
+    {
+        match &self.action {
+            Action::StartSync => starts.push_reserved(Start {
+                events,
+                failed: self.failed,
+            }),
+            Action::WaitSync(name) if self.failed => fail(starts, *name as usize),
+            _ => {}
         }
     }
 
@@ -147,6 +177,15 @@ impl Event {
             self.action.perform(bytes)?;
         }
         Ok(())
+    }
+}
+
+// Marks a started sync as failed, if there is one of this name.
+fn fail(starts: &mut Vec<Start>, name: usize)
+    ensures { starts.new.items ≡ failing_at name starts.old.items }
+{
+    if let Some(start) = starts.get_mut(name) {
+        start.failed = true;
     }
 }
 

@@ -2,9 +2,9 @@
 ghost use Rattle.std.specs.Prelude.{◌≡◌, [], true};
 ghost use Rattle.std.specs.List.{concat};
 ghost use Rattle.disk.specs.Disk.{Life, IsImage, AreCovered, Write, Resize, ReadGoes, WriteGoes};
-ghost use Rattle.disk.specs.Disk.{ResizeGoes, SyncGoes};
+ghost use Rattle.disk.specs.Disk.{ResizeGoes, SyncGoes, StartGoes, WaitsFor};
 
-use crate::{Error, IoBuf, IoBufs};
+use crate::{Error, IoBuf, IoBufs, StartedSync};
 use std::alloc::Global;
 
 /// How a read is to be done.
@@ -69,6 +69,18 @@ pub trait Blob {
     /// failed: then what was durable is. `OutOfMemory`.
     fn sync(&mut self) -> Result<(), Error>
         ensures goes { SyncGoes (life self.old) (life self.new) result };
+
+    /// Starts to make durable all that is readable, and answers the name of that sync: the number
+    /// of those that were started before it. Nothing more is durable until a wait for it, or a
+    /// sync, answers `Ok`. A failure of the device shows only at the wait. `OutOfMemory`.
+    fn start_sync(&mut self) -> Result<StartedSync, Error>
+        ensures goes { StartGoes (life self.old) (life self.new) result };
+
+    /// Waits until what a started sync covers is durable. `SyncFailed` where the device failed, now
+    /// or at the start or an earlier wait, and where it started no such sync; `OutOfMemory`. What
+    /// was durable stays so. Where there is nothing to wait for, it asks no device.
+    fn wait_sync(&mut self, started: StartedSync) -> Result<(), Error>
+        ensures goes { WaitsFor started (life self.old) (life self.new) result };
 
     /// What is readable is one of the things that a crash may leave.
     ghost readable_is_image: { (b : Self) → IsImage (life b).present (life b).present.readable };

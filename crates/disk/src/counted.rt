@@ -2,8 +2,9 @@
 ghost use Rattle.std.specs.Prelude.{◌≡◌, ◌+◌, ◌-◌, ◌^◌, [], min, length, true};
 ghost use Rattle.std.specs.List.{concat};
 ghost use Rattle.disk.specs.Disk.{ReadGoes, WriteGoes, ResizeGoes, SyncGoes};
+ghost use Rattle.disk.specs.Disk.{StartGoes, WaitsFor, calls_after_wait};
 
-use crate::{Blob, Error, IoBuf, IoBufs, ReadOptions, WriteOptions};
+use crate::{Blob, Error, IoBuf, IoBufs, ReadOptions, StartedSync, WriteOptions};
 use std::alloc::Global;
 
 /// A blob that hands each call on to another, and counts the calls and the bytes that it is asked
@@ -89,6 +90,31 @@ impl<B: Blob> Blob for Counted<B> {
     {
         self.calls = self.calls.saturating_add(1);
         self.inner.sync()
+    }
+
+    fn start_sync(&mut self) -> Result<StartedSync, Error>
+        ensures goes { StartGoes (B.life self.old.inner) (B.life self.new.inner) result }
+        ensures calls { self.new.calls ≡ min (self.old.calls + 1) (2 ^ 64 - 1) }
+        ensures read { self.new.read ≡ self.old.read }
+        ensures written { self.new.written ≡ self.old.written }
+    {
+        self.calls = self.calls.saturating_add(1);
+        self.inner.start_sync()
+    }
+
+    fn wait_sync(&mut self, started: StartedSync) -> Result<(), Error>
+        ensures goes { WaitsFor started (B.life self.old.inner) (B.life self.new.inner) result }
+        ensures calls { self.new.calls ≡ calls_after_wait started self.old.calls }
+        ensures read { self.new.read ≡ self.old.read }
+        ensures written { self.new.written ≡ self.old.written }
+    {
+        match started {
+            StartedSync::Done => Ok(()),
+            StartedSync::Named(_) => {
+                self.calls = self.calls.saturating_add(1);
+                self.inner.wait_sync(started)
+            }
+        }
     }
 
     ghost readable_is_image = { λ b. B.readable_is_image b.inner };

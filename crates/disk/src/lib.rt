@@ -11,6 +11,7 @@ mod counted;
 mod error;
 mod memory;
 mod past;
+mod started_sync;
 mod vec_blob;
 
 pub use action::Call;
@@ -19,4 +20,5 @@ pub use buf::{IoBuf, IoBufs};
 pub use counted::Counted;
 pub use error::Error;
 pub use memory::MemBlob;
+pub use started_sync::StartedSync;
 pub use vec_blob::VecBlob;

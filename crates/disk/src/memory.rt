@@ -1,16 +1,16 @@
 // A blob in memory, whose calls can be made to fail, and which can crash.
-ghost use Rattle.std.specs.Prelude.{◌≡◌, ◌≤◌, ◌<◌, ◌+◌, ◌-◌, ◌==◌, ◌++◌, [], ◌∷◌, length, map};
+ghost use Rattle.std.specs.Prelude.{◌≡◌, ◌≤◌, ◌<◌, ◌+◌, ◌-◌, ◌==◌, ◌++◌, [], ◌∷◌, length, map, replicate, true};
 ghost use Rattle.std.specs.Prelude.{vec_len, vec_capacity, if◌then◌else◌, IfOk, OnOk, OnErr};
 ghost use Rattle.std.specs.Prelude.{IsOkUnless};
 ghost use Rattle.std.specs.List.{concat};
 ghost use Rattle.disk.specs.Disk.{IsImage, LeavesNoMore, Life, Write, Resize, failures, ReadGoes};
-ghost use Rattle.disk.specs.Disk.{WriteGoes, ResizeGoes, SyncGoes};
+ghost use Rattle.disk.specs.Disk.{WriteGoes, ResizeGoes, SyncGoes, StartGoes, WaitsFor, had_failed};
 ghost use Rattle.disk.specs.History.{life_of, begun, told, request_of};
-ghost use Rattle.disk.specs.Memory.{settled_after, CountsDown, IsRange};
+ghost use Rattle.disk.specs.Memory.{CountsDown, CountsStart, CountsWait, IsRange};
 ghost use Rattle.disk.specs.Torn.{torn};
 
-use crate::action::{Action, Call, Event, replay, tear};
-use crate::{Blob, Error, IoBuf, IoBufs, ReadOptions, WriteOptions};
+use crate::action::{Action, Call, Event, Start, replay, tear};
+use crate::{Blob, Error, IoBuf, IoBufs, ReadOptions, StartedSync, WriteOptions};
 use std::alloc::{AllocError, Global};
 use std::marker::Model;
 
@@ -33,6 +33,8 @@ pub struct MemBlob {
     // The device calls of this life, and how many of them are durable.
     events: Vec<Event>,
     settled: usize,
+    // The syncs that were started in all lives; those of earlier ones have failed.
+    starts: Vec<Start>,
     readable: Vec<u8>,
     // Which device call from now on is to fail; 0 for none.
     failing: u64,
@@ -49,7 +51,8 @@ impl Model for MemBlob {
 
     ghost invariant = { λ m. IsKept
         (history_of m.first.items m.earlier m.calls.items m.failed.items m.events.items m.failing)
-        m.readable.items m.calls.items m.failed.items m.failures m.earlier m.settled };
+        m.readable.items m.calls.items m.failed.items m.failures m.earlier m.settled
+        m.starts.items };
 }
 
 impl MemBlob {
@@ -87,6 +90,7 @@ impl MemBlob {
             failures: 0,
             events: Vec::new(alloc),
             settled: 0,
+            starts: Vec::new(alloc),
             readable,
             failing: 0,
         }
@@ -148,6 +152,8 @@ impl MemBlob {
     {
         let image = self.left(keep)?;
         let readable = Vec::from_slice(self.alloc, &image)?;
+        let starts = spent(self.alloc, self.starts.len())?;
+        self.starts = starts;
         self.first = image;
         self.readable = readable;
         self.earlier = self.calls.len();
@@ -174,6 +180,16 @@ impl MemBlob {
         IoBuf::copy_range(alloc, self.bytes(), place, len)
     }
 
+    // Whether a wait for this sync can only fail.
+    fn has_failed(&self, name: u64) -> bool
+        ensures { result ≡ had_failed (life_of self.now).present.started name }
+    {
+        match self.starts.get(name as usize) {
+            None => true,
+            Some(start) => start.failed,
+        }
+    }
+
     // Asks the device, and answers whether it failed. An `Err` leaves all as it was.
     fn ask(&mut self, action: Action) -> Result<bool, AllocError>
         ensures failed { IfOk result (λ failed. failed ≡ (self.old.failing == 1)) }
@@ -182,13 +198,15 @@ impl MemBlob {
     {
         // What may fail comes before the first change, also where the device is to fail.
         make_room(&mut self.calls, &mut self.failed, &mut self.events)?;
+        self.starts.try_reserve(1)?;
         action.reserve(&mut self.readable)?;
         let event = Event {
             action,
             failed: self.failing == 1,
         };
         event.redo(&mut self.readable)?;
-        self.settled = event.settled_after(self.settled, self.events.len());
+        self.settled = event.settled_after(&self.starts, self.settled, self.events.len());
+        event.record_start(&mut self.starts, self.events.len());
         self.calls.push_reserved(event.action.call());
         self.failed.push_reserved(event.failed);
         self.failures += event.faults();
@@ -257,9 +275,48 @@ impl Blob for MemBlob {
         Ok(())
     }
 
+    fn start_sync(&mut self) -> Result<StartedSync, Error>
+        ensures goes { StartGoes (life_of self.old) (life_of self.new) result }
+        ensures counts { CountsStart self.old.failing self.new.failing result }
+    {
+        let name = self.starts.len() as u64;
+        self.ask(Action::StartSync)?;
+        Ok(StartedSync::Named(name))
+    }
+
+    fn wait_sync(&mut self, started: StartedSync) -> Result<(), Error>
+        ensures goes { WaitsFor started (life_of self.old) (life_of self.new) result }
+        ensures counts { CountsWait started self.old.failing self.new.failing result }
+    {
+        let StartedSync::Named(name) = started else {
+            return Ok(());
+        };
+        let has_failed = self.has_failed(name);
+        if self.ask(Action::WaitSync(name))? || has_failed {
+            return Err(Error::SyncFailed);
+        }
+        Ok(())
+    }
+
     ghost readable_is_image = { life_reads };
 
     ghost starts_are_covered = { life_covers };
+}
+
+// So many syncs of earlier lives.
+fn spent(alloc: Global, count: usize) -> Result<Vec<Start>, AllocError>
+    ensures { IfOk result (λ starts.
+        starts.items ≡ replicate count (record { events = 0; failed = true })) }
+{
+    let mut starts = Vec::new(alloc);
+    starts.resize(
+        count,
+        Start {
+            events: 0,
+            failed: true,
+        },
+    )?;
+    Ok(starts)
 }
 
 // Room for one device call more.

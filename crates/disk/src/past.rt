@@ -25,6 +25,8 @@ enum Asked {
     Write(Snapshot<Snapshot<Past>>, u64, Snapshot<IoBufs>, bool, bool),
     Resize(Snapshot<Snapshot<Past>>, u64, bool),
     Sync(Snapshot<Snapshot<Past>>, bool),
+    StartSync(Snapshot<Snapshot<Past>>, bool),
+    WaitSync(Snapshot<Snapshot<Past>>, u64, bool),
 }
 
 impl Model for Past {
@@ -94,6 +96,26 @@ impl Past {
     {
         let past = Past {
             last: Asked::Resize(Snapshot::of(before), len, failed),
+        };
+        Snapshot::of(&past)
+    }
+
+    /// A start of a sync more.
+    pub fn start_sync(before: &Snapshot<Self>, failed: bool) -> Snapshot<Self>
+        ensures { result.value ≡ went actions.StartSync failed before.now.value }
+    {
+        let past = Past {
+            last: Asked::StartSync(Snapshot::of(before), failed),
+        };
+        Snapshot::of(&past)
+    }
+
+    /// A wait more for a sync.
+    pub fn wait_sync(before: &Snapshot<Self>, name: u64, failed: bool) -> Snapshot<Self>
+        ensures { result.value ≡ went (actions.WaitSync name) failed before.now.value }
+    {
+        let past = Past {
+            last: Asked::WaitSync(Snapshot::of(before), name, failed),
         };
         Snapshot::of(&past)
     }

@@ -3,11 +3,12 @@ ghost use Rattle.std.specs.Prelude.{◌≡◌, ◌≤◌, ◌<◌, ◌+◌, ◌^
 ghost use Rattle.std.specs.Prelude.{OnErr, IsOk, IsOkUnless, vec_capacity};
 ghost use Rattle.std.specs.List.{concat};
 ghost use Rattle.disk.specs.Disk.{ReadGoes, WriteGoes, ResizeGoes, SyncGoes};
+ghost use Rattle.disk.specs.Disk.{StartGoes, WaitsFor};
 ghost use Rattle.disk.specs.History.{life_of, begun};
 
 use crate::action::{grow, put};
 use crate::past::Past;
-use crate::{Blob, Error, IoBuf, IoBufs, ReadOptions, WriteOptions};
+use crate::{Blob, Error, IoBuf, IoBufs, ReadOptions, StartedSync, WriteOptions};
 use std::alloc::{AllocError, Global};
 use std::marker::Model;
 use std::snapshot::Snapshot;
@@ -20,18 +21,20 @@ use std::snapshot::Snapshot;
 #[derive(Drop)]
 pub struct VecBlob {
     bytes: Vec<u8>,
+    // How many syncs were started.
+    starts: u64,
     past: Snapshot<Past>,
 }
 
 impl Model for VecBlob {
-    ghost use Rattle.std.specs.Prelude.{◌≡◌};
     ghost use Rattle.disk.specs.History.{History, life_of};
+    ghost use Rattle.disk.specs.Memory.{IsPlain};
 
     ghost Value = { History };
 
     ghost view = { λ b. b.past.value };
 
-    ghost invariant = { λ b. b.bytes.items ≡ (life_of b.past.value).present.readable };
+    ghost invariant = { λ b. IsPlain (life_of b.past.value).present b.bytes.items b.starts };
 }
 
 impl VecBlob {
@@ -47,7 +50,11 @@ impl VecBlob {
         ensures life { life_of result ≡ begun bytes.items [] }
     {
         let past = Past::begun(&bytes);
-        VecBlob { bytes, past }
+        VecBlob {
+            bytes,
+            starts: 0,
+            past,
+        }
     }
 
     /// What a read of all bytes would give.
@@ -141,6 +148,31 @@ impl Blob for VecBlob {
         ensures goes { SyncGoes (life_of self.old) (life_of self.new) result }
     {
         self.past = Past::sync(&self.past, false);
+        Ok(())
+    }
+
+    fn start_sync(&mut self) -> Result<StartedSync, Error>
+        ensures goes { StartGoes (life_of self.old) (life_of self.new) result }
+    {
+        let name = self.starts;
+        let Some(starts) = name.checked_add(1) else {
+            return Err(Error::OutOfMemory);
+        };
+        self.starts = starts;
+        self.past = Past::start_sync(&self.past, false);
+        Ok(StartedSync::Named(name))
+    }
+
+    fn wait_sync(&mut self, started: StartedSync) -> Result<(), Error>
+        ensures goes { WaitsFor started (life_of self.old) (life_of self.new) result }
+    {
+        let StartedSync::Named(name) = started else {
+            return Ok(());
+        };
+        self.past = Past::wait_sync(&self.past, name, false);
+        if name >= self.starts {
+            return Err(Error::SyncFailed);
+        }
         Ok(())
     }
 

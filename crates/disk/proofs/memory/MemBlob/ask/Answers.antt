@@ -1,6 +1,7 @@
-use Rattle.std.proofs.Common.{arith, ◌≡◌, ◌≤◌, ◌+◌, ◌==◌, ◌++◌, ◌∷◌, [], length, ap, ◌∙◌}
+use Rattle.std.proofs.Common.{arith, ◌≡◌, ◌≤◌, ◌+◌, ◌==◌, ◌++◌, ◌∷◌, [], ℕ, List, length, ap, ap₂, ◌∙◌}
 use Rattle.disk.specs.History.{redone}
-use Rattle.disk.specs.Memory.{settled_after}
+use Rattle.disk.specs.Memory.{settled_after, starts_after}
+use Rattle.disk.specs.declared.action.Start.{Start}
 use Rattle.disk.proofs.Histories.{kept_next, faults_le, one_at_most}
 use Rattle.disk.proofs.memory.MemBlob.ask.Goals as goal
 
@@ -8,7 +9,7 @@ pub overflow_add-self : goal.overflow_add-self
 overflow_add-self c =
     let inside = c.self.inside in
     let calls = inside.calls in
-    let few = faults_le _ _ _ _ _ _ _ c.self.invariant in
+    let few = faults_le _ _ _ _ _ _ _ _ c.self.invariant in
     let one : c.faults.result ≤ 1 = rw c.faults.ensures (one_at_most (inside.failing == 1)) in
     omega (arith, few, calls.ok, calls.small)
 
@@ -18,11 +19,12 @@ invariant_of-self-2 c =
     let room = c.in_ok-make_room.ensures in
     let events = c.make_room.new.events in
     let count : c.len.result ≡ length inside.events.items = c.len.ensures ∙ events.ok.0 ∙ ap length room.events in
-    kept_next inside.first.items inside.readable.items c.redo.new.bytes.items inside.calls.items c.push_reserved.new.self.items inside.failed.items c.push_reserved-2.new.self.items inside.events.items c.push_reserved-3.new.self.items inside.earlier inside.settled c.settled_after-self-inside.result inside.failures (inside.failures + c.faults.result) inside.failing c.saturating_sub-self-inside.result c.args.action c.call.result c.self.invariant c.call.ensures
+    kept_next inside.first.items inside.readable.items c.redo.new.bytes.items inside.calls.items c.push_reserved.new.self.items inside.failed.items c.push_reserved-2.new.self.items inside.events.items c.push_reserved-3.new.self.items inside.earlier inside.settled c.settled_after-self-inside.result inside.failures (inside.failures + c.faults.result) inside.failing c.saturating_sub-self-inside.result inside.starts.items c.record_start.new.starts.items c.args.action c.call.result c.self.invariant c.call.ensures
     (c.push_reserved.ensures.items ∙ ap (λ v. v ++ c.call.result ∷ []) room.calls)
     (c.push_reserved-2.ensures.items ∙ ap (λ v. v ++ (inside.failing == 1) ∷ []) room.failed)
     (c.push_reserved-3.ensures.items ∙ ap (λ v. v ++ record { action = c.args.action; failed = inside.failing == 1 } ∷ []) room.events)
     (c.in_ok-redo.ensures.ok ∙ ap (redone (record { action = c.args.action; failed = inside.failing == 1 })) c.reserve.ensures.same)
     c.saturating_sub-self-inside.ensures
     (ap (λ n. inside.failures + n) c.faults.ensures)
-    (c.settled_after-self-inside.ensures ∙ ap (settled_after (record { action = c.args.action; failed = inside.failing == 1 }) inside.settled) count)
+    (c.settled_after-self-inside.ensures ∙ ap₂ (λ (starts : List Start) (n : ℕ). settled_after c.args.action (inside.failing == 1) starts inside.settled n) (c.deref.ensures.value ∙ c.try_reserve.ensures.items) count)
+    (c.record_start.ensures ∙ ap₂ (λ (starts : List Start) (n : ℕ). starts_after c.args.action (inside.failing == 1) starts n) (c.try_reserve.ensures.items) (c.len-2.ensures ∙ events.ok.0 ∙ ap length room.events))

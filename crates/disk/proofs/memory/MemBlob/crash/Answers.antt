@@ -1,3 +1,7 @@
+use Rattle.std.proofs.Common.{◌≡◌, ℕ, replicate, length, ap, sym, ◌∙◌, true, arith}
+use Rattle.disk.specs.Disk.{failures}
+use Rattle.disk.specs.History.{names_in}
+use Rattle.disk.proofs.Starts.{begun_kept}
 use Rattle.disk.proofs.Torn.{torn_is_image, begun_leaves}
 use Rattle.disk.specs.History.{life_of}
 use Rattle.disk.specs.Memory.{history_of}
@@ -8,6 +12,18 @@ returns-in_err-image-clause-image c = torn_is_image c.args.keep.now (life_of c.a
 
 pub returns-in_err-readable-clause-image : goal.returns-in_err-readable-clause-image
 returns-in_err-readable-clause-image c = torn_is_image c.args.keep.now (life_of c.args.self.now).present
+
+pub returns-in_err-starts-clause-image : goal.returns-in_err-starts-clause-image
+returns-in_err-starts-clause-image c = torn_is_image c.args.keep.now (life_of c.args.self.now).present
+
+pub invariant_of-self : goal.invariant_of-self
+invariant_of-self c =
+    let old = c.self.inside in
+    let is = c.self.invariant in
+    begun_kept c.in_ok-image.image.items c.in_ok-readable.readable.items old.calls.items old.failed.items old.failing old.failures c.len-self-inside.result old.starts.items c.in_ok-starts.starts.items c.clear.new.self.items
+    c.clear.ensures.items (c.in_ok-readable.ensures.items ∙ c.deref.ensures.value) (omega (arith, c.len-self-inside.ensures, old.calls.ok.0)) is.outcomes
+    (is.failures ∙ ap failures (sym is.log)) (is.names ∙ ap names_in (sym is.log))
+    (c.in_ok-starts.ensures ∙ ap (λ (n : ℕ). replicate n (record { events = 0; failed = true })) (omega (arith, c.len.ensures, old.starts.ok.0)))
 
 pub returns-clause-image : goal.returns-clause-image
 returns-clause-image c = torn_is_image c.args.keep.now (life_of c.args.self.now).present

@@ -1,8 +1,9 @@
-use Rattle.std.proofs.Common.{◌≡◌, ◌++◌, ◌-◌, false, take, replicate, ap, ◌∙◌}
+use Rattle.std.proofs.Common.{refl, ◌≡◌, ◌++◌, ◌-◌, false, take, replicate, ap, ◌∙◌}
 use Rattle.disk.specs.declared.action.Action.TheVariants as actions
 use Rattle.disk.specs.History.{life_of}
 use Rattle.disk.specs.Past.{went}
-use Rattle.disk.proofs.Histories.{life_went, reads_went}
+use Rattle.disk.proofs.Histories.{life_went}
+use Rattle.disk.proofs.Starts.{plain_went}
 use Rattle.disk.proofs.Device.{resize_goes}
 use Rattle.disk.proofs.vec_blob.VecBlobBlob.resize.Goals as goal
 
@@ -15,5 +16,5 @@ returns c =
 pub invariant_of-self-2 : goal.invariant_of-self-2
 invariant_of-self-2 c =
     let bytes = c.self.inside.bytes in
-    reads_went (actions.Resize c.args.len) false c.self.inside.past.value c.resize-2.result.value bytes.items c.resize.new.self.items c.resize-2.ensures c.self.invariant
+    plain_went (actions.Resize c.args.len) c.self.inside.past.value c.resize-2.result.value bytes.items c.resize.new.self.items c.self.inside.starts (λ life. refl) c.resize-2.ensures c.self.invariant
     (c.in_ok-resize.ensures.items ∙ ap (λ n. take c.args.len bytes.items ++ replicate (c.args.len - n) 0) bytes.ok.0)

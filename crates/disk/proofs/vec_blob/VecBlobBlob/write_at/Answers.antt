@@ -3,7 +3,8 @@ use Rattle.std.specs.List.{concat}
 use Rattle.disk.specs.declared.action.Action.TheVariants as actions
 use Rattle.disk.specs.History.{life_of}
 use Rattle.disk.specs.Past.{went}
-use Rattle.disk.proofs.Histories.{life_went, reads_went}
+use Rattle.disk.proofs.Histories.{life_went}
+use Rattle.disk.proofs.Starts.{plain_went, write_keeps}
 use Rattle.disk.proofs.Device.{write_goes}
 use Rattle.disk.proofs.Writes.{written_behind}
 use Rattle.disk.proofs.vec_blob.VecBlobBlob.write_at.Goals as goal
@@ -25,5 +26,5 @@ invariant_of-self-2 c =
     let place = c.args.offset in
     let new = concat c.args.bufs.now in
     let old = c.self.inside.bytes.items in
-    reads_went (actions.Write place new c.args.options.sync) false c.self.inside.past.value c.write.result.value old c.put_all.new.bytes.items c.write.ensures c.self.invariant
+    plain_went (actions.Write place new c.args.options.sync) c.self.inside.past.value c.write.result.value old c.put_all.new.bytes.items c.self.inside.starts (write_keeps place new c.args.options.sync) c.write.ensures c.self.invariant
     (c.in_ok-put_all.ensures.ok ∙ grown old new place c.grow.new.bytes.items (c.in_ok-grow.ensures.ok ∙ ap (λ (b : List ℕ). b ++ replicate (place - length b) 0) c.try_reserve.ensures.items))

@@ -1,0 +1,149 @@
+-- Started syncs, and waits for them.
+use Rattle.std.proofs.Common.{◌≡◌, ◌⊎◌, ◌<◌, ◌≤◌, ◌+◌, ℕ, suc, zero, List, [], ◌∷◌, ◌++◌, length, map, take, replicate, ap, sym, ◌∙◌, subst, refl, arith, Bool, true, false, inl, inr, slice_set, Ok, Err}
+use Rattle.std.specs.Prelude.{slice_get, Option, Some, None, if◌then◌else◌}
+use Rattle.std.proofs.lemmas.List.{length_push, length-map, length-replicate, take_all}
+use Rattle.disk.specs.Disk.{Disk, Life, Started, WaitSync, next, logged, settle_to, waited, waited_for, is_failed, had_failed, failed_at, WaitGoes, failures}
+use Rattle.disk.specs.declared.error.Error.TheVariants.{SyncFailed}
+use Rattle.disk.specs.declared.action.Action.{Action}
+use Rattle.disk.specs.declared.action.Action.TheVariants as actions
+use Rattle.disk.specs.declared.action.Start.{Start}
+use Rattle.disk.specs.declared.action.Call.{Call}
+use Rattle.disk.specs.declared.action.Event.{Event}
+use Rattle.disk.specs.History.{History, life_of, lives, spent, redone, names_in}
+use Rattle.disk.specs.Past.{went}
+use Rattle.disk.specs.Memory.{failing_at, started_by, AreWell, AreWithin, IsPlain, IsKept, entries_of, history_of}
+use Rattle.disk.proofs.Histories.{life_went, reads_went, waited_started}
+
+-- one of them is marked
+pub failing_set : (starts : List Start) (name : ℕ) (s : Start) → slice_get starts name ≡ Some s → slice_set starts name (record s { failed = true }) ≡ failing_at name starts
+failing_set [] name s is = absurd (cc)
+failing_set (t ∷ ss) zero s is = let same : s ≡ t = cc in ap (λ (x : Start). record x { failed = true } ∷ ss) same
+failing_set (t ∷ ss) (suc name) s is = ap (λ (l : List Start). t ∷ l) (failing_set ss name s is)
+
+-- there is none of this name
+pub failing_out : (starts : List Start) (name : ℕ) → length starts ≤ name → starts ≡ failing_at name starts
+failing_out [] name out = refl
+failing_out (t ∷ ss) zero out = absurd (omega (arith, out))
+failing_out (t ∷ ss) (suc name) out = ap (λ (l : List Start). t ∷ l) (failing_out ss name (omega (arith, out)))
+
+-- whether one of a history's failed
+pub failed_of : (h : History) (starts : List Start) (name : ℕ) (s : Start) → slice_get starts name ≡ Some s → is_failed (slice_get (map (started_by h) starts) name) ≡ s.failed
+failed_of h [] name s is = absurd (cc)
+failed_of h (t ∷ ss) zero s is = let same : t ≡ s = cc in ap (λ (x : Start). x.failed) same
+failed_of h (t ∷ ss) (suc name) s is = failed_of h ss name s is
+
+pub none_of_name : (h : History) (starts : List Start) (name : ℕ) → length starts ≤ name → is_failed (slice_get (map (started_by h) starts) name) ≡ true
+none_of_name h [] name out = refl
+none_of_name h (t ∷ ss) zero out = absurd (omega (arith, out))
+none_of_name h (t ∷ ss) (suc name) out = none_of_name h ss name (omega (arith, out))
+
+-- those of earlier lives cover nothing
+pub spent_starts : (h : History) (n : ℕ) → map (started_by h) (replicate n (record { events = 0; failed = true })) ≡ replicate n (spent h.first)
+spent_starts h zero = refl
+spent_starts h (suc n) = ap (λ (l : List Started). spent h.first ∷ l) (spent_starts h n)
+
+spent_within : (n : ℕ) → AreWithin 0 (replicate n (record { events = 0; failed = true }))
+spent_within zero = tt
+spent_within (suc n) = (omega arith, spent_within n)
+
+-- a sync that has failed fails again
+failed_again : (ss : List Started) (name : ℕ) → is_failed (slice_get ss name) ≡ true → failed_at name ss ≡ ss
+failed_again [] name is = refl
+failed_again (s ∷ ss) zero is = ap (λ (b : Bool). record s { failed = b } ∷ ss) (sym is)
+failed_again (s ∷ ss) (suc name) is = ap (λ (l : List Started). s ∷ l) (failed_again ss name is)
+
+-- and the wait leaves the disk
+waited_in_vain : (d : Disk) (o : Option Started) → is_failed o ≡ true → waited_for o d ≡ d
+waited_in_vain d None is = refl
+waited_in_vain d (Some s) is = ap (λ (b : Bool). if b then d else settle_to (s.covers, s.bytes) d) is
+
+pub wait_fails : (name : ℕ) (failed : Bool) (old new : Life) → (failed ≡ true) ⊎ (had_failed old.present.started name ≡ true) → new ≡ lives (actions.WaitSync name) failed old → WaitGoes name old new (Err SyncFailed)
+wait_fails name true old new why e = (true, inl refl, e)
+wait_fails name false old new (inl wrong) e = absurd (cc)
+wait_fails name false old new (inr is) e =
+    let d = old.present in
+    let same : waited name false d ≡ record d { started = failed_at name d.started } =
+    waited_in_vain d (slice_get d.started name) is ∙ ap (λ (ss : List Started). record d { started = ss }) (sym (failed_again d.started name is)) in
+    (false, inr is, e ∙ ap (λ (x : Disk). next old (logged (WaitSync name) false x)) same)
+
+waits_well : (name : ℕ) (old new : Life) (o : Option Started) → slice_get old.present.started name ≡ o → is_failed o ≡ false → new ≡ next old (logged (WaitSync name) false (waited_for o old.present)) → WaitGoes name old new (Ok tt)
+waits_well name old new None is well e = absurd (cc)
+waits_well name old new (Some s) is well e =
+    (s, is, well, e ∙ ap (λ (b : Bool). next old (logged (WaitSync name) false (if b then old.present else settle_to (s.covers, s.bytes) old.present))) well)
+
+pub wait_goes : (name : ℕ) (old new : Life) → had_failed old.present.started name ≡ false → new ≡ lives (actions.WaitSync name) false old → WaitGoes name old new (Ok tt)
+wait_goes name old new well e = waits_well name old new (slice_get old.present.started name) refl well e
+
+-- a blob of which no start failed
+pub well_at : (ss : List Started) (name : ℕ) → AreWell ss → name < length ss → is_failed (slice_get ss name) ≡ false
+well_at [] name well below = absurd (omega (arith, below))
+well_at (s ∷ ss) zero well below = well.0
+well_at (s ∷ ss) (suc name) well below = well_at ss name well.1 (omega (arith, below))
+
+pub none_at : (ss : List Started) (name : ℕ) → length ss ≤ name → is_failed (slice_get ss name) ≡ true
+none_at [] name out = refl
+none_at (s ∷ ss) zero out = absurd (omega (arith, out))
+none_at (s ∷ ss) (suc name) out = none_at ss name (omega (arith, out))
+
+well_more : (ss : List Started) (s : Started) → AreWell ss → s.failed ≡ false → AreWell (ss ++ s ∷ [])
+well_more [] s well is = (is, tt)
+well_more (t ∷ ss) s well is = (well.0, well_more ss s well.1 is)
+
+-- a write starts none
+pub write_keeps : (place : ℕ) (bytes : List ℕ) (sync : Bool) (life : Life) → (lives (actions.Write place bytes sync) false life).present.started ≡ life.present.started
+write_keeps place bytes true life = refl
+write_keeps place bytes false life = refl
+
+-- it is asked for something that starts no sync, and waits for none
+pub plain_went : (a : Action) (old new : History) (bytes after : List ℕ) (n : ℕ) → ((life : Life) → (lives a false life).present.started ≡ life.present.started) → new ≡ went a false old → IsPlain (life_of old).present bytes n
+    → after ≡ redone (record { action = a; failed = false }) bytes → IsPlain (life_of new).present after n
+plain_went a old new bytes after n keeps e plain moved =
+    let same : (life_of new).present.started ≡ (life_of old).present.started = ap (λ (l : Life). l.present.started) (life_went a false old new e) ∙ keeps (life_of old) in
+    record {
+      reads = reads_went a false old new bytes after e plain.reads moved;
+      names = ap length same ∙ plain.names;
+      well = subst AreWell (sym same) plain.well;
+    }
+
+pub plain_waits : (name : ℕ) (old new : History) (bytes : List ℕ) (n : ℕ) → new ≡ went (actions.WaitSync name) false old → IsPlain (life_of old).present bytes n → IsPlain (life_of new).present bytes n
+plain_waits name old new bytes n e plain = plain_went (actions.WaitSync name) old new bytes bytes n (λ life. waited_started name life.present) e plain refl
+
+pub plain_starts : (old new : History) (bytes : List ℕ) (n : ℕ) → new ≡ went actions.StartSync false old → IsPlain (life_of old).present bytes n → IsPlain (life_of new).present bytes (n + 1)
+plain_starts old new bytes n e plain =
+    let d = (life_of old).present in
+    let s : Started = record { covers = d.settled + length d.since; bytes = d.readable; failed = false } in
+    let same : (life_of new).present.started ≡ d.started ++ s ∷ [] = ap (λ (l : Life). l.present.started) (life_went actions.StartSync false old new e) in
+    record {
+      reads = reads_went actions.StartSync false old new bytes bytes e plain.reads refl;
+      names = ap length same ∙ omega (arith, length_push d.started s, plain.names);
+      well = subst AreWell (sym same) (well_more d.started s plain.well refl);
+    }
+
+-- as many as the blob counts
+pub length-started : (h : History) (starts : List Start) → (life_of h).present.started ≡ map (started_by h) starts → length (life_of h).present.started ≡ length starts
+length-started h starts is = ap length is ∙ length-map starts (started_by h)
+
+-- a life that begins with what a crash left
+pub begun_kept : (first readable : List ℕ) (calls : List Call) (failed : List Bool) (failing faults earlier : ℕ) (starts starts' : List Start) (events : List Event) → events ≡ [] → readable ≡ first → earlier ≡ length calls → length failed ≡ length calls
+    → faults ≡ failures (entries_of calls failed) → length starts ≡ names_in (entries_of calls failed) → starts' ≡ replicate (length starts) (record { events = 0; failed = true })
+    → IsKept (history_of first earlier calls failed events failing) readable calls failed faults earlier 0 starts'
+begun_kept first readable calls failed failing faults earlier starts starts' events none same before outcomes few names is =
+    rw (none, same, is, before) (
+    let all_calls : take (length calls) calls ≡ calls = take_all (length calls) calls (omega arith) in
+    let all_failed : take (length calls) failed ≡ failed = take_all (length calls) failed (omega (arith, outcomes)) in
+    let log : entries_of (take (length calls) calls) (take (length calls) failed) ≡ entries_of calls failed = rw (all_calls, all_failed) refl in
+    let h = history_of first (length calls) calls failed [] failing in
+    record {
+      bytes = refl;
+      base = refl;
+      since = refl;
+      count = refl;
+      within = omega arith;
+      started = ap (λ (n : ℕ). replicate n (spent first)) (ap names_in log ∙ sym names) ∙ sym (spent_starts h (length starts));
+      covers = spent_within (length starts);
+      names = length-replicate (length starts) (record { events = 0; failed = true }) ∙ names ∙ ap names_in (sym log);
+      log = sym log;
+      outcomes = outcomes;
+      before = omega arith;
+      failures = few ∙ ap failures (sym log);
+    })
