@@ -12,3 +12,8 @@ pub mod Soundness
 pub mod CallLaws
 pub mod CutLaws
 pub mod Examples
+pub mod StartedLaws
+pub mod ShrinkLaws
+pub mod CoverLaws
+pub mod BelowLaws
+pub mod StandLaws

@@ -3,6 +3,9 @@ pub mod Full
 pub mod Built
 pub mod Guard
 pub mod Kept
+pub mod Below
 pub mod Stays
 pub mod Looks
 pub mod Sound
+pub mod Started
+pub mod Shrink

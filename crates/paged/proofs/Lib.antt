@@ -19,3 +19,5 @@ pub mod Recovered
 pub mod Trims
 pub mod Examples
 pub mod RecoveryExamples
+pub mod Below
+pub mod Covers

@@ -1,6 +1,8 @@
 // Appending.
 ghost use Rattle.std.specs.Prelude.{◌≡◌, ◌↔◌, ◌+◌, ◌^◌, ◌≤◌, ◌++◌, length, IsTrue, IfOk, Err};
 ghost use Rattle.crash.specs.Sound.{IsSound, content};
+ghost use Rattle.crash.specs.Below.{PagesStay};
+ghost use Rattle.crash.specs.Started.{CoversThrough};
 ghost use Rattle.crash.specs.Stays.{KeepsFloors, LeavesOnly};
 ghost use Rattle.paged.specs.Writer.{physical_size, FitsBlob};
 ghost use Rattle.paged.specs.Calls.{AsksAtMost, IsBounded, HoldsWithin, Appends, Buffers, TryAppends, BuffersOver, KeepsSound};
@@ -48,6 +50,8 @@ impl<B: Blob, H: Sum, Phase> Writer<B, H, Phase> {
     ) -> Result<(Self, u64), Error>
         requires sound { IsSound H.sum_of self (B.life blob.old).present }
         ensures appends { Appends H.sum_of self bytes.now (B.life blob.old) (B.life blob.new) result }
+        ensures pages { PagesStay self.page_size self.full_pages (B.life blob.old) (B.life blob.new) }
+        ensures covers { CoversThrough H.sum_of self.page_size (content self (B.life blob.old).present.readable) (B.life blob.old) (B.life blob.new) }
         ensures overflow { 2 ^ 64 ≤ physical_size self.page_size self.full_pages (length self.tip + length bytes.now) → result ≡ Err Error.OffsetOverflow }
         ensures bounded { IfOk result (λ r. IsBounded r.0) }
         ensures within { IfOk result (λ r. HoldsWithin r.0) }
@@ -65,6 +69,8 @@ impl<B: Blob, H: Sum, Phase> Writer<B, H, Phase> {
     fn append_bytes(mut self, blob: &mut B, bytes: &[u8]) -> Result<(Self, u64), Error>
         requires sound { IsSound H.sum_of self (B.life blob.old).present }
         ensures appends { Appends H.sum_of self bytes.now (B.life blob.old) (B.life blob.new) result }
+        ensures pages { PagesStay self.page_size self.full_pages (B.life blob.old) (B.life blob.new) }
+        ensures covers { CoversThrough H.sum_of self.page_size (content self (B.life blob.old).present.readable) (B.life blob.old) (B.life blob.new) }
         ensures overflow { 2 ^ 64 ≤ physical_size self.page_size self.full_pages (length self.tip + length bytes.now) → result ≡ Err Error.OffsetOverflow }
         ensures within { IfOk result (λ r. HoldsWithin r.0) }
         ensures buffered { length self.tip + length bytes.now ≤ self.capacity → B.life blob.new ≡ B.life blob.old }

@@ -4,7 +4,9 @@ ghost use Rattle.std.specs.List.{concat};
 ghost use Rattle.disk.specs.Disk.{WriteGoes, SyncGoes};
 ghost use Rattle.crash.specs.WriterState.SyncState.{Clean, Dirty};
 ghost use Rattle.crash.specs.Built.{after_write, durable_after, rest_written};
-ghost use Rattle.crash.specs.Sound.{CanWrite, IsSound, content};
+ghost use Rattle.crash.specs.Sound.{CanWrite, IsSound, content, MayFlush, guard_slot};
+ghost use Rattle.crash.specs.Below.{PagesStay};
+ghost use Rattle.crash.specs.Started.{CoversThrough};
 ghost use Rattle.crash.specs.Stays.{KeepsAll, KeepsFloors, LeavesOnly};
 ghost use Rattle.paged.specs.Calls.{AsksAtMost, HoldsWithin, settle_calls, sync_calls, Flushes, Settles, Syncs};
 ghost use Rattle.page.specs.Tip.{ArePages};
@@ -51,7 +53,8 @@ impl<B, H, Phase> Writer<B, H, Phase> {
 
     /// Takes the slot that was written last over as the durable one, where nothing is unsynced.
     fn carry(mut self) -> Self
-        ensures { result ≡ carried self }
+        ensures is { result ≡ carried self }
+        ensures ready { MayFlush self.sync self.flushed (guard_slot self.sync self.flushed self.durable) }
     {
         match self.sync_state {
             SyncState::Clean => self.durable = self.flushed,
@@ -172,6 +175,8 @@ impl<B: Blob, H: Sum, Phase> Writer<B, H, Phase> {
     pub(crate) fn flush(self, blob: &mut B) -> Result<Self, Error>
         requires sound { IsSound H.sum_of self (B.life blob.old).present }
         ensures flushes { Flushes H.sum_of self (B.life blob.old) (B.life blob.new) result }
+        ensures pages { PagesStay self.page_size self.full_pages (B.life blob.old) (B.life blob.new) }
+        ensures covers { CoversThrough H.sum_of self.page_size (content self (B.life blob.old).present.readable) (B.life blob.old) (B.life blob.new) }
         ensures calls { AsksAtMost 1 (B.life blob.old) (B.life blob.new) }
         ensures within { IfOk result (λ w. HoldsWithin w) }
     {
@@ -188,6 +193,8 @@ impl<B: Blob, H: Sum, Phase> Writer<B, H, Phase> {
     pub fn sync(self, blob: &mut B, _cache: &mut CacheRef) -> Result<Self, Error>
         requires sound { IsSound H.sum_of self (B.life blob.old).present }
         ensures syncs { Syncs H.sum_of self (B.life blob.old) (B.life blob.new) result }
+        ensures pages { PagesStay self.page_size self.full_pages (B.life blob.old) (B.life blob.new) }
+        ensures covers { CoversThrough H.sum_of self.page_size (content self (B.life blob.old).present.readable) (B.life blob.old) (B.life blob.new) }
         ensures within { IfOk result (λ w. HoldsWithin w) }
         ensures calls { AsksAtMost (sync_calls self) (B.life blob.old) (B.life blob.new) }
         ensures idle { sync_calls self ≡ 0 → (result ≡ Ok self) × (B.life blob.new ≡ B.life blob.old) }
@@ -206,6 +213,8 @@ impl<B: Blob, H: Sum, Phase> Writer<B, H, Phase> {
     fn sync_all(self, blob: &mut B) -> Result<Self, Error>
         requires sound { IsSound H.sum_of self (B.life blob.old).present }
         ensures syncs { Syncs H.sum_of self (B.life blob.old) (B.life blob.new) result }
+        ensures pages { PagesStay self.page_size self.full_pages (B.life blob.old) (B.life blob.new) }
+        ensures covers { CoversThrough H.sum_of self.page_size (content self (B.life blob.old).present.readable) (B.life blob.old) (B.life blob.new) }
         ensures within { IfOk result (λ w. HoldsWithin w) }
         ensures calls { AsksAtMost (sync_calls self) (B.life blob.old) (B.life blob.new) }
         ensures idle { sync_calls self ≡ 0 → (result ≡ Ok self) × (B.life blob.new ≡ B.life blob.old) }
@@ -222,6 +231,8 @@ impl<B: Blob, H: Sum, Phase> Writer<B, H, Phase> {
         requires sound { IsSound H.sum_of self (B.life blob.old).present }
         requires work { has_work self true ≡ true }
         ensures syncs { Syncs H.sum_of self (B.life blob.old) (B.life blob.new) result }
+        ensures pages { PagesStay self.page_size self.full_pages (B.life blob.old) (B.life blob.new) }
+        ensures covers { CoversThrough H.sum_of self.page_size (content self (B.life blob.old).present.readable) (B.life blob.old) (B.life blob.new) }
         ensures calls { AsksAtMost (sync_calls self) (B.life blob.old) (B.life blob.new) }
         ensures idle { sync_calls self ≡ 0 → (result ≡ Ok self) × (B.life blob.new ≡ B.life blob.old) }
     {
@@ -236,6 +247,8 @@ impl<B: Blob, H: Sum, Phase> Writer<B, H, Phase> {
     pub(crate) fn settle(self, blob: &mut B) -> Result<Self, Error>
         requires sound { IsSound H.sum_of self (B.life blob.old).present }
         ensures settles { Settles H.sum_of self (B.life blob.old) (B.life blob.new) result }
+        ensures pages { PagesStay self.page_size self.full_pages (B.life blob.old) (B.life blob.new) }
+        ensures covers { CoversThrough H.sum_of self.page_size (content self (B.life blob.old).present.readable) (B.life blob.old) (B.life blob.new) }
         ensures calls { AsksAtMost (settle_calls self.sync) (B.life blob.old) (B.life blob.new) }
         ensures idle { settle_calls self.sync ≡ 0 → (result ≡ Ok self) × (B.life blob.new ≡ B.life blob.old) }
     {

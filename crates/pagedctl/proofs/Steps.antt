@@ -4,7 +4,7 @@ use Rattle.std.specs.Prelude.{Option, Some, None, if◌then◌else◌}
 use Rattle.std.specs.declared.alloc.Global.{Global}
 use Rattle.std.proofs.Math.Seq.{take-length}
 use Rattle.std.proofs.Math.Nat.{mul-add-div_right, mul-add-mod_self_right}
-use Rattle.disk.specs.Disk.{Disk, Life, next, after}
+use Rattle.disk.specs.Disk.{coverings, Disk, Life, next, after}
 use Rattle.disk.specs.declared.error.Error.{Error}
 use Rattle.disk.specs.declared.error.Error.TheVariants.{ReadFailed, WriteFailed, ResizeFailed, SyncFailed, InvalidChecksum, BlobInsufficientLength, OffsetOverflow, OutOfMemory, IdsExhausted}
 use Rattle.crash.specs.Kept.{AllKeep, AllOnly, Each}
@@ -320,7 +320,7 @@ sync_refused_steps sum w e old new syncs = λ P before stands.
 -- a writer is sound over a disk that was only read
 pub looked_sound : (sum : List ℕ → ℕ) (w : WriterState) (old new : Life) → IsSound sum w old.present → Looked old new → IsSound sum w new.present
 looked_sound sum w old new sound looked =
-    alike_sound sum w old.present new.present sound (ap (λ (x : Disk). x.readable) looked.same) (ap (λ (x : Disk). x.base) looked.same) (ap (λ (x : Disk). x.since) looked.same)
+    alike_sound sum w old.present new.present sound (ap (λ (x : Disk). x.readable) looked.same) (ap (λ (x : Disk). x.base) looked.same) (ap (λ (x : Disk). x.since) looked.same) (ap (λ (x : Disk). coverings x) looked.same) (ap (λ (x : Disk). x.settled) looked.same)
 
 -- a step that only reads and leaves the standing
 pub looked_steps : (sum : List ℕ → ℕ) (P : ℕ) (w : WriterState) (step : Step) (reply : Reply) (old new : Life) (before : Standing) → content_after step before.content ≡ before.content → IsSound sum w old.present

@@ -7,6 +7,8 @@ returns-else-has_flush_work g c = record {
   syncs = sync_settles g.H.Sum.sum_of c.args.self (g.B.Blob.life c.args.blob.now) (g.B.Blob.life c.settle.new.blob) c.settle.result c.requires.sound (sym c.has_flush_work.ensures.work ∙ c.if-has_flush_work.false) c.settle.ensures.settles;
   within = sync_within g.H.Sum.sum_of c.args.self (g.B.Blob.life c.args.blob.now) (g.B.Blob.life c.settle.new.blob) c.settle.result c.has_flush_work.ensures.room
       (sync_settles g.H.Sum.sum_of c.args.self (g.B.Blob.life c.args.blob.now) (g.B.Blob.life c.settle.new.blob) c.settle.result c.requires.sound (sym c.has_flush_work.ensures.work ∙ c.if-has_flush_work.false) c.settle.ensures.settles);
+  pages = c.settle.ensures.pages;
+  covers = c.settle.ensures.covers;
   calls = omega (arith, c.settle.ensures.calls);
   idle = λ none. c.settle.ensures.idle (settle_none c.args.self none);
 }
