@@ -209,7 +209,7 @@ has_ef = record { size = refl; some = omega arith; there = omega arith; part = o
 
 -- that writer is sound
 pub a_sound_writer : Soundness add_sum with_g durable
-a_sound_writer = page_sound add_sum with_g durable refl refl (omega arith) (lit< tt) (refl, tt) refl small_add_sum ef_slot refl has_ef
+a_sound_writer = page_sound add_sum with_g durable refl refl (omega arith) (lit< tt) (refl, tt) refl (λ name c is. absurd (cc is)) small_add_sum ef_slot refl has_ef
 
 -- so it stands for what is readable
 pub it_stands : Stands add_sum with_g durable
@@ -229,7 +229,7 @@ an_unsound_writer sound = let size : 32 ≡ 16 = sound.stands.tip_page in omega 
 
 -- the writer of an empty blob is sound
 pub an_empty_writer : Soundness add_sum (record { page_size = 4; id = 0; capacity = 8; full_pages = 0; tip = []; flushed = None; durable = None; sync = Clean }) (at_rest [])
-an_empty_writer = empty_sound add_sum (record { page_size = 4; id = 0; capacity = 8; full_pages = 0; tip = []; flushed = None; durable = None; sync = Clean }) (at_rest []) refl refl refl (omega arith) (lit< tt) refl refl refl
+an_empty_writer = empty_sound add_sum (record { page_size = 4; id = 0; capacity = 8; full_pages = 0; tip = []; flushed = None; durable = None; sync = Clean }) (at_rest []) refl refl refl (omega arith) (lit< tt) refl refl refl (λ name c is. absurd (cc is))
 
 -- ---- a flush that a crash tears
 

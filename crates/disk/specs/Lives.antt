@@ -1,6 +1,9 @@
 -- What is readable in a life that events tell is an image.
-use Rattle.std.specs.Prelude.{List, [], ◌∷◌, length, Bool, true, false, refl}
-use Rattle.disk.specs.Disk.{Operation, Write, Resize, applied, Disk, IsImage, Life, Request, ReadAt}
+use Rattle.std.specs.Prelude.{◌≡◌, ℕ, map, slice_get, Some, None, List, [], ◌∷◌, length, Bool}
+use Rattle.std.specs.Prelude.{true, false, refl}
+use Rattle.std.proofs.Common.{ap}
+use Rattle.disk.specs.Disk.{Started, AreCovered, coverings, Operation, Write, Resize, applied}
+use Rattle.disk.specs.Disk.{Disk, IsImage, Life, Request, ReadAt}
 use Rattle.disk.specs.Disk.{WriteAt, ResizeTo, SyncAll, logged, settle}
 use Rattle.disk.specs.Images.{same_image, base_is_image, partial_image, done_is_partial}
 use Rattle.disk.specs.Images.{same_is_partial}
@@ -58,3 +61,31 @@ pub life_reads : (h : History) → IsImage (life_of h).present (life_of h).prese
 life_reads h =
     let life = begun h.first h.earlier in
     goes_on_reads h.events life (base_is_image life.present)
+
+-- no sync is started yet
+none_started : (action : Action) (failed : Bool) (life : Life) → life.present.started ≡ []
+    → (lives action failed life).present.started ≡ []
+none_started (actions.Read place len) failed life none = none
+none_started (actions.Write place bytes false) failed life none = none
+none_started (actions.Write place bytes true) true life none = none
+none_started (actions.Write place bytes true) false life none = none
+none_started (actions.Resize len) failed life none = none
+none_started actions.Sync true life none = none
+none_started actions.Sync false life none = none
+
+none_started_on : (es : List Event) (life : Life) → life.present.started ≡ []
+    → (goes_on life es).present.started ≡ []
+none_started_on [] life none = none
+none_started_on (e ∷ es) life none =
+    none_started_on es (lives e.action e.failed life) (none_started e.action e.failed life none)
+
+-- so each covers what there is
+pub life_covers : (h : History) → AreCovered (life_of h).present
+life_covers h name c is =
+    let none : (life_of h).present.started ≡ [] =
+    none_started_on h.events (begun h.first h.earlier) refl in
+    absurd (
+    let nothing : slice_get (coverings (life_of h).present) name ≡ None =
+    ap (λ (ss : List Started). slice_get (map (λ s. (s.covers, s.bytes)) ss) name) none in
+    cc (nothing, is)
+    )

@@ -1,8 +1,8 @@
 // The device.
 ghost use Rattle.std.specs.Prelude.{◌≡◌, [], true};
 ghost use Rattle.std.specs.List.{concat};
-ghost use Rattle.disk.specs.Disk.{Life, IsImage, Write, Resize, ReadGoes, WriteGoes, ResizeGoes};
-ghost use Rattle.disk.specs.Disk.{SyncGoes};
+ghost use Rattle.disk.specs.Disk.{Life, IsImage, AreCovered, Write, Resize, ReadGoes, WriteGoes};
+ghost use Rattle.disk.specs.Disk.{ResizeGoes, SyncGoes};
 
 use crate::{Error, IoBuf, IoBufs};
 use std::alloc::Global;
@@ -72,4 +72,7 @@ pub trait Blob {
 
     /// What is readable is one of the things that a crash may leave.
     ghost readable_is_image: { (b : Self) → IsImage (life b).present (life b).present.readable };
+
+    /// No started sync covers an operation that is still to come.
+    ghost starts_are_covered: { (b : Self) → AreCovered (life b).present };
 }

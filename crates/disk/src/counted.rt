@@ -92,4 +92,6 @@ impl<B: Blob> Blob for Counted<B> {
     }
 
     ghost readable_is_image = { λ b. B.readable_is_image b.inner };
+
+    ghost starts_are_covered = { λ b. B.starts_are_covered b.inner };
 }

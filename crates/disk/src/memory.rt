@@ -200,7 +200,7 @@ impl MemBlob {
 }
 
 impl Blob for MemBlob {
-    ghost use Rattle.disk.specs.Lives.{life_reads};
+    ghost use Rattle.disk.specs.Lives.{life_reads, life_covers};
 
     ghost life = { life_of };
 
@@ -258,6 +258,8 @@ impl Blob for MemBlob {
     }
 
     ghost readable_is_image = { life_reads };
+
+    ghost starts_are_covered = { life_covers };
 }
 
 // Room for one device call more.

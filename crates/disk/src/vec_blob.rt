@@ -96,7 +96,7 @@ fn put_all(bytes: &mut Vec<u8>, place: usize, bufs: &IoBufs) -> Result<(), Alloc
 }
 
 impl Blob for VecBlob {
-    ghost use Rattle.disk.specs.Lives.{life_reads};
+    ghost use Rattle.disk.specs.Lives.{life_reads, life_covers};
 
     ghost life = { life_of };
 
@@ -145,4 +145,6 @@ impl Blob for VecBlob {
     }
 
     ghost readable_is_image = { life_reads };
+
+    ghost starts_are_covered = { life_covers };
 }
