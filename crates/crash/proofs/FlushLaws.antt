@@ -16,7 +16,7 @@ use Rattle.crash.specs.WriterState.{WriterState, SyncState}
 use Rattle.crash.specs.WriterState.SyncState.{Clean, Dirty, Pending}
 use Rattle.crash.specs.Full.{AreFull}
 use Rattle.crash.specs.Built.{kept_slot, kept_len, page_of, built_pages, built, durable_after, rest_written, after_write, written_pages}
-use Rattle.crash.specs.Sound.{latest, stored, content, HasPage, TipPage, StateFits, AllSettled, IsPending, StartsFit, MayFlush, Stands, CanWrite}
+use Rattle.crash.specs.Sound.{latest, stored, content, HasPage, TipPage, StateFits, AllSettled, StartsFit, MayFlush, Stands, CanWrite}
 use Rattle.crash.proofs.Disks.{latest-append}
 use Rattle.crash.proofs.Lists.{take_past, drop_past, within_append, slice_get-append_right}
 use Rattle.crash.proofs.Pages.{length-stored, stored_within, length-place, length-rewritten, pages_of_rewritten, pages_at, fewer_fit, take-pages, length-pieces}

@@ -418,11 +418,6 @@ module _ (sum : List ℕ → ℕ) (w : WriterState) (d : Disk) (sound : Soundnes
 -- ---- a writer that knows more
 
 -- a slot that is up to date stays so
-pub guard_slot-again : (s : SyncState) (flushed durable : Option ActiveChecksum) → guard_slot s flushed durable ≡ guard_slot s flushed (guard_slot s flushed durable)
-guard_slot-again Clean flushed durable = refl
-guard_slot-again Dirty flushed durable = refl
-guard_slot-again (Pending name) flushed durable = refl
-
 repeated_again : (s : SyncState) (flushed durable tip : Option ActiveChecksum) → IsRepeated s flushed durable tip → IsRepeated s flushed (guard_slot s flushed durable) tip
 repeated_again Clean flushed durable tip is = is
 repeated_again Dirty flushed durable tip is = is

@@ -1,5 +1,5 @@
 -- A flush leaves the pages below the tip.
-use Rattle.std.proofs.Common.{◌≡◌, ℕ, ◌+◌, ◌*◌, List, ap, arith, subst, sym, Bool, Result}
+use Rattle.std.proofs.Common.{◌≡◌, ℕ, List, arith, subst, Bool, Result}
 use Rattle.disk.specs.Disk.{Life, WriteGoes}
 use Rattle.disk.specs.declared.error.Error.{Error}
 use Rattle.crash.specs.WriterState.{WriterState}
@@ -7,7 +7,7 @@ use Rattle.crash.specs.Sound.{IsSound}
 use Rattle.crash.specs.Below.{PagesStay}
 use Rattle.crash.proofs.FlushLaws.{tip_reach}
 use Rattle.crash.proofs.BelowLaws.{write_pages_stay}
-use Rattle.paged.specs.Flush.{carried, place_of}
+use Rattle.paged.specs.Flush.{place_of}
 
 -- whatever the device answers
 pub flush_pages : (sum : List ℕ → ℕ) (w : WriterState) (place : ℕ) (bytes : List ℕ) (sync : Bool) (old new : Life) (answer : Result (Unit {0}) Error) → IsSound sum w old.present → place ≡ place_of w

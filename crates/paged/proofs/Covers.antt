@@ -1,5 +1,5 @@
 -- What started syncs cover stays covered through a flush, a sync and an append.
-use Rattle.std.proofs.Common.{◌≡◌, ℕ, List, [], ◌++◌, sym, ap, ◌∙◌, refl, subst, append-nil, Bool, false, Result, Ok, Err}
+use Rattle.std.proofs.Common.{◌≡◌, ℕ, List, [], ◌++◌, sym, ◌∙◌, refl, subst, append-nil, Bool, Result}
 use Rattle.disk.specs.Disk.{Life, WriteGoes, SyncGoes}
 use Rattle.disk.specs.declared.error.Error.{Error}
 use Rattle.crash.specs.WriterState.{WriterState}

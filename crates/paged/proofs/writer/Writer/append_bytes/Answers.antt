@@ -1,15 +1,13 @@
-use Rattle.crash.specs.Sound.{content}
+use Rattle.crash.specs.Sound.{content, IsSound}
 use Rattle.crash.proofs.CoverLaws.{covers_none}
 use Rattle.paged.proofs.Covers.{longer_covers}
-use Rattle.std.proofs.Common.{refl, ◌++◌}
+use Rattle.std.proofs.Common.{refl, ◌++◌, sym, subst}
 use Rattle.crash.proofs.BelowLaws.{pages_none}
 use Rattle.paged.proofs.Below.{pages_longer}
-use Rattle.std.proofs.Common.{◌∙◌, sym, subst}
 use Rattle.std.proofs.lemmas.Result.{err_from_is_err_and}
 use Rattle.paged.proofs.Flushes.{size_is_length}
 use Rattle.paged.proofs.Appends.{append_flushed, append_unbuffered, buffered_goes}
 use Rattle.crash.specs.WriterState.{WriterState}
-use Rattle.crash.specs.Sound.{IsSound}
 use Rattle.crash.proofs.Soundness.{longer_sound}
 use Rattle.paged.proofs.writer.Writer.append_bytes.Goals as goal
 

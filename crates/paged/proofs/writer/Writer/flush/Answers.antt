@@ -1,12 +1,10 @@
-use Rattle.crash.specs.Sound.{content}
+use Rattle.crash.specs.Sound.{content, IsSound, CanWrite}
 use Rattle.crash.proofs.CoverLaws.{covers_none}
 use Rattle.paged.proofs.Covers.{carried_covers}
-use Rattle.std.proofs.Common.{ap, refl}
+use Rattle.std.proofs.Common.{ap, refl, sym, ◌∙◌, subst, false, arith}
 use Rattle.crash.proofs.BelowLaws.{pages_none}
 use Rattle.paged.proofs.Below.{flush_pages}
-use Rattle.std.proofs.Common.{sym, ◌∙◌, subst, false, arith}
 use Rattle.crash.specs.WriterState.{WriterState}
-use Rattle.crash.specs.Sound.{IsSound, CanWrite}
 use Rattle.paged.specs.Flush.{full_in, place_of, flush_bytes}
 use Rattle.paged.proofs.Causes.{write_asks}
 use Rattle.paged.proofs.Flushing.{can_flush}

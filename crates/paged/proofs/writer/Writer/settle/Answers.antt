@@ -1,10 +1,9 @@
-use Rattle.crash.specs.Sound.{content}
+use Rattle.crash.specs.Sound.{content, IsSound}
 use Rattle.crash.proofs.CoverLaws.{covers_none, sync_covers}
 use Rattle.crash.proofs.BelowLaws.{pages_none, sync_pages_stay}
 use Rattle.std.proofs.Common.{◌∙◌, sym, ap, refl, arith}
 use Rattle.paged.specs.Writer.{state_of}
 use Rattle.paged.proofs.Flushes.{settle_goes, settle_asks, settle_due, settled_already}
-use Rattle.crash.specs.Sound.{IsSound}
 use Rattle.paged.proofs.writer.Writer.settle.Goals as goal
 
 pub returns-in-Dirty : goal.returns-in-Dirty
