@@ -7,12 +7,12 @@ use Rattle.disk.specs.Disk.{Disk, Life, Operated, Request, next, settle, logged,
 use Rattle.disk.specs.Disk.Operation.{Write}
 use Rattle.disk.specs.Disk.Request.{WriteAt, SyncAll}
 use Rattle.crash.specs.WriterState.{WriterState}
-use Rattle.crash.specs.WriterState.SyncState.{Clean}
+use Rattle.crash.specs.WriterState.SyncState.{Clean, Dirty}
 use Rattle.crash.specs.Built.{built, after_write, written_pages}
 use Rattle.crash.specs.Stays.{Stays, StaysThrough}
-use Rattle.crash.specs.Sound.{content, guard_slot, Soundness, CanWrite}
+use Rattle.crash.specs.Sound.{content, MayFlush, Soundness, CanWrite}
 use Rattle.crash.proofs.BuiltLaws.{IsSmall}
-use Rattle.crash.proofs.FlushLaws.{flush_content}
+use Rattle.crash.proofs.FlushLaws.{flush_content, starts_within, settled_starts}
 use Rattle.crash.specs.Moments.{through_more}
 use Rattle.crash.proofs.Moments.{stays_through_start}
 use Rattle.crash.proofs.Soundness.{operated_sound, operated_stays, operated_settle_stays, settle_sound, settle_stays, alike_stays}
@@ -54,19 +54,20 @@ module _ (sum : List ℕ → ℕ) (w : WriterState) (old : Life) (sound : Soundn
   pub sync_sound : (new : Life) (done : Unit {0}) → IsSmall sum → SyncGoes old new (Ok done) → Soundness sum (record w { sync = Clean }) new.present
   sync_sound new done small goes =
       subst (λ (life : Life). Soundness sum (record w { sync = Clean }) life.present) (sym goes)
-      (settle_sound sum w old.present (settle (logged SyncAll false old.present)) sound refl small refl refl)
+      (settle_sound sum w old.present (settle (logged SyncAll false old.present)) sound refl Clean small refl refl
+      (settled_starts old.present (settle (logged SyncAll false old.present)) (starts_within old.present w.sync sound.stands.starts) refl refl) refl)
 
   -- that stands for the same content
   pub sync_content : (new : Life) (done : Unit {0}) → SyncGoes old new (Ok done) → content w new.present.readable ≡ content w old.present.readable
   sync_content new done goes = ap (λ (life : Life). content w life.present.readable) goes
 
-module _ (sum : List ℕ → ℕ) (w : WriterState) (old new : Life) (k : ℕ) (rest : Bool) (bytes : List ℕ) (small : IsSmall sum) (sound : Soundness sum w old.present) (carried : w.durable ≡ guard_slot w.sync w.flushed w.durable)
+module _ (sum : List ℕ → ℕ) (w : WriterState) (old new : Life) (k : ℕ) (rest : Bool) (bytes : List ℕ) (small : IsSmall sum) (sound : Soundness sum w old.present) (ready : MayFlush w.sync w.flushed w.durable)
     (can : CanWrite w.page_size w.tip k rest) (is : bytes ≡ built sum w.page_size w.durable (written_pages k rest) w.tip) where
   -- a flush that was done or failed
   operated : (sync failed : Bool) (d : Disk) → new ≡ next old d → Operated (Write (w.full_pages * (w.page_size + 12)) bytes) (WriteAt (w.full_pages * (w.page_size + 12)) (length bytes) sync) failed old.present d
       → StaysThrough sum w.page_size (content w old.present.readable) old new
   operated sync failed d goes done =
-      one_stays sum w old sound new d goes (operated_stays sum w old.present d k rest bytes small sound carried can is (WriteAt (w.full_pages * (w.page_size + 12)) (length bytes) sync) failed done)
+      one_stays sum w old sound new d goes (operated_stays sum w old.present d k rest bytes small sound ready can is (WriteAt (w.full_pages * (w.page_size + 12)) (length bytes) sync) failed done)
 
   plain_stays : (answer : Result (Unit {0}) Error) → WriteGoes (w.full_pages * (w.page_size + 12)) bytes false old new answer → StaysThrough sum w.page_size (content w old.present.readable) old new
   plain_stays (Ok done) goes = operated false false goes.0 goes.1 goes.2
@@ -78,8 +79,8 @@ module _ (sum : List ℕ → ℕ) (w : WriterState) (old new : Life) (k : ℕ) (
   durable_stays (Ok done) goes =
       let request = WriteAt (w.full_pages * (w.page_size + 12)) (length bytes) true in
       let d = goes.0 in
-      two_stays sum w old sound new d (settle d) goes.1 (operated_stays sum w old.present d k rest bytes small sound carried can is request false goes.2)
-      (operated_settle_stays sum w old.present d k rest bytes small sound carried can is request (settle d) goes.2 refl refl)
+      two_stays sum w old sound new d (settle d) goes.1 (operated_stays sum w old.present d k rest bytes small sound ready can is request false goes.2)
+      (operated_settle_stays sum w old.present d k rest bytes small sound ready can is request (settle d) goes.2 refl refl)
   durable_stays (Err WriteFailed) goes = operated true true goes.0 goes.1 goes.2
   durable_stays (Err OffsetOverflow) goes = none_stays sum w old sound new goes.0
   durable_stays (Err OutOfMemory) goes = none_stays sum w old sound new goes.0
@@ -94,15 +95,15 @@ module _ (sum : List ℕ → ℕ) (w : WriterState) (old new : Life) (k : ℕ) (
   pub write_sound : (done : Unit {0}) → WriteGoes (w.full_pages * (w.page_size + 12)) bytes false old new (Ok done) → Soundness sum (after_write sum w k rest) new.present
   write_sound done goes =
       subst (λ (life : Life). Soundness sum (after_write sum w k rest) life.present) (sym goes.1)
-      (operated_sound sum w old.present goes.0 k rest bytes small sound carried can is (WriteAt (w.full_pages * (w.page_size + 12)) (length bytes) false) goes.2)
+      (operated_sound sum w old.present goes.0 k rest bytes small sound ready can is (WriteAt (w.full_pages * (w.page_size + 12)) (length bytes) false) goes.2)
 
   -- and where it is durable, a clean one
   pub durable_write_sound : (done : Unit {0}) → WriteGoes (w.full_pages * (w.page_size + 12)) bytes true old new (Ok done) → Soundness sum (record (after_write sum w k rest) { sync = Clean }) new.present
   durable_write_sound done goes =
       let d = goes.0 in
       subst (λ (life : Life). Soundness sum (record (after_write sum w k rest) { sync = Clean }) life.present) (sym goes.1)
-      (settle_sound sum (after_write sum w k rest) d (settle d)
-      (operated_sound sum w old.present d k rest bytes small sound carried can is (WriteAt (w.full_pages * (w.page_size + 12)) (length bytes) true) goes.2) refl small refl refl)
+      (let done = operated_sound sum w old.present d k rest bytes small sound ready can is (WriteAt (w.full_pages * (w.page_size + 12)) (length bytes) true) goes.2 in
+      settle_sound sum (after_write sum w k rest) d (settle d) done refl Clean small refl refl (settled_starts d (settle d) (starts_within d Dirty done.stands.starts) refl refl) refl)
 
   -- that stands for the same content
   pub write_content : (sync : Bool) (done : Unit {0}) → WriteGoes (w.full_pages * (w.page_size + 12)) bytes sync old new (Ok done) → content (after_write sum w k rest) new.present.readable ≡ content w old.present.readable

@@ -4,7 +4,7 @@ use Rattle.std.proofs.Common.{◌≡◌, ◌⊎◌, inl, inr, ℕ, zero, suc, �
 use Rattle.std.specs.Prelude.{Some, None, true, false, slice_get, get_or}
 use Rattle.std.proofs.lemmas.Option.{same_Some}
 use Rattle.disk.specs.Images.{only_image}
-use Rattle.disk.specs.Disk.{Disk, Operation, Operated, Request, Life, IsWhole, IsImage, LeavesNoMore, IsPartial, applied, failures, logged, next, after, settle}
+use Rattle.disk.specs.Disk.{Disk, Operation, Operated, Request, Life, IsWhole, IsImage, LeavesNoMore, IsPartial, applied, failures, logged, next, after, settle, settle_to, starts}
 use Rattle.disk.specs.Disk.Operation.{Write, Resize}
 use Rattle.disk.specs.Disk.Request.{ReadAt, WriteAt, SyncAll}
 use Rattle.page.specs.Page.{text, pages, verified_len}
@@ -14,7 +14,7 @@ use Rattle.page.specs.declared.slot.Slot.TheVariants.{First, Second}
 use Rattle.page.specs.declared.slot.ActiveChecksum.{ActiveChecksum}
 use Rattle.page.proofs.Examples.{abcd_page, ef_page, efg_page}
 use Rattle.crash.specs.WriterState.{WriterState}
-use Rattle.crash.specs.WriterState.SyncState.{Clean, Dirty}
+use Rattle.crash.specs.WriterState.SyncState.{Clean, Dirty, Pending}
 use Rattle.crash.specs.Full.{AreFull}
 use Rattle.crash.specs.Built.{built, after_write}
 use Rattle.crash.specs.Guard.{Fixed, Held, Guards, IsTruthful, IsChanceFree}
@@ -22,13 +22,18 @@ use Rattle.crash.specs.Kept.{Keeps, AllKeep, AllOnly, Each, Through}
 use Rattle.crash.specs.Stays.{Stays, StaysThrough, KeepsFloors, KeepsAllFloors, LeavesOnly, KeepsAll}
 use Rattle.crash.proofs.FloorLaws.{floors_of_sound}
 use Rattle.crash.specs.Looks.{SameButLog, Looked}
-use Rattle.crash.specs.Sound.{latest, stored, content, HasPage, Stands, guard_slot, IsSafe, Soundness, IsSound, LeavesItsContent}
+use Rattle.crash.specs.Sound.{latest, stored, content, HasPage, Stands, guard_slot, IsSafe, Soundness, IsSound, LeavesItsContent, IsPending}
+use Rattle.crash.specs.Started.{WouldKeep, CoversStay, StartsStand}
+use Rattle.crash.specs.Below.{SamePages, PagesStay}
 use Rattle.crash.proofs.Lists.{joined_element, taken_element, slice_get-drop}
 use Rattle.crash.proofs.Disks.{whole_is_image, torn_is_image, base_is_image, partial_whole, fixed_at_rest}
 use Rattle.crash.proofs.Promise.{keeps_at_rest, guards_at_rest, whole_is_chance_free}
 use Rattle.crash.proofs.Moments.{stays_itself, kept_through, only_through}
 use Rattle.crash.proofs.Spared.{held_through_flush}
 use Rattle.crash.proofs.Soundness.{sound_leaves, page_sound, empty_sound, operated_stays, operated_sound}
+use Rattle.crash.proofs.StartedLaws.{start_sound, settle_covers}
+use Rattle.crash.proofs.StandLaws.{starts_stand}
+use Rattle.crash.proofs.BelowLaws.{pages_one}
 
 -- ---- disks
 
@@ -209,7 +214,7 @@ has_ef = record { size = refl; some = omega arith; there = omega arith; part = o
 
 -- that writer is sound
 pub a_sound_writer : Soundness add_sum with_g durable
-a_sound_writer = page_sound add_sum with_g durable refl refl (omega arith) (lit< tt) (refl, tt) refl small_add_sum ef_slot refl has_ef
+a_sound_writer = page_sound add_sum with_g durable refl refl (omega arith) (lit< tt) (refl, tt) refl (λ name c is. absurd (cc is)) small_add_sum ef_slot refl has_ef
 
 -- so it stands for what is readable
 pub it_stands : Stands add_sum with_g durable
@@ -229,7 +234,7 @@ an_unsound_writer sound = let size : 32 ≡ 16 = sound.stands.tip_page in omega 
 
 -- the writer of an empty blob is sound
 pub an_empty_writer : Soundness add_sum (record { page_size = 4; id = 0; capacity = 8; full_pages = 0; tip = []; flushed = None; durable = None; sync = Clean }) (at_rest [])
-an_empty_writer = empty_sound add_sum (record { page_size = 4; id = 0; capacity = 8; full_pages = 0; tip = []; flushed = None; durable = None; sync = Clean }) (at_rest []) refl refl refl (omega arith) (lit< tt) refl refl refl
+an_empty_writer = empty_sound add_sum (record { page_size = 4; id = 0; capacity = 8; full_pages = 0; tip = []; flushed = None; durable = None; sync = Clean }) (at_rest []) refl refl refl (omega arith) (lit< tt) refl refl refl (λ name c is. absurd (cc is))
 
 -- ---- a flush that a crash tears
 
@@ -435,3 +440,69 @@ a_look = record {
   log = (record { request = ReadAt 0 16; failed = false } ∷ [], refl);
   through = record { moments = was_read ∷ []; goes = refl; start = refl; each = (refl, tt) };
 }
+
+-- ---- started syncs
+
+-- after the flush a sync is started
+abbrev pub flush_started : Disk
+flush_started = starts false rewritten
+
+-- it covers all that isn't durable, the flush, and has the bytes that are readable
+pub it_is_pending : IsPending 0 flush_started
+it_is_pending = record { covers = (1, abcd_page ++ efg_page); named = refl; all = refl; bytes = refl; others = λ other c is. other_name other c is }
+  where
+    other_name : (other : ℕ) (c : ℕ × List ℕ) → slice_get ((1, abcd_page ++ efg_page) ∷ []) other ≡ Some c → (c.0 ≤ 0) ⊎ (other ≡ 0)
+    other_name zero c is = inr refl
+    other_name (suc other) c is = absurd (cc is)
+
+-- none is pending where none was started
+pub none_is_pending : IsPending 0 rewritten → ⊥
+none_is_pending pending = absurd (cc (pending.named))
+
+-- were it complete, every image would say "abcdefg"
+pub all_is_covered : WouldKeep add_sum 4 seven 0 7 flush_started
+all_is_covered = record { covers = (1, abcd_page ++ efg_page); named = refl; keeps = keeps_at_rest add_sum 4 (settle_to (1, abcd_page ++ efg_page) flush_started) refl }
+
+-- a sync that was started before the flush covers "abcdef" alone: a crash may leave the flush undone
+pub g_is_not_covered : WouldKeep add_sum 4 seven 0 7 (and_then (Write 16 efg_page) (WriteAt 16 16 false) (starts false durable)) → ⊥
+g_is_not_covered would =
+    let d = and_then (Write 16 efg_page) (WriteAt 16 16 false) (starts false durable) in
+    let covers : (0, abcd_page ++ ef_page) ≡ would.covers = same_Some (0, abcd_page ++ ef_page) would.covers would.named in
+    let keeps : AllKeep add_sum 4 seven 7 (settle_to (0, abcd_page ++ ef_page) d) = subst (λ (c : ℕ × List ℕ). AllKeep add_sum 4 seven 7 (settle_to c d)) (sym covers) would.keeps in
+    a_lost_floor (keeps (abcd_page ++ ef_page) (base_is_image d))
+
+-- a sync of the blob takes nothing from what it covers
+pub covers_stay : CoversStay add_sum 4 seven flush_started (settle (logged SyncAll false flush_started))
+covers_stay =
+    settle_covers add_sum (record (after_write add_sum with_g 0 true) { sync = Pending 0 }) flush_started
+    (start_sound add_sum (after_write add_sum with_g 0 true) rewritten false a_sound_dirty_writer (λ name c is. absurd (cc is)))
+    (settle (logged SyncAll false flush_started)) (record { readable = refl; base = refl; since = refl; settled = refl; covers = refl })
+
+-- a device that forgot it would
+pub covers_are_lost : CoversStay add_sum 4 seven flush_started rewritten → ⊥
+covers_are_lost stay = absurd (cc ((stay 0 7 (omega arith) all_is_covered).named))
+
+-- it stands so that a wait for it, also where the writer is gone, makes nothing durable that a crash might not have left
+pub it_stands_so : StartsStand flush_started
+it_stands_so = starts_stand flush_started (Pending 0) refl it_is_pending
+
+-- not where it has other bytes: a wait would make an empty blob of it
+pub it_stands_not_so : StartsStand (record rewritten { started = record { covers = 1; bytes = []; failed = false } ∷ [] }) → ⊥
+it_stands_not_so stands = elim (stands 0 (1, []) refl) [
+  | inl settled ↦ absurd (omega (arith, settled))
+  | inr all ↦ absurd (omega (arith, ap length all.1))
+]
+
+-- ---- pages that stay
+
+-- the flush leaves the first page
+pub the_first_page_stays : SamePages 4 1 durable rewritten
+the_first_page_stays = refl
+
+-- and rewrites the second
+pub the_second_page_goes : SamePages 4 2 durable rewritten → ⊥
+the_second_page_goes same = let byte : 103 ≡ 0 = ap (λ (l : List ℕ). get_or l 18 0) same in omega (arith, byte)
+
+-- at each moment of it
+pub pages_stay : PagesStay 4 1 before behind
+pages_stay = pages_one 4 1 before behind rewritten refl the_first_page_stays

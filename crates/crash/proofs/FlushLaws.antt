@@ -1,22 +1,22 @@
 -- What keeps a writer standing for what is readable: a flush, a sync, a longer tip, the durable slot taken over; and
 -- what makes one stand for it.
-use Rattle.std.proofs.Common.{◌≡◌, ℕ, zero, suc, ◌+◌, ◌-◌, ◌*◌, ◌^◌, ◌<◌, ◌≤◌, List, [], ◌∷◌, ◌++◌, length, take, drop, sym, ◌∙◌, ap, subst, arith, append_assoc, length-append, length-drop, take-append-drop}
+use Rattle.std.proofs.Common.{◌≡◌, inl, inr, ℕ, zero, suc, ◌+◌, ◌-◌, ◌*◌, ◌^◌, ◌<◌, ◌≤◌, List, [], ◌∷◌, ◌++◌, length, take, drop, sym, ◌∙◌, ap, subst, arith, append_assoc, length-append, length-drop, take-append-drop}
 use Rattle.std.specs.Prelude.{slice_get, Option, Some, None, Bool, true, false}
 use Rattle.std.specs.List.{flat_map}
 use Rattle.std.proofs.lemmas.List.{take-take, take_all, append-nil, take-append-le, length-take-le}
 use Rattle.std.proofs.lemmas.Option.{same_Some}
 use Rattle.std.proofs.lemmas.Grind.{flat_map-append}
 use Rattle.std.proofs.Math.Nat.{mul-le-mul_left}
-use Rattle.disk.specs.Disk.{Disk, Operation, Operated, applied, Request}
+use Rattle.disk.specs.Disk.{Disk, Operation, Operated, applied, Request, coverings, AreCovered}
 use Rattle.disk.specs.Disk.Operation.{Write}
 use Rattle.page.specs.Slot.{other}
 use Rattle.page.specs.Page.{pages, slot_of, value_len, text, active}
 use Rattle.page.specs.declared.slot.ActiveChecksum.{ActiveChecksum}
 use Rattle.crash.specs.WriterState.{WriterState, SyncState}
-use Rattle.crash.specs.WriterState.SyncState.{Clean, Dirty}
+use Rattle.crash.specs.WriterState.SyncState.{Clean, Dirty, Pending}
 use Rattle.crash.specs.Full.{AreFull}
 use Rattle.crash.specs.Built.{kept_slot, kept_len, page_of, built_pages, built, durable_after, rest_written, after_write, written_pages}
-use Rattle.crash.specs.Sound.{latest, stored, content, HasPage, TipPage, StateFits, Stands, CanWrite}
+use Rattle.crash.specs.Sound.{latest, stored, content, HasPage, TipPage, StateFits, AllSettled, StartsFit, MayFlush, Stands, CanWrite}
 use Rattle.crash.proofs.Disks.{latest-append}
 use Rattle.crash.proofs.Lists.{take_past, drop_past, within_append, slice_get-append_right}
 use Rattle.crash.proofs.Pages.{length-stored, stored_within, length-place, length-rewritten, pages_of_rewritten, pages_at, fewer_fit, take-pages, length-pieces}
@@ -103,6 +103,52 @@ pub kept_after : (P k : ℕ) (durable : Option ActiveChecksum) (tip : List ℕ) 
 kept_after P zero durable tip a b = let e : 0 * P ≡ 0 = omega arith in rw e (a, b)
 kept_after P (suc k) durable tip a b = (omega arith, omega arith)
 
+-- ---- started syncs
+
+-- what is settled is settled on a disk like this one
+pub all_settled_alike : (d e : Disk) → coverings e ≡ coverings d → e.settled ≡ d.settled → AllSettled d → AllSettled e
+all_settled_alike d e covers settled all name c is = omega (arith, all name c (ap (λ (cs : List (ℕ × List ℕ)). slice_get cs name) (sym covers) ∙ is), settled)
+
+-- where a flush may begin each started sync is settled
+pub flush_settled : (d : Disk) (s : SyncState) (flushed durable : Option ActiveChecksum) → MayFlush s flushed durable → StartsFit d s → AllSettled d
+flush_settled d Clean flushed durable ready starts = starts
+flush_settled d Dirty flushed durable ready starts = starts
+flush_settled d (Pending name) flushed durable ready starts = absurd ready
+
+-- a state fits a disk that is alike
+pub starts_alike : (d e : Disk) (s : SyncState) → e.readable ≡ d.readable → e.since ≡ d.since → coverings e ≡ coverings d → e.settled ≡ d.settled → StartsFit d s → StartsFit e s
+starts_alike d e Clean same since covers settled starts = all_settled_alike d e covers settled starts
+starts_alike d e Dirty same since covers settled starts = all_settled_alike d e covers settled starts
+starts_alike d e (Pending name) same since covers settled starts = record {
+  covers = starts.covers;
+  named = ap (λ (cs : List (ℕ × List ℕ)). slice_get cs name) covers ∙ starts.named;
+  all = omega (arith, starts.all, settled, ap length since);
+  bytes = starts.bytes ∙ sym same;
+  others = λ other c is. elim (starts.others other c (ap (λ (cs : List (ℕ × List ℕ)). slice_get cs other) (sym covers) ∙ is)) [
+    | inl done ↦ inl (omega (arith, done, settled))
+    | inr same ↦ inr same
+  ];
+}
+
+-- each started sync covers what there is at most
+pub starts_within : (d : Disk) (s : SyncState) → StartsFit d s → AreCovered d
+starts_within d Clean starts name c is = omega (arith, starts name c is)
+starts_within d Dirty starts name c is = omega (arith, starts name c is)
+starts_within d (Pending pending) starts name c is = elim (starts.others name c is) [
+  | inl done ↦ omega (arith, done)
+  | inr same ↦
+      let here : starts.covers ≡ c = same_Some starts.covers c (sym starts.named ∙ ap (λ (n : ℕ). slice_get (coverings d) n) (sym same) ∙ is) in
+      omega (arith, starts.all, ap (λ (x : ℕ × List ℕ). x.0) here)
+]
+
+-- where nothing is unsynced each is settled
+pub rest_settled : (d : Disk) → AreCovered d → d.since ≡ [] → AllSettled d
+rest_settled d within none name c is = omega (arith, within name c is, ap length none)
+
+-- once all is settled so is each of them
+pub settled_starts : (d e : Disk) → AreCovered d → coverings e ≡ coverings d → e.settled ≡ d.settled + length d.since → AllSettled e
+settled_starts d e within covers settled name c is = omega (arith, within name c (ap (λ (cs : List (ℕ × List ℕ)). slice_get cs name) (sym covers) ∙ is), settled)
+
 -- the tip's page after a flush of whole pages alone, or of the rest too
 tip_after : (sum : List ℕ → ℕ) (w : WriterState) (old : List ℕ) (k : ℕ) (rest : Bool) → IsSmall sum → 0 < w.page_size → w.page_size < 2 ^ 16
     → (kept_len w.durable ≤ w.page_size) × (kept_len w.durable ≤ length w.tip) → CanWrite w.page_size w.tip k rest
@@ -159,8 +205,8 @@ module _ (sum : List ℕ → ℕ) (w : WriterState) (d e : Disk) (k : ℕ) (rest
       ∙ ap (λ (l : List ℕ). stored P w.full_pages d.readable ++ l) (take-append-drop (k * P) w.tip)
 
   -- after a flush that is done the writer stands for what is readable then
-  pub flush_stands : e.base ≡ d.base → e.since ≡ d.since ++ Write (w.full_pages * (w.page_size + 12)) bytes ∷ [] → Stands sum (after_write sum w k rest) e
-  flush_stands base since =
+  pub flush_stands : e.base ≡ d.base → e.since ≡ d.since ++ Write (w.full_pages * (w.page_size + 12)) bytes ∷ [] → AllSettled e → Stands sum (after_write sum w k rest) e
+  flush_stands base since settled =
       let P = w.page_size in
       let q = w.full_pages in
       let one = written_some P k w.tip rest can in
@@ -178,24 +224,29 @@ module _ (sum : List ℕ → ℕ) (w : WriterState) (d e : Disk) (k : ℕ) (rest
         tip_page = subst (λ (l : List ℕ). TipPage sum P (q + k) (drop (k * P) w.tip) l (rest_written sum (durable_after w.durable k) (drop (k * P) w.tip) rest)) (sym known)
             (tip_after sum w d.readable k rest small stands.some stands.small stands.carries can begins ends);
         state = tt;
+        starts = settled;
         carries = kept_after P k w.durable w.tip stands.carries.0 stands.carries.1;
       }
 
   -- so does a write that the device did
-  pub operated_stands : (request : Request) → Operated (Write (w.full_pages * (w.page_size + 12)) bytes) request false d e → Stands sum (after_write sum w k rest) e
-  operated_stands request done = flush_stands (ap (λ (x : Disk). x.base) done.rest) (ap (λ (x : Disk). x.since) done.rest)
+  pub operated_stands : (request : Request) → MayFlush w.sync w.flushed w.durable → Operated (Write (w.full_pages * (w.page_size + 12)) bytes) request false d e → Stands sum (after_write sum w k rest) e
+  operated_stands request ready done =
+      flush_stands (ap (λ (x : Disk). x.base) done.rest) (ap (λ (x : Disk). x.since) done.rest)
+      (all_settled_alike d e (ap (λ (x : Disk). coverings x) done.rest) (ap (λ (x : Disk). x.settled) done.rest) (flush_settled d w.sync w.flushed w.durable ready stands.starts))
 
 -- ---- the same bytes in another state
 
 -- a state that fits a disk fits one like it
-fits_alike : (d e : Disk) (s : SyncState) → e.readable ≡ d.readable → e.base ≡ d.base → e.since ≡ d.since → StateFits d s → StateFits e s
+pub fits_alike : (d e : Disk) (s : SyncState) → e.readable ≡ d.readable → e.base ≡ d.base → e.since ≡ d.since → StateFits d s → StateFits e s
 fits_alike d e Clean same base since fits = (since ∙ fits.0, base ∙ fits.1 ∙ sym same)
 fits_alike d e Dirty same base since fits = tt
+fits_alike d e (Pending name) same base since fits = tt
 
 -- each state fits a disk with nothing unsynced
 settled_fits : (d : Disk) (s : SyncState) → d.since ≡ [] → d.base ≡ d.readable → StateFits d s
 settled_fits d Clean since base = (since, base)
 settled_fits d Dirty since base = tt
+settled_fits d (Pending name) since base = tt
 
 -- the tip's page is that of a longer tip
 longer_tip : (sum : List ℕ → ℕ) (P full : ℕ) (tip more readable : List ℕ) (flushed : Option ActiveChecksum) → TipPage sum P full tip readable flushed → TipPage sum P full (tip ++ more) readable flushed
@@ -220,24 +271,25 @@ flushed_fits sum P full tip readable (Some f) is = (omega (arith, is.part), is.t
 
 module _ (sum : List ℕ → ℕ) (w : WriterState) (d e : Disk) (stands : Stands sum w d) (same : e.readable ≡ d.readable) where
   -- what a writer stands for depends on the bytes, and on what of them is durable
-  pub state_stands : (s : SyncState) → e.readable ≡ latest e.base e.since → StateFits e s → Stands sum (record w { sync = s }) e
-  state_stands s done fits = record {
+  pub state_stands : (s : SyncState) → e.readable ≡ latest e.base e.since → StateFits e s → StartsFit e s → Stands sum (record w { sync = s }) e
+  state_stands s done fits starts = record {
     some = stands.some;
     small = stands.small;
     done = done;
     full = subst (λ (l : List ℕ). AreFull sum w.page_size (take w.full_pages (pages w.page_size l))) (sym same) stands.full;
     tip_page = subst (λ (l : List ℕ). TipPage sum w.page_size w.full_pages w.tip l w.flushed) (sym same) stands.tip_page;
     state = fits;
+    starts = starts;
     carries = stands.carries;
   }
 
   -- after a sync that is done it is clean
-  pub settle_stands : e.base ≡ d.readable → e.since ≡ [] → Stands sum (record w { sync = Clean }) e
-  settle_stands base since = state_stands Clean (same ∙ sym base ∙ ap (λ (os : List Operation). latest e.base os) (sym since)) (since, base ∙ sym same)
+  pub settle_stands : (s : SyncState) → e.base ≡ d.readable → e.since ≡ [] → StartsFit e s → Stands sum (record w { sync = s }) e
+  settle_stands s base since starts = state_stands s (same ∙ sym base ∙ ap (λ (os : List Operation). latest e.base os) (sym since)) (settled_fits e s since (base ∙ sym same)) starts
 
   -- a disk with the same bytes, base and operations, as after a read, serves as well
-  pub alike_stands : e.base ≡ d.base → e.since ≡ d.since → Stands sum w e
-  alike_stands base since = state_stands w.sync (same ∙ stands.done ∙ sym (cc (base, since))) (fits_alike d e w.sync same base since stands.state)
+  pub alike_stands : e.base ≡ d.base → e.since ≡ d.since → coverings e ≡ coverings d → e.settled ≡ d.settled → Stands sum w e
+  alike_stands base since covers settled = state_stands w.sync (same ∙ stands.done ∙ sym (cc (base, since))) (fits_alike d e w.sync same base since stands.state) (starts_alike d e w.sync same since covers settled stands.starts)
 
   -- and holds the same content
   pub alike_content : content w e.readable ≡ content w d.readable
@@ -255,6 +307,7 @@ module _ (sum : List ℕ → ℕ) (w : WriterState) (d : Disk) (stands : Stands 
     full = stands.full;
     tip_page = longer_tip sum w.page_size w.full_pages w.tip more d.readable w.flushed stands.tip_page;
     state = stands.state;
+    starts = stands.starts;
     carries = (stands.carries.0, omega (arith, length-append w.tip more, stands.carries.1));
   }
 
@@ -271,6 +324,7 @@ module _ (sum : List ℕ → ℕ) (w : WriterState) (d : Disk) (stands : Stands 
     full = stands.full;
     tip_page = stands.tip_page;
     state = stands.state;
+    starts = stands.starts;
     carries = flushed_fits sum w.page_size w.full_pages w.tip d.readable w.flushed stands.tip_page;
   }
 
@@ -279,24 +333,25 @@ module _ (sum : List ℕ → ℕ) (w : WriterState) (d : Disk) (stands : Stands 
 module _ (sum : List ℕ → ℕ) (w : WriterState) (d : Disk) (since : d.since ≡ []) (base : d.base ≡ d.readable) (some : 0 < w.page_size) (small : w.page_size < 2 ^ 16)
     (full : AreFull sum w.page_size (take w.full_pages (pages w.page_size d.readable))) (carried : w.durable ≡ w.flushed) where
   -- with nothing unsynced a writer stands for a blob whose pages it knows
-  pub settled_stands : TipPage sum w.page_size w.full_pages w.tip d.readable w.flushed → Stands sum w d
-  settled_stands tip_page = record {
+  pub settled_stands : StartsFit d w.sync → TipPage sum w.page_size w.full_pages w.tip d.readable w.flushed → Stands sum w d
+  settled_stands starts tip_page = record {
     some = some;
     small = small;
     done = sym base ∙ ap (λ (os : List Operation). latest d.base os) (sym since);
     full = full;
     tip_page = tip_page;
     state = settled_fits d w.sync since base;
+    starts = starts;
     carries = rw carried (flushed_fits sum w.page_size w.full_pages w.tip d.readable w.flushed tip_page);
   }
 
   -- the blob ends with a full page, and the writer buffers nothing
-  pub exact_stands : w.flushed ≡ None → length d.readable ≡ w.full_pages * (w.page_size + 12) → Stands sum w d
-  exact_stands none size = settled_stands (subst (λ (f : Option ActiveChecksum). TipPage sum w.page_size w.full_pages w.tip d.readable f) (sym none) size)
+  pub exact_stands : StartsFit d w.sync → w.flushed ≡ None → length d.readable ≡ w.full_pages * (w.page_size + 12) → Stands sum w d
+  exact_stands starts none size = settled_stands starts (subst (λ (f : Option ActiveChecksum). TipPage sum w.page_size w.full_pages w.tip d.readable f) (sym none) size)
 
   -- the blob ends with the tip's page
-  pub page_stands : (a : ActiveChecksum) → w.flushed ≡ Some a → HasPage sum w.page_size w.full_pages w.tip d.readable a → Stands sum w d
-  page_stands a is has = settled_stands (subst (λ (f : Option ActiveChecksum). TipPage sum w.page_size w.full_pages w.tip d.readable f) (sym is) has)
+  pub page_stands : StartsFit d w.sync → (a : ActiveChecksum) → w.flushed ≡ Some a → HasPage sum w.page_size w.full_pages w.tip d.readable a → Stands sum w d
+  page_stands starts a is has = settled_stands starts (subst (λ (f : Option ActiveChecksum). TipPage sum w.page_size w.full_pages w.tip d.readable f) (sym is) has)
 
   -- the content is then the text
   pub exact_content : w.tip ≡ [] → length d.readable ≡ w.full_pages * (w.page_size + 12) → content w d.readable ≡ text sum w.page_size d.readable

@@ -15,3 +15,7 @@ pub mod ResizeLaws
 pub mod FloorLaws
 pub mod Examples
 pub mod LookLaws
+pub mod StartedLaws
+pub mod CoverLaws
+pub mod BelowLaws
+pub mod StandLaws

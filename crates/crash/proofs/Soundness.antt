@@ -4,26 +4,26 @@ use Rattle.std.proofs.Common.{◌≡◌, inl, inr, ◌⊎◌, ℕ, zero, suc, �
 use Rattle.std.specs.Prelude.{Option, Some, None, Bool, false}
 use Rattle.std.proofs.lemmas.Bool.{cases_order}
 use Rattle.std.proofs.lemmas.List.{append-nil, take_all, take_at}
-use Rattle.disk.specs.Disk.{Disk, Operation, Operated, Request, Life, IsImage, applied}
+use Rattle.disk.specs.Disk.{Disk, Operation, Operated, Request, Life, IsImage, applied, coverings}
 use Rattle.disk.specs.Disk.Operation.{Write}
 use Rattle.page.specs.Slot.{slot_offset}
 use Rattle.page.specs.Page.{pages, slot_bytes, verified_len, value_len, text}
 use Rattle.page.specs.declared.slot.Slot.{Slot}
 use Rattle.page.specs.declared.slot.ActiveChecksum.{ActiveChecksum}
 use Rattle.crash.specs.WriterState.{WriterState, SyncState}
-use Rattle.crash.specs.WriterState.SyncState.{Clean, Dirty}
+use Rattle.crash.specs.WriterState.SyncState.{Clean, Dirty, Pending}
 use Rattle.crash.specs.Full.{AreFull}
 use Rattle.crash.specs.Guard.{Held, Guards, IsTruthful}
 use Rattle.crash.specs.Built.{kept_len, built, durable_after, after_write, written_pages}
 use Rattle.crash.specs.Kept.{AllKeep}
 use Rattle.crash.specs.Stays.{Stays, StaysThrough}
 use Rattle.crash.specs.Looks.{SameButLog, Looked}
-use Rattle.crash.specs.Sound.{latest, stored, content, HasPage, TipPage, StateFits, Stands, guard_slot, TipGuard, IsSafe, Soundness, IsSound, LeavesItsContent, CanWrite}
+use Rattle.crash.specs.Sound.{latest, stored, content, HasPage, TipPage, StateFits, Stands, guard_slot, StartsFit, IsRepeated, MayFlush, TipGuard, IsSafe, Soundness, IsSound, LeavesItsContent, CanWrite}
 use Rattle.crash.proofs.Lists.{take_past, take_same}
 use Rattle.crash.proofs.Pages.{length-stored, pages_at, page_fits, page_is, pages_fit, length-pages}
 use Rattle.crash.proofs.Texts.{text_exact, text_of_part, value_at, verified_le_value, verified_len_le}
 use Rattle.crash.proofs.BuiltLaws.{IsSmall, slot_len_of, slot_crc_of}
-use Rattle.crash.proofs.FlushLaws.{tip_reach, flush_reach, pages_written, flush_content, operated_stands, settle_stands, alike_stands, alike_content, longer_stands, longer_content, carry_stands, settled_stands, exact_stands, length-content, content_in_page, content_in_tip}
+use Rattle.crash.proofs.FlushLaws.{tip_reach, flush_reach, pages_written, flush_content, operated_stands, settle_stands, state_stands, fits_alike, starts_alike, alike_content, longer_stands, longer_content, carry_stands, settled_stands, exact_stands, length-content, content_in_page, content_in_tip}
 use Rattle.crash.proofs.Disks.{fixed_at_rest, operated_base, operated_since}
 use Rattle.disk.specs.Images.{only_image}
 use Rattle.crash.proofs.PageFacts.{page_begins, slot_at, slot_offset_le, own_beginning}
@@ -163,7 +163,7 @@ module _ (sum : List ℕ → ℕ) (w : WriterState) (d : Disk) (since : d.since 
       (subst (λ (l : List ℕ). TipPage sum P w.full_pages w.tip l w.flushed) (sym base) tip_page) behind (omega (arith, length-content w d.readable reaches))
 
   -- so a crash keeps it
-  safe_at_rest : 0 < w.page_size → TipGuard sum w.page_size (content w d.readable) d w.full_pages w.flushed → w.flushed ≡ guard_slot w.sync w.flushed w.durable → IsSafe sum w (content w d.readable) d
+  safe_at_rest : 0 < w.page_size → TipGuard sum w.page_size (content w d.readable) d w.full_pages w.flushed → IsRepeated w.sync w.flushed w.durable w.flushed → IsSafe sum w (content w d.readable) d
   safe_at_rest some guard repeats =
       let P = w.page_size in
       record {
@@ -237,12 +237,18 @@ guard_repeated sum P content d e full m rest (Some f) base since behind guard =
 
 -- ---- a flush
 
+-- where a flush may begin the slot that it is to repeat is the durable one
+repeated_is : (s : SyncState) (flushed durable tip : Option ActiveChecksum) → MayFlush s flushed durable → IsRepeated s flushed durable tip → tip ≡ durable
+repeated_is Clean flushed durable tip ready is = is ∙ sym ready
+repeated_is Dirty flushed durable tip ready is = is
+repeated_is (Pending name) flushed durable tip ready is = absurd ready
+
 -- the tip's page is below the tip once a page went out, and else the durable slot is the same
 place_after : (full k : ℕ) (durable : Option ActiveChecksum) → (full < full + k) ⊎ ((full ≡ full + k) × (durable ≡ durable_after durable k))
 place_after full zero durable = inr (omega arith, refl)
 place_after full (suc k) durable = inl (omega arith)
 
-module _ (sum : List ℕ → ℕ) (w : WriterState) (d e : Disk) (k : ℕ) (rest : Bool) (bytes : List ℕ) (small : IsSmall sum) (sound : Soundness sum w d) (carried : w.durable ≡ guard_slot w.sync w.flushed w.durable)
+module _ (sum : List ℕ → ℕ) (w : WriterState) (d e : Disk) (k : ℕ) (rest : Bool) (bytes : List ℕ) (small : IsSmall sum) (sound : Soundness sum w d) (ready : MayFlush w.sync w.flushed w.durable)
     (can : CanWrite w.page_size w.tip k rest) (is : bytes ≡ built sum w.page_size w.durable (written_pages k rest) w.tip) where
   behind : drop (w.full_pages * w.page_size) (content w d.readable) ≡ w.tip
   behind =
@@ -276,7 +282,7 @@ module _ (sum : List ℕ → ℕ) (w : WriterState) (d e : Disk) (k : ℕ) (rest
               place = inl (omega arith);
             }
         | inr here ↦
-            let repeated : safe.tip ≡ w.durable = here.1 ∙ sym carried in
+            let repeated : safe.tip ≡ w.durable = repeated_is w.sync w.flushed w.durable safe.tip ready here.1 in
             let guard : TipGuard sum P all d q w.durable = subst (λ (n : ℕ). TipGuard sum P all d n w.durable) here.0 (subst (λ (f : Option ActiveChecksum). TipGuard sum P all d safe.full f) repeated safe.guard) in
             record {
               full = q;
@@ -311,7 +317,7 @@ module _ (sum : List ℕ → ℕ) (w : WriterState) (d e : Disk) (k : ℕ) (rest
       let readable = done.done refl in
       let same : content w d.readable ≡ content (after_write sum w k rest) e.readable = sym (flush_content sum w d e k rest bytes small sound.stands can is readable) in
       record {
-        stands = operated_stands sum w d e k rest bytes small sound.stands can is readable request done;
+        stands = operated_stands sum w d e k rest bytes small sound.stands can is readable request ready done;
         safe = subst (λ (l : List ℕ). IsSafe sum (after_write sum w k rest) l e) same (flush_safe base since);
         truthful = subst (λ (l : List ℕ). IsTruthful sum w.page_size l e) same (flush_truthful base since);
       }
@@ -333,15 +339,15 @@ module _ (sum : List ℕ → ℕ) (w : WriterState) (d e : Disk) (k : ℕ) (rest
 
 module _ (sum : List ℕ → ℕ) (w : WriterState) (d e : Disk) (sound : Soundness sum w d) (same : e.readable ≡ d.readable) where
   -- a sync that is done keeps soundness, and leaves the writer clean
-  pub settle_sound : IsSmall sum → e.base ≡ d.readable → e.since ≡ [] → Soundness sum (record w { sync = Clean }) e
-  settle_sound small base since =
-      let stands = settle_stands sum w d e sound.stands same base since in
+  pub settle_sound : (s : SyncState) → IsSmall sum → e.base ≡ d.readable → e.since ≡ [] → StartsFit e s → IsRepeated s w.flushed w.durable w.flushed → Soundness sum (record w { sync = s }) e
+  settle_sound s small base since starts repeats =
+      let stands = settle_stands sum w d e sound.stands same s base since starts in
       let at_rest : e.base ≡ e.readable = base ∙ sym same in
       record {
         stands = stands;
-        safe = safe_at_rest sum (record w { sync = Clean }) e since at_rest stands.full stands.tip_page stands.some
-            (guard_written sum (record w { sync = Clean }) e since at_rest stands.full stands.tip_page small stands.small) refl;
-        truthful = truthful_written sum (record w { sync = Clean }) e since at_rest stands.full stands.tip_page;
+        safe = safe_at_rest sum (record w { sync = s }) e since at_rest stands.full stands.tip_page stands.some
+            (guard_written sum (record w { sync = s }) e since at_rest stands.full stands.tip_page small stands.small) repeats;
+        truthful = truthful_written sum (record w { sync = s }) e since at_rest stands.full stands.tip_page;
       }
 
   -- and owes nothing
@@ -349,24 +355,33 @@ module _ (sum : List ℕ → ℕ) (w : WriterState) (d e : Disk) (sound : Soundn
   settle_stays base since =
       stays_settled sum w.page_size (content w d.readable) d d e (base ∙ sound.stands.done) since (stays_itself sum w.page_size (content w d.readable) d sound.truthful)
 
-  -- a disk with the same bytes, base and operations, as after a read, is as sound
-  pub alike_sound : e.base ≡ d.base → e.since ≡ d.since → Soundness sum w e
-  alike_sound base since =
+  -- a disk with the same bytes, base and operations is as sound, in any state that fits it and lets no other slot be repeated
+  pub same_bytes_sound : (s : SyncState) → e.base ≡ d.base → e.since ≡ d.since → StateFits e s → StartsFit e s
+      → ((tip : Option ActiveChecksum) → IsRepeated w.sync w.flushed w.durable tip → IsRepeated s w.flushed w.durable tip) → Soundness sum (record w { sync = s }) e
+  same_bytes_sound s base since fits starts repeated =
       let safe = sound.safe in
       let now : content w d.readable ≡ content w e.readable = sym (alike_content sum w d e sound.stands same) in
       record {
-        stands = alike_stands sum w d e sound.stands same base since;
-        safe = subst (λ (l : List ℕ). IsSafe sum w l e) now (record {
+        stands = state_stands sum w d e sound.stands same s (same ∙ sound.stands.done ∙ sym (cc (base, since))) fits starts;
+        safe = subst (λ (l : List ℕ). IsSafe sum (record w { sync = s }) l e) now (record {
           full = safe.full;
           tip = safe.tip;
           there = safe.there;
           pages = guards_alike sum w.page_size (content w d.readable) (safe.full * w.page_size) d e base since safe.pages;
           guard = guard_alike sum w.page_size (content w d.readable) d e safe.full safe.tip base since safe.guard;
           base = omega (arith, safe.base, ap (λ (l : List ℕ). length (text sum w.page_size l)) base);
-          place = safe.place;
+          place = elim safe.place [
+            | inl below ↦ inl below
+            | inr here ↦ inr (here.0, repeated safe.tip here.1)
+          ];
         });
         truthful = subst (λ (l : List ℕ). IsTruthful sum w.page_size l e) now (truthful_alike sum w.page_size (content w d.readable) d e base since sound.truthful);
       }
+
+  -- so after a read
+  pub alike_sound : e.base ≡ d.base → e.since ≡ d.since → coverings e ≡ coverings d → e.settled ≡ d.settled → Soundness sum w e
+  alike_sound base since covers settled =
+      same_bytes_sound w.sync base since (fits_alike d e w.sync same base since sound.stands.state) (starts_alike d e w.sync same since covers settled sound.stands.starts) (λ tip is. is)
 
   -- and nothing is owed
   pub alike_stays : e.base ≡ d.base → e.since ≡ d.since → Stays sum w.page_size (content w d.readable) d e
@@ -403,14 +418,16 @@ module _ (sum : List ℕ → ℕ) (w : WriterState) (d : Disk) (sound : Soundnes
 -- ---- a writer that knows more
 
 -- a slot that is up to date stays so
-pub guard_slot-again : (s : SyncState) (flushed durable : Option ActiveChecksum) → guard_slot s flushed durable ≡ guard_slot s flushed (guard_slot s flushed durable)
-guard_slot-again Clean flushed durable = refl
-guard_slot-again Dirty flushed durable = refl
+repeated_again : (s : SyncState) (flushed durable tip : Option ActiveChecksum) → IsRepeated s flushed durable tip → IsRepeated s flushed (guard_slot s flushed durable) tip
+repeated_again Clean flushed durable tip is = is
+repeated_again Dirty flushed durable tip is = is
+repeated_again (Pending name) flushed durable tip is = tt
 
 -- the durable slot brought up to date
 carried_stands : (sum : List ℕ → ℕ) (w : WriterState) (d : Disk) (s : SyncState) → Stands sum w d → Stands sum (record w { durable = guard_slot s w.flushed w.durable }) d
 carried_stands sum w d Clean stands = carry_stands sum w d stands
 carried_stands sum w d Dirty stands = stands
+carried_stands sum w d (Pending name) stands = stands
 
 module _ (sum : List ℕ → ℕ) (w : WriterState) (d : Disk) (sound : Soundness sum w d) where
   -- a longer tip keeps soundness
@@ -450,7 +467,7 @@ module _ (sum : List ℕ → ℕ) (w : WriterState) (d : Disk) (sound : Soundnes
           base = safe.base;
           place = elim safe.place [
             | inl below ↦ inl below
-            | inr here ↦ inr (here.0, here.1 ∙ guard_slot-again w.sync w.flushed w.durable)
+            | inr here ↦ inr (here.0, repeated_again w.sync w.flushed w.durable safe.tip here.1)
           ];
         };
         truthful = sound.truthful;
@@ -460,39 +477,40 @@ module _ (sum : List ℕ → ℕ) (w : WriterState) (d : Disk) (sound : Soundnes
 
 module _ (sum : List ℕ → ℕ) (w : WriterState) (d : Disk) (since : d.since ≡ []) (base : d.base ≡ d.readable) (some : 0 < w.page_size) (small : w.page_size < 2 ^ 16)
     (full : AreFull sum w.page_size (take w.full_pages (pages w.page_size d.readable))) (carried : w.durable ≡ w.flushed) where
-  repeats : (s : SyncState) → w.flushed ≡ guard_slot s w.flushed w.durable
+  repeats : (s : SyncState) → IsRepeated s w.flushed w.durable w.flushed
   repeats Clean = refl
   repeats Dirty = sym carried
+  repeats (Pending name) = tt
 
   -- with nothing unsynced a writer is sound that knows the blob's pages
-  pub settled_sound : IsSmall sum → TipPage sum w.page_size w.full_pages w.tip d.readable w.flushed → Soundness sum w d
-  settled_sound small_sum tip_page = record {
-    stands = settled_stands sum w d since base some small full carried tip_page;
+  pub settled_sound : StartsFit d w.sync → IsSmall sum → TipPage sum w.page_size w.full_pages w.tip d.readable w.flushed → Soundness sum w d
+  settled_sound starts small_sum tip_page = record {
+    stands = settled_stands sum w d since base some small full carried starts tip_page;
     safe = safe_at_rest sum w d since base full tip_page some (guard_written sum w d since base full tip_page small_sum small) (repeats w.sync);
     truthful = truthful_written sum w d since base full tip_page;
   }
 
   -- the blob ends with a full page
-  pub exact_sound : w.flushed ≡ None → length d.readable ≡ w.full_pages * (w.page_size + 12) → Soundness sum w d
-  exact_sound none size =
+  pub exact_sound : StartsFit d w.sync → w.flushed ≡ None → length d.readable ≡ w.full_pages * (w.page_size + 12) → Soundness sum w d
+  exact_sound starts none size =
       let tip_page : TipPage sum w.page_size w.full_pages w.tip d.readable w.flushed = subst (λ (f : Option ActiveChecksum). TipPage sum w.page_size w.full_pages w.tip d.readable f) (sym none) size in
       record {
-        stands = exact_stands sum w d since base some small full carried none size;
+        stands = exact_stands sum w d since base some small full carried starts none size;
         safe = safe_at_rest sum w d since base full tip_page some
             (subst (λ (f : Option ActiveChecksum). TipGuard sum w.page_size (content w d.readable) d w.full_pages f) (sym none) tt) (repeats w.sync);
         truthful = truthful_written sum w d since base full tip_page;
       }
 
   -- the blob ends with the tip's page
-  pub page_sound : IsSmall sum → (a : ActiveChecksum) → w.flushed ≡ Some a → HasPage sum w.page_size w.full_pages w.tip d.readable a → Soundness sum w d
-  page_sound small_sum a is has = settled_sound small_sum (subst (λ (f : Option ActiveChecksum). TipPage sum w.page_size w.full_pages w.tip d.readable f) (sym is) has)
+  pub page_sound : StartsFit d w.sync → IsSmall sum → (a : ActiveChecksum) → w.flushed ≡ Some a → HasPage sum w.page_size w.full_pages w.tip d.readable a → Soundness sum w d
+  page_sound starts small_sum a is has = settled_sound starts small_sum (subst (λ (f : Option ActiveChecksum). TipPage sum w.page_size w.full_pages w.tip d.readable f) (sym is) has)
 
 -- a writer over an empty blob is sound
-pub empty_sound : (sum : List ℕ → ℕ) (w : WriterState) (d : Disk) → d.readable ≡ [] → d.base ≡ [] → d.since ≡ [] → 0 < w.page_size → w.page_size < 2 ^ 16 → w.full_pages ≡ 0 → w.flushed ≡ None → w.durable ≡ None → Soundness sum w d
-empty_sound sum w d readable base since some small full flushed durable =
+pub empty_sound : (sum : List ℕ → ℕ) (w : WriterState) (d : Disk) → d.readable ≡ [] → d.base ≡ [] → d.since ≡ [] → 0 < w.page_size → w.page_size < 2 ^ 16 → w.full_pages ≡ 0 → w.flushed ≡ None → w.durable ≡ None → StartsFit d w.sync → Soundness sum w d
+empty_sound sum w d readable base since some small full flushed durable starts =
     exact_sound sum w d since (base ∙ sym readable) some small
     (subst (λ (n : ℕ). AreFull sum w.page_size (take n (pages w.page_size d.readable))) (sym full) tt)
-    (durable ∙ sym flushed) flushed
+    (durable ∙ sym flushed) starts flushed
     (omega (arith, ap length readable, ap (λ (n : ℕ). n * (w.page_size + 12)) full))
 
 -- ---- a read
@@ -509,7 +527,7 @@ sound_leaves sum w d sound = λ image is_image free. inl (only_content sum w.pag
 module _ (sum : List ℕ → ℕ) (w : WriterState) (old new : Life) (sound : Soundness sum w old.present) (looked : Looked old new) where
   -- a call that only reads keeps soundness
   pub looked_sound : Soundness sum w new.present
-  looked_sound = let same = same_parts old.present new.present looked.same in alike_sound sum w old.present new.present sound same.0 same.1 same.2
+  looked_sound = let same = same_parts old.present new.present looked.same in alike_sound sum w old.present new.present sound same.0 same.1 same.2 (ap (λ (x : Disk). coverings x) looked.same) (ap (λ (x : Disk). x.settled) looked.same)
 
   -- and the content
   pub looked_content : content w new.present.readable ≡ content w old.present.readable

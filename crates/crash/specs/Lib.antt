@@ -4,6 +4,8 @@ pub mod Built
 pub mod Guard
 pub mod Kept
 pub mod Moments
+pub mod Below
 pub mod Stays
 pub mod Looks
 pub mod Sound
+pub mod Started

@@ -7,15 +7,18 @@ use Rattle.std.proofs.Math.Nat.{mod-lt, mod-eq_of_lt}
 use Rattle.disk.specs.Disk.{Disk, Life, WriteAt, SyncAll, WriteGoes, SyncGoes}
 use Rattle.disk.specs.declared.error.Error.{Error}
 use Rattle.disk.specs.declared.error.Error.TheVariants.{OffsetOverflow}
-use Rattle.crash.specs.WriterState.{WriterState}
+use Rattle.crash.specs.WriterState.{WriterState, SyncState}
 use Rattle.crash.specs.WriterState.SyncState.{Clean, Dirty}
 use Rattle.crash.specs.Built.{after_write}
-use Rattle.crash.specs.Sound.{IsSound, CanWrite, content, guard_slot}
+use Rattle.crash.specs.Sound.{IsSound, CanWrite, content, guard_slot, MayFlush}
+use Rattle.paged.specs.Writer.{state_of}
+use Rattle.paged.specs.declared.writer.SyncState.{SyncState as State}
+use Rattle.paged.specs.declared.writer.SyncState.TheVariants.{Clean as IsClean, Dirty as IsDirty}
 use Rattle.crash.specs.Stays.{StaysThrough}
 use Rattle.crash.proofs.BuiltLaws.{IsSmall}
 use Rattle.crash.proofs.FlushLaws.{flushed_fits, tip_reach, length-content}
 use Rattle.crash.proofs.Moments.{stays_through_start, stays_through_joins}
-use Rattle.crash.proofs.Soundness.{carry_sound, guard_slot-again, sound_leaves}
+use Rattle.crash.proofs.Soundness.{carry_sound, sound_leaves}
 use Rattle.crash.proofs.CallLaws.{sync_stays, sync_sound, sync_content, write_stays, write_sound, durable_write_sound, write_content}
 use Rattle.disk.proofs.Logs.{grows_same, grows_once, grows_joins}
 use Rattle.paged.proofs.Flushing.{length-rest}
@@ -38,7 +41,7 @@ stays_nil sum P content old new stays = subst (λ c. StaysThrough sum P c old ne
 
 -- a flush of the full pages, and of the rest where asked, by a writer whose durable slot is up to date
 pub flush_goes : (sum : List ℕ → ℕ) (w now : WriterState) (rest : Bool) (old new : Life) (result : Result (Unit {0}) Error) → IsSmall sum → IsSound sum w old.present
-    → w.durable ≡ guard_slot w.sync w.flushed w.durable → CanWrite w.page_size w.tip (full_in w) rest → WriteGoes (place_of w) (flush_bytes sum w rest) false old new result
+    → MayFlush w.sync w.flushed w.durable → CanWrite w.page_size w.tip (full_in w) rest → WriteGoes (place_of w) (flush_bytes sum w rest) false old new result
     → OnOk result (now ≡ after_write sum w (full_in w) rest) → (IsErrOf result OffsetOverflow → ⊥) → Flushes sum w old new (answered now result)
 unfolding IsSound
 flush_goes sum w now rest old new (Ok done) small sound is can goes state fits = record {
@@ -64,14 +67,14 @@ flushes_carried sum w old new (Ok now) h = carried_goes_on sum w now old new h
 flushes_carried sum w old new (Err e) h = record { cause = h.cause; stays = h.stays }
 
 -- a flush by a writer whose durable slot was brought up to date
-pub flush_call : (sum : List ℕ → ℕ) (w v now : WriterState) (rest : Bool) (old new : Life) (result : Result (Unit {0}) Error) → IsSmall sum → IsSound sum w old.present → v ≡ carried w
+pub flush_call : (sum : List ℕ → ℕ) (w v now : WriterState) (rest : Bool) (old new : Life) (result : Result (Unit {0}) Error) → IsSmall sum → IsSound sum w old.present → MayFlush w.sync w.flushed (guard_slot w.sync w.flushed w.durable) → v ≡ carried w
     → CanWrite v.page_size v.tip (full_in v) rest → WriteGoes (place_of v) (flush_bytes sum v rest) false old new result
     → OnOk result (now ≡ after_write sum v (full_in v) rest) → (IsErrOf result OffsetOverflow → ⊥) → Flushes sum w old new (answered now result)
 unfolding IsSound
-flush_call sum w v now rest old new result small sound is =
+flush_call sum w v now rest old new result small sound ready is =
     subst (λ v. CanWrite v.page_size v.tip (full_in v) rest → WriteGoes (place_of v) (flush_bytes sum v rest) false old new result
     → OnOk result (now ≡ after_write sum v (full_in v) rest) → (IsErrOf result OffsetOverflow → ⊥) → Flushes sum w old new (answered now result)) (sym is)
-    (λ can goes state fits. flushes_carried sum w old new (answered now result) (flush_goes sum (carried w) now rest old new result small (carry_sound sum w old.present sound) (guard_slot-again w.sync w.flushed w.durable) can goes state fits))
+    (λ can goes state fits. flushes_carried sum w old new (answered now result) (flush_goes sum (carried w) now rest old new result small (carry_sound sum w old.present sound) ready can goes state fits))
 
 -- one call after another
 pub goes_on_more : (sum : List ℕ → ℕ) (w m n : WriterState) (old mid new : Life) → GoesOn sum w old [] m mid → GoesOn sum m mid [] n new → GoesOn sum w old [] n new
@@ -138,7 +141,7 @@ settled_after sum w true some is = record {
 
 -- a write that is durable at once
 sync_durably : (sum : List ℕ → ℕ) (w now : WriterState) (rest : Bool) (old new : Life) (result : Result (Unit {0}) Error) → IsSmall sum → IsSound sum w old.present
-    → w.durable ≡ guard_slot w.sync w.flushed w.durable → rest ≡ not (length w.tip % w.page_size == 0) → CanWrite w.page_size w.tip (full_in w) rest
+    → MayFlush w.sync w.flushed w.durable → rest ≡ not (length w.tip % w.page_size == 0) → CanWrite w.page_size w.tip (full_in w) rest
     → WriteGoes (place_of w) (flush_bytes sum w rest) true old new result
     → OnOk result (now ≡ synced (after_write sum w (full_in w) rest)) → (IsErrOf result OffsetOverflow → ⊥) → Syncs sum w old new (answered now result)
 unfolding IsSound
@@ -164,18 +167,23 @@ syncs_carried sum w old new (Ok now) h = (carried_goes_on sum w now old new h.0,
 syncs_carried sum w old new (Err e) h = record { cause = h.cause; stays = h.stays }
 
 -- the same by a writer whose durable slot was brought up to date
-pub sync_write : (sum : List ℕ → ℕ) (w v now : WriterState) (rest : Bool) (old new : Life) (result : Result (Unit {0}) Error) → IsSmall sum → IsSound sum w old.present → v ≡ carried w
+pub sync_write : (sum : List ℕ → ℕ) (w v now : WriterState) (rest : Bool) (old new : Life) (result : Result (Unit {0}) Error) → IsSmall sum → IsSound sum w old.present → MayFlush w.sync w.flushed (guard_slot w.sync w.flushed w.durable) → v ≡ carried w
     → rest ≡ not (length w.tip % w.page_size == 0) → CanWrite v.page_size v.tip (full_in v) rest → WriteGoes (place_of v) (flush_bytes sum v rest) true old new result
     → OnOk result (now ≡ synced (after_write sum v (full_in v) rest)) → (IsErrOf result OffsetOverflow → ⊥) → Syncs sum w old new (answered now result)
 unfolding IsSound
-sync_write sum w v now rest old new result small sound is rests =
+sync_write sum w v now rest old new result small sound ready is rests =
     subst (λ v. CanWrite v.page_size v.tip (full_in v) rest → WriteGoes (place_of v) (flush_bytes sum v rest) true old new result
     → OnOk result (now ≡ synced (after_write sum v (full_in v) rest)) → (IsErrOf result OffsetOverflow → ⊥) → Syncs sum w old new (answered now result)) (sym is)
-    (λ can goes state fits. syncs_carried sum w old new (answered now result) (sync_durably sum (carried w) now rest old new result small (carry_sound sum w old.present sound) (guard_slot-again w.sync w.flushed w.durable) rests can goes state fits))
+    (λ can goes state fits. syncs_carried sum w old new (answered now result) (sync_durably sum (carried w) now rest old new result small (carry_sound sum w old.present sound) ready rests can goes state fits))
 
 -- a dirty writer's durable slot is up to date
-pub dirty_carried : (w : WriterState) → w.sync ≡ Dirty → w.durable ≡ guard_slot w.sync w.flushed w.durable
-dirty_carried w dirty = ap (λ s. guard_slot s w.flushed w.durable) (sym dirty)
+pub dirty_carried : (w : WriterState) → w.sync ≡ Dirty → MayFlush w.sync w.flushed w.durable
+dirty_carried w dirty = subst (λ (s : SyncState). MayFlush s w.flushed w.durable) (sym dirty) tt
+
+-- so is any writer's that isn't pending, once it was carried
+pub may_flush_carried : (w : WriterState) (s : State) → state_of s ≡ w.sync → MayFlush w.sync w.flushed (guard_slot w.sync w.flushed w.durable)
+may_flush_carried w IsClean is = subst (λ (s : SyncState). MayFlush s w.flushed (guard_slot s w.flushed w.durable)) is refl
+may_flush_carried w IsDirty is = subst (λ (s : SyncState). MayFlush s w.flushed (guard_slot s w.flushed w.durable)) is tt
 
 -- a write, and a sync of the blob
 pub sync_second : (sum : List ℕ → ℕ) (w now n : WriterState) (rest : Bool) (old mid new : Life) (result : Result (Unit {0}) Error) → IsSmall sum → IsSound sum w old.present → w.sync ≡ Dirty

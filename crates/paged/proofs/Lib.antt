@@ -21,3 +21,5 @@ pub mod Trims
 pub mod Examples
 pub mod RecoveryExamples
 pub mod There
+pub mod Below
+pub mod Covers

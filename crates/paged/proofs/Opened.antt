@@ -4,7 +4,7 @@ use Rattle.std.specs.Prelude.{slice_get, Option, Some, None, Result, Ok, Err, If
 use Rattle.std.proofs.lemmas.Bool.{cases_eq}
 use Rattle.std.proofs.lemmas.Option.{slice_get_within}
 use Rattle.std.proofs.Math.Nat.{mul-le-mul_left}
-use Rattle.disk.specs.Disk.{Disk, Life, LogGrows}
+use Rattle.disk.specs.Disk.{AreCovered, Life, LogGrows}
 use Rattle.disk.specs.declared.error.Error.{Error}
 use Rattle.disk.specs.declared.error.Error.TheVariants.{ReadFailed, WriteFailed, ResizeFailed, SyncFailed, InvalidChecksum, BlobInsufficientLength, OffsetOverflow, OutOfMemory, IdsExhausted}
 use Rattle.page.specs.Geometry.{adjusted}
@@ -12,7 +12,7 @@ use Rattle.page.specs.Page.{pages, active, value_len}
 use Rattle.page.specs.declared.slot.ActiveChecksum.{ActiveChecksum}
 use Rattle.cache.specs.CacheState.{CacheState}
 use Rattle.crash.specs.WriterState.{WriterState, SyncState}
-use Rattle.crash.specs.WriterState.SyncState.{Clean, Dirty}
+use Rattle.crash.specs.WriterState.SyncState.{Clean}
 use Rattle.crash.specs.Sound.{IsSound}
 use Rattle.crash.proofs.BuiltLaws.{IsSmall}
 use Rattle.crash.proofs.Pages.{pages_at, pages_reach, page_is, length-pages}
@@ -23,6 +23,7 @@ use Rattle.paged.specs.Writer.{state_of}
 use Rattle.paged.specs.Prefix.{page_at, last_prefix, prefix_pages, value_and_slot, at_prefix, HasBytes}
 use Rattle.paged.specs.Reads.{HasPages}
 use Rattle.paged.specs.Recovery.{IsKept, Stands, SoundWhereFull, Opens, opened_prefix, opened_size}
+use Rattle.paged.specs.Recovery.IsKept.{whole, cut}
 use Rattle.paged.proofs.Prefixes.{last_is, last_none_suc, last_full_suc, last_part_suc}
 use Rattle.paged.proofs.Firsts.{Behind}
 use Rattle.paged.proofs.Standing.{stands_behind}
@@ -65,11 +66,11 @@ module _ (sum : List ℕ → ℕ) (P : ℕ) (bytes : List ℕ) where
 
 -- ---- where a writer is sound
 
--- a writer whose durable slot is the one that was written last is as sound where something may be unsynced
-at_state : (sum : List ℕ → ℕ) (P id room : ℕ) (p : Prefix) (d : Disk) (s : SyncState) → IsSound sum (at_prefix P id room p Clean) d → IsSound sum (at_prefix P id room p s) d
+-- a writer whose durable slot is the one that was written last is as sound in the state in which opening leaves it
+at_state : (sum : List ℕ → ℕ) (P id room : ℕ) (p : Prefix) (old new : Life) (n : ℕ) (s : SyncState) → IsKept old new n s → IsSound sum (at_prefix P id room p Clean) new.present → IsSound sum (at_prefix P id room p s) new.present
 unfolding IsSound
-at_state sum P id room p d Clean sound = sound
-at_state sum P id room p d Dirty sound = record {
+at_state sum P id room p old new n s (cut more readable durable) sound = sound
+at_state sum P id room p old new n s (whole all looked) sound = record {
   stands = record {
     some = sound.stands.some;
     small = sound.stands.small;
@@ -77,6 +78,7 @@ at_state sum P id room p d Dirty sound = record {
     full = sound.stands.full;
     tip_page = sound.stands.tip_page;
     state = tt;
+    starts = sound.stands.starts;
     carries = sound.stands.carries;
   };
   safe = record {
@@ -91,7 +93,7 @@ at_state sum P id room p d Dirty sound = record {
   truthful = sound.truthful;
 }
 
-module _ (sum : List ℕ → ℕ) (P : ℕ) (old new : Life) (s : SyncState) (kept : IsKept old new (opened_size sum P old.present.readable) s) where
+module _ (sum : List ℕ → ℕ) (P : ℕ) (old new : Life) (s : SyncState) (kept : IsKept old new (opened_size sum P old.present.readable) s) (covered : AreCovered new.present) where
   -- the writer that opening gives
   pub opened_sound : (id room : ℕ) → IsSmall sum → 0 < P → P < 2 ^ 16
       → HasBytes P (opened_prefix sum P old.present.readable).full_pages old.present.readable (opened_prefix sum P old.present.readable).partial
@@ -102,16 +104,16 @@ module _ (sum : List ℕ → ℕ) (P : ℕ) (old new : Life) (s : SyncState) (ke
       let p = opened_prefix sum P bytes in
       let n = length bytes / (P + 12) in
       let last = last_is sum P n bytes in
-      let stands = stands_behind sum small_sum P id room bytes new.present positive small (opened_stays_durable old new (opened_size sum P bytes) s kept durable) p.full_pages p.partial
+      let stands = stands_behind sum small_sum P id room bytes new.present positive small (opened_stays_durable old new (opened_size sum P bytes) s kept durable) covered p.full_pages p.partial
       (omega (arith, last.within, length-pages P bytes)) are (behind_last sum P bytes n (omega arith) (λ m le lt. absurd (omega arith))) has (kept_readable old new (opened_size sum P bytes) s kept) in
-      (at_state sum P id room p new.present s stands.0, stands.1)
+      (at_state sum P id room p old new (opened_size sum P bytes) s kept stands.0, stands.1)
 
 -- a writer stands behind what was kept, or has no id
-pub opens_end : (sum : List ℕ → ℕ) (cache : CacheState) (capacity : ℕ) (old new : Life) (s : State) (room : ℕ) (p : Prefix) (answer : Result WriterState Error) → IsSmall sum → 0 < cache.page_size → cache.page_size < 2 ^ 16
+pub opens_end : (sum : List ℕ → ℕ) (cache : CacheState) (capacity : ℕ) (old new : Life) (s : State) (room : ℕ) (p : Prefix) (answer : Result WriterState Error) → AreCovered new.present → IsSmall sum → 0 < cache.page_size → cache.page_size < 2 ^ 16
     → room ≡ adjusted capacity cache.page_size → p ≡ opened_prefix sum cache.page_size old.present.readable
     → HasBytes cache.page_size p.full_pages old.present.readable p.partial → IsKept old new (opened_size sum cache.page_size old.present.readable) (state_of s) × LogGrows old.present new.present
     → Stands cache room p (state_of s) answer → Opens sum cache capacity old new answer
-opens_end sum cache capacity old new s room p (Ok w) small_sum positive small room_is is bytes kept stands =
+opens_end sum cache capacity old new s room p (Ok w) covered small_sum positive small room_is is bytes kept stands =
     let P = cache.page_size in
     let q = opened_prefix sum P old.present.readable in
     let state : w ≡ at_prefix P cache.ids_given (adjusted capacity P) q (state_of s) =
@@ -122,18 +124,18 @@ opens_end sum cache capacity old new s room p (Ok w) small_sum positive small ro
       state = state;
       kept = kept.0;
       bytes = subst (λ (n : ℕ). HasBytes P n old.present.readable q.partial) (sym (ap (λ (x : WriterState). x.full_pages) state)) has;
-      sound = subst (λ (x : WriterState). SoundWhereFull sum P old new x) (sym state) (opened_sound sum P old new (state_of s) kept.0 cache.ids_given (adjusted capacity P) small_sum positive small has);
+      sound = subst (λ (x : WriterState). SoundWhereFull sum P old new x) (sym state) (opened_sound sum P old new (state_of s) kept.0 covered cache.ids_given (adjusted capacity P) small_sum positive small has);
       log = kept.1;
     }
-opens_end sum cache capacity old new s room p (Err ReadFailed) small_sum positive small room_is is bytes kept stands = absurd stands
-opens_end sum cache capacity old new s room p (Err WriteFailed) small_sum positive small room_is is bytes kept stands = absurd stands
-opens_end sum cache capacity old new s room p (Err ResizeFailed) small_sum positive small room_is is bytes kept stands = absurd stands
-opens_end sum cache capacity old new s room p (Err SyncFailed) small_sum positive small room_is is bytes kept stands = absurd stands
-opens_end sum cache capacity old new s room p (Err InvalidChecksum) small_sum positive small room_is is bytes kept stands = absurd stands
-opens_end sum cache capacity old new s room p (Err BlobInsufficientLength) small_sum positive small room_is is bytes kept stands = absurd stands
-opens_end sum cache capacity old new s room p (Err OffsetOverflow) small_sum positive small room_is is bytes kept stands = absurd stands
-opens_end sum cache capacity old new s room p (Err OutOfMemory) small_sum positive small room_is is bytes kept stands = tt
-opens_end sum cache capacity old new s room p (Err IdsExhausted) small_sum positive small room_is is bytes kept stands = (stands, state_of s, kept.0)
+opens_end sum cache capacity old new s room p (Err ReadFailed) covered small_sum positive small room_is is bytes kept stands = absurd stands
+opens_end sum cache capacity old new s room p (Err WriteFailed) covered small_sum positive small room_is is bytes kept stands = absurd stands
+opens_end sum cache capacity old new s room p (Err ResizeFailed) covered small_sum positive small room_is is bytes kept stands = absurd stands
+opens_end sum cache capacity old new s room p (Err SyncFailed) covered small_sum positive small room_is is bytes kept stands = absurd stands
+opens_end sum cache capacity old new s room p (Err InvalidChecksum) covered small_sum positive small room_is is bytes kept stands = absurd stands
+opens_end sum cache capacity old new s room p (Err BlobInsufficientLength) covered small_sum positive small room_is is bytes kept stands = absurd stands
+opens_end sum cache capacity old new s room p (Err OffsetOverflow) covered small_sum positive small room_is is bytes kept stands = absurd stands
+opens_end sum cache capacity old new s room p (Err OutOfMemory) covered small_sum positive small room_is is bytes kept stands = tt
+opens_end sum cache capacity old new s room p (Err IdsExhausted) covered small_sum positive small room_is is bytes kept stands = (stands, state_of s, kept.0)
 
 -- ---- what holds of it
 

@@ -2,7 +2,7 @@
 use Rattle.std.proofs.Common.{◌≡◌, ℕ, ◌+◌, ◌*◌, ◌^◌, ◌<◌, ◌≤◌, List, length, take, refl, sym, ◌∙◌, ap, subst, arith}
 use Rattle.std.specs.Prelude.{Result, Ok, Err, Option, Some, None}
 use Rattle.std.proofs.lemmas.List.{take_all, take-take, length-take-le}
-use Rattle.disk.specs.Disk.{Disk, Life}
+use Rattle.disk.specs.Disk.{AreCovered, Disk, Life}
 use Rattle.disk.specs.declared.error.Error.{Error}
 use Rattle.disk.specs.declared.error.Error.TheVariants.{ReadFailed, WriteFailed, ResizeFailed, SyncFailed, InvalidChecksum, BlobInsufficientLength, OffsetOverflow, OutOfMemory, IdsExhausted}
 use Rattle.page.specs.Geometry.{adjusted}
@@ -143,9 +143,9 @@ module _ (sum : List ℕ → ℕ) (cache : CacheState) (capacity : ℕ) (old mid
       ap (λ (l : List ℕ). text sum P l) (opened_readable sum cache capacity old mid w opened)
       ∙ text_of_beginning sum P (opened_size sum P bytes) bytes positive (opened_size_le sum P bytes) (first_size_le sum P bytes positive)
 
-  recovered : (now : WriterState) → Keeps w p mid_then new (Ok now) → IsRecovered sum cache capacity old new now
+  recovered : (now : WriterState) → AreCovered new.present → Keeps w p mid_then new (Ok now) → IsRecovered sum cache capacity old new now
   unfolding IsSound
-  recovered now keeps =
+  recovered now covered keeps =
       let P = cache.page_size in
       let bytes = old.present.readable in
       let q = prefix_of sum P (pages P bytes) in
@@ -153,7 +153,7 @@ module _ (sum : List ℕ → ℕ) (cache : CacheState) (capacity : ℕ) (old mid
       let state : now ≡ at_prefix P w.id w.capacity p Clean = keeps.0 ∙ ap (λ (n : ℕ). at_prefix n w.id w.capacity p Clean) size in
       let readable : new.present.readable ≡ take (prefix_pages p * (P + 12)) mid.present.readable =
       keeps.1 ∙ ap (λ (n : ℕ). take (prefix_pages p * (n + 12)) mid_then.present.readable) size ∙ ap (λ (l : List ℕ). take (prefix_pages p * (P + 12)) l) (looked_readable mid mid_then looked) in
-      let stands = stands_first sum small_sum P w.id w.capacity mid.present.readable new.present positive small keeps.2 p is has readable in
+      let stands = stands_first sum small_sum P w.id w.capacity mid.present.readable new.present positive small keeps.2 covered p is has readable in
       let le : prefix_pages p * (P + 12) ≤ opened_size sum P bytes = omega (arith, first_size_le sum P bytes positive, ap (λ (x : Prefix). prefix_pages x * (P + 12)) first_is) in
       record {
         state = state
@@ -174,6 +174,6 @@ module _ (sum : List ℕ → ℕ) (cache : CacheState) (capacity : ℕ) (old mid
       }
 
   -- the ending of a recovery
-  pub recovers_end : (answer : Result WriterState Error) → Keeps w p mid_then new answer → Recovers sum cache capacity old new answer
-  recovers_end (Ok now) keeps = recovered now keeps
-  recovers_end (Err e) keeps = recovers_cause sum cache capacity old new e (cause_later old mid_then new e (grows_joins old.present mid.present mid_then.present opened.log looked.log) keeps)
+  pub recovers_end : (answer : Result WriterState Error) → AreCovered new.present → Keeps w p mid_then new answer → Recovers sum cache capacity old new answer
+  recovers_end (Ok now) covered keeps = recovered now covered keeps
+  recovers_end (Err e) covered keeps = recovers_cause sum cache capacity old new e (cause_later old mid_then new e (grows_joins old.present mid.present mid_then.present opened.log looked.log) keeps)

@@ -11,7 +11,7 @@ use Rattle.disk.specs.declared.error.Error.{Error}
 use Rattle.disk.specs.declared.error.Error.TheVariants.{ReadFailed, WriteFailed, ResizeFailed, SyncFailed, InvalidChecksum, BlobInsufficientLength, OffsetOverflow, OutOfMemory, IdsExhausted}
 use Rattle.cache.specs.CacheState.{CacheState}
 use Rattle.crash.specs.WriterState.{SyncState}
-use Rattle.crash.specs.WriterState.SyncState.{Clean, Dirty}
+use Rattle.crash.specs.WriterState.SyncState.{Clean, Dirty, Pending}
 use Rattle.crash.specs.Looks.{Looked}
 use Rattle.crash.proofs.Pages.{cut_is, pages_reach}
 use Rattle.paged.specs.declared.prefix.Prefix.{Prefix}
@@ -195,17 +195,20 @@ module _ (sum : List ℕ → ℕ) (cache : CacheState) (capacity : ℕ) (old new
 synced_once : (s : SyncState) (old new : Life) (answer : Result (Unit {0}) Error) → SyncsIn s old new answer → (new ≡ old) ⊎ ((a : Result (Unit {0}) Error) × SyncGoes old new a)
 synced_once Clean old new answer syncs = inl syncs.1
 synced_once Dirty old new answer syncs = inr (answer, syncs)
+synced_once (Pending name) old new answer syncs = absurd syncs
 
 -- the same, done
 pub synced_done : (s : SyncState) (old new : Life) → (s ≡ Clean → IsDurable old.present) → SyncsIn s old new (Ok tt) → (new.present.readable ≡ old.present.readable) × IsDurable new.present × LogGrows old.present new.present
 synced_done Clean old new clean syncs =
     (ap (λ (l : Life). l.present.readable) syncs.1, subst (λ (l : Life). IsDurable l.present) (sym syncs.1) (clean refl), grows_same old.present new.present (ap (λ (l : Life). l.present.log) syncs.1))
 synced_done Dirty old new clean syncs = sync_done old new syncs
+synced_done (Pending name) old new clean syncs = absurd syncs
 
 -- the same, not done
 pub synced_cause : (s : SyncState) (old new : Life) (e : Error) → SyncsIn s old new (Err e) → RecoveryCause old new e
 synced_cause Clean old new e syncs = absurd (cc (syncs.0))
 synced_cause Dirty old new e syncs = sync_cause old new e syncs
+synced_cause (Pending name) old new e syncs = absurd syncs
 
 -- nothing was cut yet
 pub ends_synced : (kept : ℕ) (s : SyncState) (old new : Life) (answer : Result (Unit {0}) Error) → SyncsIn s old new answer → EndsAt kept old new

@@ -98,7 +98,7 @@ a_settled_recovery = record { clean = refl; short = omega arith; flushed = refl 
 
 -- opening the durable blob leaves it as it is; its page below the tip is full, so the writer is sound
 pub a_sound_opening : SoundWhereFull add_sum 4 before before (at_prefix 4 0 8 (opened_prefix add_sum 4 durable.readable) Dirty)
-a_sound_opening = opened_sound add_sum 4 before before Dirty (whole refl (looked_start before)) 0 8 small_add_sum (omega arith) (lit< tt) (bytes_from_all ef_page (search rules))
+a_sound_opening = opened_sound add_sum 4 before before Dirty (whole refl (looked_start before)) (λ name c is. absurd (cc is)) 0 8 small_add_sum (omega arith) (lit< tt) (bytes_from_all ef_page (search rules))
 
 -- ---- which reads are made
 

@@ -2,7 +2,7 @@
 use Rattle.std.proofs.Common.{◌≡◌, ℕ, ◌+◌, ◌*◌, ◌^◌, ◌<◌, ◌≤◌, List, length, take, drop, refl, sym, ◌∙◌, ap, subst, arith}
 use Rattle.std.specs.Prelude.{Option, Some, None}
 use Rattle.std.proofs.lemmas.List.{take-take, length-take-le}
-use Rattle.disk.specs.Disk.{Disk}
+use Rattle.disk.specs.Disk.{Disk, AreCovered}
 use Rattle.page.specs.Page.{pages, active, value_len, text}
 use Rattle.page.specs.declared.slot.ActiveChecksum.{ActiveChecksum}
 use Rattle.crash.specs.WriterState.SyncState.{Clean}
@@ -12,14 +12,14 @@ use Rattle.crash.proofs.Lists.{within_take}
 use Rattle.crash.proofs.Pages.{pages_at, pages_reach, page_is, page_fits, length-pages}
 use Rattle.crash.proofs.Texts.{AreBytes, AreFull_same, active_is, text_cut, text_cut_part}
 use Rattle.crash.proofs.BuiltLaws.{IsSmall}
-use Rattle.crash.proofs.FlushLaws.{exact_content, page_content, has_page}
+use Rattle.crash.proofs.FlushLaws.{rest_settled, exact_content, page_content, has_page}
 use Rattle.crash.proofs.Soundness.{exact_sound, page_sound}
 use Rattle.paged.specs.declared.prefix.Prefix.{Prefix}
 use Rattle.paged.specs.Prefix.{page_at, prefix_of, prefix_pages, partial_pages, at_prefix, HasBytes}
 use Rattle.paged.specs.Recovery.{IsDurable}
 use Rattle.paged.proofs.Firsts.{Behind, IsFirst, prefix_is}
 
-module _ (sum : List ℕ → ℕ) (small_sum : IsSmall sum) (P id capacity : ℕ) (bytes : List ℕ) (d : Disk) (positive : 0 < P) (small : P < 2 ^ 16) (durable : IsDurable d) where
+module _ (sum : List ℕ → ℕ) (small_sum : IsSmall sum) (P id capacity : ℕ) (bytes : List ℕ) (d : Disk) (positive : 0 < P) (small : P < 2 ^ 16) (durable : IsDurable d) (covered : AreCovered d) where
   -- it is sound, and stands for what the bytes say
   abbrev pub StandsFor : Prefix → Type 0
   StandsFor p = Soundness sum (at_prefix P id capacity p Clean) d × (content (at_prefix P id capacity p Clean) d.readable ≡ text sum P bytes)
@@ -34,7 +34,7 @@ module _ (sum : List ℕ → ℕ) (small_sum : IsSmall sum) (P id capacity : ℕ
       let size : length d.readable ≡ n = ap length cut ∙ length-take-le n bytes reach in
       let same : take n bytes ≡ take n d.readable = sym (ap (λ (l : List ℕ). take n l) cut ∙ take-take n n bytes (omega arith)) in
       let here : AreFull sum P (take full (pages P d.readable)) = AreFull_same sum P full bytes d.readable reach same are in (
-        exact_sound sum w d durable.since durable.base positive small here refl refl size,
+        exact_sound sum w d durable.since durable.base positive small here refl (rest_settled d covered durable.since) refl size,
         exact_content sum w d durable.since durable.base positive small here refl refl size
             ∙ ap (λ (l : List ℕ). text sum P l) cut
             ∙ text_cut sum P full bytes positive are reach (λ more. behind (page_at P full bytes) (pages_at P full bytes more)),
@@ -62,7 +62,7 @@ module _ (sum : List ℕ → ℕ) (small_sum : IsSmall sum) (P id capacity : ℕ
       let are_bytes : AreBytes (page_at P full d.readable) = subst (λ (l : List ℕ). AreBytes l) page_same has in
       let page : HasPage sum P full v.0 d.readable a = has_page sum P full v.0 d.readable a size are_bytes told part tip in
       let less : value_len sum P (page_at P full bytes) < P = omega (arith, part, is.len, ap (λ (l : List ℕ). value_len sum P l) page_same) in (
-        page_sound sum w d durable.since durable.base positive small here refl small_sum a refl page,
+        page_sound sum w d durable.since durable.base positive small here refl (rest_settled d covered durable.since) small_sum a refl page,
         page_content sum w d.readable a here (omega (arith, size)) told part tip
             ∙ ap (λ (l : List ℕ). text sum P l) cut
             ∙ text_cut_part sum P full bytes are fits less,

@@ -6,7 +6,7 @@ use Rattle.disk.specs.declared.error.Error.{Error}
 use Rattle.disk.specs.declared.error.Error.TheVariants.{WriteFailed, SyncFailed, OffsetOverflow}
 use Rattle.disk.specs.declared.error.Error.TheVariants.{OutOfMemory}
 use Rattle.crash.specs.WriterState.{WriterState, SyncState}
-use Rattle.crash.specs.WriterState.SyncState.{Clean, Dirty}
+use Rattle.crash.specs.WriterState.SyncState.{Clean, Dirty, Pending}
 use Rattle.crash.specs.Sound.{IsSound, LeavesItsContent, content}
 use Rattle.crash.specs.Stays.{StaysThrough}
 use Rattle.crash.specs.Built.{kept_len}
@@ -29,6 +29,7 @@ AsksAtMost n old new = length new.present.log ≤ length old.present.log + n
 abbrev pub settle_calls : SyncState → ℕ
 settle_calls Clean = 0
 settle_calls Dirty = 1
+settle_calls (Pending name) = 1
 
 -- those of a sync: a write before it, where something isn't written
 abbrev pub sync_calls : WriterState → ℕ

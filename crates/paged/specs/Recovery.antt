@@ -10,7 +10,7 @@ use Rattle.page.specs.Page.{pages, text}
 use Rattle.page.specs.declared.slot.ActiveChecksum.{ActiveChecksum}
 use Rattle.cache.specs.CacheState.{CacheState}
 use Rattle.crash.specs.WriterState.{WriterState, SyncState}
-use Rattle.crash.specs.WriterState.SyncState.{Clean, Dirty}
+use Rattle.crash.specs.WriterState.SyncState.{Clean, Dirty, Pending}
 use Rattle.crash.specs.Looks.{Looked}
 use Rattle.crash.specs.Sound.{IsSound, LeavesItsContent, content}
 use Rattle.crash.specs.Kept.{AllKeep, Through}
@@ -92,6 +92,7 @@ slot_pages (Some slot) = 1
 abbrev pub SyncsIn : SyncState → Life → Life → Result (Unit {0}) Error → Type 0
 SyncsIn Clean old new answer = (answer ≡ Ok tt) × (new ≡ old)
 SyncsIn Dirty old new answer = SyncGoes old new answer
+SyncsIn (Pending name) old new answer = ⊥
 
 -- all that is written is made durable and what stands behind these pages is cut, durably; the
 -- writer stands there

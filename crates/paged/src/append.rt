@@ -1,6 +1,8 @@
 // Appending.
 ghost use Rattle.std.specs.Prelude.{◌≡◌, ◌↔◌, ◌+◌, ◌-◌, ◌*◌, ◌/◌, ◌^◌, ◌≤◌, ◌++◌, length, ◌<◌, IsTrue, IfOk, OnOk, Err};
 ghost use Rattle.crash.specs.Sound.{IsSound, content};
+ghost use Rattle.crash.specs.Below.{PagesStay};
+ghost use Rattle.crash.specs.Started.{CoversThrough};
 ghost use Rattle.crash.specs.Stays.{KeepsAllFloors, LeavesOnly};
 ghost use Rattle.paged.specs.Writer.{physical_size, FitsBlob};
 ghost use Rattle.paged.specs.Calls.{AsksAtMost, HoldsWithin, Appends, Buffers, BuffersAll};
@@ -64,6 +66,11 @@ impl<B: Blob, H: Sum, Phase> Writer<B, H, Phase> {
         requires sound { IsSound H.sum_of self (B.life blob.old).present }
         ensures appends { let old = B.life blob.old in let new = B.life blob.new in
             Appends H.sum_of self bytes.now old new result }
+        ensures pages { let old = B.life blob.old in let new = B.life blob.new in
+            PagesStay self.page_size self.full_pages old new }
+        ensures covers { let old = B.life blob.old in let new = B.life blob.new in
+            let held = content self old.present.readable in
+            CoversThrough H.sum_of self.page_size held old new }
         ensures overflow { let buffered = length self.tip + length bytes.now in
             2 ^ 64 ≤ physical_size self.page_size self.full_pages buffered
             → result ≡ Err Error.OffsetOverflow }
@@ -95,6 +102,11 @@ impl<B: Blob, H: Sum, Phase> Writer<B, H, Phase> {
         ensures appends { let old = B.life blob.old in let new = B.life blob.new in
             let at = size_of self.old in
             Appends H.sum_of self.old bytes.now old new (answered (self.new, at) result) }
+        ensures pages { let old = B.life blob.old in let new = B.life blob.new in
+            PagesStay self.old.page_size self.old.full_pages old new }
+        ensures covers { let old = B.life blob.old in let new = B.life blob.new in
+            let held = content self.old old.present.readable in
+            CoversThrough H.sum_of self.old.page_size held old new }
         ensures overflow { let buffered = length self.old.tip + length bytes.now in
             2 ^ 64 ≤ physical_size self.old.page_size self.old.full_pages buffered
             → result ≡ Err Error.OffsetOverflow }

@@ -5,7 +5,9 @@ ghost use Rattle.std.specs.List.{concat};
 ghost use Rattle.disk.specs.Disk.{WriteGoes, SyncGoes};
 ghost use Rattle.crash.specs.WriterState.SyncState.{Clean, Dirty};
 ghost use Rattle.crash.specs.Built.{durable_after, rest_written};
-ghost use Rattle.crash.specs.Sound.{CanWrite, IsSound, content};
+ghost use Rattle.crash.specs.Sound.{CanWrite, IsSound, MayFlush, content, guard_slot};
+ghost use Rattle.crash.specs.Below.{PagesStay};
+ghost use Rattle.crash.specs.Started.{CoversThrough};
 ghost use Rattle.crash.specs.Stays.{KeepsAll, KeepsAllFloors, LeavesOnly};
 ghost use Rattle.paged.specs.Calls.{AsksAtMost, HoldsWithin, settle_calls, sync_calls, Flushes};
 ghost use Rattle.paged.specs.Calls.{Settles, Syncs};
@@ -55,7 +57,9 @@ impl<B, H, Phase> Writer<B, H, Phase> {
 
     /// Takes the slot that was written last over as the durable one, where nothing is unsynced.
     fn carry(&mut self)
-        ensures { self.new ≡ carried self.old }
+        ensures is { self.new ≡ carried self.old }
+        ensures ready { let old = self.old in
+            MayFlush old.sync old.flushed (guard_slot old.sync old.flushed old.durable) }
     {
         match self.sync_state {
             SyncState::Clean => self.durable = self.flushed,
@@ -167,6 +171,11 @@ impl<B: Blob, H: Sum, Phase> Writer<B, H, Phase> {
         requires sound { IsSound H.sum_of self.old (B.life blob.old).present }
         ensures flushes { let old = B.life blob.old in let new = B.life blob.new in
             Flushes H.sum_of self.old old new (answered self.new result) }
+        ensures pages { let old = B.life blob.old in let new = B.life blob.new in
+            PagesStay self.old.page_size self.old.full_pages old new }
+        ensures covers { let old = B.life blob.old in let new = B.life blob.new in
+            let held = content self.old old.present.readable in
+            CoversThrough H.sum_of self.old.page_size held old new }
         ensures calls { AsksAtMost 1 (B.life blob.old) (B.life blob.new) }
         ensures short { OnOk result (length self.new.tip < self.old.page_size) }
         ensures room { self.old.page_size ≤ self.old.capacity }
@@ -187,6 +196,11 @@ impl<B: Blob, H: Sum, Phase> Writer<B, H, Phase> {
     pub fn sync(mut self, blob: &mut B, _cache: &mut CacheRef) -> Result<Self, Error>
         requires sound { IsSound H.sum_of self (B.life blob.old).present }
         ensures syncs { Syncs H.sum_of self (B.life blob.old) (B.life blob.new) result }
+        ensures pages { let old = B.life blob.old in let new = B.life blob.new in
+            PagesStay self.page_size self.full_pages old new }
+        ensures covers { let old = B.life blob.old in let new = B.life blob.new in
+            let held = content self old.present.readable in
+            CoversThrough H.sum_of self.page_size held old new }
         ensures sound { IfOk result (λ w. IsSound H.sum_of w (B.life blob.new).present) }
         ensures there { IfOk result (λ w. HasPages w (B.life blob.new)) }
         ensures within { IfOk result (λ w. HoldsWithin w) }
@@ -215,6 +229,11 @@ impl<B: Blob, H: Sum, Phase> Writer<B, H, Phase> {
         requires sound { IsSound H.sum_of self.old (B.life blob.old).present }
         ensures syncs { let old = B.life blob.old in let new = B.life blob.new in
             Syncs H.sum_of self.old old new (answered self.new result) }
+        ensures pages { let old = B.life blob.old in let new = B.life blob.new in
+            PagesStay self.old.page_size self.old.full_pages old new }
+        ensures covers { let old = B.life blob.old in let new = B.life blob.new in
+            let held = content self.old old.present.readable in
+            CoversThrough H.sum_of self.old.page_size held old new }
         ensures room { self.old.page_size ≤ self.old.capacity }
         ensures calls { AsksAtMost (sync_calls self.old) (B.life blob.old) (B.life blob.new) }
         ensures idle { sync_calls self.old ≡ 0
@@ -236,6 +255,11 @@ impl<B: Blob, H: Sum, Phase> Writer<B, H, Phase> {
         requires work { has_work self.old true ≡ true }
         ensures syncs { let old = B.life blob.old in let new = B.life blob.new in
             Syncs H.sum_of self.old old new (answered self.new result) }
+        ensures pages { let old = B.life blob.old in let new = B.life blob.new in
+            PagesStay self.old.page_size self.old.full_pages old new }
+        ensures covers { let old = B.life blob.old in let new = B.life blob.new in
+            let held = content self.old old.present.readable in
+            CoversThrough H.sum_of self.old.page_size held old new }
         ensures calls { AsksAtMost (sync_calls self.old) (B.life blob.old) (B.life blob.new) }
     {
         let rest = self.has_rest();
@@ -256,6 +280,11 @@ impl<B: Blob, H: Sum, Phase> Writer<B, H, Phase> {
         requires sound { IsSound H.sum_of self.old (B.life blob.old).present }
         ensures settles { let old = B.life blob.old in let new = B.life blob.new in
             Settles H.sum_of self.old old new (answered self.new result) }
+        ensures pages { let old = B.life blob.old in let new = B.life blob.new in
+            PagesStay self.old.page_size self.old.full_pages old new }
+        ensures covers { let old = B.life blob.old in let new = B.life blob.new in
+            let held = content self.old old.present.readable in
+            CoversThrough H.sum_of self.old.page_size held old new }
         ensures calls { AsksAtMost (settle_calls self.old.sync) (B.life blob.old) (B.life blob.new) }
         ensures idle { settle_calls self.old.sync ≡ 0
             → (result ≡ Ok tt) × (self.new ≡ self.old) × (B.life blob.new ≡ B.life blob.old) }

@@ -12,7 +12,7 @@ use Rattle.disk.specs.declared.error.Error.{Error}
 use Rattle.disk.specs.declared.error.Error.TheVariants.{ReadFailed, WriteFailed, ResizeFailed, SyncFailed, InvalidChecksum, BlobInsufficientLength, OffsetOverflow, OutOfMemory, IdsExhausted}
 use Rattle.crash.specs.Kept.{AllKeep, AllOnly, Each, Through, Moments}
 use Rattle.crash.specs.WriterState.{WriterState, SyncState}
-use Rattle.crash.specs.WriterState.SyncState.{Clean, Dirty}
+use Rattle.crash.specs.WriterState.SyncState.{Clean, Dirty, Pending}
 use Rattle.crash.specs.Built.{kept_len}
 use Rattle.crash.specs.Sound.{IsSound, content as content_of}
 use Rattle.crash.specs.Stays.{Stays, StaysThrough}
@@ -214,6 +214,7 @@ calls_of : (work : Bool) (state : SyncState) → work ≡ false → state ≡ Cl
 calls_of true state idle clean = absurd (false≢true (sym idle))
 calls_of false Clean idle clean = refl
 calls_of false Dirty idle clean = absurd (cc clean)
+calls_of false (Pending name) idle clean = absurd (cc clean)
 
 -- a settled writer has nothing to sync
 pub settled_idle : (v : WriterState) → IsSettled v → sync_calls v ≡ 0
@@ -234,8 +235,10 @@ settled_idle v settled =
 calls_few : (work : Bool) (state : SyncState) → (if work then 1 else 0) + settle_calls state ≤ 2
 calls_few true Clean = lit≤ tt
 calls_few true Dirty = lit≤ tt
+calls_few true (Pending name) = lit≤ tt
 calls_few false Clean = lit≤ tt
 calls_few false Dirty = lit≤ tt
+calls_few false (Pending name) = lit≤ tt
 
 -- where nothing was appended, a sync has as little to do as before
 settled_stays : (w v : WriterState) (bytes : List ℕ) (settled : Bool) → (settled ≡ true → sync_calls w ≡ 0) → (bytes ≡ [] → v ≡ w) → settled_after bytes settled ≡ true → sync_calls v ≡ 0

@@ -138,7 +138,7 @@ recovers g c =
     let same : Q ≡ cache.page_size = ap (λ (x : WriterState). x.page_size) c.recovery.view_is ∙ opened_page_size sum cache c.args.capacity old mid w opened in
     let is = found_is sum cache c.args.capacity old mid w opened c.flushed_pages-pages.result Q p same c.flushed_pages-pages.ensures c.in_ok-prefix.ensures.finds.0 in
     let has = subst (λ (n : ℕ). HasBytes n p.full_pages mid.present.readable p.partial) same c.in_ok-prefix.ensures.bytes in
-    recovers_end sum cache c.args.capacity old mid scanned (life c.keep.new.blob) w opened c.in_ok-prefix.ensures.finds.1 g.met.H.Sum.small (omega (arith, same)) (omega (arith, same)) p is has c.keep.result c.keep.ensures.keeps
+    recovers_end sum cache c.args.capacity old mid scanned (life c.keep.new.blob) w opened c.in_ok-prefix.ensures.finds.1 g.met.H.Sum.small (omega (arith, same)) (omega (arith, same)) p is has c.keep.result (g.met.B.Blob.starts_are_covered c.keep.new.blob) c.keep.ensures.keeps
 
 pub returns-clause-recovers : goal.returns-clause-recovers
 returns-clause-recovers g c = recovers g (goal.at.returns-clause-recovers g c).After-keep

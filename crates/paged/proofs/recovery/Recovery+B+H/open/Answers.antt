@@ -167,7 +167,7 @@ opens g c =
     let bytes = subst (λ (n : ℕ). HasBytes n p.full_pages readable p.partial) c.page_size-page_size.ensures c.in_ok-last.ensures.bytes in
     let is = opened_is sum P Q c.args.size physical readable p c.page_size-page_size.ensures c.physical_size-physical_size.ensures c.requires.length c.in_ok-last.ensures.finds.0 in
     let kept = opened_kept sum P Q c.args.size physical readable p c.page_size-page_size.ensures c.physical_size-physical_size.ensures c.requires.length c.in_ok-last.ensures.finds.0 c.pages_of.result (c.pages_of.result * physical) c.pages_of.ensures refl in
-    opens_end sum c.args.cache.now c.args.capacity old new s c.in_ok-capacity.capacity p c.at_prefix.result g.met.H.Sum.small some small room is bytes
+    opens_end sum c.args.cache.now c.args.capacity old new s c.in_ok-capacity.capacity p c.at_prefix.result (g.met.B.Blob.starts_are_covered c.cut_back.new.blob) g.met.H.Sum.small some small room is bytes
     (kept_back (opened_size sum P readable) old mid new s c.in_ok-last.ensures.finds.1 (opened_size_le sum P readable) (subst (λ (n : ℕ). CutsBack n mid new (Ok s)) kept c.in_ok-sync_state.ensures.cuts))
     c.at_prefix.ensures.stands
 

@@ -1,9 +1,13 @@
-use Rattle.std.proofs.Common.{◌∙◌, sym, subst}
+use Rattle.crash.specs.Sound.{content, IsSound}
+use Rattle.crash.proofs.CoverLaws.{covers_none}
+use Rattle.paged.proofs.Covers.{longer_covers}
+use Rattle.std.proofs.Common.{refl, ◌++◌, sym, subst}
+use Rattle.crash.proofs.BelowLaws.{pages_none}
+use Rattle.paged.proofs.Below.{pages_longer}
 use Rattle.std.proofs.lemmas.Result.{err_from_is_err_and}
 use Rattle.paged.proofs.Flushes.{size_is_length}
 use Rattle.paged.proofs.Appends.{append_flushed, append_unbuffered, buffered_goes}
 use Rattle.crash.specs.WriterState.{WriterState}
-use Rattle.crash.specs.Sound.{IsSound}
 use Rattle.crash.proofs.Soundness.{longer_sound}
 use Rattle.paged.proofs.writer.Writer.append_bytes.Goals as goal
 
@@ -26,3 +30,21 @@ pub returns-else-branch-clause-appends : goal.returns-else-branch-clause-appends
 returns-else-branch-clause-appends g c =
     let old = g.B.Blob.life c.args.blob.now in
     (size_is_length g.H.Sum.sum_of c.args.self.now old c.requires.sound, buffered_goes g.H.Sum.sum_of c.args.self.now c.buffer.new.self c.args.bytes.now old c.requires.sound c.in_ok-buffer.ensures.1)
+
+pub returns-in_err-buffer-clause-pages : goal.returns-in_err-buffer-clause-pages
+returns-in_err-buffer-clause-pages g c = pages_none c.args.self.now.page_size c.args.self.now.full_pages (g.B.Blob.life c.args.blob.now) (g.B.Blob.life c.args.blob.now) refl
+
+pub returns-then-branch-clause-pages : goal.returns-then-branch-clause-pages
+returns-then-branch-clause-pages g c = pages_longer c.args.self.now c.buffer.new.self (c.args.self.now.tip ++ c.args.bytes.now) (g.B.Blob.life c.args.blob.now) (g.B.Blob.life c.flush.new.blob) c.in_ok-buffer.ensures.1 c.flush.ensures.pages
+
+pub returns-else-branch-clause-pages : goal.returns-else-branch-clause-pages
+returns-else-branch-clause-pages g c = pages_none c.args.self.now.page_size c.args.self.now.full_pages (g.B.Blob.life c.args.blob.now) (g.B.Blob.life c.args.blob.now) refl
+
+pub returns-in_err-buffer-clause-covers : goal.returns-in_err-buffer-clause-covers
+returns-in_err-buffer-clause-covers g c = covers_none g.H.Sum.sum_of c.args.self.now.page_size (content c.args.self.now (g.B.Blob.life c.args.blob.now).present.readable) (g.B.Blob.life c.args.blob.now) (g.B.Blob.life c.args.blob.now) refl
+
+pub returns-then-branch-clause-covers : goal.returns-then-branch-clause-covers
+returns-then-branch-clause-covers g c = longer_covers g.H.Sum.sum_of c.args.self.now c.buffer.new.self c.args.bytes.now (g.B.Blob.life c.args.blob.now) (g.B.Blob.life c.flush.new.blob) c.requires.sound c.in_ok-buffer.ensures.1 c.flush.ensures.covers
+
+pub returns-else-branch-clause-covers : goal.returns-else-branch-clause-covers
+returns-else-branch-clause-covers g c = covers_none g.H.Sum.sum_of c.args.self.now.page_size (content c.args.self.now (g.B.Blob.life c.args.blob.now).present.readable) (g.B.Blob.life c.args.blob.now) (g.B.Blob.life c.args.blob.now) refl

@@ -9,6 +9,8 @@ returns-then-has_flush_work g c =
     record {
       syncs = c.sync_pages.ensures.syncs;
       room = c.has_flush_work.ensures.room;
+      pages = c.sync_pages.ensures.pages;
+      covers = c.sync_pages.ensures.covers;
       calls = c.sync_pages.ensures.calls;
       idle = λ none. absurd (sync_due c.args.self.now work none);
       unwritten = λ none dirty. absurd (cc);
@@ -22,6 +24,8 @@ returns-else-has_flush_work g c =
     record {
       syncs = sync_settles g.H.Sum.sum_of c.args.self.now old new (answered c.settle.new.self c.settle.result) c.requires.sound none_due c.settle.ensures.settles;
       room = c.has_flush_work.ensures.room;
+      pages = c.settle.ensures.pages;
+      covers = c.settle.ensures.covers;
       calls = omega (arith, c.settle.ensures.calls);
       idle = λ none. c.settle.ensures.idle (settle_none c.args.self.now none);
       unwritten = λ none dirty. c.settle.ensures.unwritten dirty;

@@ -1,4 +1,7 @@
-use Rattle.std.proofs.Common.{◌≡◌, ◌∙◌, sym, subst, ap, true, false}
+use Rattle.std.proofs.Common.{◌≡◌, ◌∙◌, refl, sym, subst, ap, arith, true, false}
+use Rattle.crash.proofs.BelowLaws.{pages_join, sync_pages_stay}
+use Rattle.paged.proofs.Below.{flush_pages}
+use Rattle.paged.proofs.Covers.{flush_covers, carried_covers, second_covers}
 use Rattle.std.proofs.lemmas.Result.{err_from_is_err_and}
 use Rattle.crash.specs.WriterState.{WriterState, SyncState}
 use Rattle.crash.specs.WriterState.SyncState.{Clean}
@@ -14,7 +17,7 @@ use Rattle.paged.proofs.writer.Writer.sync_pages.Goals as goal
 pub write_pages-requires-clause-can : goal.write_pages-requires-clause-can
 unfolding IsSound
 write_pages-requires-clause-can g c =
-    subst (λ (v : WriterState). CanWrite v.page_size v.tip (full_in v) c.has_rest-rest.result) (sym c.carry.ensures)
+    subst (λ (v : WriterState). CanWrite v.page_size v.tip (full_in v) c.has_rest-rest.result) (sym c.carry.ensures.is)
     (can_sync c.args.self.now c.has_rest-rest.result c.requires.sound.stands.some c.requires.work c.has_rest-rest.ensures)
 
 pub write_pages-requires-clause-settled : goal.write_pages-requires-clause-settled
@@ -38,6 +41,8 @@ returns-in_err-write_pages-in-Dirty g c =
     rw (p.1, p.2) (record {
       syncs = flush_goes sum w c.write_pages-in-Dirty.new.self rest old mid (Err e) g.met.H.Sum.small c.requires.sound (dirty_carried w dirty) can
           c.in_err-write_pages-in-Dirty.ensures.goes c.in_err-write_pages-in-Dirty.ensures.state c.in_err-write_pages-in-Dirty.ensures.fits;
+      pages = flush_pages sum w (place_of w) (flush_bytes sum w rest) false old mid (Err e) c.requires.sound refl c.in_err-write_pages-in-Dirty.ensures.goes;
+      covers = flush_covers sum w rest false old mid (Err e) g.met.H.Sum.small c.requires.sound (dirty_carried w dirty) can c.in_err-write_pages-in-Dirty.ensures.goes;
       calls = sync_asks_once w old mid c.requires.work (write_asks (place_of w) (flush_bytes sum w rest) false old mid (Err e) c.in_err-write_pages-in-Dirty.ensures.goes);
     })
 
@@ -53,8 +58,11 @@ returns-in-Clean g c =
     let can = can_sync w rest c.requires.sound.stands.some c.requires.work c.has_rest-rest.ensures in
     record {
       syncs = sync_write sum w v c.write_pages.new.self rest old new c.write_pages.result
-          g.met.H.Sum.small c.requires.sound c.carry.ensures c.has_rest-rest.ensures (subst (λ (v : WriterState). CanWrite v.page_size v.tip (full_in v) rest) (sym c.carry.ensures) can)
+          g.met.H.Sum.small c.requires.sound c.carry.ensures.ready c.carry.ensures.is c.has_rest-rest.ensures (subst (λ (v : WriterState). CanWrite v.page_size v.tip (full_in v) rest) (sym c.carry.ensures.is) can)
           c.write_pages.ensures.goes c.write_pages.ensures.state c.write_pages.ensures.fits;
+      pages = flush_pages sum w (place_of v) (flush_bytes sum v rest) true old new c.write_pages.result c.requires.sound (ap place_of c.carry.ensures.is) c.write_pages.ensures.goes;
+      covers = carried_covers sum w v rest true old new c.write_pages.result g.met.H.Sum.small c.requires.sound c.carry.ensures.ready c.carry.ensures.is
+          (subst (λ (v : WriterState). CanWrite v.page_size v.tip (full_in v) rest) (sym c.carry.ensures.is) can) c.write_pages.ensures.goes;
       calls = sync_asks_once w old new c.requires.work (write_asks (place_of v) (flush_bytes sum v rest) true old new c.write_pages.result c.write_pages.ensures.goes);
     }
 
@@ -73,6 +81,13 @@ returns-in_ok-write_pages-in-Dirty g c =
     record {
       syncs = sync_second sum w m c.sync_blob.new.self rest old mid new c.sync_blob.result g.met.H.Sum.small c.requires.sound dirty c.has_rest-rest.ensures can
           c.in_ok-write_pages-in-Dirty.ensures.goes c.in_ok-write_pages-in-Dirty.ensures.state c.sync_blob.ensures.goes c.sync_blob.ensures.state;
+      pages = pages_join w.page_size w.full_pages w.full_pages old mid new (omega arith)
+          (flush_pages sum w (place_of w) (flush_bytes sum w rest) false old mid (Ok tt) c.requires.sound refl c.in_ok-write_pages-in-Dirty.ensures.goes)
+          (sync_pages_stay w.page_size w.full_pages mid new c.sync_blob.result c.sync_blob.ensures.goes);
+      covers = second_covers sum w m old mid new c.sync_blob.result
+          (flush_covers sum w rest false old mid (Ok tt) g.met.H.Sum.small c.requires.sound (dirty_carried w dirty) can c.in_ok-write_pages-in-Dirty.ensures.goes)
+          (flush_goes sum w m rest old mid (Ok tt) g.met.H.Sum.small c.requires.sound (dirty_carried w dirty) can c.in_ok-write_pages-in-Dirty.ensures.goes c.in_ok-write_pages-in-Dirty.ensures.state (λ is. cc))
+          c.sync_blob.ensures.goes;
       calls = sync_asks_twice w old mid new c.requires.work dirty
           (write_asks (place_of w) (flush_bytes sum w rest) false old mid (Ok tt) c.in_ok-write_pages-in-Dirty.ensures.goes)
           (sync_asks mid new c.sync_blob.result c.sync_blob.ensures.goes);
