@@ -1,6 +1,6 @@
 -- The words of the blobs in memory, at a few bytes.
-use Rattle.std.proofs.Common.{◌≡◌, [], ◌∷◌, length, true, false, refl}
-use Rattle.disk.specs.Disk.{Write, Resize, settle, logged, SyncAll, next}
+use Rattle.std.proofs.Common.{◌≡◌, [], ◌∷◌, length, map, true, false, refl}
+use Rattle.disk.specs.Disk.{Write, Resize, settle, logged, SyncAll, next, coverings}
 use Rattle.disk.specs.declared.action.Action.TheVariants as actions
 use Rattle.disk.specs.History.{History, begun, life_of, told}
 use Rattle.disk.specs.Past.{went}
@@ -53,3 +53,32 @@ a_planned_failure = refl
 
 pub not_yet : told actions.Sync (record at_first { failing = 2 }) ≡ record at_first { events = record { action = actions.Sync; failed = false } ∷ []; failing = 1 }
 not_yet = refl
+
+-- a sync that is started behind the write covers it, and has the bytes that are readable
+abbrev pub started : History
+started = went actions.StartSync false written
+
+pub a_sync_is_started : coverings (life_of started).present ≡ (1, 1 ∷ 7 ∷ []) ∷ []
+a_sync_is_started = refl
+
+-- nothing more is durable
+pub only_started : (life_of started).present.base ≡ 1 ∷ []
+only_started = refl
+
+-- before a wait: then what it covers is, and a write behind the start isn't
+abbrev pub waited_for_it : History
+waited_for_it = went (actions.WaitSync 0) false (went (actions.Write 0 (9 ∷ []) false) false started)
+
+pub a_wait_settles : (life_of waited_for_it).present.base ≡ 1 ∷ 7 ∷ []
+a_wait_settles = refl
+
+pub not_what_came_later : (life_of waited_for_it).present.since ≡ Write 0 (9 ∷ []) ∷ []
+not_what_came_later = refl
+
+-- a wait for one that failed to start makes nothing durable
+pub a_failed_start : (life_of (went (actions.WaitSync 0) false (went actions.StartSync true written))).present.base ≡ 1 ∷ []
+a_failed_start = refl
+
+-- names go on in the next life, and an earlier sync covers nothing there
+pub names_go_on : map (λ s. s.covers) (life_of (went actions.StartSync false (record { first = 1 ∷ []; earlier = (life_of started).present.log; events = []; failing = 0 }))).present.started ≡ 0 ∷ 0 ∷ []
+names_go_on = refl

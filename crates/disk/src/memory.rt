@@ -124,7 +124,8 @@ impl MemBlob {
         self.failures
     }
 
-    /// The nth device call from now on is to fail, and no other one.
+    /// The nth device call from now on is to fail, and no other one. A start of a sync answers `Ok` all
+    /// the same: that it failed shows at each wait for it.
     pub fn fail_at(&mut self, n: u64)
         requires { 1 ≤ n }
         ensures life { life_of self.new ≡ life_of self.old }

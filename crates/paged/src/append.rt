@@ -66,11 +66,6 @@ impl<B: Blob, H: Sum, Phase> Writer<B, H, Phase> {
         requires sound { IsSound H.sum_of self (B.life blob.old).present }
         ensures appends { let old = B.life blob.old in let new = B.life blob.new in
             Appends H.sum_of self bytes.now old new result }
-        ensures pages { let old = B.life blob.old in let new = B.life blob.new in
-            PagesStay self.page_size self.full_pages old new }
-        ensures covers { let old = B.life blob.old in let new = B.life blob.new in
-            let held = content self old.present.readable in
-            CoversThrough H.sum_of self.page_size held old new }
         ensures overflow { let buffered = length self.tip + length bytes.now in
             2 ^ 64 ≤ physical_size self.page_size self.full_pages buffered
             → result ≡ Err Error.OffsetOverflow }
@@ -89,6 +84,11 @@ impl<B: Blob, H: Sum, Phase> Writer<B, H, Phase> {
         ensures only { let old = B.life blob.old in let new = B.life blob.new in
             let held = content self old.present.readable in
             LeavesOnly H.sum_of self.page_size held (held ++ bytes.now) old new }
+        ensures pages { let old = B.life blob.old in let new = B.life blob.new in
+            PagesStay self.page_size self.full_pages old new }
+        ensures covers { let old = B.life blob.old in let new = B.life blob.new in
+            let held = content self old.present.readable in
+            CoversThrough H.sum_of self.page_size held old new }
     {
         let at = self.size();
         self.append_bytes(blob, bytes)?;

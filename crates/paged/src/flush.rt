@@ -196,11 +196,6 @@ impl<B: Blob, H: Sum, Phase> Writer<B, H, Phase> {
     pub fn sync(mut self, blob: &mut B, _cache: &mut CacheRef) -> Result<Self, Error>
         requires sound { IsSound H.sum_of self (B.life blob.old).present }
         ensures syncs { Syncs H.sum_of self (B.life blob.old) (B.life blob.new) result }
-        ensures pages { let old = B.life blob.old in let new = B.life blob.new in
-            PagesStay self.page_size self.full_pages old new }
-        ensures covers { let old = B.life blob.old in let new = B.life blob.new in
-            let held = content self old.present.readable in
-            CoversThrough H.sum_of self.page_size held old new }
         ensures sound { IfOk result (λ w. IsSound H.sum_of w (B.life blob.new).present) }
         ensures there { IfOk result (λ w. HasPages w (B.life blob.new)) }
         ensures within { IfOk result (λ w. HoldsWithin w) }
@@ -219,6 +214,11 @@ impl<B: Blob, H: Sum, Phase> Writer<B, H, Phase> {
         ensures only { let old = B.life blob.old in let new = B.life blob.new in
             let held = content self old.present.readable in
             LeavesOnly H.sum_of self.page_size held held old new }
+        ensures pages { let old = B.life blob.old in let new = B.life blob.new in
+            PagesStay self.page_size self.full_pages old new }
+        ensures covers { let old = B.life blob.old in let new = B.life blob.new in
+            let held = content self old.present.readable in
+            CoversThrough H.sum_of self.page_size held old new }
     {
         self.sync_all(blob)?;
         Ok(self)

@@ -1,5 +1,7 @@
 // The blob in memory: what each call does and logs, and what a crash leaves.
-use disk::{Blob, Call, Error, IoBuf, IoBufs, MemBlob, ReadOptions, VecBlob, WriteOptions};
+use disk::{
+    Blob, Call, Error, IoBuf, IoBufs, MemBlob, ReadOptions, StartedSync, VecBlob, WriteOptions,
+};
 use std::alloc::Global;
 use std::test::Fail;
 
@@ -21,6 +23,8 @@ enum Step {
     Read(u64, usize, Result<&'static [u8], Error>),
     Resize(u64, Result<(), Error>),
     Sync(Result<(), Error>),
+    Start(u64),
+    Wait(StartedSync, Result<(), Error>),
     FailAt(u64),
     Crash(&'static [bool]),
     Shows(&'static [u8]),
@@ -45,6 +49,11 @@ impl Step {
             }
             Step::Sync(want) => {
                 let got = blob.sync();
+                Ok(got == *want)
+            }
+            Step::Start(name) => Ok(blob.start_sync() == Ok(StartedSync::Named(*name))),
+            Step::Wait(started, want) => {
+                let got = blob.wait_sync(*started);
                 Ok(got == *want)
             }
             Step::FailAt(n) => {
@@ -206,6 +215,81 @@ fn the_planned_call_fails_alone(rt: HostRuntime) -> Result<(), Fail> {
     Ok(())
 }
 
+const FIRST: StartedSync = StartedSync::Named(0);
+
+#[test]
+fn a_wait_makes_durable_what_the_sync_covers(rt: HostRuntime) -> Result<(), Fail> {
+    let alloc = rt.alloc();
+    let mut blob = MemBlob::new(alloc);
+    let steps = [
+        Step::Write(0, b"ab", PLAIN, Ok(())),
+        Step::Start(0),
+        Step::Write(2, b"c", PLAIN, Ok(())),
+        Step::Shows(b"abc"),
+        Step::Wait(StartedSync::Done, Ok(())),
+        Step::Wait(FIRST, Ok(())),
+        Step::Wait(FIRST, Ok(())),
+        Step::Crash(&[]),
+        Step::Shows(b"ab"),
+        // Names go on in the next life, in which nobody can wait for an earlier one.
+        Step::Wait(FIRST, Err(Error::SyncFailed)),
+        Step::Start(1),
+        Step::Wait(StartedSync::Named(2), Err(Error::SyncFailed)),
+    ];
+    assert_eq!(rt; first_wrong(alloc, &mut blob, &steps), Ok(None));
+    let calls = [
+        Call::WriteAt(0, 2, false),
+        Call::StartSync,
+        Call::WriteAt(2, 1, false),
+        Call::WaitSync(0),
+        Call::WaitSync(0),
+        Call::WaitSync(0),
+        Call::StartSync,
+        Call::WaitSync(2),
+    ];
+    assert_eq!(rt; blob.calls(), calls.as_slice());
+    Ok(())
+}
+
+#[test]
+fn a_failed_start_or_wait_fails_each_wait(rt: HostRuntime) -> Result<(), Fail> {
+    let alloc = rt.alloc();
+    let mut blob = MemBlob::new(alloc);
+    let steps = [
+        Step::Write(0, b"ab", PLAIN, Ok(())),
+        Step::FailAt(1),
+        Step::Start(0),
+        Step::Wait(FIRST, Err(Error::SyncFailed)),
+        Step::Start(1),
+        Step::FailAt(1),
+        Step::Wait(StartedSync::Named(1), Err(Error::SyncFailed)),
+        Step::Wait(StartedSync::Named(1), Err(Error::SyncFailed)),
+        Step::Crash(&[]),
+        Step::Shows(b""),
+    ];
+    assert_eq!(rt; first_wrong(alloc, &mut blob, &steps), Ok(None));
+    assert_eq!(rt; blob.failures(), 2);
+    Ok(())
+}
+
+#[test]
+fn a_sync_settles_what_was_started(rt: HostRuntime) -> Result<(), Fail> {
+    let alloc = rt.alloc();
+    let mut blob = MemBlob::new(alloc);
+    let steps = [
+        Step::Write(0, b"ab", PLAIN, Ok(())),
+        Step::Start(0),
+        Step::Write(0, b"cd", PLAIN, Ok(())),
+        Step::Sync(Ok(())),
+        // The wait takes nothing back.
+        Step::Wait(FIRST, Ok(())),
+        Step::Crash(&[]),
+        Step::Shows(b"cd"),
+    ];
+    assert_eq!(rt; first_wrong(alloc, &mut blob, &steps), Ok(None));
+    Ok(())
+}
+
 #[test]
 fn a_plain_blob_keeps_its_bytes(rt: HostRuntime) -> Result<(), Fail> {
     let alloc = rt.alloc();
@@ -267,7 +351,7 @@ fn answer_alike(
     other: &mut VecBlob,
 ) -> Result<bool, Error> {
     let place = numbers.below(40);
-    match numbers.below(8) {
+    match numbers.below(10) {
         0..=3 => {
             let mut parts = bufs(alloc, &some_bytes(alloc, numbers)?)?;
             parts.append(IoBuf::copy_from_slice(alloc, &some_bytes(alloc, numbers)?)?)?;
@@ -286,6 +370,15 @@ fn answer_alike(
         5 => {
             let first = one.sync();
             Ok(first == other.sync())
+        }
+        6 => {
+            let first = one.start_sync();
+            Ok(first == other.start_sync())
+        }
+        7 => {
+            let started = StartedSync::Named(numbers.below(300));
+            let first = one.wait_sync(started);
+            Ok(first == other.wait_sync(started))
         }
         _ => {
             let len = numbers.below(16) as usize;
