@@ -1,9 +1,9 @@
 //! Plays workloads on a blob in memory, to see what they take.
 //!
 //! With no argument each is played a few rounds, and a line says what it did: its operations, the
-//! logical bytes that they were asked for, and the pages and calls that the device was. `time
-//! ROUNDS` says what each operation took, and `time ROUNDS NAME` plays only the workloads whose line
-//! has that name in it.
+//! logical bytes that they were asked for, and the pages and calls that the device was. With
+//! `time ROUNDS` it says what each operation took, and with `time ROUNDS NAME` it plays only the
+//! workloads whose line has that name in it.
 #![tactic(auto)]
 
 mod done;

@@ -1,5 +1,5 @@
 -- A history with one event more, and the fields that keep it.
-use Rattle.std.proofs.Common.{suc, zero, ◌≡◌, ◌≤◌, ◌<◌, ℕ, nat_lt, max, Option, Some, None, slice_get, inl, inr, subst, ap₂, ◌+◌, ◌-◌, ◌==◌, List, [], ◌∷◌, ◌++◌, length, map, take, drop, Bool, true, false, if◌then◌else◌, ◌&&◌, not, refl, sym, ap, ◌∙◌, arith, append-nil, append_assoc, length-append}
+use Rattle.std.proofs.Common.{suc, zero, ◌≡◌, ◌≤◌, ◌<◌, ℕ, nat_lt, max, Option, Some, None, slice_get, inl, inr, subst, ap₂, ◌+◌, ◌-◌, ◌==◌, List, [], ◌∷◌, ◌++◌, length, map, take, drop, Bool, true, false, if◌then◌else◌, refl, sym, ap, ◌∙◌, arith, append-nil, append_assoc, length-append}
 use Rattle.std.proofs.Math.Seq.{take-append-add}
 use Rattle.std.proofs.lemmas.Bool.{cases_lt}
 use Rattle.std.proofs.lemmas.Bool.Decides.{nat_tests}
@@ -9,9 +9,9 @@ use Rattle.disk.specs.declared.action.Action.{Action}
 use Rattle.disk.specs.declared.action.Action.TheVariants as actions
 use Rattle.disk.specs.declared.action.Event.{Event}
 use Rattle.disk.specs.declared.action.Call.{Call}
-use Rattle.disk.specs.History.{History, life_of, lives, goes_on, begun, told, asked, operation_of, names_in, spent, operated, redone, replayed, operations_of, request_of}
+use Rattle.disk.specs.History.{History, life_of, lives, goes_on, begun, told, asked, operation_of, names_in, redone, replayed, operations_of, request_of}
 use Rattle.disk.specs.Past.{went}
-use Rattle.disk.specs.Disk.{Disk, Started, StartSync, WaitSync, next, logged, settle, settle_to, starts, waited, waited_for, failed_at}
+use Rattle.disk.specs.Disk.{Disk, Started, StartSync, WaitSync, settle_to, starts, waited, waited_for, failed_at}
 use Rattle.disk.specs.declared.action.Start.{Start}
 use Rattle.disk.specs.Memory.{entries_of, history_of, IsKept, settled_after, starts_after, failing_at, started_by, AreWithin, settled_for}
 

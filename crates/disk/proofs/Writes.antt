@@ -1,5 +1,5 @@
 -- A write among bytes that are long enough.
-use Rattle.std.proofs.Common.{◌≡◌, ◌≤◌, ℕ, List, ◌++◌, ◌+◌, ◌-◌, min, length, take, drop, replicate, refl, sym, ap, ap₂, ◌∙◌, inl, inr, arith, [], append-nil, append_assoc, length-append, length-take, length-drop}
+use Rattle.std.proofs.Common.{◌≡◌, ◌≤◌, ℕ, List, ◌++◌, ◌+◌, ◌-◌, min, length, take, drop, replicate, refl, sym, ap, ap₂, ◌∙◌, inl, inr, arith, [], append-nil, append_assoc, length-append, length-take}
 use Rattle.std.proofs.Math.Seq.{take-append-add}
 use Rattle.std.proofs.lemmas.Bool.{cases_lt}
 use Rattle.std.proofs.lemmas.List.{take-append-drop, take_at, drop_at, drop-drop, take-append-le, take_all, take-replicate, drop_all, length-replicate}

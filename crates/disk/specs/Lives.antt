@@ -1,14 +1,16 @@
 -- What is readable in a life that events tell is an image.
-use Rattle.std.specs.Prelude.{◌≡◌, ◌⊎◌, ℕ, zero, suc, ◌+◌, ◌-◌, ◌<◌, ◌≤◌, map, slice_get, Some, None}
+use Rattle.std.specs.Prelude.{◌≡◌, ◌⊎◌, ℕ, zero, suc, ◌+◌}
+use Rattle.std.specs.Prelude.{◌-◌, ◌<◌, ◌≤◌, map, slice_get, Some, None}
 use Rattle.std.specs.Prelude.{List, [], ◌∷◌, ◌++◌, length, drop, replicate, Bool, nat_lt, Option}
 use Rattle.std.specs.Prelude.{true, false, if◌then◌else◌, refl}
 use Rattle.std.proofs.Common.{ap, subst, ◌∙◌, inl, inr, arith, length-append, length-drop}
 use Rattle.std.proofs.lemmas.Bool.Decides.{nat_tests}
-use Rattle.std.proofs.lemmas.List.{drop-append-le, drop-drop, drop_all}
+use Rattle.std.proofs.lemmas.List.{drop-append-le, drop-drop}
 use Rattle.disk.specs.Disk.{Started, AreCovered, coverings, Operation, Write, Resize, applied}
-use Rattle.disk.specs.Disk.{Disk, IsImage, Life, Request, ReadAt, StartSync, WaitSync, starts}
-use Rattle.disk.specs.Disk.{WriteAt, ResizeTo, SyncAll, logged, settle, settle_to, waited, waited_for}
-use Rattle.disk.specs.Disk.{failed_at, had_failed}
+use Rattle.disk.specs.Disk.{Disk, IsImage, Life, Request, ReadAt, WaitSync, starts}
+use Rattle.disk.specs.Disk.{WriteAt, ResizeTo, SyncAll, logged}
+use Rattle.disk.specs.Disk.{settle, settle_to, waited, waited_for}
+use Rattle.disk.specs.Disk.{failed_at}
 use Rattle.disk.specs.Images.{same_image, base_is_image, partial_image, done_is_partial}
 use Rattle.disk.specs.Images.{same_is_partial}
 use Rattle.disk.specs.declared.action.Action.{Action}

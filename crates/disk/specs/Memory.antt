@@ -1,7 +1,7 @@
 -- A blob in memory: what its fields stand for, and what they say of one another.
 use Rattle.std.specs.Prelude.{◌≡◌, ◌≤◌, ◌<◌, ◌≢◌, ℕ, ◌+◌, ◌-◌, List, [], ◌∷◌, length, take, drop}
 use Rattle.std.specs.Prelude.{Bool, true, false, Result, Ok, Err, if◌then◌else◌, ◌++◌, suc, zero}
-use Rattle.std.specs.Prelude.{Option, Some, None, slice_get, max, map, All}
+use Rattle.std.specs.Prelude.{Option, Some, None, slice_get, max, map}
 use Rattle.disk.specs.Disk.{Entry, Disk, Started, failures}
 use Rattle.disk.specs.declared.action.Event.{Event}
 use Rattle.disk.specs.declared.action.Call.{Call}

@@ -1,6 +1,7 @@
 // What a device is asked for.
 ghost use Rattle.std.specs.Prelude.{[], ◌∷◌, if◌then◌else◌, ◌≡◌, ◌≤◌, ◌+◌, ◌-◌, ◌<◌, ◌^◌, ◌++◌};
-ghost use Rattle.std.specs.Prelude.{length, take, drop, replicate, vec_len, vec_capacity, OnOk, OnErr, IfOk, IsOk};
+ghost use Rattle.std.specs.Prelude.{length, take, drop, replicate, vec_len, vec_capacity};
+ghost use Rattle.std.specs.Prelude.{OnOk, OnErr, IfOk, IsOk};
 ghost use Rattle.disk.specs.Disk.{applied, Write};
 ghost use Rattle.disk.specs.History.{request_of, asked, done, redone, replayed};
 ghost use Rattle.disk.specs.History.{operations_of, TornBy};
@@ -45,8 +46,8 @@ pub struct Event {
     pub failed: bool,
 }
 
-/// A sync that was started: how many of the life's events it covers, and whether it or a wait for it
-/// failed.
+/// A sync that was started: how many of the life's events it covers, and whether it, or a wait for
+/// it, failed.
 #[derive(Clone, Copy)]
 pub struct Start {
     pub events: usize,

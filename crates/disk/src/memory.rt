@@ -1,5 +1,6 @@
 // A blob in memory, whose calls can be made to fail, and which can crash.
-ghost use Rattle.std.specs.Prelude.{◌≡◌, ◌≤◌, ◌<◌, ◌+◌, ◌-◌, ◌==◌, ◌++◌, [], ◌∷◌, length, map, replicate, true};
+ghost use Rattle.std.specs.Prelude.{◌≡◌, ◌≤◌, ◌<◌, ◌+◌, ◌-◌, ◌==◌, ◌++◌, [], ◌∷◌};
+ghost use Rattle.std.specs.Prelude.{length, map, replicate, true};
 ghost use Rattle.std.specs.Prelude.{vec_len, vec_capacity, if◌then◌else◌, IfOk, OnOk, OnErr};
 ghost use Rattle.std.specs.Prelude.{IsOkUnless};
 ghost use Rattle.std.specs.List.{concat};
@@ -124,8 +125,8 @@ impl MemBlob {
         self.failures
     }
 
-    /// The nth device call from now on is to fail, and no other one. A start of a sync answers `Ok` all
-    /// the same: that it failed shows at each wait for it.
+    /// The nth device call from now on is to fail, and no other one. A start of a sync answers `Ok`
+    /// all the same: that it failed shows at each wait for it.
     pub fn fail_at(&mut self, n: u64)
         requires { 1 ≤ n }
         ensures life { life_of self.new ≡ life_of self.old }

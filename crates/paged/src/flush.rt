@@ -285,7 +285,8 @@ impl<B: Blob, H: Sum, Phase> Writer<B, H, Phase> {
         ensures covers { let old = B.life blob.old in let new = B.life blob.new in
             let held = content self.old old.present.readable in
             CoversThrough H.sum_of self.old.page_size held old new }
-        ensures calls { AsksAtMost (settle_calls self.old.sync) (B.life blob.old) (B.life blob.new) }
+        ensures calls { let old = B.life blob.old in let new = B.life blob.new in
+            AsksAtMost (settle_calls self.old.sync) old new }
         ensures idle { settle_calls self.old.sync ≡ 0
             → (result ≡ Ok tt) × (self.new ≡ self.old) × (B.life blob.new ≡ B.life blob.old) }
         ensures unwritten { self.old.sync ≡ Dirty

@@ -216,6 +216,6 @@ pub fn error_of(call: Call) -> Error {
         Call::ReadAt(_, _) => Error::ReadFailed,
         Call::WriteAt(_, _, _) => Error::WriteFailed,
         Call::Resize(_) => Error::ResizeFailed,
-        Call::Sync => Error::SyncFailed,
+        Call::Sync | Call::StartSync | Call::WaitSync(_) => Error::SyncFailed,
     }
 }

@@ -1,4 +1,4 @@
-use Rattle.std.proofs.Common.{◌≡◌, ℕ, replicate, length, ap, sym, ◌∙◌, true, arith}
+use Rattle.std.proofs.Common.{ℕ, replicate, ap, sym, ◌∙◌, true, arith}
 use Rattle.disk.specs.Disk.{failures}
 use Rattle.disk.specs.History.{names_in}
 use Rattle.disk.proofs.Starts.{begun_kept}

@@ -1,4 +1,4 @@
-use Rattle.std.proofs.Common.{◌≡◌, length, ap, ◌∙◌, sym, arith}
+use Rattle.std.proofs.Common.{length, ap, arith}
 use Rattle.disk.specs.declared.action.Action.TheVariants as actions
 use Rattle.disk.specs.History.{History, life_of}
 use Rattle.disk.specs.Memory.{history_of}

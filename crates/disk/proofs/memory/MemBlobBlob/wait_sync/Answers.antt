@@ -1,9 +1,9 @@
-use Rattle.std.proofs.Common.{◌≡◌, true, false, sym, ap, ◌∙◌, subst, inl, inr, Ok, Err}
+use Rattle.std.proofs.Common.{false, sym, ◌∙◌, subst, inl, inr, Ok, Err}
 use Rattle.disk.specs.Disk.{WaitsFor, WaitGoes}
 use Rattle.disk.specs.declared.error.Error.TheVariants.{SyncFailed}
 use Rattle.disk.specs.declared.started_sync.StartedSync.{StartedSync}
 use Rattle.disk.specs.declared.action.Action.TheVariants as actions
-use Rattle.disk.specs.History.{History, life_of}
+use Rattle.disk.specs.History.{life_of}
 use Rattle.disk.proofs.Device.{life_after}
 use Rattle.disk.proofs.Starts.{wait_goes, wait_fails}
 use Rattle.disk.proofs.memory.MemBlobBlob.wait_sync.Goals as goal

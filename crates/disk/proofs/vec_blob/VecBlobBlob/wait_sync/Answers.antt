@@ -1,4 +1,4 @@
-use Rattle.std.proofs.Common.{◌≡◌, Bool, false, sym, ap, ◌∙◌, subst, inr, arith, Ok, Err}
+use Rattle.std.proofs.Common.{◌≡◌, false, sym, ap, ◌∙◌, subst, inr, arith, Ok, Err}
 use Rattle.disk.specs.Disk.{had_failed, WaitsFor}
 use Rattle.disk.specs.declared.error.Error.TheVariants.{SyncFailed}
 use Rattle.disk.specs.declared.started_sync.StartedSync.{StartedSync}

@@ -1,6 +1,5 @@
-use Rattle.std.proofs.Common.{◌≡◌, Ok, Err, subst, sym}
+use Rattle.std.proofs.Common.{Ok, Err, subst, sym}
 use Rattle.std.specs.Prelude.{ℕ}
-use Rattle.crash.specs.WriterState.{WriterState}
 use Rattle.paged.specs.Calls.{Appends}
 use Rattle.paged.proofs.Halves.{append_keeps, append_leaves}
 use Rattle.paged.proofs.There.{appended_there}

@@ -1,6 +1,5 @@
-use Rattle.std.proofs.Common.{◌≡◌, ◌+◌, ◌*◌, ◌/◌, ◌<◌, ◌≤◌, ◌^◌, ℕ, length, ap, sym, ◌∙◌, subst, arith}
+use Rattle.std.proofs.Common.{◌≡◌, ◌+◌, ◌*◌, ◌/◌, ◌<◌, ◌≤◌, ◌^◌, length, ap, ◌∙◌, arith}
 use Rattle.std.proofs.lemmas.Bool.Decides.{nat_tests}
-use Rattle.paged.specs.Writer.{FitsBlob}
 use Rattle.paged.proofs.Sizes.{fits_by_size, small_fits, size_fits}
 use Rattle.paged.proofs.writer.Writer.fits.Goals as goal
 use Rattle.paged.proofs.writer.Writer.fits.Goals.{In_default, Then-size, After-greatest_size}

@@ -1,5 +1,4 @@
 use Rattle.std.proofs.Common.{Ok, Err}
-use Rattle.std.proofs.lemmas.Result.{err_from_is_err_and}
 use Rattle.paged.proofs.Flushes.{sync_within}
 use Rattle.paged.proofs.Halves.{sync_keeps_all, sync_keeps, sync_leaves}
 use Rattle.paged.proofs.There.{synced_there}
