@@ -5,10 +5,13 @@ ghost use Rattle.bench.specs.Ready.{IsReady};
 
 use crate::done::{Done, Start};
 use crate::stage::{Device, PAGE_SIZE, Stage};
-use crate::work::{append_all, append_synced, checksum_all, read_all, try_append_all};
+use crate::work::{
+    append_all, append_owned_all, append_started, append_synced, checksum_all, read_all,
+    try_append_all,
+};
 use crate::workload::{Work, Workload};
 use anyhow::Result;
-use disk::Error;
+use disk::{Error, IoBuf};
 use page::Sum;
 use paged::Writer;
 use std::alloc::Global;
@@ -21,7 +24,11 @@ const STRIDE: u64 = 2000;
 pub fn play<H: Sum>(rt: &HostRuntime, workload: &Workload, rounds: u64) -> Result<Done> {
     let mut done = Done::default();
     match workload.work {
-        Work::Append(_) | Work::TryAppend(_) | Work::AppendSynced(..) => {
+        Work::Append(_)
+        | Work::TryAppend(_)
+        | Work::AppendOwned(_)
+        | Work::AppendSynced(..)
+        | Work::AppendStarted(..) => {
             play_appends::<H>(rt, workload, rounds, &mut done)?;
         }
         Work::ReadTip(len) => play_reads::<H>(rt, workload, len as u64, rounds, &mut done)?,
@@ -49,6 +56,7 @@ fn play_appends<H: Sum>(
 ) -> Result<()> {
     let count = workload.count;
     let record = record(rt.alloc(), workload.bytes())?;
+    let owned = IoBuf::copy_from_slice(rt.alloc(), &record)?;
     let mut stage = Stage::new(rt.alloc(), count.saturating_mul(record.len() as u64))?;
     for _ in 0..rounds {
         let writer = stage.restart::<H>()?;
@@ -56,8 +64,12 @@ fn play_appends<H: Sum>(
         let (blob, cache) = (&mut stage.blob, &mut stage.cache);
         match workload.work {
             Work::TryAppend(_) => try_append_all(writer, blob, cache, &record, count)?,
+            Work::AppendOwned(_) => append_owned_all(writer, blob, cache, &owned, count)?,
             Work::AppendSynced(_, each) => {
                 append_synced(writer, blob, cache, &record, count / each.max(1), each)?
+            }
+            Work::AppendStarted(_, each) => {
+                append_started(writer, blob, cache, &record, count / each.max(1), each)?
             }
             _ => append_all(writer, blob, cache, &record, count)?,
         };

@@ -3,7 +3,7 @@ ghost use Rattle.std.specs.Prelude.{IfOk};
 ghost use Rattle.bench.specs.Ready.{IsReady};
 
 use cache::CacheRef;
-use disk::{Blob, Error};
+use disk::{Blob, Error, IoBuf};
 use page::Sum;
 use paged::Writer;
 
@@ -60,6 +60,44 @@ pub fn append_synced<B: Blob, H: Sum>(
     for _ in 0..syncs {
         writer = append_all(writer, blob, cache, record, each)?;
         writer = writer.sync(blob, cache)?;
+    }
+    Ok(writer)
+}
+
+/// So many appends of a buffer, which isn't copied where it needn't be.
+pub fn append_owned_all<B: Blob, H: Sum>(
+    mut writer: Writer<B, H>,
+    blob: &mut B,
+    cache: &mut CacheRef,
+    record: &IoBuf,
+    count: u64,
+) -> Result<Writer<B, H>, Error>
+    requires { IsReady H.sum_of writer (B.life blob.old) }
+    ensures { IfOk result (λ writer. IsReady H.sum_of writer (B.life blob.new)) }
+{
+    for _ in 0..count {
+        let (next, _) = writer.append_owned(blob, cache, record.slice(0, record.len())?)?;
+        writer = next;
+    }
+    Ok(writer)
+}
+
+/// So many times some appends of a record, and a sync that is started and waited for.
+pub fn append_started<B: Blob, H: Sum>(
+    mut writer: Writer<B, H>,
+    blob: &mut B,
+    cache: &mut CacheRef,
+    record: &[u8],
+    syncs: u64,
+    each: u64,
+) -> Result<Writer<B, H>, Error>
+    requires { IsReady H.sum_of writer (B.life blob.old) }
+    ensures { IfOk result (λ writer. IsReady H.sum_of writer (B.life blob.new)) }
+{
+    for _ in 0..syncs {
+        writer = append_all(writer, blob, cache, record, each)?;
+        let (next, _) = writer.start_sync(blob, cache)?;
+        writer = next.wait_for_sync(blob)?;
     }
     Ok(writer)
 }

@@ -8,8 +8,12 @@ pub enum Work {
     Append(usize),
     /// Appends so many bytes where they fit what is buffered, and else all the same.
     TryAppend(usize),
+    /// Appends a buffer of so many bytes.
+    AppendOwned(usize),
     /// Appends so many bytes, with a sync behind every so many appends.
     AppendSynced(usize, u64),
+    /// The same, with a sync that is started and waited for.
+    AppendStarted(usize, u64),
     /// Reads so many bytes of what is buffered.
     ReadTip(usize),
     /// Reads so many bytes of the pages below.
@@ -39,7 +43,9 @@ impl Workload {
         match self.work {
             Work::Append(len)
             | Work::TryAppend(len)
+            | Work::AppendOwned(len)
             | Work::AppendSynced(len, _)
+            | Work::AppendStarted(len, _)
             | Work::ReadTip(len)
             | Work::ReadBelow(len)
             | Work::Recover(len, _) => len,
@@ -53,11 +59,13 @@ const KIB: usize = 1 << 10;
 const MIB: usize = 1 << 20;
 
 /// All of them, in the order in which they are played.
-pub fn workloads() -> [Workload; 12] {
+pub fn workloads() -> [Workload; 15] {
     [
         Workload::new("append 16 B", Work::Append(16), 16384),
         Workload::new("append 100 B", Work::Append(100), 8192),
         Workload::new("append 64 KiB", Work::Append(64 * KIB), 64),
+        Workload::new("append 1 MiB", Work::Append(MIB), 4),
+        Workload::new("append 1 MiB, owned", Work::AppendOwned(MIB), 4),
         Workload::new("try 16 B", Work::TryAppend(16), 16384),
         Workload::new("append 100 B, sync each", Work::AppendSynced(100, 1), 4096),
         Workload::new(
@@ -68,6 +76,11 @@ pub fn workloads() -> [Workload; 12] {
         Workload::new(
             "append 100 B, sync every 256",
             Work::AppendSynced(100, 256),
+            4096,
+        ),
+        Workload::new(
+            "append 100 B, started every 16",
+            Work::AppendStarted(100, 16),
             4096,
         ),
         Workload::new("read 100 B in the tip", Work::ReadTip(100), 512),

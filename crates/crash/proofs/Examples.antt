@@ -22,6 +22,9 @@ use Rattle.crash.specs.Kept.{Keeps, AllKeep, AllOnly, Each, Through}
 use Rattle.crash.specs.Stays.{Stays, StaysThrough, KeepsFloors, KeepsAllFloors, LeavesOnly, KeepsAll}
 use Rattle.crash.proofs.FloorLaws.{floors_of_sound}
 use Rattle.crash.specs.Looks.{SameButLog, Looked}
+use Rattle.crash.specs.Shrink.{staged, published, cleared, HeldBy, CutStays}
+use Rattle.crash.proofs.ShrinkLaws.{held_stays_cut}
+use Rattle.crash.proofs.Promise.{guards_less}
 use Rattle.crash.specs.Sound.{latest, stored, content, HasPage, Stands, guard_slot, IsSafe, Soundness, IsSound, LeavesItsContent, IsPending}
 use Rattle.crash.specs.Started.{WouldKeep, CoversStay, StartsStand}
 use Rattle.crash.specs.Below.{SamePages, PagesStay}
@@ -506,3 +509,33 @@ the_second_page_goes same = let byte : 103 ≡ 0 = ap (λ (l : List ℕ). get_or
 -- at each moment of it
 pub pages_stay : PagesStay 4 1 before behind
 pages_stay = pages_one 4 1 before behind rewritten refl the_first_page_stays
+
+-- ---- a value that is cut short
+
+-- page 1 is to tell fewer bytes than its first slot does: the second slot gets the checksum with no length, and then the length; and
+-- the first is emptied
+pub a_staged_slot : staged 4 1 First 203 ≡ Write 26 (0 ∷ 0 ∷ 0 ∷ 0 ∷ 0 ∷ 203 ∷ [])
+a_staged_slot = refl
+
+pub a_published_slot : published 4 1 First 2 ≡ Write 26 (0 ∷ 2 ∷ [])
+a_published_slot = refl
+
+pub a_cleared_slot : cleared 4 1 First ≡ Write 20 (0 ∷ 0 ∷ 0 ∷ 0 ∷ 0 ∷ 0 ∷ [])
+a_cleared_slot = refl
+
+-- a crash keeps the page before that one, and of it what its first slot tells
+pub ef_holds : HeldBy add_sum 4 six 1 ef_slot durable
+ef_holds = record {
+  pages = guards_less add_sum 4 six 6 4 durable (omega arith) six_are_guarded;
+  guard = record { there = omega arith; held = ef_is_held };
+}
+
+-- the blob says nothing but "abcdef" in any slot
+six_are_truthful : IsTruthful add_sum 4 six durable
+six_are_truthful =
+    let page : HasPage add_sum 4 1 (101 ∷ 102 ∷ []) (abcd_page ++ ef_page) ef_slot = record { size = refl; some = omega arith; there = omega arith; part = omega arith; crc = refl; value = refl; begins = refl; slot = refl } in
+    (page_sound add_sum (record with_g { tip = 101 ∷ 102 ∷ [] }) durable refl refl (omega arith) (lit< tt) (refl, tt) refl (λ name c is. absurd (cc is)) small_add_sum ef_slot refl page).truthful
+
+-- so a moment at which that slot holds owes nothing to a cut to six bytes
+pub a_cut_that_owes_nothing : CutStays add_sum 4 six 6 durable durable
+a_cut_that_owes_nothing = held_stays_cut add_sum 4 six 6 1 ef_slot durable durable (omega arith) ef_holds six_are_truthful

@@ -19,3 +19,4 @@ pub mod StartedLaws
 pub mod CoverLaws
 pub mod BelowLaws
 pub mod StandLaws
+pub mod ShrinkLaws

@@ -8,4 +8,5 @@ pub mod Below
 pub mod Stays
 pub mod Looks
 pub mod Sound
+pub mod Shrink
 pub mod Started

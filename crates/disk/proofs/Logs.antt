@@ -32,6 +32,16 @@ pub failed_later : (e : Error) (a b c : Disk) → LogGrows a b → HasFailed e b
 failed_later e a b c (first, one) (second, two, some) =
     (first ++ second, two ∙ ap (λ l. l ++ second) one ∙ append_assoc a.log first second, some_behind e first second some)
 
+-- and so did what failed in an earlier one
+some_before : (e : Error) (xs ys : List Entry) → SomeFailed e xs → SomeFailed e (xs ++ ys)
+some_before e [] ys some = absurd some
+some_before e (x ∷ xs) ys (inl failed) = inl failed
+some_before e (x ∷ xs) ys (inr some) = inr (some_before e xs ys some)
+
+pub failed_sooner : (e : Error) (a b c : Disk) → HasFailed e a b → LogGrows b c → HasFailed e a c
+failed_sooner e a b c (first, one, some) (second, two) =
+    (first ++ second, two ∙ ap (λ l. l ++ second) one ∙ append_assoc a.log first second, some_before e first second some)
+
 -- one entry more is one call more
 pub one_more : (log new : List Entry) (entry : Entry) → new ≡ log ++ entry ∷ [] → length new ≤ length log + 1
 one_more log new entry is = omega (arith, length-append log (entry ∷ []), ap length is)

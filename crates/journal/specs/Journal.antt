@@ -109,7 +109,7 @@ AppendsRecord sum own w bytes old new (Ok r) = IsAppended sum own w bytes old ne
 AppendsRecord sum own w bytes old new (Err OffsetOverflow) =
     (new ≡ old)
     × (2 ^ 64 ≤ physical_size w.page_size w.full_pages (length w.tip + (length bytes + 7)))
-AppendsRecord sum own w bytes old new (Err e) = HasCause old new e
+AppendsRecord sum own w bytes old new (Err e) = HasCause w.sync old new e
 
 -- all records were committed
 pub record IsCommitted (sum own : List ℕ → ℕ) (w : WriterState) (old new : Life)
@@ -122,7 +122,7 @@ pub record IsCommitted (sum own : List ℕ → ℕ) (w : WriterState) (old new :
 abbrev pub CommitGoes : (sum own : List ℕ → ℕ) → WriterState → Life → Life
     → Result WriterState Error → Type 0
 CommitGoes sum own w old new (Ok now) = IsCommitted sum own w old new now
-CommitGoes sum own w old new (Err e) = HasCause old new e
+CommitGoes sum own w old new (Err e) = HasCause w.sync old new e
 
 -- a read within the content was refused, or memory was
 abbrev pub ReadRefused : (List ℕ → ℕ) → WriterState → Life → Life → Error → Type 0

@@ -1,9 +1,12 @@
 -- What an append owes.
-use Rattle.std.proofs.Common.{◌≡◌, ℕ, ◌+◌, ◌/◌, ◌<◌, List, [], ◌++◌, length, refl, sym, ap, arith, ◌∙◌, subst, append-nil, Ok, Err, Result}
-use Rattle.std.specs.Prelude.{Option, Some, None}
+use Rattle.std.proofs.Common.{◌≡◌, ℕ, ◌+◌, ◌/◌, ◌%◌, ◌<◌, ◌≤◌, Bool, true, false, List, [], ◌++◌, length, refl, sym, ap, arith, ◌∙◌, subst, append-nil, Ok, Err, Result}
+use Rattle.std.specs.Prelude.{Option, Some, None, nat_le, not, ◌==◌, ◌&&◌, ◌||◌}
+use Rattle.std.proofs.lemmas.Bool.Decides.{nat_tests}
+use Rattle.crash.specs.Built.{kept_len}
 use Rattle.disk.specs.Disk.{Life}
 use Rattle.disk.specs.declared.error.Error.{Error}
 use Rattle.disk.specs.declared.error.Error.TheVariants.{ReadFailed, WriteFailed, ResizeFailed, SyncFailed, InvalidChecksum, BlobInsufficientLength, OffsetOverflow, OutOfMemory, IdsExhausted}
+use Rattle.disk.proofs.Logs.{grows_same}
 use Rattle.crash.specs.WriterState.{WriterState, SyncState}
 use Rattle.crash.specs.Sound.{IsSound, content}
 use Rattle.crash.specs.Stays.{StaysThrough}
@@ -15,9 +18,9 @@ use Rattle.page.specs.Tip.{Tip, TryAppendGoes}
 use Rattle.page.specs.declared.slot.ActiveChecksum.{ActiveChecksum}
 use Rattle.paged.specs.Writer.{FitsBlob, IsWriter}
 use Rattle.paged.proofs.Sizes.{size_fits}
-use Rattle.paged.specs.Flush.{answered}
+use Rattle.paged.specs.Flush.{answered, has_work}
 use Rattle.paged.specs.Reads.{size_of}
-use Rattle.paged.specs.Calls.{GoesOn, Refuses, Flushes, Appends, Buffers, TryAppends, BuffersOver, KeepsSound, KeepsPages}
+use Rattle.paged.specs.Calls.{GoesOn, Refuses, Flushes, Appends, Buffers, BuffersAll, TryAppends, BuffersOver, KeepsSound, KeepsPages}
 
 -- bytes are buffered, and what is written then leaves the content
 pub append_goes : (sum : List ℕ → ℕ) (w v now : WriterState) (old new : Life) (bytes : List ℕ) → IsSound sum w old.present → v ≡ record w { tip = w.tip ++ bytes }
@@ -31,18 +34,19 @@ append_goes sum w v now old new bytes sound is goes =
       content = h.content ∙ longer;
       size = h.size;
       only = h.only;
-      same = record { page_size = h.same.page_size; id = h.same.id; capacity = h.same.capacity };
+      same = record { page_size = h.same.page_size; id = h.same.id; capacity = h.same.capacity; full_pages = h.same.full_pages };
       log = h.log;
       stays = subst (λ c. StaysThrough sum w.page_size c old new) longer h.stays;
+      waits = h.waits;
     }
 
 -- or is refused
 pub append_refused : (sum : List ℕ → ℕ) (w v : WriterState) (old new : Life) (bytes : List ℕ) (e : Error) → IsSound sum w old.present → v ≡ record w { tip = w.tip ++ bytes }
-    → Refuses sum v.page_size (content v old.present.readable) old new e → Refuses sum w.page_size (content w old.present.readable ++ bytes) old new e
+    → Refuses sum v (content v old.present.readable) old new e → Refuses sum w (content w old.present.readable ++ bytes) old new e
 unfolding IsSound
 append_refused sum w v old new bytes e sound is refused =
-    let h : Refuses sum w.page_size (content (record w { tip = w.tip ++ bytes }) old.present.readable) old new e = subst (λ (v : WriterState). Refuses sum v.page_size (content v old.present.readable) old new e) is refused in
-    record { cause = h.cause; stays = subst (λ c. StaysThrough sum w.page_size c old new) (longer_content sum w old.present sound.stands bytes) h.stays }
+    let h : Refuses sum (record w { tip = w.tip ++ bytes }) (content (record w { tip = w.tip ++ bytes }) old.present.readable) old new e = subst (λ (v : WriterState). Refuses sum v (content v old.present.readable) old new e) is refused in
+    record { cause = h.cause; log = h.log; stays = subst (λ c. StaysThrough sum w.page_size c old new) (longer_content sum w old.present sound.stands bytes) h.stays }
 
 -- memory is refused before the device is asked
 pub append_unasked : (sum : List ℕ → ℕ) (w : WriterState) (life : Life) (bytes : List ℕ) → IsSound sum w life.present → StaysThrough sum w.page_size (content w life.present.readable ++ bytes) life life
@@ -54,7 +58,7 @@ append_unasked sum w life bytes sound =
 -- bytes that weren't buffered
 pub append_unbuffered : (sum : List ℕ → ℕ) (w now : WriterState) (life : Life) (bytes : List ℕ) (e : Error) → IsSound sum w life.present → Buffers w bytes now (Err e) → Appends sum w bytes life life (Err e)
 append_unbuffered sum w now life bytes OffsetOverflow sound goes = (refl, goes.0)
-append_unbuffered sum w now life bytes OutOfMemory sound goes = record { cause = tt; stays = append_unasked sum w life bytes sound }
+append_unbuffered sum w now life bytes OutOfMemory sound goes = record { cause = tt; stays = append_unasked sum w life bytes sound; log = grows_same life.present life.present refl }
 append_unbuffered sum w now life bytes ReadFailed sound goes = absurd goes
 append_unbuffered sum w now life bytes WriteFailed sound goes = absurd goes
 append_unbuffered sum w now life bytes ResizeFailed sound goes = absurd goes
@@ -63,8 +67,26 @@ append_unbuffered sum w now life bytes InvalidChecksum sound goes = absurd goes
 append_unbuffered sum w now life bytes BlobInsufficientLength sound goes = absurd goes
 append_unbuffered sum w now life bytes IdsExhausted sound goes = absurd goes
 
+-- told by what fits
+pub unbuffered_all : (w now : WriterState) (life : Life) (bytes : List ℕ) (e : Error) → Buffers w bytes now (Err e) → BuffersAll w bytes life life (Err e)
+unbuffered_all w now life bytes OffsetOverflow goes = refl
+unbuffered_all w now life bytes OutOfMemory goes = refl
+unbuffered_all w now life bytes ReadFailed goes = absurd goes
+unbuffered_all w now life bytes WriteFailed goes = absurd goes
+unbuffered_all w now life bytes ResizeFailed goes = absurd goes
+unbuffered_all w now life bytes SyncFailed goes = absurd goes
+unbuffered_all w now life bytes InvalidChecksum goes = absurd goes
+unbuffered_all w now life bytes BlobInsufficientLength goes = absurd goes
+unbuffered_all w now life bytes IdsExhausted goes = absurd goes
+
+-- a tip over the capacity has a full page to flush
+pub over_work : (v : WriterState) → v.page_size ≤ v.capacity → v.capacity < length v.tip → has_work v false ≡ true
+over_work v room over =
+    let full : nat_le v.page_size (length v.tip) ≡ true = grind (arith, nat_tests, room, over) in
+    ap (λ (b : Bool). b || (false && (not (length v.tip % v.page_size == 0) && not (length v.tip % v.page_size == kept_len v.flushed)))) full
+
 -- an append whose flush is refused
-pub append_fails : (sum : List ℕ → ℕ) (w : WriterState) (bytes : List ℕ) (old new : Life) (e : Error) → Refuses sum w.page_size (content w old.present.readable ++ bytes) old new e → Appends sum w bytes old new (Err e)
+pub append_fails : (sum : List ℕ → ℕ) (w : WriterState) (bytes : List ℕ) (old new : Life) (e : Error) → Refuses sum w (content w old.present.readable ++ bytes) old new e → Appends sum w bytes old new (Err e)
 append_fails sum w bytes old new ReadFailed refused = refused
 append_fails sum w bytes old new WriteFailed refused = refused
 append_fails sum w bytes old new ResizeFailed refused = refused

@@ -1,55 +1,83 @@
 -- Why a call of the device answers an error.
-use Rattle.std.proofs.Common.{◌≡◌, ℕ, ◌+◌, ◌^◌, ◌<◌, ◌≤◌, List, length, ap, ◌∙◌, refl, sym, subst, arith, Bool, true, false, Result, Ok, Err}
-use Rattle.disk.specs.Disk.{Life, WriteAt, SyncAll, LogGrows, WriteGoes, SyncGoes}
-use Rattle.disk.proofs.Logs.{failed_once, failed_later, one_more}
+use Rattle.std.proofs.Common.{◌≡◌, ℕ, ◌+◌, ◌^◌, ◌<◌, ◌≤◌, List, [], ◌∷◌, ◌++◌, inl, inr, length, ap, ◌∙◌, refl, sym, subst, arith, Bool, true, false, Result, Ok, Err}
+use Rattle.crash.proofs.StartedLaws.{settles_same}
+use Rattle.std.specs.Prelude.{OnOk}
+use Rattle.disk.specs.declared.started_sync.StartedSync.{StartedSync}
+use Rattle.disk.specs.declared.started_sync.StartedSync.TheVariants.{Done, Named}
+use Rattle.disk.specs.Disk.{Life, Disk, Entry, logged, settle_to, WriteAt, SyncAll, WaitSync, LogGrows, WriteGoes, SyncGoes, WaitGoes, StartGoes}
+use Rattle.disk.proofs.Logs.{failed_once, failed_later, failed_sooner, one_more, grows_same}
 use Rattle.disk.specs.declared.error.Error.{Error}
 use Rattle.disk.specs.declared.error.Error.TheVariants.{ReadFailed, WriteFailed, ResizeFailed, SyncFailed, InvalidChecksum, BlobInsufficientLength, OffsetOverflow, OutOfMemory, IdsExhausted}
-use Rattle.paged.specs.Calls.{HasCause, AsksAtMost}
+use Rattle.crash.specs.WriterState.{SyncState}
+use Rattle.crash.specs.WriterState.SyncState.{Pending}
+use Rattle.paged.specs.Calls.{HasCause, HadFailed, AsksAtMost}
 
 -- a write answers an error for a failed device or for no memory, where its range fits
-pub write_cause : (place : ℕ) (bytes : List ℕ) (sync : Bool) (old new : Life) (e : Error) → WriteGoes place bytes sync old new (Err e) → (e ≡ OffsetOverflow → ⊥) → HasCause old new e
-write_cause place bytes false old new ReadFailed goes fits = cc
-write_cause place bytes false old new WriteFailed (is, (d, then, done)) fits = failed_once (WriteAt place (length bytes) false) old.present new.present (ap (λ l. l.present.log) then ∙ ap (λ e. e.log) done.rest)
-write_cause place bytes false old new ResizeFailed goes fits = cc
-write_cause place bytes false old new SyncFailed goes fits = cc
-write_cause place bytes false old new InvalidChecksum goes fits = cc
-write_cause place bytes false old new BlobInsufficientLength goes fits = cc
-write_cause place bytes false old new OffsetOverflow goes fits = absurd (fits refl)
-write_cause place bytes false old new OutOfMemory goes fits = tt
-write_cause place bytes false old new IdsExhausted goes fits = cc
-write_cause place bytes true old new ReadFailed goes fits = absurd goes
-write_cause place bytes true old new WriteFailed (d, then, done) fits = failed_once (WriteAt place (length bytes) true) old.present new.present (ap (λ l. l.present.log) then ∙ ap (λ e. e.log) done.rest)
-write_cause place bytes true old new ResizeFailed goes fits = absurd goes
-write_cause place bytes true old new SyncFailed goes fits = absurd goes
-write_cause place bytes true old new InvalidChecksum goes fits = absurd goes
-write_cause place bytes true old new BlobInsufficientLength goes fits = absurd goes
-write_cause place bytes true old new OffsetOverflow goes fits = absurd (fits refl)
-write_cause place bytes true old new OutOfMemory goes fits = tt
-write_cause place bytes true old new IdsExhausted goes fits = absurd goes
+pub write_cause : (s : SyncState) (place : ℕ) (bytes : List ℕ) (sync : Bool) (old new : Life) (e : Error) → WriteGoes place bytes sync old new (Err e) → (e ≡ OffsetOverflow → ⊥) → HasCause s old new e
+write_cause s place bytes false old new ReadFailed goes fits = cc
+write_cause s place bytes false old new WriteFailed (is, (d, next, done)) fits = failed_once (WriteAt place (length bytes) false) old.present new.present (ap (λ l. l.present.log) next ∙ ap (λ e. e.log) done.rest)
+write_cause s place bytes false old new ResizeFailed goes fits = cc
+write_cause s place bytes false old new SyncFailed goes fits = cc
+write_cause s place bytes false old new InvalidChecksum goes fits = cc
+write_cause s place bytes false old new BlobInsufficientLength goes fits = cc
+write_cause s place bytes false old new OffsetOverflow goes fits = absurd (fits refl)
+write_cause s place bytes false old new OutOfMemory goes fits = tt
+write_cause s place bytes false old new IdsExhausted goes fits = cc
+write_cause s place bytes true old new ReadFailed goes fits = absurd goes
+write_cause s place bytes true old new WriteFailed (d, next, done) fits = failed_once (WriteAt place (length bytes) true) old.present new.present (ap (λ l. l.present.log) next ∙ ap (λ e. e.log) done.rest)
+write_cause s place bytes true old new ResizeFailed goes fits = absurd goes
+write_cause s place bytes true old new SyncFailed goes fits = absurd goes
+write_cause s place bytes true old new InvalidChecksum goes fits = absurd goes
+write_cause s place bytes true old new BlobInsufficientLength goes fits = absurd goes
+write_cause s place bytes true old new OffsetOverflow goes fits = absurd (fits refl)
+write_cause s place bytes true old new OutOfMemory goes fits = tt
+write_cause s place bytes true old new IdsExhausted goes fits = absurd goes
 
 -- a sync answers an error for a failed device or for no memory
-pub sync_cause : (old new : Life) (e : Error) → SyncGoes old new (Err e) → HasCause old new e
-sync_cause old new ReadFailed goes = absurd goes
-sync_cause old new WriteFailed goes = absurd goes
-sync_cause old new ResizeFailed goes = absurd goes
-sync_cause old new SyncFailed goes = failed_once SyncAll old.present new.present (ap (λ l. l.present.log) goes)
-sync_cause old new InvalidChecksum goes = absurd goes
-sync_cause old new BlobInsufficientLength goes = absurd goes
-sync_cause old new OffsetOverflow goes = absurd goes
-sync_cause old new OutOfMemory goes = tt
-sync_cause old new IdsExhausted goes = absurd goes
+pub sync_cause : (s : SyncState) (old new : Life) (e : Error) → SyncGoes old new (Err e) → HasCause s old new e
+sync_cause s old new ReadFailed goes = absurd goes
+sync_cause s old new WriteFailed goes = absurd goes
+sync_cause s old new ResizeFailed goes = absurd goes
+sync_cause s old new SyncFailed goes = inl (failed_once SyncAll old.present new.present (ap (λ l. l.present.log) goes))
+sync_cause s old new InvalidChecksum goes = absurd goes
+sync_cause s old new BlobInsufficientLength goes = absurd goes
+sync_cause s old new OffsetOverflow goes = absurd goes
+sync_cause s old new OutOfMemory goes = tt
+sync_cause s old new IdsExhausted goes = absurd goes
 
--- what a later part of a call answers has a cause in the whole call
-pub cause_later : (old mid new : Life) (e : Error) → LogGrows old.present mid.present → HasCause mid new e → HasCause old new e
-cause_later old mid new ReadFailed grows cause = cause
-cause_later old mid new WriteFailed grows cause = failed_later WriteFailed old.present mid.present new.present grows cause
-cause_later old mid new ResizeFailed grows cause = cause
-cause_later old mid new SyncFailed grows cause = failed_later SyncFailed old.present mid.present new.present grows cause
-cause_later old mid new InvalidChecksum grows cause = cause
-cause_later old mid new BlobInsufficientLength grows cause = cause
-cause_later old mid new OffsetOverflow grows cause = cause
-cause_later old mid new OutOfMemory grows cause = tt
-cause_later old mid new IdsExhausted grows cause = cause
+-- so does a wait, and also where the sync had failed
+pub wait_cause : (name : ℕ) (old new : Life) (e : Error) → WaitGoes name old new (Err e) → HasCause (Pending name) old new e
+wait_cause name old new ReadFailed goes = absurd goes
+wait_cause name old new WriteFailed goes = absurd goes
+wait_cause name old new ResizeFailed goes = absurd goes
+wait_cause name old new SyncFailed (failed, why, is) = elim why [
+  | inl now ↦ inl (failed_once (WaitSync name) old.present new.present (ap (λ l. l.present.log) is ∙ ap (λ (b : Bool). old.present.log ++ record { request = WaitSync name; failed = b } ∷ []) now))
+  | inr before ↦ inr before
+]
+wait_cause name old new InvalidChecksum goes = absurd goes
+wait_cause name old new BlobInsufficientLength goes = absurd goes
+wait_cause name old new OffsetOverflow goes = absurd goes
+wait_cause name old new OutOfMemory goes = tt
+wait_cause name old new IdsExhausted goes = absurd goes
+
+-- what a later part of a call answers has a cause in the whole call, where a sync that it waits for has failed in this call or had before
+pub cause_later : (s t : SyncState) (old mid new : Life) (e : Error) → LogGrows old.present mid.present → LogGrows mid.present new.present → (HadFailed t mid.present → HasCause s old mid SyncFailed) → HasCause t mid new e → HasCause s old new e
+cause_later s t old mid new ReadFailed grows more waits cause = cause
+cause_later s t old mid new WriteFailed grows more waits cause = failed_later WriteFailed old.present mid.present new.present grows cause
+cause_later s t old mid new ResizeFailed grows more waits cause = cause
+cause_later s t old mid new SyncFailed grows more waits cause = elim cause [
+  | inl failed ↦ inl (failed_later SyncFailed old.present mid.present new.present grows failed)
+  | inr had ↦ still (waits had)
+]
+  where
+    still : HasCause s old mid SyncFailed → HasCause s old new SyncFailed
+    still (inl failed) = inl (failed_sooner SyncFailed old.present mid.present new.present failed more)
+    still (inr had) = inr had
+cause_later s t old mid new InvalidChecksum grows more waits cause = cause
+cause_later s t old mid new BlobInsufficientLength grows more waits cause = cause
+cause_later s t old mid new OffsetOverflow grows more waits cause = cause
+cause_later s t old mid new OutOfMemory grows more waits cause = tt
+cause_later s t old mid new IdsExhausted grows more waits cause = cause
 
 -- a write whose range fits doesn't answer that it passes the greatest place
 pub no_overflow : (place : ℕ) (bytes : List ℕ) (sync : Bool) (old new : Life) (e : Error) → WriteGoes place bytes sync old new (Err e) → place + length bytes < 2 ^ 64 → e ≡ OffsetOverflow → ⊥
@@ -65,25 +93,29 @@ pub write_unasked : (place : ℕ) (bytes : List ℕ) (sync : Bool) (life : Life)
 write_unasked place bytes true life e is fits = subst (λ e. WriteGoes place bytes true life life (Err e)) (sym is) (refl, fits)
 write_unasked place bytes false life e is fits = subst (λ e. WriteGoes place bytes false life life (Err e)) (sym is) (refl, fits)
 
+-- a wait that was answered stands in the log
+pub waited_log : (name : ℕ) (c : ℕ × List ℕ) (d : Disk) → (logged (WaitSync name) false (settle_to c d)).log ≡ d.log ++ record { request = WaitSync name; failed = false } ∷ []
+waited_log name c d = ap (λ (log : List Entry). log ++ record { request = WaitSync name; failed = false } ∷ []) (settles_same c d).1
+
 -- nothing was asked
 none_asked : (old new : Life) → new ≡ old → AsksAtMost 1 old new
 none_asked old new is = omega (arith, ap (λ (l : Life). length l.present.log) is)
 
 -- a write is one device call at most
 pub write_asks : (place : ℕ) (bytes : List ℕ) (sync : Bool) (old new : Life) (result : Result (Unit {0}) Error) → WriteGoes place bytes sync old new result → AsksAtMost 1 old new
-write_asks place bytes false old new (Ok done) (d, then, did) = one_more old.present.log new.present.log _ (ap (λ l. l.present.log) then ∙ ap (λ e. e.log) did.rest)
-write_asks place bytes false old new (Err ReadFailed) (is, (d, then, did)) = one_more old.present.log new.present.log _ (ap (λ l. l.present.log) then ∙ ap (λ e. e.log) did.rest)
-write_asks place bytes false old new (Err WriteFailed) (is, (d, then, did)) = one_more old.present.log new.present.log _ (ap (λ l. l.present.log) then ∙ ap (λ e. e.log) did.rest)
-write_asks place bytes false old new (Err ResizeFailed) (is, (d, then, did)) = one_more old.present.log new.present.log _ (ap (λ l. l.present.log) then ∙ ap (λ e. e.log) did.rest)
-write_asks place bytes false old new (Err SyncFailed) (is, (d, then, did)) = one_more old.present.log new.present.log _ (ap (λ l. l.present.log) then ∙ ap (λ e. e.log) did.rest)
-write_asks place bytes false old new (Err InvalidChecksum) (is, (d, then, did)) = one_more old.present.log new.present.log _ (ap (λ l. l.present.log) then ∙ ap (λ e. e.log) did.rest)
-write_asks place bytes false old new (Err BlobInsufficientLength) (is, (d, then, did)) = one_more old.present.log new.present.log _ (ap (λ l. l.present.log) then ∙ ap (λ e. e.log) did.rest)
+write_asks place bytes false old new (Ok done) (d, next, did) = one_more old.present.log new.present.log _ (ap (λ l. l.present.log) next ∙ ap (λ e. e.log) did.rest)
+write_asks place bytes false old new (Err ReadFailed) (is, (d, next, did)) = one_more old.present.log new.present.log _ (ap (λ l. l.present.log) next ∙ ap (λ e. e.log) did.rest)
+write_asks place bytes false old new (Err WriteFailed) (is, (d, next, did)) = one_more old.present.log new.present.log _ (ap (λ l. l.present.log) next ∙ ap (λ e. e.log) did.rest)
+write_asks place bytes false old new (Err ResizeFailed) (is, (d, next, did)) = one_more old.present.log new.present.log _ (ap (λ l. l.present.log) next ∙ ap (λ e. e.log) did.rest)
+write_asks place bytes false old new (Err SyncFailed) (is, (d, next, did)) = one_more old.present.log new.present.log _ (ap (λ l. l.present.log) next ∙ ap (λ e. e.log) did.rest)
+write_asks place bytes false old new (Err InvalidChecksum) (is, (d, next, did)) = one_more old.present.log new.present.log _ (ap (λ l. l.present.log) next ∙ ap (λ e. e.log) did.rest)
+write_asks place bytes false old new (Err BlobInsufficientLength) (is, (d, next, did)) = one_more old.present.log new.present.log _ (ap (λ l. l.present.log) next ∙ ap (λ e. e.log) did.rest)
 write_asks place bytes false old new (Err OffsetOverflow) (is, passes) = none_asked old new is
 write_asks place bytes false old new (Err OutOfMemory) (is, has) = none_asked old new is
-write_asks place bytes false old new (Err IdsExhausted) (is, (d, then, did)) = one_more old.present.log new.present.log _ (ap (λ l. l.present.log) then ∙ ap (λ e. e.log) did.rest)
-write_asks place bytes true old new (Ok done) (d, then, did) = one_more old.present.log new.present.log _ (ap (λ l. l.present.log) then ∙ ap (λ e. e.log) did.rest)
+write_asks place bytes false old new (Err IdsExhausted) (is, (d, next, did)) = one_more old.present.log new.present.log _ (ap (λ l. l.present.log) next ∙ ap (λ e. e.log) did.rest)
+write_asks place bytes true old new (Ok done) (d, next, did) = one_more old.present.log new.present.log _ (ap (λ l. l.present.log) next ∙ ap (λ e. e.log) did.rest)
 write_asks place bytes true old new (Err ReadFailed) goes = absurd goes
-write_asks place bytes true old new (Err WriteFailed) (d, then, did) = one_more old.present.log new.present.log _ (ap (λ l. l.present.log) then ∙ ap (λ e. e.log) did.rest)
+write_asks place bytes true old new (Err WriteFailed) (d, next, did) = one_more old.present.log new.present.log _ (ap (λ l. l.present.log) next ∙ ap (λ e. e.log) did.rest)
 write_asks place bytes true old new (Err ResizeFailed) goes = absurd goes
 write_asks place bytes true old new (Err SyncFailed) goes = absurd goes
 write_asks place bytes true old new (Err InvalidChecksum) goes = absurd goes
@@ -104,3 +136,111 @@ sync_asks old new (Err BlobInsufficientLength) goes = absurd goes
 sync_asks old new (Err OffsetOverflow) goes = absurd goes
 sync_asks old new (Err OutOfMemory) is = none_asked old new is
 sync_asks old new (Err IdsExhausted) goes = absurd goes
+
+-- and a wait
+pub wait_asks : (name : ℕ) (old new : Life) (result : Result (Unit {0}) Error) → WaitGoes name old new result → AsksAtMost 1 old new
+wait_asks name old new (Ok done) (s, named, well, is) = one_more old.present.log new.present.log _ (ap (λ l. l.present.log) is ∙ waited_log name (s.covers, s.bytes) old.present)
+wait_asks name old new (Err ReadFailed) goes = absurd goes
+wait_asks name old new (Err WriteFailed) goes = absurd goes
+wait_asks name old new (Err ResizeFailed) goes = absurd goes
+wait_asks name old new (Err SyncFailed) (failed, why, is) = one_more old.present.log new.present.log _ (ap (λ l. l.present.log) is)
+wait_asks name old new (Err InvalidChecksum) goes = absurd goes
+wait_asks name old new (Err BlobInsufficientLength) goes = absurd goes
+wait_asks name old new (Err OffsetOverflow) goes = absurd goes
+wait_asks name old new (Err OutOfMemory) is = none_asked old new is
+wait_asks name old new (Err IdsExhausted) goes = absurd goes
+
+-- and a start
+pub start_asks : (old new : Life) (result : Result StartedSync Error) → StartGoes old new result → AsksAtMost 1 old new
+start_asks old new (Ok (Named name)) (last, failed, is) = one_more old.present.log new.present.log _ (ap (λ l. l.present.log) is)
+start_asks old new (Ok Done) goes = absurd goes
+start_asks old new (Err ReadFailed) goes = absurd goes
+start_asks old new (Err WriteFailed) goes = absurd goes
+start_asks old new (Err ResizeFailed) goes = absurd goes
+start_asks old new (Err SyncFailed) goes = absurd goes
+start_asks old new (Err InvalidChecksum) goes = absurd goes
+start_asks old new (Err BlobInsufficientLength) goes = absurd goes
+start_asks old new (Err OffsetOverflow) goes = absurd goes
+start_asks old new (Err OutOfMemory) is = none_asked old new is
+start_asks old new (Err IdsExhausted) goes = absurd goes
+
+-- a start answers an error for no memory alone
+pub start_cause : (s : SyncState) (old new : Life) (e : Error) → StartGoes old new (Err e) → HasCause s old new e
+start_cause s old new ReadFailed goes = absurd goes
+start_cause s old new WriteFailed goes = absurd goes
+start_cause s old new ResizeFailed goes = absurd goes
+start_cause s old new SyncFailed goes = absurd goes
+start_cause s old new InvalidChecksum goes = absurd goes
+start_cause s old new BlobInsufficientLength goes = absurd goes
+start_cause s old new OffsetOverflow goes = absurd goes
+start_cause s old new OutOfMemory goes = tt
+start_cause s old new IdsExhausted goes = absurd goes
+
+-- the log goes on over a write
+pub write_grows : (place : ℕ) (bytes : List ℕ) (sync : Bool) (old new : Life) (result : Result (Unit {0}) Error) → WriteGoes place bytes sync old new result → LogGrows old.present new.present
+write_grows place bytes false old new (Ok done) (d, next, did) = (_ ∷ [], ap (λ l. l.present.log) next ∙ ap (λ e. e.log) did.rest)
+write_grows place bytes false old new (Err ReadFailed) (is, (d, next, did)) = (_ ∷ [], ap (λ l. l.present.log) next ∙ ap (λ e. e.log) did.rest)
+write_grows place bytes false old new (Err WriteFailed) (is, (d, next, did)) = (_ ∷ [], ap (λ l. l.present.log) next ∙ ap (λ e. e.log) did.rest)
+write_grows place bytes false old new (Err ResizeFailed) (is, (d, next, did)) = (_ ∷ [], ap (λ l. l.present.log) next ∙ ap (λ e. e.log) did.rest)
+write_grows place bytes false old new (Err SyncFailed) (is, (d, next, did)) = (_ ∷ [], ap (λ l. l.present.log) next ∙ ap (λ e. e.log) did.rest)
+write_grows place bytes false old new (Err InvalidChecksum) (is, (d, next, did)) = (_ ∷ [], ap (λ l. l.present.log) next ∙ ap (λ e. e.log) did.rest)
+write_grows place bytes false old new (Err BlobInsufficientLength) (is, (d, next, did)) = (_ ∷ [], ap (λ l. l.present.log) next ∙ ap (λ e. e.log) did.rest)
+write_grows place bytes false old new (Err OffsetOverflow) (is, passes) = grows_same old.present new.present (ap (λ (l : Life). l.present.log) is)
+write_grows place bytes false old new (Err OutOfMemory) (is, has) = grows_same old.present new.present (ap (λ (l : Life). l.present.log) is)
+write_grows place bytes false old new (Err IdsExhausted) (is, (d, next, did)) = (_ ∷ [], ap (λ l. l.present.log) next ∙ ap (λ e. e.log) did.rest)
+write_grows place bytes true old new (Ok done) (d, next, did) = (_ ∷ [], ap (λ l. l.present.log) next ∙ ap (λ e. e.log) did.rest)
+write_grows place bytes true old new (Err ReadFailed) goes = absurd goes
+write_grows place bytes true old new (Err WriteFailed) (d, next, did) = (_ ∷ [], ap (λ l. l.present.log) next ∙ ap (λ e. e.log) did.rest)
+write_grows place bytes true old new (Err ResizeFailed) goes = absurd goes
+write_grows place bytes true old new (Err SyncFailed) goes = absurd goes
+write_grows place bytes true old new (Err InvalidChecksum) goes = absurd goes
+write_grows place bytes true old new (Err BlobInsufficientLength) goes = absurd goes
+write_grows place bytes true old new (Err OffsetOverflow) (is, passes) = grows_same old.present new.present (ap (λ (l : Life). l.present.log) is)
+write_grows place bytes true old new (Err OutOfMemory) (is, has) = grows_same old.present new.present (ap (λ (l : Life). l.present.log) is)
+write_grows place bytes true old new (Err IdsExhausted) goes = absurd goes
+
+-- a sync
+pub sync_grows : (old new : Life) (result : Result (Unit {0}) Error) → SyncGoes old new result → LogGrows old.present new.present
+sync_grows old new (Ok done) is = (_ ∷ [], ap (λ l. l.present.log) is)
+sync_grows old new (Err ReadFailed) goes = absurd goes
+sync_grows old new (Err WriteFailed) goes = absurd goes
+sync_grows old new (Err ResizeFailed) goes = absurd goes
+sync_grows old new (Err SyncFailed) is = (_ ∷ [], ap (λ l. l.present.log) is)
+sync_grows old new (Err InvalidChecksum) goes = absurd goes
+sync_grows old new (Err BlobInsufficientLength) goes = absurd goes
+sync_grows old new (Err OffsetOverflow) goes = absurd goes
+sync_grows old new (Err OutOfMemory) is = grows_same old.present new.present (ap (λ (l : Life). l.present.log) is)
+sync_grows old new (Err IdsExhausted) goes = absurd goes
+
+-- a wait
+pub wait_grows : (name : ℕ) (old new : Life) (result : Result (Unit {0}) Error) → WaitGoes name old new result → LogGrows old.present new.present
+wait_grows name old new (Ok done) (s, named, well, is) = (_ ∷ [], ap (λ l. l.present.log) is ∙ waited_log name (s.covers, s.bytes) old.present)
+wait_grows name old new (Err ReadFailed) goes = absurd goes
+wait_grows name old new (Err WriteFailed) goes = absurd goes
+wait_grows name old new (Err ResizeFailed) goes = absurd goes
+wait_grows name old new (Err SyncFailed) (failed, why, is) = (_ ∷ [], ap (λ l. l.present.log) is)
+wait_grows name old new (Err InvalidChecksum) goes = absurd goes
+wait_grows name old new (Err BlobInsufficientLength) goes = absurd goes
+wait_grows name old new (Err OffsetOverflow) goes = absurd goes
+wait_grows name old new (Err OutOfMemory) is = grows_same old.present new.present (ap (λ (l : Life). l.present.log) is)
+wait_grows name old new (Err IdsExhausted) goes = absurd goes
+
+-- and a start
+pub start_grows : (old new : Life) (result : Result StartedSync Error) → StartGoes old new result → LogGrows old.present new.present
+start_grows old new (Ok (Named name)) (last, failed, is) = (_ ∷ [], ap (λ l. l.present.log) is)
+start_grows old new (Ok Done) goes = absurd goes
+start_grows old new (Err ReadFailed) goes = absurd goes
+start_grows old new (Err WriteFailed) goes = absurd goes
+start_grows old new (Err ResizeFailed) goes = absurd goes
+start_grows old new (Err SyncFailed) goes = absurd goes
+start_grows old new (Err InvalidChecksum) goes = absurd goes
+start_grows old new (Err BlobInsufficientLength) goes = absurd goes
+start_grows old new (Err OffsetOverflow) goes = absurd goes
+start_grows old new (Err OutOfMemory) is = grows_same old.present new.present (ap (λ (l : Life). l.present.log) is)
+start_grows old new (Err IdsExhausted) goes = absurd goes
+
+-- a write that is answered leaves the list of started syncs
+pub write_names : (place : ℕ) (bytes : List ℕ) (sync : Bool) (old new : Life) (result : Result (Unit {0}) Error) → WriteGoes place bytes sync old new result → OnOk result (new.present.started ≡ old.present.started)
+write_names place bytes false old new (Ok done) (d, next, did) = ap (λ l. l.present.started) next ∙ ap (λ e. e.started) did.rest
+write_names place bytes true old new (Ok done) (d, next, did) = ap (λ l. l.present.started) next ∙ ap (λ e. e.started) did.rest
+write_names place bytes sync old new (Err e) goes = tt

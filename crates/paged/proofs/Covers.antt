@@ -1,16 +1,20 @@
 -- What started syncs cover stays covered through a flush, a sync and an append.
-use Rattle.std.proofs.Common.{◌≡◌, ℕ, List, [], ◌++◌, sym, ◌∙◌, refl, subst, append-nil, Bool, Result}
-use Rattle.disk.specs.Disk.{Life, WriteGoes, SyncGoes}
+use Rattle.std.proofs.Common.{◌≡◌, ℕ, inl, inr, List, [], ◌++◌, sym, ◌∙◌, refl, subst, append-nil, Bool, Result}
+use Rattle.disk.specs.Disk.{Disk, Life, WriteGoes, SyncGoes}
 use Rattle.disk.specs.declared.error.Error.{Error}
-use Rattle.crash.specs.WriterState.{WriterState}
+use Rattle.crash.specs.WriterState.{WriterState, SyncState}
+use Rattle.crash.specs.WriterState.SyncState.{Clean, Dirty, Pending}
+use Rattle.crash.specs.Kept.{AllKeep}
+use Rattle.crash.specs.Moments.{through_end}
+use Rattle.crash.proofs.StartedLaws.{which, settled_already}
 use Rattle.crash.specs.Sound.{IsSound, CanWrite, MayFlush, guard_slot, content}
-use Rattle.crash.specs.Started.{CoversThrough}
+use Rattle.crash.specs.Started.{CoversStay, CoversThrough, WouldKeep}
 use Rattle.crash.proofs.BuiltLaws.{IsSmall}
 use Rattle.crash.proofs.FlushLaws.{longer_content}
 use Rattle.crash.proofs.Soundness.{carry_sound}
 use Rattle.crash.proofs.CoverLaws.{write_covers_through, sync_covers, covers_through_join, covers_shorter}
 use Rattle.paged.specs.Flush.{full_in, carried, place_of, flush_bytes}
-use Rattle.paged.specs.Calls.{GoesOn}
+use Rattle.paged.specs.Calls.{GoesOn, Completed}
 use Rattle.paged.proofs.Flushes.{begins}
 
 -- a flush by a writer whose durable slot is up to date
@@ -45,3 +49,22 @@ longer_covers sum w v bytes old new sound is covers =
     let h : CoversThrough sum w.page_size (content (record w { tip = w.tip ++ bytes }) old.present.readable) old new = subst (λ (u : WriterState). CoversThrough sum u.page_size (content u old.present.readable) old new) is covers in
     covers_shorter sum w.page_size (content w old.present.readable) (content w old.present.readable ++ bytes) old new (begins (content w old.present.readable) bytes)
     (subst (λ (c : List ℕ). CoversThrough sum w.page_size c old new) (longer_content sum w old.present sound.stands bytes) h)
+
+-- a writer that waits no more for the sync that it waited for: that has completed
+pub completed : (sum : List ℕ → ℕ) (w now : WriterState) (old new : Life) → IsSound sum now new.present → CoversThrough sum w.page_size (content w old.present.readable) old new
+    → Completed sum w.page_size (content w old.present.readable) w.sync now.sync old new
+unfolding IsSound
+completed sum w now old new sound covers = by_state w.sync
+  where
+    held : List ℕ
+    held = content w old.present.readable
+
+    by_state : (s : SyncState) → Completed sum w.page_size held s now.sync old new
+    by_state Clean = tt
+    by_state Dirty = tt
+    by_state (Pending name) = λ other cover enough would.
+        let later : WouldKeep sum w.page_size held name cover new.present = through_end (CoversStay sum w.page_size held old.present) old new covers name cover enough would in
+        elim (which new.present now.sync name later.covers sound.stands.starts later.named) [
+          | inl done ↦ subst (λ (d : Disk). AllKeep sum w.page_size held cover d) (settled_already later.covers new.present done) later.keeps
+          | inr (pending, state, same) ↦ absurd (other state)
+        ]

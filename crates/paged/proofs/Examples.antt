@@ -1,19 +1,23 @@
 -- What a writer's calls are told by, at a few bytes. Pages have 4 bytes, and the checksum is their sum.
-use Rattle.std.proofs.Common.{◌≡◌, ℕ, zero, suc, [], ◌∷◌, ◌++◌, refl, sym, subst, inl, inr, arith}
+use Rattle.std.proofs.Common.{◌≡◌, ℕ, zero, suc, List, [], ◌∷◌, ◌++◌, length, length-append, ap, refl, sym, subst, inl, inr, arith}
 use Rattle.std.specs.Prelude.{None, Some, Ok, true, false}
-use Rattle.disk.specs.Disk.{Life, LogGrows, SomeFailed, next, logged}
-use Rattle.disk.specs.Disk.Request.{ReadAt}
+use Rattle.disk.specs.Disk.{Life, Entry, LogGrows, SomeFailed, HasFailed, next, logged, failed_at}
+use Rattle.disk.specs.Disk.Request.{ReadAt, WaitSync}
+use Rattle.disk.specs.declared.started_sync.StartedSync.TheVariants.{Named}
+use Rattle.page.specs.declared.slot.Slot.TheVariants.{First}
 use Rattle.disk.specs.declared.error.Error.TheVariants.{ReadFailed, SyncFailed, InvalidChecksum}
 use Rattle.page.specs.Sums.{add_sum}
 use Rattle.page.proofs.Examples.{abcd_page, ef_page, efg_page}
 use Rattle.crash.specs.WriterState.{WriterState}
 use Rattle.crash.specs.Built.{built}
-use Rattle.crash.specs.WriterState.SyncState.{Clean, Dirty}
+use Rattle.crash.specs.WriterState.SyncState.{Clean, Dirty, Pending}
+use Rattle.crash.proofs.StartedLaws.{ab_page, ab_started}
 use Rattle.crash.proofs.Examples.{at_rest, with_g}
 use Rattle.paged.specs.Writer.{physical_size, FitsBlob}
 use Rattle.paged.specs.Flush.{full_in, rest_of, has_work, carried, advanced, synced, place_of, flush_bytes, rest_bytes, footers_of, with_footers}
 use Rattle.paged.specs.Recovery.{RecoveryCause}
-use Rattle.paged.specs.Calls.{IsSettled, TryAppends}
+use Rattle.paged.specs.Calls.{IsSettled, TryAppends, HasCause, SettlesBy, sync_calls, start_calls, started_already, waited}
+use Rattle.paged.specs.Direct.{fill_of, is_too_big, IsDirect}
 use Rattle.paged.specs.Prefix.{page_at}
 use Rattle.paged.specs.Reads.{HasPages, Touches, ReadFault, size_of}
 
@@ -150,3 +154,79 @@ a_try_that_does_not_fit = (omega arith, omega arith, refl)
 -- a footer behind each of two pages of one byte
 pub footers_of_two : with_footers ((97 ∷ []) ∷ (98 ∷ []) ∷ []) (footers_of add_sum None ((97 ∷ []) ∷ (98 ∷ []) ∷ [])) ≡ built add_sum 1 None 2 (97 ∷ 98 ∷ [])
 footers_of_two = refl
+
+-- ---- started syncs
+
+-- a writer of "ab", all written, that started a sync of it
+abbrev pub ab_waits : WriterState
+ab_waits = record { page_size = 4; id = 0; capacity = 8; full_pages = 0; tip = 97 ∷ 98 ∷ []; flushed = Some (record { slot = First; len = 2; crc = 195 }); durable = None; sync = Pending 0 }
+
+-- the same with "c" behind it
+abbrev pub abc_waits : WriterState
+abc_waits = record ab_waits { tip = 97 ∷ 98 ∷ 99 ∷ [] }
+
+-- a sync waits, and where something isn't written it writes too
+pub calls_of_a_sync : (sync_calls ab_waits ≡ 1) × (sync_calls abc_waits ≡ 2)
+calls_of_a_sync = (refl, refl)
+
+-- another start asks nothing; where something isn't written it waits, writes and starts
+pub calls_of_a_start : (start_calls ab_waits ≡ 0) × (start_calls abc_waits ≡ 3)
+calls_of_a_start = (refl, refl)
+
+-- so it answers the same name
+pub the_same_name : started_already ab_waits.sync ≡ Named 0
+the_same_name = refl
+
+-- once it has waited it is clean
+pub it_waited : waited ab_waits ≡ record ab_waits { sync = Clean }
+it_waited = refl
+
+-- the blob with that sync, and the same where a wait for it failed
+abbrev pub started : Life
+started = record { present = ab_started; past = [] }
+
+abbrev pub failed : Life
+failed = record { present = record ab_started { started = failed_at 0 ab_started.started }; past = [] }
+
+-- then the next call that waits may answer SyncFailed, though nothing fails in it
+pub it_had_failed : HasCause (Pending 0) failed failed SyncFailed
+it_had_failed = inr refl
+
+-- but not where nothing had failed
+no_failure : (life : Life) → HasFailed SyncFailed life.present life.present → ⊥
+no_failure life (entries, is, some) = some_none entries (let none : length entries ≡ 0 = omega (arith, ap length is, length-append life.present.log entries) in none) some
+  where
+    some_none : (entries : List Entry) → length entries ≡ 0 → SomeFailed SyncFailed entries → ⊥
+    some_none [] none some = some
+    some_none (e ∷ es) none some = omega (arith, none)
+
+pub it_had_not_failed : HasCause (Pending 0) started started SyncFailed → ⊥
+it_had_not_failed (inl fails) = no_failure started fails
+it_had_not_failed (inr had) = absurd (cc had)
+
+-- nor by a writer that waits for nothing
+pub nothing_was_awaited : HasCause Dirty failed failed SyncFailed → ⊥
+nothing_was_awaited (inl fails) = no_failure failed fails
+nothing_was_awaited (inr had) = had
+
+-- the wait settles: the page is durable then
+pub a_wait_settles_it : SettlesBy (Pending 0) started (next started (logged (WaitSync 0) false (record ab_started { base = ab_page; since = []; settled = 1 }))) (Ok tt)
+a_wait_settles_it = (record { covers = 1; bytes = ab_page; failed = false }, refl, refl, refl)
+
+-- ---- appends that are too big for the buffer
+
+-- one byte fills the page of "efg"
+pub a_fill : fill_of with_g ≡ 1
+a_fill = refl
+
+-- six bytes more pass the buffer of eight, and leave a page behind that byte
+pub six_are_too_big : is_too_big with_g 6 ≡ true
+six_are_too_big = refl
+
+-- five don't pass it
+pub five_are_not : is_too_big with_g 5 ≡ false
+five_are_not = refl
+
+-- "efgh" and "i" behind two full pages
+pub a_direct_append : IsDirect (record with_g { full_pages = 2; tip = []; flushed = None; durable = None }) (101 ∷ 102 ∷ 103 ∷ 104 ∷ []) (105 ∷ [])
+a_direct_append = record { empty = refl; some = omega arith; pages = refl; short = omega arith; fits = omega arith }

@@ -1,30 +1,30 @@
 -- From what a device call did to what a flush and a sync owe.
-use Rattle.std.proofs.Common.{◌≡◌, ℕ, ◌+◌, ◌*◌, ◌%◌, ◌<◌, ◌≤◌, List, [], ◌++◌, length, take, refl, sym, ap, ◌∙◌, subst, arith, append-nil, Bool, true, false, Result, Ok, Err}
-use Rattle.std.specs.Prelude.{IfOk, OnOk, IsErrOf, not, ◌==◌, if◌then◌else◌}
+use Rattle.std.proofs.Common.{◌≡◌, ℕ, ◌+◌, ◌*◌, ◌%◌, ◌<◌, ◌≤◌, inl, inr, ◌⊎◌, List, [], ◌++◌, length, take, refl, sym, ap, ◌∙◌, subst, arith, append-nil, Bool, true, false, Result, Ok, Err}
+use Rattle.std.specs.Prelude.{IfOk, OnOk, IsErrOf, not, ◌==◌, ◌&&◌, if◌then◌else◌}
 use Rattle.std.proofs.lemmas.List.{take_at}
 use Rattle.std.proofs.lemmas.Bool.Decides.{nat_tests}
 use Rattle.std.proofs.Math.Nat.{mod-lt, mod-eq_of_lt}
 use Rattle.disk.specs.Disk.{Disk, Life, WriteAt, SyncAll, WriteGoes, SyncGoes}
 use Rattle.disk.specs.declared.error.Error.{Error}
-use Rattle.disk.specs.declared.error.Error.TheVariants.{OffsetOverflow}
+use Rattle.disk.specs.declared.error.Error.TheVariants.{OffsetOverflow, SyncFailed}
 use Rattle.crash.specs.WriterState.{WriterState, SyncState}
-use Rattle.crash.specs.WriterState.SyncState.{Clean, Dirty}
+use Rattle.crash.specs.WriterState.SyncState.{Clean, Dirty, Pending}
 use Rattle.crash.specs.Built.{after_write}
-use Rattle.crash.specs.Sound.{IsSound, CanWrite, content, guard_slot, MayFlush}
+use Rattle.crash.specs.Sound.{IsSound, CanWrite, content, guard_slot, AllSettled, MayFlush}
 use Rattle.paged.specs.Writer.{state_of}
 use Rattle.paged.specs.declared.writer.SyncState.{SyncState as State}
-use Rattle.paged.specs.declared.writer.SyncState.TheVariants.{Clean as IsClean, Dirty as IsDirty}
+use Rattle.paged.specs.declared.writer.SyncState.TheVariants.{Dirty as IsDirty, Pending as IsPending}
 use Rattle.crash.specs.Stays.{StaysThrough}
 use Rattle.crash.proofs.BuiltLaws.{IsSmall}
-use Rattle.crash.proofs.FlushLaws.{flushed_fits, tip_reach, length-content}
+use Rattle.crash.proofs.FlushLaws.{flushed_fits, flush_settled, tip_reach, length-content}
 use Rattle.crash.proofs.Moments.{stays_through_start, stays_through_joins}
 use Rattle.crash.proofs.Soundness.{carry_sound, sound_leaves}
 use Rattle.crash.proofs.CallLaws.{sync_stays, sync_sound, sync_content, write_stays, write_sound, durable_write_sound, write_content}
 use Rattle.disk.proofs.Logs.{grows_same, grows_once, grows_joins}
 use Rattle.paged.proofs.Flushing.{length-rest}
-use Rattle.paged.proofs.Causes.{write_cause, sync_cause, cause_later, sync_asks}
+use Rattle.paged.proofs.Causes.{write_cause, sync_cause, cause_later, sync_asks, write_grows, sync_grows}
 use Rattle.paged.specs.Flush.{full_in, rest_of, has_work, carried, synced, written, place_of, flush_bytes, answered}
-use Rattle.paged.specs.Calls.{AsksAtMost, settle_calls, sync_calls, HoldsWithin, IsSameWriter, GoesOn, Flushes, Syncs, Settles, IsSettled}
+use Rattle.paged.specs.Calls.{AsksAtMost, settle_calls, sync_calls, HoldsWithin, HadFailed, HasCause, IsSameWriter, GoesOn, Refuses, Flushes, Syncs, Settles, IsSettled, IsWritten, WaitsForNone}
 
 -- a content is the beginning of a longer one
 pub begins : (xs ys : List ℕ) → xs ≡ take (length xs) (xs ++ ys)
@@ -36,7 +36,7 @@ unfolding IsSound
 size_is_length sum w life sound = sym (length-content w life.present.readable ((tip_reach sum w.page_size w.full_pages w.tip life.present.readable w.flushed sound.stands.tip_page).0))
 
 -- promises over a content are promises over that content and no bytes more
-stays_nil : (sum : List ℕ → ℕ) (P : ℕ) (content : List ℕ) (old new : Life) → StaysThrough sum P content old new → StaysThrough sum P (content ++ []) old new
+pub stays_nil : (sum : List ℕ → ℕ) (P : ℕ) (content : List ℕ) (old new : Life) → StaysThrough sum P content old new → StaysThrough sum P (content ++ []) old new
 stays_nil sum P content old new stays = subst (λ c. StaysThrough sum P c old new) (sym (append-nil content)) stays
 
 -- a flush of the full pages, and of the rest where asked, by a writer whose durable slot is up to date
@@ -49,22 +49,24 @@ flush_goes sum w now rest old new (Ok done) small sound is can goes state fits =
   size = size_is_length sum now new (subst (λ n. IsSound sum n new.present) (sym state) (write_sound sum w old new (full_in w) rest (flush_bytes sum w rest) small sound is can refl tt goes));
   only = sound_leaves sum now new.present (subst (λ n. IsSound sum n new.present) (sym state) (write_sound sum w old new (full_in w) rest (flush_bytes sum w rest) small sound is can refl tt goes));
   content = ap (λ n. content n new.present.readable) state ∙ write_content sum w old new (full_in w) rest (flush_bytes sum w rest) small sound is can refl false tt goes ∙ sym (append-nil (content w old.present.readable));
-  same = subst (λ n. IsSameWriter w n) (sym state) (record { page_size = refl; id = refl; capacity = refl });
+  same = subst (λ n. IsSameWriter w n) (sym state) (record { page_size = refl; id = refl; capacity = refl; full_pages = omega arith });
   log = grows_once (WriteAt (place_of w) (length (flush_bytes sum w rest)) false) false old.present new.present (ap (λ l. l.present.log) goes.1 ∙ ap (λ e. e.log) goes.2.rest);
   stays = stays_nil sum w.page_size (content w old.present.readable) old new (write_stays sum w old new (full_in w) rest (flush_bytes sum w rest) small sound is can refl false (Ok tt) goes);
+  waits = λ had. absurd (subst (λ (n : WriterState). HadFailed n.sync new.present) state had);
 }
 flush_goes sum w now rest old new (Err e) small sound is can goes state fits = record {
-  cause = write_cause (place_of w) (flush_bytes sum w rest) false old new e goes (λ h. fits (ap Err h));
+  cause = write_cause w.sync (place_of w) (flush_bytes sum w rest) false old new e goes (λ h. fits (ap Err h));
   stays = write_stays sum w old new (full_in w) rest (flush_bytes sum w rest) small sound is can refl false (Err e) goes;
+  log = write_grows (place_of w) (flush_bytes sum w rest) false old new (Err e) goes;
 }
 
 -- going on from a writer whose durable slot was brought up to date is going on from the writer
 carried_goes_on : (sum : List ℕ → ℕ) (w now : WriterState) (old new : Life) → GoesOn sum (carried w) old [] now new → GoesOn sum w old [] now new
-carried_goes_on sum w now old new h = record { sound = h.sound; content = h.content; size = h.size; only = h.only; same = record { page_size = h.same.page_size; id = h.same.id; capacity = h.same.capacity }; log = h.log; stays = h.stays }
+carried_goes_on sum w now old new h = record { sound = h.sound; content = h.content; size = h.size; only = h.only; same = record { page_size = h.same.page_size; id = h.same.id; capacity = h.same.capacity; full_pages = h.same.full_pages }; log = h.log; stays = h.stays; waits = h.waits }
 
 flushes_carried : (sum : List ℕ → ℕ) (w : WriterState) (old new : Life) (result : Result WriterState Error) → Flushes sum (carried w) old new result → Flushes sum w old new result
 flushes_carried sum w old new (Ok now) h = carried_goes_on sum w now old new h
-flushes_carried sum w old new (Err e) h = record { cause = h.cause; stays = h.stays }
+flushes_carried sum w old new (Err e) h = record { cause = h.cause; stays = h.stays; log = h.log }
 
 -- a flush by a writer whose durable slot was brought up to date
 pub flush_call : (sum : List ℕ → ℕ) (w v now : WriterState) (rest : Bool) (old new : Life) (result : Result (Unit {0}) Error) → IsSmall sum → IsSound sum w old.present → MayFlush w.sync w.flushed (guard_slot w.sync w.flushed w.durable) → v ≡ carried w
@@ -83,12 +85,28 @@ goes_on_more sum w m n old mid new first second = record {
   size = second.size;
   only = second.only;
   content = second.content ∙ append-nil (content m mid.present.readable) ∙ first.content;
-  same = record { page_size = second.same.page_size ∙ first.same.page_size; id = second.same.id ∙ first.same.id; capacity = second.same.capacity ∙ first.same.capacity };
+  same = record { page_size = second.same.page_size ∙ first.same.page_size; id = second.same.id ∙ first.same.id; capacity = second.same.capacity ∙ first.same.capacity; full_pages = omega (arith, first.same.full_pages, second.same.full_pages) };
   log = grows_joins old.present mid.present new.present first.log second.log;
   stays = stays_through_joins sum w.page_size (content w old.present.readable ++ []) old mid new first.stays
       (subst (λ P. StaysThrough sum P (content w old.present.readable ++ []) mid new) first.same.page_size
       (subst (λ c. StaysThrough sum m.page_size c mid new) (append-nil (content m mid.present.readable) ∙ first.content) second.stays));
+  waits = λ had. cause_later w.sync m.sync old mid new SyncFailed first.log second.log first.waits (second.waits had);
 }
+
+-- a refusal of the later call is one of both
+pub refuses_more : (sum : List ℕ → ℕ) (w m : WriterState) (old mid new : Life) (e : Error) → GoesOn sum w old [] m mid → Refuses sum m (content m mid.present.readable) mid new e
+    → Refuses sum w (content w old.present.readable) old new e
+refuses_more sum w m old mid new e first second = record {
+  cause = cause_later w.sync m.sync old mid new e first.log second.log first.waits second.cause;
+  log = grows_joins old.present mid.present new.present first.log second.log;
+  stays = subst (λ c. StaysThrough sum w.page_size c old new) (append-nil (content w old.present.readable))
+      (stays_through_joins sum w.page_size (content w old.present.readable ++ []) old mid new first.stays
+      (subst (λ P. StaysThrough sum P (content w old.present.readable ++ []) mid new) first.same.page_size (subst (λ c. StaysThrough sum m.page_size c mid new) first.content second.stays)));
+}
+
+-- a sync that had failed before
+pub has_waited : (s : SyncState) (life : Life) → HadFailed s life.present → HasCause s life life SyncFailed
+has_waited s life had = inr had
 
 -- no call at all
 pub goes_on_same : (sum : List ℕ → ℕ) (w : WriterState) (life : Life) → IsSound sum w life.present → GoesOn sum w life [] w life
@@ -98,9 +116,10 @@ goes_on_same sum w life sound = record {
   size = size_is_length sum w life sound;
   only = sound_leaves sum w life.present sound;
   content = sym (append-nil (content w life.present.readable));
-  same = record { page_size = refl; id = refl; capacity = refl };
+  same = record { page_size = refl; id = refl; capacity = refl; full_pages = omega arith };
   log = grows_same life.present life.present refl;
   stays = stays_nil sum w.page_size (content w life.present.readable) life life (stays_through_start sum w.page_size (content w life.present.readable) life sound.truthful);
+  waits = has_waited w.sync life;
 }
 
 -- a sync of the blob
@@ -111,16 +130,17 @@ settle_ok sum w now old new small sound goes state = record {
   size = size_is_length sum now new (subst (λ n. IsSound sum n new.present) (sym state) (sync_sound sum w old sound new tt small goes));
   only = sound_leaves sum now new.present (subst (λ n. IsSound sum n new.present) (sym state) (sync_sound sum w old sound new tt small goes));
   content = ap (λ n. content n new.present.readable) state ∙ sync_content sum w old sound new tt goes ∙ sym (append-nil (content w old.present.readable));
-  same = subst (λ n. IsSameWriter w n) (sym state) (record { page_size = refl; id = refl; capacity = refl });
+  same = subst (λ n. IsSameWriter w n) (sym state) (record { page_size = refl; id = refl; capacity = refl; full_pages = omega arith });
   log = grows_once SyncAll false old.present new.present (ap (λ l. l.present.log) goes);
   stays = stays_nil sum w.page_size (content w old.present.readable) old new (sync_stays sum w old sound new (Ok tt) goes);
+  waits = λ had. absurd (subst (λ (n : WriterState). HadFailed n.sync new.present) state had);
 }
 
 pub settle_goes : (sum : List ℕ → ℕ) (w now : WriterState) (old new : Life) (result : Result (Unit {0}) Error) → IsSmall sum → IsSound sum w old.present → SyncGoes old new result
     → OnOk result (now ≡ synced w) → Settles sum w old new (answered now result)
 unfolding IsSound
 settle_goes sum w now old new (Ok done) small sound goes state = (settle_ok sum w now old new small sound goes state, state)
-settle_goes sum w now old new (Err e) small sound goes state = record { cause = sync_cause old new e goes; stays = sync_stays sum w old sound new (Err e) goes }
+settle_goes sum w now old new (Err e) small sound goes state = record { cause = sync_cause w.sync old new e goes; stays = sync_stays sum w old sound new (Err e) goes; log = sync_grows old new (Err e) goes }
 
 -- a clean writer has nothing to settle
 pub settled_already : (sum : List ℕ → ℕ) (w : WriterState) (life : Life) → IsSound sum w life.present → w.sync ≡ Clean → Settles sum w life life (Ok w)
@@ -151,20 +171,22 @@ sync_durably sum w now rest old new (Ok done) small sound is rests can goes stat
     size = size_is_length sum now new (subst (λ n. IsSound sum n new.present) (sym state) (durable_write_sound sum w old new (full_in w) rest (flush_bytes sum w rest) small sound is can refl tt goes));
     only = sound_leaves sum now new.present (subst (λ n. IsSound sum n new.present) (sym state) (durable_write_sound sum w old new (full_in w) rest (flush_bytes sum w rest) small sound is can refl tt goes));
     content = ap (λ n. content n new.present.readable) state ∙ write_content sum w old new (full_in w) rest (flush_bytes sum w rest) small sound is can refl true tt goes ∙ sym (append-nil (content w old.present.readable));
-    same = subst (λ n. IsSameWriter w n) (sym state) (record { page_size = refl; id = refl; capacity = refl });
+    same = subst (λ n. IsSameWriter w n) (sym state) (record { page_size = refl; id = refl; capacity = refl; full_pages = omega arith });
     log = grows_once (WriteAt (place_of w) (length (flush_bytes sum w rest)) true) false old.present new.present (ap (λ l. l.present.log) goes.1 ∙ ap (λ e. e.log) goes.2.rest);
     stays = stays_nil sum w.page_size (content w old.present.readable) old new (write_stays sum w old new (full_in w) rest (flush_bytes sum w rest) small sound is can refl true (Ok tt) goes);
+    waits = λ had. absurd (subst (λ (n : WriterState). HadFailed n.sync new.present) state had);
   },
   subst IsSettled (sym state) (settled_after sum w rest sound.stands.some rests),
 )
 sync_durably sum w now rest old new (Err e) small sound is rests can goes state fits = record {
-  cause = write_cause (place_of w) (flush_bytes sum w rest) true old new e goes (λ h. fits (ap Err h));
+  cause = write_cause w.sync (place_of w) (flush_bytes sum w rest) true old new e goes (λ h. fits (ap Err h));
   stays = write_stays sum w old new (full_in w) rest (flush_bytes sum w rest) small sound is can refl true (Err e) goes;
+  log = write_grows (place_of w) (flush_bytes sum w rest) true old new (Err e) goes;
 }
 
 syncs_carried : (sum : List ℕ → ℕ) (w : WriterState) (old new : Life) (result : Result WriterState Error) → Syncs sum (carried w) old new result → Syncs sum w old new result
 syncs_carried sum w old new (Ok now) h = (carried_goes_on sum w now old new h.0, h.1)
-syncs_carried sum w old new (Err e) h = record { cause = h.cause; stays = h.stays }
+syncs_carried sum w old new (Err e) h = record { cause = h.cause; stays = h.stays; log = h.log }
 
 -- the same by a writer whose durable slot was brought up to date
 pub sync_write : (sum : List ℕ → ℕ) (w v now : WriterState) (rest : Bool) (old new : Life) (result : Result (Unit {0}) Error) → IsSmall sum → IsSound sum w old.present → MayFlush w.sync w.flushed (guard_slot w.sync w.flushed w.durable) → v ≡ carried w
@@ -180,10 +202,26 @@ sync_write sum w v now rest old new result small sound ready is rests =
 pub dirty_carried : (w : WriterState) → w.sync ≡ Dirty → MayFlush w.sync w.flushed w.durable
 dirty_carried w dirty = subst (λ (s : SyncState). MayFlush s w.flushed w.durable) (sym dirty) tt
 
--- so is any writer's that isn't pending, once it was carried
-pub may_flush_carried : (w : WriterState) (s : State) → state_of s ≡ w.sync → MayFlush w.sync w.flushed (guard_slot w.sync w.flushed w.durable)
-may_flush_carried w IsClean is = subst (λ (s : SyncState). MayFlush s w.flushed (guard_slot s w.flushed w.durable)) is refl
-may_flush_carried w IsDirty is = subst (λ (s : SyncState). MayFlush s w.flushed (guard_slot s w.flushed w.durable)) is tt
+-- a writer that may flush has no started sync that isn't settled
+pub ready_settled : (sum : List ℕ → ℕ) (w : WriterState) (d : Disk) → IsSound sum w d → MayFlush w.sync w.flushed (guard_slot w.sync w.flushed w.durable) → AllSettled d
+unfolding IsSound
+ready_settled sum w d sound ready = flush_settled d w.sync w.flushed (guard_slot w.sync w.flushed w.durable) ready sound.stands.starts
+
+-- so is that of a writer that waits for none, once it was carried
+pub may_flush_carried : (w : WriterState) (s : SyncState) → s ≡ w.sync → WaitsForNone s → MayFlush w.sync w.flushed (guard_slot w.sync w.flushed w.durable)
+may_flush_carried w Clean is none = subst (λ (s : SyncState). MayFlush s w.flushed (guard_slot s w.flushed w.durable)) is refl
+may_flush_carried w Dirty is none = subst (λ (s : SyncState). MayFlush s w.flushed (guard_slot s w.flushed w.durable)) is tt
+may_flush_carried w (Pending name) is none = absurd none
+
+-- a writer that waits for none and isn't clean is dirty
+pub dirty_state : (w : WriterState) (s : State) → state_of s ≡ w.sync → WaitsForNone w.sync → (s ≡ IsDirty) ⊎ ((name : ℕ) × (s ≡ IsPending name)) → w.sync ≡ Dirty
+dirty_state w s is none (inl dirty) = sym is ∙ ap state_of dirty
+dirty_state w s is none (inr (name, pending)) = absurd (subst (λ (t : SyncState). WaitsForNone t) (sym is ∙ ap state_of pending) none)
+
+-- so all that was started is settled
+pub dirty_settled : (sum : List ℕ → ℕ) (w : WriterState) (d : Disk) → IsSound sum w d → w.sync ≡ Dirty → AllSettled d
+unfolding IsSound
+dirty_settled sum w d sound dirty = flush_settled d w.sync w.flushed w.durable (dirty_carried w dirty) sound.stands.starts
 
 -- a write, and a sync of the blob
 pub sync_second : (sum : List ℕ → ℕ) (w now n : WriterState) (rest : Bool) (old mid new : Life) (result : Result (Unit {0}) Error) → IsSmall sum → IsSound sum w old.present → w.sync ≡ Dirty
@@ -197,13 +235,7 @@ sync_second sum w now n rest old mid new (Ok done) small sound dirty rests can g
     )
 sync_second sum w now n rest old mid new (Err e) small sound dirty rests can goes state synced_blob last =
     let first : GoesOn sum w old [] now mid = flush_goes sum w now rest old mid (Ok tt) small sound (dirty_carried w dirty) can goes state (λ is. cc) in
-    let second = sync_stays sum now mid first.sound new (Err e) synced_blob in
-    record {
-      cause = cause_later old mid new e first.log (sync_cause mid new e synced_blob);
-      stays = subst (λ c. StaysThrough sum w.page_size c old new) (append-nil (content w old.present.readable))
-          (stays_through_joins sum w.page_size (content w old.present.readable ++ []) old mid new first.stays
-          (subst (λ P. StaysThrough sum P (content w old.present.readable ++ []) mid new) first.same.page_size (subst (λ c. StaysThrough sum now.page_size c mid new) first.content second)));
-    }
+    refuses_more sum w now old mid new e first (settle_goes sum now n mid new (Err e) small first.sound synced_blob last)
 
 -- a writer that has nothing to write has written all
 idle_settled : (sum : List ℕ → ℕ) (w : WriterState) (d : Disk) → IsSound sum w d → has_work w true ≡ false → IsSettled (synced w)
@@ -217,6 +249,16 @@ idle_settled sum w d sound idle =
       flushed = grind (arith, nat_tests, idle, same, flushed_fits sum w.page_size w.full_pages w.tip d.readable w.flushed sound.stands.tip_page);
     }
 
+-- so a flush that has nothing to write leaves less than a page, and with the rest nothing
+pub idle_short_rest : (w : WriterState) (rest : Bool) → has_work w rest ≡ false → length w.tip < w.page_size
+idle_short_rest w rest idle = grind (arith, nat_tests, idle)
+
+pub idle_written : (sum : List ℕ → ℕ) (w : WriterState) (rest : Bool) (d : Disk) → IsSound sum w d → has_work w rest ≡ false → rest ≡ true → IsWritten w
+unfolding IsSound
+idle_written sum w rest d sound idle all =
+    let settled : IsSettled (synced w) = idle_settled sum w d sound (sym (ap (λ (b : Bool). has_work w b) all) ∙ idle) in
+    record { short = settled.short; flushed = settled.flushed }
+
 -- nothing to write: what is written is synced
 pub sync_settles : (sum : List ℕ → ℕ) (w : WriterState) (old new : Life) (result : Result WriterState Error) → IsSound sum w old.present → has_work w true ≡ false
     → Settles sum w old new result → Syncs sum w old new result
@@ -224,17 +266,28 @@ sync_settles sum w old new (Ok now) sound idle (goes, state) = (goes, subst IsSe
 sync_settles sum w old new (Err e) sound idle refused = refused
 
 -- after a flush less than a page is buffered
-pub flush_short : (sum : List ℕ → ℕ) (w v now : WriterState) (result : Result (Unit {0}) Error) → 0 < w.page_size → v ≡ carried w → OnOk result (now ≡ written sum v false false)
+pub flush_short : (sum : List ℕ → ℕ) (w v now : WriterState) (rest : Bool) (result : Result (Unit {0}) Error) → 0 < w.page_size → v ≡ carried w → OnOk result (now ≡ written sum v rest false)
     → OnOk result (length now.tip < w.page_size)
-flush_short sum w v now (Ok done) some is state =
+flush_short sum w v now rest (Ok done) some is state =
     let same : v.page_size ≡ w.page_size = ap (λ (s : WriterState). s.page_size) is in
     let tip : length now.tip ≡ length (rest_of v) = ap (λ (s : WriterState). length s.tip) state in
     omega (arith, length-rest v, mod-lt (length v.tip) (let page : 0 < v.page_size = omega (arith, some, same) in page), same, tip)
-flush_short sum w v now (Err e) some is state = tt
+flush_short sum w v now rest (Err e) some is state = tt
 
--- and where no full page is
-pub idle_short : (w : WriterState) → has_work w false ≡ false → length w.tip < w.page_size
-idle_short w idle = grind (arith, nat_tests, idle)
+-- and with the rest all is written
+pub flush_written : (sum : List ℕ → ℕ) (w v now : WriterState) (asked rest : Bool) (result : Result (Unit {0}) Error) → 0 < w.page_size → v ≡ carried w → rest ≡ (asked && not (length w.tip % w.page_size == 0))
+    → OnOk result (now ≡ written sum v rest false) → asked ≡ true → OnOk result (IsWritten now)
+flush_written sum w v now asked rest (Ok done) some is rests state all =
+    let whole : rest ≡ not (length w.tip % w.page_size == 0) = rests ∙ ap (λ (b : Bool). b && not (length w.tip % w.page_size == 0)) all in
+    let carry : IsSettled (synced (after_write sum (carried w) (full_in (carried w)) rest)) = settled_after sum (carried w) rest some whole in
+    let is_now : now ≡ written sum (carried w) rest false = state ∙ ap (λ (x : WriterState). written sum x rest false) is in
+    subst IsWritten (sym is_now) (record { short = carry.short; flushed = carry.flushed })
+flush_written sum w v now asked rest (Err e) some is rests state all = tt
+
+-- it is dirty
+pub flush_dirty : (sum : List ℕ → ℕ) (v now : WriterState) (rest : Bool) (result : Result (Unit {0}) Error) → OnOk result (now ≡ written sum v rest false) → OnOk result (now.sync ≡ Dirty)
+flush_dirty sum v now rest (Ok done) state = ap (λ (w : WriterState). w.sync) state
+flush_dirty sum v now rest (Err e) state = tt
 
 -- so what is buffered is within the capacity
 pub short_within : {A : Type 0} (state : A → WriterState) (P capacity : ℕ) (result : Result A Error) → P ≤ capacity → IfOk result (λ a. length (state a).tip < P) → IfOk result (λ a. (state a).capacity ≡ capacity)

@@ -1,8 +1,8 @@
 -- What a flush writes, and that places still fit.
-use Rattle.std.proofs.Common.{◌≡◌, ℕ, ◌+◌, ◌*◌, ◌-◌, ◌/◌, ◌%◌, ◌<◌, ◌≤◌, ◌^◌, List, ◌++◌, length, take, drop, refl, sym, ap, ◌∙◌, arith, append-nil, length-drop, inl, inr, Bool, true, false, min}
+use Rattle.std.proofs.Common.{◌≡◌, ℕ, ◌+◌, ◌*◌, ◌-◌, ◌/◌, ◌%◌, ◌<◌, ◌≤◌, ◌^◌, List, ◌++◌, length, take, drop, refl, sym, ap, ◌∙◌, subst, arith, append-nil, length-drop, inl, inr, Bool, true, false, min}
 use Rattle.std.proofs.Math.Nat.{mod-lt, div-zero, div-add-mod', mod-eq_of_lt, div-eq_of_lt, mul-div_cancel, mul-le-mul_right, add-mul, zero-mul}
 use Rattle.std.proofs.lemmas.List.{take_all, length-take-le}
-use Rattle.std.specs.Prelude.{Option, not, ◌==◌}
+use Rattle.std.specs.Prelude.{Option, not, ◌==◌, ◌&&◌}
 use Rattle.std.specs.Int.{div_ceil}
 use Rattle.std.specs.List.{concat}
 use Rattle.page.specs.Tip.{ArePages}
@@ -110,3 +110,8 @@ can_sync w false some work is =
 can_sync w true some work is =
     let left : 0 < length w.tip % w.page_size = grind (arith, nat_tests, is) in
     (omega (arith, div-add-mod' (length w.tip) w.page_size), omega (arith, div-add-mod' (length w.tip) w.page_size, mod-lt (length w.tip) some))
+
+-- the same where the rest is written if it is asked for and there is some
+pub can_flush_rest : (w : WriterState) (rest behind : Bool) → 0 < w.page_size → has_work w rest ≡ true → behind ≡ (rest && not (length w.tip % w.page_size == 0)) → CanWrite w.page_size w.tip (full_in w) behind
+can_flush_rest w false behind some work is = subst (λ (b : Bool). CanWrite w.page_size w.tip (full_in w) b) (sym is) (can_flush w some work)
+can_flush_rest w true behind some work is = can_sync w behind some work is

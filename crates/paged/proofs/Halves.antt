@@ -1,6 +1,6 @@
 -- The two halves of the promise, read off what each moment of a call owes.
-use Rattle.std.proofs.Common.{◌≡◌, ℕ, List, ◌++◌, sym, ◌∙◌, subst, append-nil, Ok, Err, Result}
-use Rattle.std.specs.Prelude.{OnOk}
+use Rattle.std.proofs.Common.{◌≡◌, ℕ, ◌≤◌, arith, List, [], ◌++◌, sym, ◌∙◌, subst, append-nil, Ok, Err, Result}
+use Rattle.std.specs.Prelude.{OnOk, IfOk}
 use Rattle.disk.specs.Disk.{Life}
 use Rattle.disk.specs.declared.error.Error.{Error}
 use Rattle.disk.specs.declared.error.Error.TheVariants.{ReadFailed, WriteFailed, ResizeFailed, SyncFailed, InvalidChecksum, BlobInsufficientLength, OffsetOverflow, OutOfMemory, IdsExhausted}
@@ -10,7 +10,8 @@ use Rattle.crash.specs.Stays.{StaysThrough, KeepsAll, KeepsFloors, LeavesOnly, K
 use Rattle.crash.proofs.FloorLaws.{floors_of_sound}
 use Rattle.crash.proofs.Moments.{kept_through, only_through, only_behind, kept_through_longer}
 use Rattle.crash.proofs.Soundness.{settle_keeps}
-use Rattle.paged.specs.Calls.{Syncs, Appends}
+use Rattle.disk.specs.declared.started_sync.StartedSync.{StartedSync}
+use Rattle.paged.specs.Calls.{GoesOn, Syncs, Appends, StartsSync, WaitsForSync, HoldsWithin}
 use Rattle.paged.proofs.Flushes.{begins}
 use Rattle.paged.proofs.Appends.{append_unasked}
 
@@ -76,3 +77,33 @@ sync_keeps sum w old new result sound syncs = floors_of_sound sum w old new soun
 pub sync_leaves : (sum : List ℕ → ℕ) (w : WriterState) (old new : Life) (result : Result WriterState Error) → Syncs sum w old new result
     → LeavesOnly sum w.page_size (content w old.present.readable) (content w old.present.readable) old new
 sync_leaves sum w old new result syncs = leaves_only sum w.page_size (content w old.present.readable) old new (syncs_stay sum w old new result syncs)
+
+-- so do a start and a wait
+pub goes_stay : (sum : List ℕ → ℕ) (w now : WriterState) (old new : Life) → GoesOn sum w old [] now new → StaysThrough sum w.page_size (content w old.present.readable) old new
+goes_stay sum w now old new goes = subst (λ c. StaysThrough sum w.page_size c old new) (append-nil (content w old.present.readable)) goes.stays
+
+starts_stay : (sum : List ℕ → ℕ) (w : WriterState) (old new : Life) (result : Result (WriterState × StartedSync) Error) → StartsSync sum w old new result → StaysThrough sum w.page_size (content w old.present.readable) old new
+starts_stay sum w old new (Ok r) (goes, written, state, covered) = goes_stay sum w r.0 old new goes
+starts_stay sum w old new (Err e) refused = refused.stays
+
+waits_stay : (sum : List ℕ → ℕ) (w : WriterState) (old new : Life) (result : Result WriterState Error) → WaitsForSync sum w old new result → StaysThrough sum w.page_size (content w old.present.readable) old new
+waits_stay sum w old new (Ok now) (goes, is) = goes_stay sum w now old new goes
+waits_stay sum w old new (Err e) refused = refused.stays
+
+module _ (sum : List ℕ → ℕ) (w : WriterState) (old new : Life) (sound : IsSound sum w old.present) where
+  pub start_keeps : (result : Result (WriterState × StartedSync) Error) → StartsSync sum w old new result → KeepsAllFloors sum w.page_size old new
+  start_keeps result starts = floors_of_sound sum w old new sound (keeps_floors sum w.page_size (content w old.present.readable) old new (starts_stay sum w old new result starts))
+
+  pub start_leaves : (result : Result (WriterState × StartedSync) Error) → StartsSync sum w old new result → LeavesOnly sum w.page_size (content w old.present.readable) (content w old.present.readable) old new
+  start_leaves result starts = leaves_only sum w.page_size (content w old.present.readable) old new (starts_stay sum w old new result starts)
+
+  pub wait_keeps : (result : Result WriterState Error) → WaitsForSync sum w old new result → KeepsAllFloors sum w.page_size old new
+  wait_keeps result waits = floors_of_sound sum w old new sound (keeps_floors sum w.page_size (content w old.present.readable) old new (waits_stay sum w old new result waits))
+
+  pub wait_leaves : (result : Result WriterState Error) → WaitsForSync sum w old new result → LeavesOnly sum w.page_size (content w old.present.readable) (content w old.present.readable) old new
+  wait_leaves result waits = leaves_only sum w.page_size (content w old.present.readable) old new (waits_stay sum w old new result waits)
+
+-- less than a page is buffered behind a start
+pub start_within : (sum : List ℕ → ℕ) (w : WriterState) (old new : Life) (result : Result (WriterState × StartedSync) Error) → w.page_size ≤ w.capacity → StartsSync sum w old new result → IfOk result (λ r. HoldsWithin r.0)
+start_within sum w old new (Ok r) room (goes, written, state, covered) = omega (arith, written.short, goes.same.page_size, goes.same.capacity, room)
+start_within sum w old new (Err e) room refused = tt

@@ -5,6 +5,8 @@ pub mod Flushing
 pub mod Drains
 pub mod Causes
 pub mod Flushes
+pub mod Waits
+pub mod Starting
 pub mod Appends
 pub mod Reading
 pub mod Halves
@@ -23,3 +25,5 @@ pub mod RecoveryExamples
 pub mod There
 pub mod Below
 pub mod Covers
+pub mod Bypass
+pub mod Joins

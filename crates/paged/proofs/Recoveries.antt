@@ -15,7 +15,7 @@ use Rattle.crash.specs.WriterState.SyncState.{Clean, Dirty, Pending}
 use Rattle.crash.specs.Looks.{Looked}
 use Rattle.crash.proofs.Pages.{cut_is, pages_reach}
 use Rattle.paged.specs.declared.prefix.Prefix.{Prefix}
-use Rattle.paged.specs.declared.writer.SyncState.TheVariants.{Clean as IsClean, Dirty as IsDirty}
+use Rattle.paged.specs.declared.writer.SyncState.TheVariants.{Clean as IsClean, Dirty as IsDirty, Pending as IsPending}
 use Rattle.paged.specs.declared.writer.SyncState.{SyncState as State}
 use Rattle.paged.specs.Writer.{state_of, FitsBlob}
 use Rattle.paged.specs.Prefix.{last_prefix, prefix_pages, partial_pages, tip_of}
@@ -161,6 +161,7 @@ TrimsTo kept old new = (mid : Life) × Looked old mid × ((new ≡ mid) ⊎ ((an
 pub trims_back : (kept : ℕ) (old mid new : Life) (answer : Result State Error) → Looked old mid → CutsBack kept mid new answer → TrimsTo kept old new
 trims_back kept old mid new (Ok IsDirty) looked cuts = (mid, looked, inl cuts.1)
 trims_back kept old mid new (Ok IsClean) looked cuts = (mid, looked, inr (Ok tt, cuts.1))
+trims_back kept old mid new (Ok (IsPending name)) looked cuts = absurd cuts
 trims_back kept old mid new (Err e) looked cuts = (mid, looked, inr (Err e, cuts))
 
 -- the same, done
@@ -171,6 +172,7 @@ kept_back kept old mid new IsClean looked le cuts =
     let same = looked_readable old mid looked in
     let done = cut_done kept mid new (omega (arith, ap length same)) cuts.1 in
     (cut (λ is. cuts.0 (is ∙ sym (ap length same))) (done.0 ∙ ap (λ (l : List ℕ). take kept l) same) done.1, grows_joins old.present mid.present new.present looked.log done.2)
+kept_back kept old mid new (IsPending name) looked le cuts = absurd cuts
 
 -- the same, not done
 pub back_cause : (kept : ℕ) (old mid new : Life) (e : Error) → Looked old mid → kept ≤ length old.present.readable → CutsBack kept mid new (Err e) → RecoveryCause old new e
@@ -195,20 +197,20 @@ module _ (sum : List ℕ → ℕ) (cache : CacheState) (capacity : ℕ) (old new
 synced_once : (s : SyncState) (old new : Life) (answer : Result (Unit {0}) Error) → SyncsIn s old new answer → (new ≡ old) ⊎ ((a : Result (Unit {0}) Error) × SyncGoes old new a)
 synced_once Clean old new answer syncs = inl syncs.1
 synced_once Dirty old new answer syncs = inr (answer, syncs)
-synced_once (Pending name) old new answer syncs = absurd syncs
+synced_once (Pending name) old new answer syncs = inr (answer, syncs)
 
 -- the same, done
 pub synced_done : (s : SyncState) (old new : Life) → (s ≡ Clean → IsDurable old.present) → SyncsIn s old new (Ok tt) → (new.present.readable ≡ old.present.readable) × IsDurable new.present × LogGrows old.present new.present
 synced_done Clean old new clean syncs =
     (ap (λ (l : Life). l.present.readable) syncs.1, subst (λ (l : Life). IsDurable l.present) (sym syncs.1) (clean refl), grows_same old.present new.present (ap (λ (l : Life). l.present.log) syncs.1))
 synced_done Dirty old new clean syncs = sync_done old new syncs
-synced_done (Pending name) old new clean syncs = absurd syncs
+synced_done (Pending name) old new clean syncs = sync_done old new syncs
 
 -- the same, not done
 pub synced_cause : (s : SyncState) (old new : Life) (e : Error) → SyncsIn s old new (Err e) → RecoveryCause old new e
 synced_cause Clean old new e syncs = absurd (cc (syncs.0))
 synced_cause Dirty old new e syncs = sync_cause old new e syncs
-synced_cause (Pending name) old new e syncs = absurd syncs
+synced_cause (Pending name) old new e syncs = sync_cause old new e syncs
 
 -- nothing was cut yet
 pub ends_synced : (kept : ℕ) (s : SyncState) (old new : Life) (answer : Result (Unit {0}) Error) → SyncsIn s old new answer → EndsAt kept old new
@@ -218,6 +220,7 @@ ends_synced kept s old new answer syncs = (new, synced_once s old new answer syn
 pub ends_back : (kept : ℕ) (s : SyncState) (old mid new : Life) (answer : Result State Error) → SyncsIn s old mid (Ok tt) → CutsBack kept mid new answer → EndsAt kept old new
 ends_back kept s old mid new (Ok IsDirty) syncs cuts = (mid, synced_once s old mid (Ok tt) syncs, inl cuts.1)
 ends_back kept s old mid new (Ok IsClean) syncs cuts = (mid, synced_once s old mid (Ok tt) syncs, inr (Ok tt, cuts.1))
+ends_back kept s old mid new (Ok (IsPending name)) syncs cuts = absurd cuts
 ends_back kept s old mid new (Err e) syncs cuts = (mid, synced_once s old mid (Ok tt) syncs, inr (Err e, cuts))
 
 -- the same, done
@@ -233,6 +236,7 @@ ended kept s IsClean old mid new clean le syncs cuts =
     let first = synced_done s old mid clean syncs in
     let second = cut_done kept mid new (omega (arith, ap length first.0)) cuts.1 in
     (second.0 ∙ ap (λ (l : List ℕ). take kept l) first.0, second.1, grows_joins old.present mid.present new.present first.2 second.2)
+ended kept s (IsPending name) old mid new clean le syncs cuts = absurd cuts
 
 -- the same, not done
 pub ended_cause : (kept : ℕ) (s : SyncState) (old mid new : Life) (e : Error) → (s ≡ Clean → IsDurable old.present) → kept ≤ length old.present.readable → SyncsIn s old mid (Ok tt) → CutsBack kept mid new (Err e) → RecoveryCause old new e

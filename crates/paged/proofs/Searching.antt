@@ -5,7 +5,7 @@ use Rattle.std.proofs.lemmas.List.{map-append}
 use Rattle.disk.specs.Disk.{Request, Entry, Life, ReadAt, ReadMany, StartReadMany, ResizeTo, SyncAll, AskedOnce, ReadGoes, ResizeGoes, SyncGoes}
 use Rattle.disk.specs.declared.error.Error.{Error}
 use Rattle.disk.specs.declared.error.Error.TheVariants.{ReadFailed, WriteFailed, ResizeFailed, SyncFailed, InvalidChecksum, BlobInsufficientLength, OffsetOverflow, OutOfMemory, IdsExhausted}
-use Rattle.paged.specs.declared.writer.SyncState.TheVariants.{Clean as IsClean, Dirty as IsDirty}
+use Rattle.paged.specs.declared.writer.SyncState.TheVariants.{Clean as IsClean, Dirty as IsDirty, Pending as IsPending}
 use Rattle.paged.specs.declared.writer.SyncState.{SyncState as State}
 use Rattle.paged.specs.Recovery.{Cuts, CutsBack, EndsAt}
 use Rattle.paged.specs.Searches.{Gained, AreWithin, FallFrom, ReadsWithin, ReadsBack, scan_bytes}
@@ -218,6 +218,7 @@ cuts_quiet kept old new (Err e) cuts = elim cuts [
 cuts_back_quiet : (kept : ℕ) (old new : Life) (answer : Result State Error) → CutsBack kept old new answer → Quiet old new
 cuts_back_quiet kept old new (Ok IsDirty) cuts = gained_none AreQuiet old new cuts.1 tt
 cuts_back_quiet kept old new (Ok IsClean) cuts = cuts_quiet kept old new (Ok tt) cuts.1
+cuts_back_quiet kept old new (Ok (IsPending name)) cuts = absurd cuts
 cuts_back_quiet kept old new (Err e) cuts = cuts_quiet kept old new (Err e) cuts
 
 ends_quiet : (kept : ℕ) (old new : Life) → EndsAt kept old new → Quiet old new

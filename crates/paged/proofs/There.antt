@@ -14,7 +14,8 @@ use Rattle.paged.proofs.Halves.{keeps_floors, leaves_only}
 use Rattle.crash.specs.Looks.{SameButLog, Looked}
 use Rattle.crash.proofs.FlushLaws.{tip_reach}
 use Rattle.crash.proofs.Soundness.{looked_sound}
-use Rattle.paged.specs.Calls.{Syncs, Appends}
+use Rattle.disk.specs.declared.started_sync.StartedSync.{StartedSync}
+use Rattle.paged.specs.Calls.{Syncs, Appends, StartsSync, WaitsForSync}
 use Rattle.paged.specs.Reads.{HasPages}
 use Rattle.paged.specs.Recovery.{Recovers}
 
@@ -41,6 +42,15 @@ recovered_there sum cache capacity old new (Err e) refused = tt
 pub recovered_sound : (sum : List ℕ → ℕ) (cache : CacheState) (capacity : ℕ) (old new : Life) (result : Result WriterState Error) → Recovers sum cache capacity old new result → IfOk result (λ w. IsSound sum w new.present)
 recovered_sound sum cache capacity old new (Ok w) is = is.sound
 recovered_sound sum cache capacity old new (Err e) refused = tt
+
+-- the pages are there behind a start and a wait
+pub start_there : (sum : List ℕ → ℕ) (w : WriterState) (old new : Life) (result : Result (WriterState × StartedSync) Error) → StartsSync sum w old new result → IfOk result (λ r. HasPages r.0 new)
+start_there sum w old new (Ok r) (goes, written, state, covered) = sound_has_pages sum r.0 new goes.sound
+start_there sum w old new (Err e) refused = tt
+
+pub wait_there : (sum : List ℕ → ℕ) (w : WriterState) (old new : Life) (result : Result WriterState Error) → WaitsForSync sum w old new result → IfOk result (λ now. HasPages now new)
+wait_there sum w old new (Ok now) (goes, is) = sound_has_pages sum now new goes.sound
+wait_there sum w old new (Err e) refused = tt
 
 -- a read keeps soundness
 pub reads_keep_sound : (sum : List ℕ → ℕ) (w : WriterState) (old new : Life) → Looked old new → IsSound sum w old.present → IsSound sum w new.present

@@ -1,31 +1,54 @@
 -- What each public call of a writer does, by cases on its answer.
-use Rattle.std.specs.Prelude.{◌≡◌, ◌<◌, ◌≤◌, ◌+◌, ◌*◌, ◌^◌, ◌++◌, ℕ, Bool, List, [], length, nat_lt}
-use Rattle.std.specs.Prelude.{true, if◌then◌else◌, Option, Some, None, Result, Ok, Err}
-use Rattle.disk.specs.Disk.{Disk, Life, LogGrows, HasFailed}
+use Rattle.std.specs.Prelude.{◌≡◌, ◌≢◌, ◌⊎◌, ◌<◌, ◌≤◌, ◌+◌, ◌*◌, ◌^◌, ◌++◌, ℕ, Bool, List, []}
+use Rattle.std.specs.Prelude.{length, nat_lt, true, if◌then◌else◌, Option, Some, None, Result, Ok, Err}
+use Rattle.disk.specs.Disk.{Disk, Life, LogGrows, HasFailed, SyncGoes, WaitGoes, had_failed}
+use Rattle.disk.specs.declared.started_sync.StartedSync.{StartedSync}
+use Rattle.disk.specs.declared.started_sync.StartedSync.TheVariants.{Done, Named}
 use Rattle.disk.specs.declared.error.Error.{Error}
 use Rattle.disk.specs.declared.error.Error.TheVariants.{WriteFailed, SyncFailed, OffsetOverflow}
 use Rattle.disk.specs.declared.error.Error.TheVariants.{OutOfMemory}
 use Rattle.crash.specs.WriterState.{WriterState, SyncState}
 use Rattle.crash.specs.WriterState.SyncState.{Clean, Dirty, Pending}
 use Rattle.crash.specs.Sound.{IsSound, LeavesItsContent, content}
-use Rattle.crash.specs.Stays.{StaysThrough}
+use Rattle.crash.specs.Kept.{AllKeep}
+use Rattle.crash.specs.Started.{WouldKeep, CoversThrough}
+use Rattle.crash.specs.Stays.{StaysThrough, KeepsAll}
 use Rattle.crash.specs.Built.{kept_len}
 use Rattle.paged.specs.Writer.{physical_size, FitsBlob}
 use Rattle.paged.specs.Flush.{has_work, synced}
 
--- why an append, a flush or a sync may answer this error: a write or a sync of the device failed in
--- it, or memory was refused
-abbrev pub HasCause : Life → Life → Error → Type 0
-HasCause old new WriteFailed = HasFailed WriteFailed old.present new.present
-HasCause old new SyncFailed = HasFailed SyncFailed old.present new.present
-HasCause old new OutOfMemory = Unit {0}
-HasCause old new _ = ⊥
+-- the started sync that a writer in this state waits for has failed
+abbrev pub HadFailed : SyncState → Disk → Type 0
+HadFailed Clean d = ⊥
+HadFailed Dirty d = ⊥
+HadFailed (Pending name) d = had_failed d.started name ≡ true
+
+-- why a call of a writer in this state may answer this error: a write or a sync of the device
+-- failed in it, or the started sync that it waited for had failed, or memory was refused
+abbrev pub HasCause : SyncState → Life → Life → Error → Type 0
+HasCause s old new WriteFailed = HasFailed WriteFailed old.present new.present
+HasCause s old new SyncFailed =
+    HasFailed SyncFailed old.present new.present ⊎ HadFailed s old.present
+HasCause s old new OutOfMemory = Unit {0}
+HasCause s old new _ = ⊥
 
 -- at most so many device calls were made
 abbrev pub AsksAtMost : ℕ → Life → Life → Type 0
 AsksAtMost n old new = length new.present.log ≤ length old.present.log + n
 
--- the device calls that make what is written durable: a sync, where something is unsynced
+-- the device calls that wait for a pending sync
+abbrev pub wait_calls : SyncState → ℕ
+wait_calls Clean = 0
+wait_calls Dirty = 0
+wait_calls (Pending name) = 1
+
+-- those that start a sync of what is written, where something is unsynced that none covers
+abbrev pub unstarted_calls : SyncState → ℕ
+unstarted_calls Clean = 0
+unstarted_calls Dirty = 1
+unstarted_calls (Pending name) = 0
+
+-- those that make what is written durable: a sync, where something is unsynced, or a wait
 abbrev pub settle_calls : SyncState → ℕ
 settle_calls Clean = 0
 settle_calls Dirty = 1
@@ -35,15 +58,20 @@ settle_calls (Pending name) = 1
 abbrev pub sync_calls : WriterState → ℕ
 sync_calls w = (if has_work w true then 1 else 0) + settle_calls w.sync
 
+-- those of starting a sync: where something isn't written, a wait, a write and the start
+abbrev pub start_calls : WriterState → ℕ
+start_calls w = if has_work w true then wait_calls w.sync + 2 else unstarted_calls w.sync
+
 -- what is buffered is within the capacity
 abbrev pub HoldsWithin : WriterState → Type 0
 HoldsWithin w = length w.tip ≤ w.capacity
 
--- the writer is the same but for its pages and what it buffers
+-- the writer is the same but for its pages and what it buffers, and its tip hasn't gone back
 pub record IsSameWriter (old new : WriterState) : Type 0 where
   pub page_size : new.page_size ≡ old.page_size
   pub id : new.id ≡ old.id
   pub capacity : new.capacity ≡ old.capacity
+  pub full_pages : old.full_pages ≤ new.full_pages
 
 -- a writer goes on over its blob: it is sound, and stands for the content before and these bytes;
 -- and what each moment of the call owes to the one at which it began
@@ -57,24 +85,32 @@ pub record GoesOn (sum : List ℕ → ℕ) (w : WriterState) (old : Life) (more 
   pub content : content now new.present.readable ≡ content w old.present.readable ++ more
   pub same : IsSameWriter w now
   pub log : LogGrows old.present new.present
+  -- where the sync that it is left waiting for has failed, this call is why, or it was so before
+  pub waits : HadFailed now.sync new.present → HasCause w.sync old new SyncFailed
 
 -- a call is refused: why, and what each of its moments owes
-pub record Refuses (sum : List ℕ → ℕ) (P : ℕ) (content : List ℕ) (old new : Life) (e : Error)
-    : Type 0 where
-  pub cause : HasCause old new e
-  pub stays : StaysThrough sum P content old new
+pub record Refuses (sum : List ℕ → ℕ) (w : WriterState) (content : List ℕ) (old new : Life)
+    (e : Error) : Type 0 where
+  pub cause : HasCause w.sync old new e
+  pub stays : StaysThrough sum w.page_size content old new
+  pub log : LogGrows old.present new.present
 
 -- a flush
 abbrev pub Flushes : (List ℕ → ℕ) → WriterState → Life → Life → Result WriterState Error → Type 0
 Flushes sum w old new (Ok now) = GoesOn sum w old [] now new
-Flushes sum w old new (Err e) = Refuses sum w.page_size (content w old.present.readable) old new e
+Flushes sum w old new (Err e) = Refuses sum w (content w old.present.readable) old new e
 
 -- what is written is made durable, and the writer stays
 abbrev pub Settles : (List ℕ → ℕ) → WriterState → Life → Life → Result WriterState Error → Type 0
 Settles sum w old new (Ok now) = GoesOn sum w old [] now new × (now ≡ synced w)
-Settles sum w old new (Err e) = Refuses sum w.page_size (content w old.present.readable) old new e
+Settles sum w old new (Err e) = Refuses sum w (content w old.present.readable) old new e
 
--- all that the writer stands for is written and durable
+-- all that the writer stands for is written
+pub record IsWritten (w : WriterState) : Type 0 where
+  pub short : length w.tip < w.page_size
+  pub flushed : kept_len w.flushed ≡ length w.tip
+
+-- and durable
 pub record IsSettled (w : WriterState) : Type 0 where
   pub clean : w.sync ≡ Clean
   pub short : length w.tip < w.page_size
@@ -83,7 +119,93 @@ pub record IsSettled (w : WriterState) : Type 0 where
 -- a sync
 abbrev pub Syncs : (List ℕ → ℕ) → WriterState → Life → Life → Result WriterState Error → Type 0
 Syncs sum w old new (Ok now) = GoesOn sum w old [] now new × IsSettled now
-Syncs sum w old new (Err e) = Refuses sum w.page_size (content w old.present.readable) old new e
+Syncs sum w old new (Err e) = Refuses sum w (content w old.present.readable) old new e
+
+-- what is written is made durable by one call of the device, or none, by the state of the writer
+abbrev pub SettlesBy : SyncState → Life → Life → Result (Unit {0}) Error → Type 0
+SettlesBy Clean old new answer = (answer ≡ Ok tt) × (new ≡ old)
+SettlesBy Dirty old new answer = SyncGoes old new answer
+SettlesBy (Pending name) old new answer = WaitGoes name old new answer
+
+-- the writer once it waited for a pending sync
+abbrev pub waited_state : SyncState → SyncState
+waited_state Clean = Clean
+waited_state Dirty = Dirty
+waited_state (Pending name) = Clean
+
+abbrev pub waited : WriterState → WriterState
+waited w = record w { sync = waited_state w.sync }
+
+-- no sync is pending
+abbrev pub WaitsForNone : SyncState → Type 0
+WaitsForNone Clean = Unit {0}
+WaitsForNone Dirty = Unit {0}
+WaitsForNone (Pending name) = ⊥
+
+-- a wait for the pending sync
+abbrev pub WaitsForSync : (List ℕ → ℕ) → WriterState → Life → Life → Result WriterState Error
+    → Type 0
+WaitsForSync sum w old new (Ok now) = GoesOn sum w old [] now new × (now ≡ waited w)
+WaitsForSync sum w old new (Err e) = Refuses sum w (content w old.present.readable) old new e
+
+-- what the sync that a writer in this state waits for covers, every image keeps from then on
+abbrev pub Completes : (List ℕ → ℕ) → (P : ℕ) → SyncState → Life → Life → Type 0
+Completes sum P Clean old new = Unit {0}
+Completes sum P Dirty old new = Unit {0}
+Completes sum P (Pending name) old new =
+    (content : List ℕ) (cover : ℕ) → WouldKeep sum P content name cover old.present
+    → AllKeep sum P content cover new.present
+
+-- the state of a writer that started a sync, by what that answered
+abbrev pub started_state : StartedSync → SyncState
+started_state Done = Clean
+started_state (Named name) = Pending name
+
+-- what starting a sync answers where it asks nothing of the device
+abbrev pub started_already : SyncState → StartedSync
+started_already Clean = Done
+started_already Dirty = Done
+started_already (Pending name) = Named name
+
+-- where a writer waits no more for the sync that it waited for, whichever call waited, every image
+-- keeps what that covers of this content
+abbrev pub Completed : (List ℕ → ℕ) → (P : ℕ) → (held : List ℕ) → (before behind : SyncState)
+    → Life → Life → Type 0
+Completed sum P held Clean behind old new = Unit {0}
+Completed sum P held Dirty behind old new = Unit {0}
+Completed sum P held (Pending name) behind old new =
+    (behind ≢ Pending name) → (cover : ℕ) → cover ≤ length held
+    → WouldKeep sum P held name cover old.present → AllKeep sum P held cover new.present
+
+-- a call behind the back of a blob's writer: it stays sound, the pages below its tip stay there,
+-- and each moment owes to it what it would in a call of its own
+pub record LeavesWriter (sum : List ℕ → ℕ) (w : WriterState) (old new : Life) : Type 0 where
+  pub sound : IsSound sum w new.present
+  pub readable : new.present.readable ≡ old.present.readable
+  pub stays : StaysThrough sum w.page_size (content w old.present.readable) old new
+  pub covers : CoversThrough sum w.page_size (content w old.present.readable) old new
+
+abbrev pub LeavesWriters : (List ℕ → ℕ) → Life → Life → Type 0
+LeavesWriters sum old new =
+    (w : WriterState) → IsSound sum w old.present → LeavesWriter sum w old new
+
+-- what a started sync covers, every image keeps from then on
+abbrev pub Covers : (List ℕ → ℕ) → (P : ℕ) → StartedSync → Life → Life → Type 0
+Covers sum P Done old new = Unit {0}
+Covers sum P (Named name) old new = Completes sum P (Pending name) old new
+
+-- what a started sync stands for: all of this content is durable already, or is once it completed
+abbrev pub Starts : (List ℕ → ℕ) → (P : ℕ) → List ℕ → Life → StartedSync → Type 0
+Starts sum P content life Done = KeepsAll sum P content life
+Starts sum P content life (Named name) = WouldKeep sum P content name (length content) life.present
+
+-- a sync is started behind all that was appended
+abbrev pub StartsSync : (List ℕ → ℕ) → WriterState → Life → Life
+    → Result (WriterState × StartedSync) Error → Type 0
+StartsSync sum w old new (Ok r) =
+    GoesOn sum w old [] r.0 new × IsWritten r.0 × (r.0.sync ≡ started_state r.1)
+    × Starts sum w.page_size (content w old.present.readable) new r.1
+StartsSync sum w old new (Err e) = Refuses sum w (content w old.present.readable) old new e
 
 -- an append: it answers the size until now
 abbrev pub Appends : (List ℕ → ℕ) → WriterState → List ℕ → Life → Life
@@ -93,13 +215,15 @@ Appends sum w bytes old new (Ok r) =
 Appends sum w bytes old new (Err OffsetOverflow) =
     (new ≡ old) × (2 ^ 64 ≤ physical_size w.page_size w.full_pages (length w.tip + length bytes))
 Appends sum w bytes old new (Err e) =
-    Refuses sum w.page_size (content w old.present.readable ++ bytes) old new e
+    Refuses sum w (content w old.present.readable ++ bytes) old new e
 
 -- an append of bytes that fit what is buffered: they are buffered, and nothing is asked of the
 -- device
 abbrev pub BuffersAll : WriterState → List ℕ → Life → Life → Result (WriterState × ℕ) Error → Type 0
 BuffersAll w bytes old new (Ok r) = (r.0 ≡ record w { tip = w.tip ++ bytes }) × (new ≡ old)
-BuffersAll w bytes old new (Err e) = new ≡ old
+BuffersAll w bytes old new (Err OffsetOverflow) = new ≡ old
+BuffersAll w bytes old new (Err OutOfMemory) = new ≡ old
+BuffersAll w bytes old new (Err _) = ⊥
 
 -- bytes are buffered, and nothing is asked of the device: whether what is buffered is more than the
 -- capacity now

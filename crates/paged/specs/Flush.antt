@@ -86,3 +86,8 @@ outcome (Err e) = Err e
 abbrev pub answered : {A : Type 0} → A → Result (Unit {0}) Error → Result A Error
 answered a (Ok done) = Ok a
 answered a (Err e) = Err e
+
+-- an answer with this writer beside its value
+abbrev pub paired : {A B : Type 0} → B → Result A Error → Result (B × A) Error
+paired b (Ok a) = Ok (b, a)
+paired b (Err e) = Err e

@@ -5,3 +5,4 @@ pub mod Prefix
 pub mod Recovery
 pub mod Reads
 pub mod Searches
+pub mod Direct

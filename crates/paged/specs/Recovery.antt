@@ -18,6 +18,7 @@ use Rattle.crash.specs.Full.{AreFull}
 use Rattle.crash.specs.Stays.{LeavesOnly}
 use Rattle.paged.specs.declared.prefix.Prefix.{Prefix}
 use Rattle.paged.specs.declared.writer.SyncState.TheVariants.{Clean as IsClean, Dirty as IsDirty}
+use Rattle.paged.specs.declared.writer.SyncState.TheVariants.{Pending as IsPending}
 use Rattle.paged.specs.declared.writer.SyncState.{SyncState as State}
 use Rattle.paged.specs.Prefix.{prefix_of, last_prefix, prefix_pages, at_prefix, HasBytes}
 use Rattle.paged.specs.Calls.{IsSettled}
@@ -54,6 +55,7 @@ abbrev pub CutsBack : ℕ → Life → Life → Result State Error → Type 0
 CutsBack kept old new (Ok IsDirty) = (kept ≡ length old.present.readable) × (new ≡ old)
 CutsBack kept old new (Ok IsClean) =
     (kept ≢ length old.present.readable) × Cuts kept old new (Ok tt)
+CutsBack kept old new (Ok (IsPending name)) = ⊥
 CutsBack kept old new (Err e) = Cuts kept old new (Err e)
 
 -- the blob keeps its first bytes: all of them and nothing was written, or the cut is durable
@@ -92,7 +94,7 @@ slot_pages (Some slot) = 1
 abbrev pub SyncsIn : SyncState → Life → Life → Result (Unit {0}) Error → Type 0
 SyncsIn Clean old new answer = (answer ≡ Ok tt) × (new ≡ old)
 SyncsIn Dirty old new answer = SyncGoes old new answer
-SyncsIn (Pending name) old new answer = ⊥
+SyncsIn (Pending name) old new answer = SyncGoes old new answer
 
 -- all that is written is made durable and what stands behind these pages is cut, durably; the
 -- writer stands there

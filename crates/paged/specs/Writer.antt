@@ -3,13 +3,15 @@ use Rattle.std.specs.Prelude.{◌≡◌, Bool, true, false, ℕ, ◌+◌, ◌*�
 use Rattle.std.specs.Int.{div_ceil}
 use Rattle.page.specs.Tip.{Tip}
 use Rattle.crash.specs.WriterState.{SyncState}
-use Rattle.crash.specs.WriterState.SyncState.{Clean, Dirty}
+use Rattle.crash.specs.WriterState.SyncState.{Clean, Dirty, Pending}
 use Rattle.paged.specs.declared.writer.SyncState.TheVariants.{Clean as IsClean, Dirty as IsDirty}
+use Rattle.paged.specs.declared.writer.SyncState.TheVariants.{Pending as IsPending}
 use Rattle.paged.specs.declared.writer.SyncState.{SyncState as State}
 
 abbrev pub state_of : State → SyncState
 state_of IsClean = Clean
 state_of IsDirty = Dirty
+state_of (IsPending name) = Pending name
 
 -- a write that is durable at once, of a blob in which nothing was unsynced, leaves nothing unsynced
 abbrev pub state_after_write : Bool → SyncState

@@ -3,17 +3,19 @@ ghost use Rattle.std.specs.Prelude.{◌≡◌, ◌↔◌, ◌+◌, ◌-◌, ◌*
 ghost use Rattle.std.specs.Prelude.{IsTrue, IfOk, OnOk, Err};
 ghost use Rattle.crash.specs.Sound.{IsSound, content};
 ghost use Rattle.crash.specs.Below.{PagesStay};
-ghost use Rattle.crash.specs.Started.{CoversThrough};
+ghost use Rattle.crash.specs.WriterState.SyncState.{Dirty};
+ghost use Rattle.crash.specs.Started.{CoversThrough, StartsStand};
 ghost use Rattle.crash.specs.Stays.{KeepsAllFloors, LeavesOnly};
 ghost use Rattle.paged.specs.Writer.{physical_size, FitsBlob};
 ghost use Rattle.paged.specs.Calls.{AsksAtMost, HoldsWithin, Appends, Buffers, BuffersAll};
+ghost use Rattle.paged.specs.Calls.{Completed, wait_calls};
 ghost use Rattle.paged.specs.Calls.{TryAppends, BuffersOver, KeepsSound, KeepsPages};
 ghost use Rattle.paged.specs.Reads.{HasPages, size_of};
 ghost use Rattle.paged.specs.Flush.{answered};
 
 use crate::Writer;
 use cache::CacheRef;
-use disk::{Blob, Error};
+use disk::{Blob, Error, IoBuf};
 use page::{CHECKSUM_SIZE, EncodeSize, Sum, Write};
 
 /// The most bytes for which a blob has places.
@@ -26,7 +28,7 @@ fn greatest_size(page_size: u64) -> u64
 
 impl<B, H, Phase> Writer<B, H, Phase> {
     /// Whether the blob has places for so many bytes more.
-    fn fits(&self, more: usize) -> bool
+    pub(crate) fn fits(&self, more: usize) -> bool
         ensures { IsTrue result
             ↔ FitsBlob self.now.page_size self.now.full_pages (length self.now.tip + more) }
     {
@@ -40,7 +42,7 @@ impl<B, H, Phase> Writer<B, H, Phase> {
 
     /// Adds bytes to the tip, and answers whether it then holds more than its capacity. An error
     /// changes nothing.
-    fn buffer(&mut self, bytes: &[u8]) -> Result<bool, Error>
+    pub(crate) fn buffer(&mut self, bytes: &[u8]) -> Result<bool, Error>
         ensures { Buffers self.old bytes.now self.new result }
     {
         if !self.fits(bytes.len()) {
@@ -53,11 +55,16 @@ impl<B, H, Phase> Writer<B, H, Phase> {
 impl<B: Blob, H: Sum, Phase> Writer<B, H, Phase> {
     /// Appends bytes, and answers the logical place of the first: the size until now. They are
     /// buffered; where the buffer then holds more than its capacity, its full pages are written,
-    /// without a sync.
+    /// without a sync, once a sync that was started has been waited for. Where a whole page is left
+    /// of them once the buffer is filled to a page boundary, the buffer is written first, and then
+    /// their whole pages, which don't go through it.
+    ///
+    /// It makes no device call where the bytes fit what is buffered, and at most three else: a wait
+    /// for a sync that was started, and two writes.
     ///
     /// `OffsetOverflow`, before anything else, where the new size or the physical size that it
-    /// needs passes the greatest `u64`; `WriteFailed` where the device failed, `OutOfMemory`. The
-    /// writer is gone then.
+    /// needs passes the greatest `u64`; `WriteFailed` and `SyncFailed` where the device failed, and
+    /// `SyncFailed` where the started sync had failed; `OutOfMemory`. The writer is gone then.
     pub fn append(
         mut self,
         blob: &mut B,
@@ -78,7 +85,13 @@ impl<B: Blob, H: Sum, Phase> Writer<B, H, Phase> {
             → BuffersAll self bytes.now old new result }
         ensures flushed { self.capacity < length self.tip + length bytes.now
             → IfOk result (λ r. length r.0.tip < self.page_size) }
-        ensures calls { AsksAtMost 1 (B.life blob.old) (B.life blob.new) }
+        ensures dirty { self.capacity < length self.tip + length bytes.now
+            → IfOk result (λ r. r.0.sync ≡ Dirty) }
+        ensures calls { let old = B.life blob.old in let new = B.life blob.new in
+            AsksAtMost (wait_calls self.sync + 2) old new }
+        ensures completed { let old = B.life blob.old in let new = B.life blob.new in
+            let held = content self old.present.readable in
+            IfOk result (λ r. Completed H.sum_of self.page_size held self.sync r.0.sync old new) }
 
         // At each moment since the call began, and at every answer.
         ensures kept { KeepsAllFloors H.sum_of self.page_size (B.life blob.old) (B.life blob.new) }
@@ -90,14 +103,14 @@ impl<B: Blob, H: Sum, Phase> Writer<B, H, Phase> {
         ensures covers { let old = B.life blob.old in let new = B.life blob.new in
             let held = content self old.present.readable in
             CoversThrough H.sum_of self.page_size held old new }
+        ensures starts { StartsStand (B.life blob.new).present }
     {
         let at = self.size();
         self.append_bytes(blob, bytes)?;
         Ok((self, at))
     }
 
-    /// Adds bytes to the tip, and writes its full pages out where it then holds more than its
-    /// capacity. After an error the writer is of no use.
+    /// The same. After an error the writer is of no use.
     fn append_bytes(&mut self, blob: &mut B, bytes: &[u8]) -> Result<(), Error>
         requires sound { IsSound H.sum_of self.old (B.life blob.old).present }
         ensures appends { let old = B.life blob.old in let new = B.life blob.new in
@@ -117,10 +130,51 @@ impl<B: Blob, H: Sum, Phase> Writer<B, H, Phase> {
             → BuffersAll self.old bytes.now old new (answered (self.new, size_of self.old) result) }
         ensures flushed { self.old.capacity < length self.old.tip + length bytes.now
             → OnOk result (length self.new.tip < self.old.page_size) }
-        ensures calls { AsksAtMost 1 (B.life blob.old) (B.life blob.new) }
+        ensures dirty { self.old.capacity < length self.old.tip + length bytes.now
+            → OnOk result (self.new.sync ≡ Dirty) }
+        ensures calls { let old = B.life blob.old in let new = B.life blob.new in
+            AsksAtMost (wait_calls self.old.sync + 2) old new }
+        ensures starts { StartsStand (B.life blob.new).present }
+    {
+        let Some(fill) = self.too_big_for_buffer(bytes.len()) else {
+            return self.append_buffered(blob, bytes);
+        };
+        if !self.fits(bytes.len()) {
+            return Err(Error::OffsetOverflow);
+        }
+        let bytes = IoBuf::copy_from_slice(self.alloc, bytes)?;
+        self.append_direct(blob, fill, &bytes)
+    }
+
+    /// Adds bytes to the tip, and writes its full pages out where it then holds more than its
+    /// capacity. After an error the writer is of no use.
+    pub(crate) fn append_buffered(&mut self, blob: &mut B, bytes: &[u8]) -> Result<(), Error>
+        requires sound { IsSound H.sum_of self.old (B.life blob.old).present }
+        ensures appends { let old = B.life blob.old in let new = B.life blob.new in
+            let at = size_of self.old in
+            Appends H.sum_of self.old bytes.now old new (answered (self.new, at) result) }
+        ensures pages { let old = B.life blob.old in let new = B.life blob.new in
+            PagesStay self.old.page_size self.old.full_pages old new }
+        ensures covers { let old = B.life blob.old in let new = B.life blob.new in
+            let held = content self.old old.present.readable in
+            CoversThrough H.sum_of self.old.page_size held old new }
+        ensures overflow { let buffered = length self.old.tip + length bytes.now in
+            2 ^ 64 ≤ physical_size self.old.page_size self.old.full_pages buffered
+            → result ≡ Err Error.OffsetOverflow }
+        ensures within { OnOk result (HoldsWithin self.new) }
+        ensures buffered { let old = B.life blob.old in let new = B.life blob.new in
+            length self.old.tip + length bytes.now ≤ self.old.capacity
+            → BuffersAll self.old bytes.now old new (answered (self.new, size_of self.old) result) }
+        ensures flushed { self.old.capacity < length self.old.tip + length bytes.now
+            → OnOk result (length self.new.tip < self.old.page_size) }
+        ensures dirty { self.old.capacity < length self.old.tip + length bytes.now
+            → OnOk result (self.new.sync ≡ Dirty) }
+        ensures calls { let old = B.life blob.old in let new = B.life blob.new in
+            AsksAtMost (wait_calls self.old.sync + 1) old new }
+        ensures starts { StartsStand (B.life blob.new).present }
     {
         if self.buffer(bytes)? {
-            self.flush(blob)
+            self.flush(blob, false)
         } else {
             Ok(())
         }

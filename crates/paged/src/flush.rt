@@ -1,16 +1,18 @@
 // Writing the tip out, and syncing.
 ghost use Rattle.std.specs.Prelude.{◌≡◌, ◌+◌, ◌*◌, ◌<◌, ◌^◌, ◌++◌, IfOk, OnOk, IsOkUnless, IsErrOf};
-ghost use Rattle.std.specs.Prelude.{Ok, not, ◌==◌, ◌%◌, ◌≤◌, length, All, true, false, [], take};
+ghost use Rattle.std.specs.Prelude.{Ok, not, ◌&&◌, ◌==◌, ◌%◌, ◌≤◌, length, All, true, false, []};
+ghost use Rattle.std.specs.Prelude.{take};
 ghost use Rattle.std.specs.List.{concat};
-ghost use Rattle.disk.specs.Disk.{WriteGoes, SyncGoes};
+ghost use Rattle.disk.specs.Disk.{WriteGoes, SyncGoes, WaitGoes};
 ghost use Rattle.crash.specs.WriterState.SyncState.{Clean, Dirty};
 ghost use Rattle.crash.specs.Built.{durable_after, rest_written};
 ghost use Rattle.crash.specs.Sound.{CanWrite, IsSound, MayFlush, content, guard_slot};
 ghost use Rattle.crash.specs.Below.{PagesStay};
-ghost use Rattle.crash.specs.Started.{CoversThrough};
+ghost use Rattle.crash.specs.Started.{CoversThrough, StartsStand};
 ghost use Rattle.crash.specs.Stays.{KeepsAll, KeepsAllFloors, LeavesOnly};
 ghost use Rattle.paged.specs.Calls.{AsksAtMost, HoldsWithin, settle_calls, sync_calls, Flushes};
-ghost use Rattle.paged.specs.Calls.{Settles, Syncs};
+ghost use Rattle.paged.specs.Calls.{Settles, SettlesBy, Syncs, IsWritten, WaitsForNone, Completes};
+ghost use Rattle.paged.specs.Calls.{WaitsForSync, wait_calls};
 ghost use Rattle.paged.specs.Reads.{HasPages};
 ghost use Rattle.page.specs.Tip.{ArePages};
 ghost use Rattle.paged.specs.Writer.{FitsBlob};
@@ -22,7 +24,7 @@ use crate::build::{physical_pages, push_page};
 use crate::writer::SyncState;
 use bytes::Bytes;
 use cache::CacheRef;
-use disk::{Blob, Error, IoBuf, IoBufs, WriteOptions};
+use disk::{Blob, Error, IoBuf, IoBufs, StartedSync, WriteOptions};
 use page::{ActiveChecksum, CHECKSUM_SIZE, Sum, split_pages};
 
 impl<B, H, Phase> Writer<B, H, Phase> {
@@ -55,20 +57,27 @@ impl<B, H, Phase> Writer<B, H, Phase> {
         self.tip.len() % usize::from(self.page_size.get()) != 0
     }
 
+    /// Whether a flush writes the bytes behind the full pages: where asked, and there are some.
+    fn writes_rest(&self, rest: bool) -> bool
+        ensures { result ≡ (rest && not (length self.now.tip % self.now.page_size == 0)) }
+    {
+        rest && self.has_rest()
+    }
+
     /// Takes the slot that was written last over as the durable one, where nothing is unsynced.
-    fn carry(&mut self)
+    pub(crate) fn carry(&mut self)
+        requires { WaitsForNone self.old.sync }
         ensures is { self.new ≡ carried self.old }
         ensures ready { let old = self.old in
             MayFlush old.sync old.flushed (guard_slot old.sync old.flushed old.durable) }
     {
-        match self.sync_state {
-            SyncState::Clean => self.durable = self.flushed,
-            SyncState::Dirty => {}
+        if self.sync_state == SyncState::Clean {
+            self.durable = self.flushed;
         }
     }
 
     /// Where a flush writes.
-    fn place(&self) -> u64
+    pub(crate) fn place(&self) -> u64
         ensures place { result ≡ place_of self.now }
         ensures fits { FitsBlob self.now.page_size self.now.full_pages (length self.now.tip) }
     {
@@ -165,9 +174,49 @@ impl<B: Blob, H: Sum, Phase> Writer<B, H, Phase> {
         Ok(())
     }
 
-    /// Writes the tip's full pages out, without a sync. It makes no device call where there is
-    /// none. After an error the writer is of no use.
-    pub(crate) fn flush(&mut self, blob: &mut B) -> Result<(), Error>
+    /// Waits for the pending sync, of this name.
+    fn wait_for(&mut self, blob: &mut B, name: u64) -> Result<(), Error>
+        ensures goes { WaitGoes name (B.life blob.old) (B.life blob.new) result }
+        ensures state { OnOk result (self.new ≡ synced self.old) }
+    {
+        blob.wait_sync(StartedSync::Named(name))?;
+        self.sync_state = SyncState::Clean;
+        Ok(())
+    }
+
+    /// Waits for a pending sync; where there is none it does nothing. After an error the writer is
+    /// of no use.
+    pub(crate) fn wait(&mut self, blob: &mut B) -> Result<(), Error>
+        requires sound { IsSound H.sum_of self.old (B.life blob.old).present }
+        ensures waits { let old = B.life blob.old in let new = B.life blob.new in
+            WaitsForSync H.sum_of self.old old new (answered self.new result) }
+        ensures pages { let old = B.life blob.old in let new = B.life blob.new in
+            PagesStay self.old.page_size self.old.full_pages old new }
+        ensures covers { let old = B.life blob.old in let new = B.life blob.new in
+            let held = content self.old old.present.readable in
+            CoversThrough H.sum_of self.old.page_size held old new }
+        ensures starts { StartsStand (B.life blob.new).present }
+        ensures names { OnOk result
+            ((B.life blob.new).present.started ≡ (B.life blob.old).present.started) }
+        ensures completes { OnOk result (Completes H.sum_of self.old.page_size self.old.sync
+            (B.life blob.old) (B.life blob.new)) }
+        ensures calls { let old = B.life blob.old in let new = B.life blob.new in
+            AsksAtMost (wait_calls self.old.sync) old new }
+        ensures settles { wait_calls self.old.sync ≡ 1
+            → SettlesBy self.old.sync (B.life blob.old) (B.life blob.new) result }
+        ensures idle { wait_calls self.old.sync ≡ 0
+            → (result ≡ Ok tt) × (self.new ≡ self.old) × (B.life blob.new ≡ B.life blob.old) }
+    {
+        match self.sync_state {
+            SyncState::Pending(name) => self.wait_for(blob, name),
+            SyncState::Clean | SyncState::Dirty => Ok(()),
+        }
+    }
+
+    /// Writes the tip's full pages out, and with `rest` the bytes behind them, without a sync; it
+    /// waits for a pending sync before. It makes no device call where there is nothing to write.
+    /// After an error the writer is of no use.
+    pub(crate) fn flush(&mut self, blob: &mut B, rest: bool) -> Result<(), Error>
         requires sound { IsSound H.sum_of self.old (B.life blob.old).present }
         ensures flushes { let old = B.life blob.old in let new = B.life blob.new in
             Flushes H.sum_of self.old old new (answered self.new result) }
@@ -176,23 +225,56 @@ impl<B: Blob, H: Sum, Phase> Writer<B, H, Phase> {
         ensures covers { let old = B.life blob.old in let new = B.life blob.new in
             let held = content self.old old.present.readable in
             CoversThrough H.sum_of self.old.page_size held old new }
-        ensures calls { AsksAtMost 1 (B.life blob.old) (B.life blob.new) }
+        ensures starts { StartsStand (B.life blob.new).present }
+        ensures calls { let old = B.life blob.old in let new = B.life blob.new in
+            AsksAtMost (wait_calls self.old.sync + 1) old new }
         ensures short { OnOk result (length self.new.tip < self.old.page_size) }
+        ensures written { rest ≡ true → OnOk result (IsWritten self.new) }
+        ensures dirty { has_work self.old rest ≡ true → OnOk result (self.new.sync ≡ Dirty) }
+        ensures names { OnOk result
+            ((B.life blob.new).present.started ≡ (B.life blob.old).present.started) }
+        ensures idle { has_work self.old rest ≡ false
+            → (result ≡ Ok tt) × (self.new ≡ self.old) × (B.life blob.new ≡ B.life blob.old) }
         ensures room { self.old.page_size ≤ self.old.capacity }
     {
-        if !self.has_flush_work(false) {
-            return Ok(());
+        if self.has_flush_work(rest) {
+            self.wait(blob)?;
+            return self.flush_pages(blob, rest);
         }
-        self.carry();
-        self.write_pages(blob, false, false)
+        Ok(())
     }
 
-    /// Makes all that was appended durable. It makes two device calls at most, a write and a sync
-    /// of the blob; one, a write that is durable at once, where nothing was unsynced; and none
-    /// where there is nothing to do.
+    /// The same, where no sync is pending and there is something to write.
+    fn flush_pages(&mut self, blob: &mut B, rest: bool) -> Result<(), Error>
+        requires sound { IsSound H.sum_of self.old (B.life blob.old).present }
+        requires waited { WaitsForNone self.old.sync }
+        requires work { has_work self.old rest ≡ true }
+        ensures flushes { let old = B.life blob.old in let new = B.life blob.new in
+            Flushes H.sum_of self.old old new (answered self.new result) }
+        ensures pages { let old = B.life blob.old in let new = B.life blob.new in
+            PagesStay self.old.page_size self.old.full_pages old new }
+        ensures covers { let old = B.life blob.old in let new = B.life blob.new in
+            let held = content self.old old.present.readable in
+            CoversThrough H.sum_of self.old.page_size held old new }
+        ensures starts { StartsStand (B.life blob.new).present }
+        ensures calls { AsksAtMost 1 (B.life blob.old) (B.life blob.new) }
+        ensures short { OnOk result (length self.new.tip < self.old.page_size) }
+        ensures written { rest ≡ true → OnOk result (IsWritten self.new) }
+        ensures dirty { OnOk result (self.new.sync ≡ Dirty) }
+        ensures names { OnOk result
+            ((B.life blob.new).present.started ≡ (B.life blob.old).present.started) }
+    {
+        let behind = self.writes_rest(rest);
+        self.carry();
+        self.write_pages(blob, behind, false)
+    }
+
+    /// Makes all that was appended durable. It makes two device calls at most: a write and a sync
+    /// of the blob, or, where a sync was started, a wait for it and a write that is durable at
+    /// once; one, such a write, where nothing was unsynced; and none where there is nothing to do.
     ///
-    /// `WriteFailed` and `SyncFailed` where the device failed, `OutOfMemory`; the writer is gone
-    /// then.
+    /// `WriteFailed` and `SyncFailed` where the device failed, and `SyncFailed` where the started
+    /// sync had failed; `OutOfMemory`. The writer is gone then.
     pub fn sync(mut self, blob: &mut B, _cache: &mut CacheRef) -> Result<Self, Error>
         requires sound { IsSound H.sum_of self (B.life blob.old).present }
         ensures syncs { Syncs H.sum_of self (B.life blob.old) (B.life blob.new) result }
@@ -203,7 +285,7 @@ impl<B: Blob, H: Sum, Phase> Writer<B, H, Phase> {
         ensures idle { sync_calls self ≡ 0
             → (result ≡ Ok self) × (B.life blob.new ≡ B.life blob.old) }
         ensures unwritten { let old = B.life blob.old in let new = B.life blob.new in
-            has_work self true ≡ false → self.sync ≡ Dirty → SyncGoes old new (outcome result) }
+            has_work self true ≡ false → SettlesBy self.sync old new (outcome result) }
 
         // From then on every image keeps the whole content.
         ensures durable { let old = B.life blob.old in let new = B.life blob.new in
@@ -219,6 +301,7 @@ impl<B: Blob, H: Sum, Phase> Writer<B, H, Phase> {
         ensures covers { let old = B.life blob.old in let new = B.life blob.new in
             let held = content self old.present.readable in
             CoversThrough H.sum_of self.page_size held old new }
+        ensures starts { StartsStand (B.life blob.new).present }
     {
         self.sync_all(blob)?;
         Ok(self)
@@ -238,8 +321,9 @@ impl<B: Blob, H: Sum, Phase> Writer<B, H, Phase> {
         ensures calls { AsksAtMost (sync_calls self.old) (B.life blob.old) (B.life blob.new) }
         ensures idle { sync_calls self.old ≡ 0
             → (result ≡ Ok tt) × (self.new ≡ self.old) × (B.life blob.new ≡ B.life blob.old) }
-        ensures unwritten { has_work self.old true ≡ false → self.old.sync ≡ Dirty
-            → SyncGoes (B.life blob.old) (B.life blob.new) result }
+        ensures unwritten { has_work self.old true ≡ false
+            → SettlesBy self.old.sync (B.life blob.old) (B.life blob.new) result }
+        ensures starts { StartsStand (B.life blob.new).present }
     {
         if self.has_flush_work(true) {
             self.sync_pages(blob)
@@ -248,8 +332,7 @@ impl<B: Blob, H: Sum, Phase> Writer<B, H, Phase> {
         }
     }
 
-    /// Writes the tip out and makes it durable: at once where nothing was unsynced, else by a write
-    /// and a sync. After an error the writer is of no use.
+    /// Writes the tip out and makes it durable. After an error the writer is of no use.
     fn sync_pages(&mut self, blob: &mut B) -> Result<(), Error>
         requires sound { IsSound H.sum_of self.old (B.life blob.old).present }
         requires work { has_work self.old true ≡ true }
@@ -260,6 +343,27 @@ impl<B: Blob, H: Sum, Phase> Writer<B, H, Phase> {
         ensures covers { let old = B.life blob.old in let new = B.life blob.new in
             let held = content self.old old.present.readable in
             CoversThrough H.sum_of self.old.page_size held old new }
+        ensures starts { StartsStand (B.life blob.new).present }
+        ensures calls { AsksAtMost (sync_calls self.old) (B.life blob.old) (B.life blob.new) }
+    {
+        self.wait(blob)?;
+        self.write_durably(blob)
+    }
+
+    /// The same, where no sync is pending: at once where nothing was unsynced, else by a write and
+    /// a sync.
+    fn write_durably(&mut self, blob: &mut B) -> Result<(), Error>
+        requires sound { IsSound H.sum_of self.old (B.life blob.old).present }
+        requires waited { WaitsForNone self.old.sync }
+        requires work { has_work self.old true ≡ true }
+        ensures syncs { let old = B.life blob.old in let new = B.life blob.new in
+            Syncs H.sum_of self.old old new (answered self.new result) }
+        ensures pages { let old = B.life blob.old in let new = B.life blob.new in
+            PagesStay self.old.page_size self.old.full_pages old new }
+        ensures covers { let old = B.life blob.old in let new = B.life blob.new in
+            let held = content self.old old.present.readable in
+            CoversThrough H.sum_of self.old.page_size held old new }
+        ensures starts { StartsStand (B.life blob.new).present }
         ensures calls { AsksAtMost (sync_calls self.old) (B.life blob.old) (B.life blob.new) }
     {
         let rest = self.has_rest();
@@ -268,7 +372,7 @@ impl<B: Blob, H: Sum, Phase> Writer<B, H, Phase> {
                 self.carry();
                 self.write_pages(blob, rest, true)
             }
-            SyncState::Dirty => {
+            SyncState::Dirty | SyncState::Pending(_) => {
                 self.write_pages(blob, rest, false)?;
                 self.sync_blob(blob)
             }
@@ -289,12 +393,13 @@ impl<B: Blob, H: Sum, Phase> Writer<B, H, Phase> {
             AsksAtMost (settle_calls self.old.sync) old new }
         ensures idle { settle_calls self.old.sync ≡ 0
             → (result ≡ Ok tt) × (self.new ≡ self.old) × (B.life blob.new ≡ B.life blob.old) }
-        ensures unwritten { self.old.sync ≡ Dirty
-            → SyncGoes (B.life blob.old) (B.life blob.new) result }
+        ensures unwritten { SettlesBy self.old.sync (B.life blob.old) (B.life blob.new) result }
+        ensures starts { StartsStand (B.life blob.new).present }
     {
         match self.sync_state {
             SyncState::Clean => Ok(()),
             SyncState::Dirty => self.sync_blob(blob),
+            SyncState::Pending(_) => self.wait(blob),
         }
     }
 }

@@ -4,12 +4,15 @@
 
 mod append;
 mod build;
+mod direct;
 mod flush;
 mod prefix;
 mod read;
 mod recovery;
 mod search;
+mod start;
 mod writer;
 
 pub use recovery::recover;
+pub use start::wait_sync;
 pub use writer::{Append, Recovering, Recovery, Writer};

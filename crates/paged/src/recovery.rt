@@ -53,7 +53,7 @@ fn sync_dirty<B: Blob>(blob: &mut B, sync_state: SyncState) -> Result<(), Error>
 {
     match sync_state {
         SyncState::Clean => Ok(()),
-        SyncState::Dirty => blob.sync(),
+        SyncState::Dirty | SyncState::Pending(_) => blob.sync(),
     }
 }
 
@@ -186,6 +186,43 @@ impl<B: Blob, H: Sum> Recovery<B, H> {
         self.durable = slot;
         self.sync_state = SyncState::Clean;
         Ok(self)
+    }
+}
+
+impl<B: Blob, H: Sum> Writer<B, H> {
+    /// Opens a blob, as [`Recovery::open`] does, and ends the recovery at once: what follows the
+    /// last page that has a value is cut, and nothing else.
+    ///
+    /// Errors are those of [`Recovery::open`].
+    pub fn new(
+        alloc: Global,
+        blob: &mut B,
+        size: u64,
+        capacity: usize,
+        cache: &mut CacheRef,
+    ) -> Result<Self, Error>
+        requires length { size ≡ length (B.life blob.old).present.readable }
+        ensures opens { let old = B.life blob.old in let new = B.life blob.new in
+            Opens H.sum_of cache.old capacity old new result }
+        ensures overflow { 2 ^ 64 ≤ adjusted capacity cache.old.page_size
+            → result ≡ Err Error.OffsetOverflow }
+        ensures there { IfOk result (λ w. HasPages w (B.life blob.new)) }
+        ensures within { IfOk result (λ w. HoldsWithin w) }
+        ensures ids { cache.new ≡ cache_after result cache.old }
+
+        // At each moment since the call began, and at every answer.
+        ensures floors { let old = B.life blob.old in let new = B.life blob.new in
+            KeepsAllFloors H.sum_of cache.old.page_size old new }
+
+        // The same, where all was durable.
+        ensures kept { KeepsText H.sum_of cache.old.page_size (B.life blob.old) (B.life blob.new) }
+        ensures only { LeavesText H.sum_of cache.old.page_size (B.life blob.old) (B.life blob.new) }
+
+        // Pages are read one by one, from the last back.
+        ensures reads { ReadsBack (cache.old.page_size + 12) (B.life blob.old) (B.life blob.new) }
+    {
+        let recovery = Recovery::<B, H>::open(alloc, blob, size, capacity, cache)?;
+        Ok(Writer::from(recovery))
     }
 }
 

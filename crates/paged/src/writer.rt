@@ -1,7 +1,9 @@
 // The writer.
 ghost use Rattle.std.specs.Prelude.{◌≡◌, ◌+◌, ◌*◌, length};
 ghost use Rattle.paged.specs.Writer.{FitsBlob, state_of, state_after_write};
+ghost use Rattle.paged.specs.Calls.{started_state};
 
+use disk::StartedSync;
 use page::{ActiveChecksum, Buffer};
 use std::alloc::Global;
 use std::marker::{Model, PhantomData};
@@ -16,8 +18,12 @@ pub struct Recovering;
 /// Whether a write or a resize of the writer isn't durable yet.
 #[derive(Clone, Copy, Debug, PartialEq, Eq)]
 pub(crate) enum SyncState {
+    /// All is durable.
     Clean,
+    /// Something isn't, and no started sync covers it.
     Dirty,
+    /// What isn't is covered by the started sync of this name.
+    Pending(u64),
 }
 
 impl SyncState {
@@ -31,6 +37,16 @@ impl SyncState {
             SyncState::Dirty
         }
     }
+
+    /// The state behind a sync that was started.
+    pub(crate) fn after_start(started: StartedSync) -> Self
+        ensures { state_of result ≡ started_state started }
+    {
+        match started {
+            StartedSync::Done => SyncState::Clean,
+            StartedSync::Named(name) => SyncState::Pending(name),
+        }
+    }
 }
 
 /// The one writer of a blob of the type `B`, with pages under the checksum function `H`.
@@ -39,8 +55,8 @@ impl SyncState {
 /// lent to each call: always the ones with which the writer was opened, and nobody else writes that
 /// blob meanwhile. A call that takes the writer gives it back only on success; after an error the
 /// writer is gone, and what the blob holds is to be recovered.
-// The small fields stand together, at the end: so it has 128 bytes. One of more is moved by a call
-// of `memmove`, and each call on it moves it.
+// The small fields stand together, at the end: so it has 144 bytes. One of more than 128 is moved
+// by a call of `memmove`: so within it goes by reference.
 #[derive(Drop)]
 pub struct Writer<B, H, Phase = Append> {
     pub(crate) alloc: Global,

@@ -8,14 +8,20 @@ use Rattle.std.specs.Int.NonZero.{non_zero_u64_get}
 use Rattle.std.proofs.lemmas.Fmt.{decimal_injective}
 use Rattle.pagedctl.specs.declared.script.Line.{Line}
 use Rattle.pagedctl.specs.declared.script.Line.TheVariants.{Step, Fail, Crash, Recover, Dump}
-use Rattle.session.specs.declared.steps.Step.TheVariants.{Append, TryAppend, Sync, Size, Read}
+use Rattle.session.specs.declared.steps.Step.TheVariants.{Append, Owned, TryAppend, Sync, StartSync, Wait, WaitSync, Needs, Size, Read, Begin}
 use Rattle.pagedctl.specs.Script.{IsLine, line_words, parts_of}
 
 -- no line fails the call of number 0
 pub no_fail_zero : (word : List ℕ) (n : ℕ) → word ≡ decimal n → n ≡ 0 → (v : Line) → IsLine v → codes "fail" ∷ word ∷ [] ≢ line_words v
 no_fail_zero word n written zero (Step (Append bytes)) is same = cc
+no_fail_zero word n written zero (Step (Owned bytes)) is same = cc
 no_fail_zero word n written zero (Step (TryAppend bytes)) is same = cc
 no_fail_zero word n written zero (Step Sync) is same = cc
+no_fail_zero word n written zero (Step StartSync) is same = cc
+no_fail_zero word n written zero (Step Wait) is same = cc
+no_fail_zero word n written zero (Step (WaitSync name)) is same = cc
+no_fail_zero word n written zero (Step Needs) is same = cc
+no_fail_zero word n written zero (Step Begin) is same = cc
 no_fail_zero word n written zero (Step Size) is same = cc
 no_fail_zero word n written zero (Step (Read offset len)) is same = cc
 no_fail_zero word n written zero (Fail number) is same =
@@ -25,6 +31,44 @@ no_fail_zero word n written zero (Fail number) is same =
 no_fail_zero word n written zero (Crash keep) is same = cc
 no_fail_zero word n written zero Recover is same = cc
 no_fail_zero word n written zero Dump is same = cc
+
+-- a line of one word is one of these
+pub no_one_word : (name : List ℕ) → name ≢ codes "sync" → name ≢ codes "start-sync" → name ≢ codes "wait" → name ≢ codes "needs" → name ≢ codes "size" → name ≢ codes "begin" → name ≢ codes "recover" → name ≢ codes "dump"
+    → (v : Line) → IsLine v → name ∷ [] ≢ line_words v
+no_one_word name a b c d e f g h (Step Sync) is same = a cc
+no_one_word name a b c d e f g h (Step StartSync) is same = b cc
+no_one_word name a b c d e f g h (Step Wait) is same = c cc
+no_one_word name a b c d e f g h (Step Needs) is same = d cc
+no_one_word name a b c d e f g h (Step Size) is same = e cc
+no_one_word name a b c d e f g h (Step Begin) is same = f cc
+no_one_word name a b c d e f g h Recover is same = g cc
+no_one_word name a b c d e f g h Dump is same = h cc
+no_one_word name a b c d e f g h (Step (Append bytes)) is same = cc
+no_one_word name a b c d e f g h (Step (Owned bytes)) is same = cc
+no_one_word name a b c d e f g h (Step (TryAppend bytes)) is same = cc
+no_one_word name a b c d e f g h (Step (WaitSync n)) is same = cc
+no_one_word name a b c d e f g h (Fail n) is same = cc
+no_one_word name a b c d e f g h (Crash keep) is same = cc
+no_one_word name a b c d e f g h (Step (Read offset len)) is same = cc
+
+-- one of two words begins with one of these
+pub no_two_words : (name word : List ℕ) → name ≢ codes "append" → name ≢ codes "owned" → name ≢ codes "try" → name ≢ codes "wait-sync" → name ≢ codes "fail" → name ≢ codes "crash"
+    → (v : Line) → IsLine v → name ∷ word ∷ [] ≢ line_words v
+no_two_words name word a b c d e f (Step (Append bytes)) is same = a cc
+no_two_words name word a b c d e f (Step (Owned bytes)) is same = b cc
+no_two_words name word a b c d e f (Step (TryAppend bytes)) is same = c cc
+no_two_words name word a b c d e f (Step (WaitSync n)) is same = d cc
+no_two_words name word a b c d e f (Fail n) is same = e cc
+no_two_words name word a b c d e f (Crash keep) is same = f cc
+no_two_words name word a b c d e f (Step Sync) is same = cc
+no_two_words name word a b c d e f (Step StartSync) is same = cc
+no_two_words name word a b c d e f (Step Wait) is same = cc
+no_two_words name word a b c d e f (Step Needs) is same = cc
+no_two_words name word a b c d e f (Step Size) is same = cc
+no_two_words name word a b c d e f (Step Begin) is same = cc
+no_two_words name word a b c d e f Recover is same = cc
+no_two_words name word a b c d e f Dump is same = cc
+no_two_words name word a b c d e f (Step (Read offset len)) is same = cc
 
 -- there is a part, if only an empty one
 pub some_parts : {E : Type 0} (at : ℕ) (bytes : List ℕ) (r : Result (Vec (Bor (List ℕ)) Global) E) → IfOk r (λ parts. map (λ part. part.now) parts.items ≡ parts_of at bytes) → IfOk r (λ parts. 0 < vec_len parts)

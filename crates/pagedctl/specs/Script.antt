@@ -18,7 +18,8 @@ use Rattle.pagedctl.specs.declared.script.Start.{Start}
 use Rattle.pagedctl.specs.declared.script.SumName.{SumName}
 use Rattle.pagedctl.specs.declared.script.SumName.TheVariants.{Add, Const}
 use Rattle.session.specs.declared.steps.Step as step
-use Rattle.session.specs.declared.steps.Step.TheVariants.{Append, TryAppend, Sync, Size, Read}
+use Rattle.session.specs.declared.steps.Step.TheVariants.{Append, Owned, TryAppend, Sync, StartSync}
+use Rattle.session.specs.declared.steps.Step.TheVariants.{Wait, WaitSync, Needs, Size, Read, Begin}
 use Rattle.pagedctl.specs.Text.{hex_of}
 
 -- what reading answers, where each value has a text: the value of which this is the text, or that
@@ -87,10 +88,16 @@ start_words start =
 -- the words of a step
 abbrev pub step_words : step.Step → List (List ℕ)
 step_words (Append bytes) = codes "append" ∷ hex_of bytes.items ∷ []
+step_words (Owned bytes) = codes "owned" ∷ hex_of bytes.items ∷ []
 step_words (TryAppend bytes) = codes "try" ∷ hex_of bytes.items ∷ []
 step_words Sync = codes "sync" ∷ []
+step_words StartSync = codes "start-sync" ∷ []
+step_words Wait = codes "wait" ∷ []
+step_words (WaitSync name) = codes "wait-sync" ∷ decimal name ∷ []
+step_words Needs = codes "needs" ∷ []
 step_words Size = codes "size" ∷ []
 step_words (Read offset len) = codes "read" ∷ decimal offset ∷ decimal len ∷ []
+step_words Begin = codes "begin" ∷ []
 
 -- the words of a line behind the first
 abbrev pub line_words : Line → List (List ℕ)
@@ -103,7 +110,9 @@ line_words Dump = codes "dump" ∷ []
 -- the numbers and the bytes of a line are in range
 abbrev pub IsLine : Line → Type 0
 IsLine (Step (Append bytes)) = AreBytes bytes.items
+IsLine (Step (Owned bytes)) = AreBytes bytes.items
 IsLine (Step (TryAppend bytes)) = AreBytes bytes.items
+IsLine (Step (WaitSync name)) = IsU64 name
 IsLine (Step (Read offset len)) = IsU64 offset × IsU64 len
 IsLine (Fail number) = (0 < non_zero_u64_get number) × IsU64 (non_zero_u64_get number)
 IsLine _ = Unit {0}

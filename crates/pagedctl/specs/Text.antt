@@ -1,11 +1,13 @@
 -- The text of bytes and of replies.
 use Rattle.std.specs.Prelude.{ℕ, List, [], ◌∷◌, ◌++◌, ◌/◌, ◌%◌, false, codes}
+use Rattle.std.specs.Prelude.{if◌then◌else◌}
 use Rattle.std.specs.List.{flat_map}
 use Rattle.std.specs.Fmt.{decimal, digit_glyph}
 use Rattle.disk.specs.Error.{number_of, name_of}
 use Rattle.session.specs.declared.steps.Reply.{Reply}
-use Rattle.session.specs.declared.steps.Reply.TheVariants.{At, Nothing, Done, Length, Bytes, Fault}
-use Rattle.session.specs.declared.steps.Reply.TheVariants.{Closed}
+use Rattle.disk.specs.declared.started_sync.StartedSync.TheVariants.{Done as AllDone, Named}
+use Rattle.session.specs.declared.steps.Reply.TheVariants.{At, Nothing, Done, Started, Answer}
+use Rattle.session.specs.declared.steps.Reply.TheVariants.{Length, Bytes, Fault, Closed, NoSuch}
 
 -- a byte as two hexadecimal digits
 abbrev pub hex_digits : ℕ → List ℕ
@@ -21,8 +23,12 @@ abbrev pub reply_text : Reply → List ℕ
 reply_text (At place) = codes "at " ++ decimal place
 reply_text Nothing = codes "none"
 reply_text Done = codes "ok"
+reply_text (Started AllDone) = codes "done"
+reply_text (Started (Named name)) = codes "named " ++ decimal name
+reply_text (Answer answer) = if answer then codes "yes" else codes "no"
 reply_text (Length size) = codes "size " ++ decimal size
 reply_text (Bytes bytes) = codes "bytes " ++ hex_of bytes.items
 reply_text (Fault error) =
     codes "fault E" ++ decimal (number_of error) ++ codes " " ++ name_of error
 reply_text Closed = codes "closed"
+reply_text NoSuch = codes "no-such"

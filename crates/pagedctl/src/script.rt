@@ -200,7 +200,11 @@ fn parse_one_word(name: &[u8]) -> Result<Line, ReadError>
 {
     match name {
         b"sync" => Ok(Line::Step(Step::Sync)),
+        b"start-sync" => Ok(Line::Step(Step::StartSync)),
+        b"wait" => Ok(Line::Step(Step::Wait)),
+        b"needs" => Ok(Line::Step(Step::Needs)),
         b"size" => Ok(Line::Step(Step::Size)),
+        b"begin" => Ok(Line::Step(Step::Begin)),
         b"recover" => Ok(Line::Recover),
         b"dump" => Ok(Line::Dump),
         _ => Err(ReadError::Unreadable),
@@ -213,6 +217,8 @@ fn parse_two_words(alloc: Global, name: &[u8], word: &[u8]) -> Result<Line, Read
 {
     match name {
         b"append" => parse_append(alloc, word),
+        b"owned" => parse_owned(alloc, word),
+        b"wait-sync" => parse_wait_sync(word),
         b"try" => parse_try(alloc, word),
         b"fail" => parse_fail(word),
         b"crash" => parse_crash(alloc, word),
@@ -235,6 +241,20 @@ fn parse_append(alloc: Global, word: &[u8]) -> Result<Line, ReadError>
 {
     let bytes = parse_hex(alloc, word)?;
     Ok(Line::Step(Step::Append(bytes)))
+}
+
+fn parse_owned(alloc: Global, word: &[u8]) -> Result<Line, ReadError>
+    ensures reads { Reads line_words IsLine (codes "owned" ∷ word.now ∷ []) result }
+{
+    let bytes = parse_hex(alloc, word)?;
+    Ok(Line::Step(Step::Owned(bytes)))
+}
+
+fn parse_wait_sync(word: &[u8]) -> Result<Line, ReadError>
+    ensures reads { Reads line_words IsLine (codes "wait-sync" ∷ word.now ∷ []) result }
+{
+    let name = parse_number(word)?;
+    Ok(Line::Step(Step::WaitSync(name)))
 }
 
 fn parse_try(alloc: Global, word: &[u8]) -> Result<Line, ReadError>

@@ -34,13 +34,13 @@ impl<H: Sum> Model for Stage<H> {
     ghost Value = { StageState };
 
     ghost view = { λ s. record {
-      writer = s.session;
+      session = s.session;
       crashed = s.crashed;
       disk = (life_of s.blob).present;
     } };
 
     ghost invariant = { λ s. IsSet H.sum_of
-        (record { writer = s.session; crashed = s.crashed; disk = (life_of s.blob).present }) };
+        (record { session = s.session; crashed = s.crashed; disk = (life_of s.blob).present }) };
 }
 
 impl<H: Sum> Stage<H> {

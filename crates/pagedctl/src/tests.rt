@@ -189,6 +189,141 @@ closed
 }
 
 #[test]
+fn a_started_sync_promises_nothing_before_its_wait(rt: HostRuntime) -> Result<(), Fail> {
+    let script = "\
+start 4 8 4 add
+append 61
+sync
+append 62
+start-sync
+append 63
+fail 1
+sync
+crash 111111111111111
+recover
+";
+    let out = "\
+recovered 0
+at 0
+ok
+at 1
+named 0
+at 2
+ok
+fault E4 SyncFailed
+crashed 16
+recovered 1
+";
+    plays(&rt, rt.alloc(), script, out)
+}
+
+#[test]
+fn a_sync_is_started_once(rt: HostRuntime) -> Result<(), Fail> {
+    let script = "\
+start 4 8 4 add
+needs
+append 6162
+needs
+start-sync
+start-sync
+needs
+wait
+needs
+start-sync
+wait-sync 0
+wait-sync 1
+";
+    let out = "\
+recovered 0
+no
+at 0
+yes
+named 0
+named 0
+yes
+ok
+no
+done
+ok
+no-such
+";
+    plays(&rt, rt.alloc(), script, out)
+}
+
+#[test]
+fn a_page_is_written_again_behind_a_started_sync(rt: HostRuntime) -> Result<(), Fail> {
+    let script = "\
+start 4 8 4 add
+owned 6162
+start-sync
+append 63
+sync
+dump
+";
+    let out = "\
+recovered 0
+at 0
+named 0
+at 2
+ok
+blob 616263000002000000c3000300000126
+";
+    plays(&rt, rt.alloc(), script, out)
+}
+
+#[test]
+fn a_name_is_waited_for_where_the_writer_is_gone(rt: HostRuntime) -> Result<(), Fail> {
+    let script = "\
+start 4 8 4 add
+append 61
+start-sync
+append 62
+fail 2
+sync
+begin
+wait-sync 0
+crash -
+wait-sync 0
+";
+    let out = "\
+recovered 0
+at 0
+named 0
+at 1
+ok
+fault E2 WriteFailed
+closed
+ok
+crashed 16
+no-such
+";
+    plays(&rt, rt.alloc(), script, out)
+}
+
+#[test]
+fn a_recovery_ends_and_appends_go_on(rt: HostRuntime) -> Result<(), Fail> {
+    let script = "\
+start 4 8 4 add
+append 61
+begin
+begin
+append 62
+wait
+size
+";
+    let out = "\
+recovered 0
+at 0
+ok
+ok
+at 1
+ok
+size 2
+";
+    plays(&rt, rt.alloc(), script, out)
+}
+
+#[test]
 fn a_recovery_follows_a_crash_alone(rt: HostRuntime) -> Result<(), Fail> {
     let script = "\
 start 4 8 4 add
@@ -283,48 +418,54 @@ fn a_bad_first_line_is_named(rt: HostRuntime) -> Result<(), Fail> {
     Ok(())
 }
 
+// Lines that can't be read, also behind a first one that can.
+const BAD_LINES: [&[u8]; 40] = [
+    b"",
+    b" ",
+    b"append",
+    b"append ",
+    b"append 6",
+    b"append 6A",
+    b"append 6g",
+    b"append  61",
+    b"append 61 ",
+    b"append 61 62",
+    b"append \xff\xff",
+    b"sync -",
+    b"Sync",
+    b"size 0",
+    b"read 0",
+    b"read 00 1",
+    b"read 0 01",
+    b"read 0 18446744073709551616",
+    b"read +1 1",
+    b"read 0 ",
+    b"read -1 1",
+    b"fail",
+    b"fail 0",
+    b"crash",
+    b"crash ",
+    b"crash 2",
+    b"crash 0 1",
+    b"recover 1",
+    b"dump -",
+    b"owned 6",
+    b"wait-sync",
+    b"wait-sync 01",
+    b"wait 0",
+    b"begin -",
+    b"try",
+    b"try 6",
+    b"try 6A",
+    b"truncate 0",
+    b"replay 64",
+    b"start 4 8 4 add",
+];
+
 #[test]
 fn a_bad_second_line_is_named(rt: HostRuntime) -> Result<(), Fail> {
     let alloc = rt.alloc();
-    let lines: [&[u8]; 36] = [
-        b"",
-        b" ",
-        b"append",
-        b"append ",
-        b"append 6",
-        b"append 6A",
-        b"append 6g",
-        b"append  61",
-        b"append 61 ",
-        b"append 61 62",
-        b"append \xff\xff",
-        b"sync -",
-        b"Sync",
-        b"size 0",
-        b"read 0",
-        b"read 00 1",
-        b"read 0 01",
-        b"read 0 18446744073709551616",
-        b"read +1 1",
-        b"read 0 ",
-        b"read -1 1",
-        b"fail",
-        b"fail 0",
-        b"crash",
-        b"crash ",
-        b"crash 2",
-        b"crash 0 1",
-        b"recover 1",
-        b"dump -",
-        b"owned 61",
-        b"try",
-        b"try 6",
-        b"try 6A",
-        b"truncate 0",
-        b"replay 64",
-        b"start 4 8 4 add",
-    ];
-    for line in lines {
+    for line in BAD_LINES {
         let mut script = Vec::from_slice(alloc, b"start 4 8 4 add\n")?;
         script.extend_from_slice(line)?;
         script.extend_from_slice(b"\nbad\n")?;

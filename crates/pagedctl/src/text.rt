@@ -2,6 +2,7 @@
 ghost use Rattle.std.specs.Prelude.{Some};
 ghost use Rattle.pagedctl.specs.Text.{hex_of, reply_text};
 
+use disk::StartedSync;
 use session::Reply;
 use std::fmt;
 
@@ -35,10 +36,15 @@ impl fmt::Display for Said<'_> {
             Reply::At(place) => write!(f, "at {place}"),
             Reply::Nothing => write!(f, "none"),
             Reply::Done => write!(f, "ok"),
+            Reply::Started(StartedSync::Done) => write!(f, "done"),
+            Reply::Started(StartedSync::Named(name)) => write!(f, "named {name}"),
+            Reply::Answer(true) => write!(f, "yes"),
+            Reply::Answer(false) => write!(f, "no"),
             Reply::Length(size) => write!(f, "size {size}"),
             Reply::Bytes(bytes) => write!(f, "bytes {}", Hex(bytes)),
             Reply::Fault(error) => write!(f, "fault E{} {}", error.number(), error.name()),
             Reply::Closed => write!(f, "closed"),
+            Reply::NoSuch => write!(f, "no-such"),
         }
     }
 }

@@ -1,11 +1,13 @@
 // Pages have 4 bytes of payload here, 16 with their footer, and a buffer has 8.
 mod calls;
 mod crashes;
+mod direct;
 mod kit;
 mod layout;
 mod memory;
 mod openings;
 mod sessions;
+mod starts;
 mod stops;
 mod sums;
 mod tries;

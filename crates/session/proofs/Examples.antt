@@ -1,11 +1,12 @@
 -- Examples of what a run says.
-use Rattle.std.proofs.Common.{◌≡◌, ◌+◌, ◌<◌, ℕ, Vec, List, [], ◌∷◌, ◌++◌, length, length-append, take, refl, sym, ap, ◌∙◌, inl, arith, true, false}
-use Rattle.std.specs.Prelude.{Some}
+use Rattle.std.proofs.Common.{◌≡◌, ◌+◌, ◌<◌, ℕ, Vec, List, [], ◌∷◌, ◌++◌, length, length-append, take, refl, sym, ap, ◌∙◌, inl, inr, arith, true, false}
+use Rattle.std.specs.Prelude.{Some, None}
 use Rattle.std.specs.List.{Contains}
 use Rattle.std.specs.declared.alloc.Global.{Global}
 use Rattle.std.proofs.lemmas.Bool.{le-leb, false≢true}
 use Rattle.std.proofs.lemmas.Bool.Decides.{nat_tests}
-use Rattle.disk.specs.Disk.{Entry, SomeFailed}
+use Rattle.disk.specs.Disk.{Disk, Entry, SomeFailed}
+use Rattle.disk.specs.declared.started_sync.StartedSync.TheVariants.{Done as AllDone, Named}
 use Rattle.disk.specs.declared.error.Error.{Error}
 use Rattle.disk.specs.declared.error.Error.TheVariants.{WriteFailed, SyncFailed, BlobInsufficientLength, OffsetOverflow, OutOfMemory}
 use Rattle.page.specs.Page.{text}
@@ -16,19 +17,34 @@ use Rattle.crash.proofs.Disks.{base_is_image, base_is_whole}
 use Rattle.crash.proofs.Promise.{whole_is_chance_free}
 use Rattle.crash.proofs.Examples.{durable, six, all_keep}
 use Rattle.session.specs.declared.steps.Step.{Step}
-use Rattle.session.specs.declared.steps.Step.TheVariants.{Append, TryAppend, Sync, Size, Read}
-use Rattle.session.specs.declared.steps.Reply.TheVariants.{At, Nothing, Done, Length, Fault, Closed}
-use Rattle.session.specs.Run.{Standing, buffered_after, appended, synced, ended, turned_away, Accepts, faults, HasCause, Allocates, Refuses, Answers, touch, Ran}
+use Rattle.session.specs.declared.steps.Step.TheVariants.{Append, Owned, TryAppend, Sync, StartSync, Wait, WaitSync, Needs, Size, Read, Begin}
+use Rattle.session.specs.declared.steps.Reply.TheVariants.{At, Nothing, Done, Length, Fault, Closed, NoSuch}
+use Rattle.session.specs.Run.{Standing, buffered_after, awaited_after, appended, synced, starting, waited, needs_sync, raised, started_by, ended, turned_away, Accepts, faults, HasCause, Allocates, waits_for, Refuses, Answers, touch, Ran}
 use Rattle.session.specs.Run.Touch.{Leaves, Changes}
-use Rattle.session.specs.Promise.{Crashes, stands_after_all, fresh}
+use Rattle.session.specs.Promise.{Crashes, fresh}
 
 -- a writer of "abcdef", all of which every crash keeps: "ef" is buffered, of eight bytes
 abbrev pub six_stand : Standing
-six_stand = record { has_writer = true; content = six; floor = 6; otherwise = six; capacity = 8; buffered = 2; settled = true }
+six_stand = record {
+  has_writer = true;
+  recovering = true;
+  content = six;
+  floor = 6;
+  otherwise = six;
+  capacity = 8;
+  buffered = 2;
+  written = true;
+  awaited = None;
+  covers = [];
+}
 
 -- the same, with nothing synced yet, and all of it buffered
 abbrev pub none_synced : Standing
-none_synced = record { has_writer = true; content = six; floor = 0; otherwise = six; capacity = 8; buffered = 6; settled = false }
+none_synced = record six_stand { floor = 0; buffered = 6; written = false }
+
+-- a started sync of all of it, which isn't complete
+abbrev pub six_started : Standing
+six_started = starting 4 (Named 0) none_synced
 
 -- what a recovery of "abcdef" begins with
 pub a_fresh_session : fresh 4 8 six ≡ six_stand
@@ -39,20 +55,28 @@ pub a_sync_step : synced 4 none_synced ≡ six_stand
 a_sync_step = refl
 
 -- a refused sync takes the writer, and what was kept still is
-pub a_refused_sync : Refuses Sync six_stand (record six_stand { has_writer = false })
+pub a_refused_sync : Refuses Sync WriteFailed durable durable six_stand (record six_stand { has_writer = false })
 a_refused_sync = refl
 
 -- a refused read takes nothing
-pub a_refused_read : Refuses (Read 4 3) six_stand six_stand
+pub a_refused_read : Refuses (Read 4 3) BlobInsufficientLength durable durable six_stand six_stand
 a_refused_read = refl
 
 -- nor does a refused try
-pub a_refused_try : (bytes : Vec ℕ Global) → Refuses (TryAppend bytes) six_stand six_stand
+pub a_refused_try : (bytes : Vec ℕ Global) → Refuses (TryAppend bytes) OutOfMemory durable durable six_stand six_stand
 a_refused_try bytes = refl
 
--- where there is no writer, each step is turned away
-pub a_closed_session : (step : Step) → turned_away step (ended six six_stand) ≡ Some Closed
-a_closed_session step = refl
+-- where there is no writer, a step that needs one is turned away
+pub a_closed_session : turned_away Sync (ended six six_stand) ≡ Some Closed
+a_closed_session = refl
+
+-- a name that the session was given can be waited for there too
+pub a_name_in_a_closed_session : turned_away (WaitSync 0) (ended six six_started) ≡ None
+a_name_in_a_closed_session = refl
+
+-- another name can't, with a writer either
+pub no_other_name : turned_away (WaitSync 1) six_started ≡ Some NoSuch
+no_other_name = refl
 
 -- six bytes fit what is buffered, and then it is full
 pub a_full_buffer : buffered_after 4 six_stand 6 ≡ 8
@@ -67,7 +91,7 @@ pub an_empty_append : appended 4 [] six_stand ≡ six_stand
 an_empty_append = refl
 
 -- a byte is something to sync
-pub a_byte_to_sync : (appended 4 (103 ∷ []) six_stand).settled ≡ false
+pub a_byte_to_sync : (appended 4 (103 ∷ []) six_stand).written ≡ false
 a_byte_to_sync = refl
 
 -- with nothing to sync, a sync asks the device nothing
@@ -79,9 +103,107 @@ a_busy_sync = refl
 
 -- so it isn't refused
 pub no_idle_fault : Allocates Sync six_stand → ⊥
-no_idle_fault none = absurd (false≢true (sym none))
+no_idle_fault none = absurd (false≢true none)
 
-pub a_size_reply : Accepts 4 Size (Length 6) six_stand six_stand
+-- where the log stayed, no call failed
+none_failed : (fault : Error) (log more : List Entry) → log ≡ log ++ more → SomeFailed fault more → ⊥
+none_failed fault log [] is failed = failed
+none_failed fault log (e ∷ es) is failed = omega (arith, ap length is, length-append log (e ∷ es))
+
+-- ---- started syncs
+
+-- what is buffered once a sync was started is less than a page, and that sync is awaited
+pub a_started_sync : six_started ≡ record six_stand { floor = 0; awaited = Some 0; covers = (0, 6) ∷ [] }
+a_started_sync = refl
+
+-- where all was durable, starting one is a sync
+pub a_sync_at_once : starting 4 AllDone none_synced ≡ synced 4 none_synced
+a_sync_at_once = refl
+
+-- it is started once
+pub started_once : started_by six_started durable ≡ Named 0
+started_once = refl
+
+pub nothing_to_start : started_by six_stand durable ≡ AllDone
+nothing_to_start = refl
+
+-- with a name of its own
+pub started_anew : started_by none_synced durable ≡ Named 0
+started_anew = refl
+
+-- then a sync has something to do, and waits; and nothing once it was waited for
+pub a_sync_that_waits : touch Sync six_started ≡ Changes 1
+a_sync_that_waits = refl
+
+pub needs_a_sync : needs_sync six_started ≡ true
+needs_a_sync = refl
+
+pub needs_none : needs_sync (waited six_started) ≡ false
+needs_none = refl
+
+-- a start where nothing was appended since asks the device nothing
+pub an_idle_start : touch StartSync six_started ≡ Leaves
+an_idle_start = refl
+
+pub a_busy_start : touch StartSync none_synced ≡ Changes 3
+a_busy_start = refl
+
+-- so does a wait where nothing is awaited
+pub an_idle_wait : touch Wait none_synced ≡ Leaves
+an_idle_wait = refl
+
+pub a_busy_wait : touch Wait six_started ≡ Changes 1
+a_busy_wait = refl
+
+-- an append that is buffered waits for nothing, and another for the started sync
+pub no_wait_to_buffer : awaited_after six_started 6 ≡ Some 0
+no_wait_to_buffer = refl
+
+pub a_wait_to_flush : awaited_after six_started 7 ≡ None
+a_wait_to_flush = refl
+
+pub nothing_awaited : (bytes : Vec ℕ Global) → bytes.items ≡ 103 ∷ [] → waits_for (Append bytes) six_started ≡ None
+nothing_awaited bytes is = rw is refl
+
+pub a_name_awaited : waits_for (WaitSync 0) six_stand ≡ Some 0
+a_name_awaited = refl
+
+-- before it has completed the floor is as it was, and then it is what it covers
+abbrev pending : Disk
+pending = record durable { settled = 1; started = record { covers = 2; bytes = []; failed = false } ∷ [] }
+
+pub not_yet_a_floor : (raised pending six_started).floor ≡ 0
+not_yet_a_floor = refl
+
+pub then_a_floor : (raised (record pending { settled = 2 }) six_started).floor ≡ 6
+then_a_floor = refl
+
+-- a wait answers Ok only then
+pub no_wait_before : Accepts 4 Wait Done pending pending six_started (waited six_started) → ⊥
+no_wait_before accepts = absurd (false≢true accepts.0)
+
+pub a_wait_done : Accepts 4 (WaitSync 0) Done pending (record pending { settled = 2 }) six_started six_started
+a_wait_done = (refl, refl)
+
+-- a wait is refused where its sync had failed, and not because another had
+pub a_wait_of_a_failed_sync : HasCause 4 Wait six_started (record pending { started = record { covers = 2; bytes = []; failed = true } ∷ [] }) pending SyncFailed
+a_wait_of_a_failed_sync = inr refl
+
+pub no_fault_of_another : HasCause 4 Wait six_started pending pending SyncFailed → ⊥
+no_fault_of_another (inl (more, is, failed)) = none_failed SyncFailed pending.log more is failed
+no_fault_of_another (inr had) = absurd (false≢true had)
+
+-- there is no memory for a name: then nothing was done
+pub no_room_for_a_name : Refuses StartSync OutOfMemory durable durable six_stand six_stand
+no_room_for_a_name = inr (refl, refl, refl)
+
+-- the end of a recovery
+pub a_recovery_ends : Accepts 4 Begin Done durable durable six_stand (record six_stand { recovering = false })
+a_recovery_ends = refl
+
+-- ---- replies
+
+pub a_size_reply : Accepts 4 Size (Length 6) durable durable six_stand six_stand
 a_size_reply = (refl, refl)
 
 -- a read of three bytes from the fifth on passes the end
@@ -97,45 +219,47 @@ pub the_end_is_told : Answers 4 (Read 4 3) (Fault OutOfMemory) durable durable s
 the_end_is_told answers = let is : Fault OutOfMemory ≡ Fault BlobInsufficientLength = answers.1.1 a_read_past_the_end in cc
 
 -- bytes that fit what is buffered stand behind the content
-pub a_try : (bytes : Vec ℕ Global) → length bytes.items ≡ 6 → Accepts 4 (TryAppend bytes) (At 6) six_stand (appended 4 bytes.items six_stand)
+pub a_try : (bytes : Vec ℕ Global) → length bytes.items ≡ 6 → Accepts 4 (TryAppend bytes) (At 6) durable durable six_stand (appended 4 bytes.items six_stand)
 a_try bytes long = (le-leb (2 + length bytes.items) 8 (omega (arith, long)), refl, refl)
 
 -- those that don't fit change nothing
-pub a_try_that_does_not_fit : (bytes : Vec ℕ Global) → length bytes.items ≡ 7 → Accepts 4 (TryAppend bytes) Nothing six_stand six_stand
+pub a_try_that_does_not_fit : (bytes : Vec ℕ Global) → length bytes.items ≡ 7 → Accepts 4 (TryAppend bytes) Nothing durable durable six_stand six_stand
 a_try_that_does_not_fit bytes long = let passes : 8 < 2 + length bytes.items = omega (arith, long) in (grind (arith, nat_tests, passes), refl)
 
 -- and those that fit aren't answered so
-pub no_nothing_that_fits : (bytes : Vec ℕ Global) (behind : Standing) → length bytes.items ≡ 6 → Accepts 4 (TryAppend bytes) Nothing six_stand behind → ⊥
+pub no_nothing_that_fits : (bytes : Vec ℕ Global) (behind : Standing) → length bytes.items ≡ 6 → Accepts 4 (TryAppend bytes) Nothing durable durable six_stand behind → ⊥
 no_nothing_that_fits bytes behind long accepts = absurd (false≢true (sym accepts.0 ∙ le-leb (2 + length bytes.items) 8 (omega (arith, long))))
 
 -- no other step is answered so
-pub nothing_is_of_a_try : (P : ℕ) (step : Step) (before behind : Standing) → Accepts P step Nothing before behind → (bytes : Vec ℕ Global) × (step ≡ TryAppend bytes)
-nothing_is_of_a_try P (TryAppend bytes) before behind accepts = (bytes, refl)
-nothing_is_of_a_try P (Append bytes) before behind accepts = absurd accepts
-nothing_is_of_a_try P Sync before behind accepts = absurd accepts
-nothing_is_of_a_try P Size before behind accepts = absurd accepts
-nothing_is_of_a_try P (Read offset len) before behind accepts = absurd accepts
+pub nothing_is_of_a_try : (P : ℕ) (step : Step) (from to : Disk) (before behind : Standing) → Accepts P step Nothing from to before behind → (bytes : Vec ℕ Global) × (step ≡ TryAppend bytes)
+nothing_is_of_a_try P (TryAppend bytes) from to before behind accepts = (bytes, refl)
+nothing_is_of_a_try P (Append bytes) from to before behind accepts = absurd accepts
+nothing_is_of_a_try P (Owned bytes) from to before behind accepts = absurd accepts
+nothing_is_of_a_try P Sync from to before behind accepts = absurd accepts
+nothing_is_of_a_try P StartSync from to before behind accepts = absurd accepts
+nothing_is_of_a_try P Wait from to before behind accepts = absurd accepts
+nothing_is_of_a_try P (WaitSync name) from to before behind accepts = absurd accepts
+nothing_is_of_a_try P Needs from to before behind accepts = absurd accepts
+nothing_is_of_a_try P Size from to before behind accepts = absurd accepts
+nothing_is_of_a_try P (Read offset len) from to before behind accepts = absurd accepts
+nothing_is_of_a_try P Begin from to before behind accepts = absurd accepts
 
 -- a size has no error
 pub no_fault_of_a_size : (e : Error) → Contains (faults Size) e → ⊥
 no_fault_of_a_size e (k, lt, is) = omega (arith, lt)
 
--- where the log stayed, no call failed
-none_failed : (fault : Error) (log more : List Entry) → log ≡ log ++ more → SomeFailed fault more → ⊥
-none_failed fault log [] is failed = failed
-none_failed fault log (e ∷ es) is failed = omega (arith, ap length is, length-append log (e ∷ es))
-
 -- so no device fault is answered
 pub no_fault_of_its_own : HasCause 4 Sync none_synced durable durable SyncFailed → ⊥
-no_fault_of_its_own (more, is, failed) = none_failed SyncFailed durable.log more is failed
+no_fault_of_its_own (inl (more, is, failed)) = none_failed SyncFailed durable.log more is failed
+no_fault_of_its_own (inr had) = absurd had
 
 -- nor does a sync ever overflow
 pub no_overflow : HasCause 4 Sync none_synced durable durable OffsetOverflow → ⊥
 no_overflow cause = cause
 
 -- a floor is told by the syncs: a refused sync raises none
-pub a_floor_of_a_run : (bytes : Vec ℕ Global) → bytes.items ≡ 103 ∷ [] → (stands_after_all 4 (Sync ∷ Append bytes ∷ Sync ∷ []) (Done ∷ At 6 ∷ Fault WriteFailed ∷ []) none_synced).floor ≡ 6
-a_floor_of_a_run bytes is = refl
+pub a_floor_of_a_run : (ended six (synced 4 none_synced)).floor ≡ 6
+a_floor_of_a_run = refl
 
 -- the blob says nothing else
 six_only : AllOnly add_sum 4 six six durable
@@ -150,12 +274,12 @@ a_run_of_one = (
   [],
   refl,
   six_stand,
-  record { answer = (((refl, refl), (λ none. absurd none, λ none. absurd none))); touches = refl; stopped = λ away. refl; kept = (all_keep, tt); only = (six_only, tt) },
+  record { answer = (((refl, refl), (λ none. absurd none, λ none. absurd none))); touches = refl; stopped = λ away. refl; kept = (all_keep, tt); covered = (λ k x lt. absurd (omega (arith, lt)), tt); only = (six_only, tt); within = omega arith },
   (refl, refl, all_keep, six_only),
 )
 
 -- another size isn't answered
-pub no_other_size : Accepts 4 Size (Length 7) six_stand six_stand → ⊥
+pub no_other_size : Accepts 4 Size (Length 7) durable durable six_stand six_stand → ⊥
 no_other_size accepts = omega (arith, accepts.0)
 
 -- a crash of a blob in which all is durable may leave it as it is, and that is fair

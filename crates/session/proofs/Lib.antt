@@ -1,4 +1,5 @@
 pub mod StepLaws
+pub mod StartLaws
 pub mod RunLaws
 pub mod PromiseLaws
 pub mod Examples

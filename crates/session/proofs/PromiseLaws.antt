@@ -1,6 +1,6 @@
 -- The promise of a run, put together from what a run and a recovery say.
-use Rattle.std.proofs.Common.{◌≡◌, ℕ, suc, ◌+◌, ◌<◌, ◌≤◌, List, [], ◌∷◌, ◌++◌, length, take, refl, sym, ap, ◌∙◌, subst, arith, inl, inr, Bool, true, false, length-append, length-take}
-use Rattle.std.specs.Prelude.{Option, Some, None, Ok, ◌⊎◌, ◌%◌, ◌*◌, if◌then◌else◌}
+use Rattle.std.proofs.Common.{◌≡◌, ℕ, ◌+◌, ◌<◌, ◌≤◌, List, [], ◌∷◌, ◌++◌, length, take, refl, sym, ap, ◌∙◌, subst, arith, inl, inr, Bool, true, false, length-take}
+use Rattle.std.specs.Prelude.{Ok, ◌⊎◌, ◌%◌, ◌*◌}
 use Rattle.std.proofs.lemmas.List.{take-take}
 use Rattle.disk.specs.Disk.{Disk, IsImage, Life, next, after}
 use Rattle.page.specs.Page.{text}
@@ -19,48 +19,16 @@ use Rattle.crash.proofs.Promise.{whole_is_chance_free}
 use Rattle.paged.specs.Calls.{HoldsWithin}
 use Rattle.paged.specs.Recovery.{IsDurable, Recovers, LeavesText}
 use Rattle.session.specs.declared.steps.Step.{Step}
-use Rattle.session.specs.declared.steps.Step.TheVariants.{Append, TryAppend, Sync, Size, Read}
 use Rattle.session.specs.declared.steps.Reply.{Reply}
-use Rattle.session.specs.declared.steps.Reply.TheVariants.{At, Nothing, Done, Length, Bytes, Fault, Closed}
-use Rattle.session.specs.Run.{Standing, turned_away, Takes, Foretells, other_content, last, Answers, Ran, StandsFor, RunsAlways}
-use Rattle.session.specs.Promise.{IsMoment, HasCrashed, Crashes, Attempts, HasRecovered, ComesBack, Begins, Survives, stands_after, stands_after_all, Tells, Promises, fresh, KeepsFloor, LeavesContent, IsBegun, AttemptsThrough, opened, StandsWhereSound, RecoversFrom, GivesBack, GivesBackLeft, LeadsOn}
+use Rattle.session.specs.Run.{Standing, SessionState, raised, other_content, last, Ran, StandsFor, RunsAlways}
+use Rattle.session.specs.Promise.{IsMoment, HasCrashed, Crashes, Attempts, HasRecovered, ComesBack, Begins, Survives, Tells, Promises, session_of, fresh, KeepsFloor, LeavesContent, IsBegun, AttemptsThrough, opened, StandsWhereSound, RecoversFrom, GivesBack, GivesBackLeft, LeadsOn}
 use Rattle.session.specs.Promise.ComesBack.{recovered, crashed, attempted}
-use Rattle.session.proofs.StepLaws.{stands_now, settled_idle}
+use Rattle.session.proofs.StepLaws.{same_moments, stands_now, settled_started, settled_awaits}
 use Rattle.paged.proofs.Flushes.{size_is_length}
 use Rattle.std.proofs.Math.Nat.{mul-add-mod_self_right, mod-eq_of_lt}
 use Rattle.std.proofs.lemmas.Bool.{false≢true}
 
 -- ---- moments of a life
-
--- two lives are the same where their disks are
-same_life : (a b : Life) → a.present ≡ b.present → a.past ≡ b.past → a ≡ b
-same_life a b present past = rw (present, past) refl
-
--- how many moments a life has had
-length_after : (life : Life) (ds : List Disk) → length (after life ds).past ≡ length life.past + length ds
-length_after life [] = omega arith
-length_after life (d ∷ ds) = omega (arith, length_after (next life d) ds)
-
--- the parts of a list
-heads : (a b : Disk) (xs ys : List Disk) → a ∷ xs ≡ b ∷ ys → a ≡ b
-heads a b xs ys is = cc
-
-tails : (a b : Disk) (xs ys : List Disk) → a ∷ xs ≡ b ∷ ys → xs ≡ ys
-tails a b xs ys is = cc
-
-join_moments : (a b : Disk) (xs ys : List Disk) → a ≡ b → xs ≡ ys → a ∷ xs ≡ b ∷ ys
-join_moments a b xs ys first rest = cc
-
--- the moments by which a life went on are known from where it began and ended
-same_moments : (a b : Life) (ds es : List Disk) → length a.past ≡ length b.past → after a ds ≡ after b es → (a ≡ b) × (ds ≡ es)
-same_moments a b [] [] long is = (is, refl)
-same_moments a b [] (e ∷ es) long is = absurd (omega (arith, long, ap (λ (l : Life). length l.past) is, length_after (next b e) es))
-same_moments a b (d ∷ ds) [] long is = absurd (omega (arith, long, ap (λ (l : Life). length l.past) is, length_after (next a d) ds))
-same_moments a b (d ∷ ds) (e ∷ es) long is =
-    let r = same_moments (next a d) (next b e) ds es (ap suc long) is in
-    let newest : d ≡ e = ap (λ (l : Life). l.present) r.0 in
-    let older : a.present ∷ a.past ≡ b.present ∷ b.past = ap (λ (l : Life). l.past) r.0 in
-    (same_life a b (heads a.present b.present a.past b.past older) (tails a.present b.present a.past b.past older), join_moments d e ds es newest r.1)
 
 -- what holds of joined moments holds of the first
 each_front : (Q : Disk → Type 0) (ds es : List Disk) → Each Q (ds ++ es) → Each Q ds
@@ -169,96 +137,6 @@ survives sum P content other floor d enough keeps only = record {
 
 -- ---- runs
 
--- what stands behind an accepted step
-accepts_stands : (P : ℕ) (step : Step) (reply : Reply) (from to : Disk) (before behind : Standing) → Takes P step reply from to before behind → behind ≡ stands_after P step reply before
-accepts_stands P (Append bytes) (Fault e) from to before behind a = a.2
-accepts_stands P (TryAppend bytes) (Fault e) from to before behind a = a.2
-accepts_stands P Sync (Fault e) from to before behind a = a.2
-accepts_stands P Size (Fault e) from to before behind a = a.2
-accepts_stands P (Read offset len) (Fault e) from to before behind a = a.2
-accepts_stands P (Append bytes) (At n) from to before behind a = a.1
-accepts_stands P (TryAppend bytes) (At n) from to before behind a = a.2
-accepts_stands P (TryAppend bytes) Nothing from to before behind a = a.1
-accepts_stands P Sync Done from to before behind a = a
-accepts_stands P Size (Length n) from to before behind a = a.1
-accepts_stands P (Read offset len) (Bytes bytes) from to before behind a = a.1
-accepts_stands P (Append bytes) Nothing from to before behind a = absurd a
-accepts_stands P (Append bytes) Done from to before behind a = absurd a
-accepts_stands P (Append bytes) (Length n) from to before behind a = absurd a
-accepts_stands P (Append bytes) (Bytes read) from to before behind a = absurd a
-accepts_stands P (Append bytes) Closed from to before behind a = absurd a
-accepts_stands P (TryAppend bytes) Done from to before behind a = absurd a
-accepts_stands P (TryAppend bytes) (Length n) from to before behind a = absurd a
-accepts_stands P (TryAppend bytes) (Bytes read) from to before behind a = absurd a
-accepts_stands P (TryAppend bytes) Closed from to before behind a = absurd a
-accepts_stands P Sync (At n) from to before behind a = absurd a
-accepts_stands P Sync Nothing from to before behind a = absurd a
-accepts_stands P Sync (Length n) from to before behind a = absurd a
-accepts_stands P Sync (Bytes read) from to before behind a = absurd a
-accepts_stands P Sync Closed from to before behind a = absurd a
-accepts_stands P Size (At n) from to before behind a = absurd a
-accepts_stands P Size Nothing from to before behind a = absurd a
-accepts_stands P Size Done from to before behind a = absurd a
-accepts_stands P Size (Bytes read) from to before behind a = absurd a
-accepts_stands P Size Closed from to before behind a = absurd a
-accepts_stands P (Read offset len) (At n) from to before behind a = absurd a
-accepts_stands P (Read offset len) Nothing from to before behind a = absurd a
-accepts_stands P (Read offset len) Done from to before behind a = absurd a
-accepts_stands P (Read offset len) (Length n) from to before behind a = absurd a
-accepts_stands P (Read offset len) Closed from to before behind a = absurd a
-
--- what stands behind an answer
-answer_stands : (P : ℕ) (step : Step) (reply : Reply) (from to : Disk) (before behind : Standing) → Answers P step reply from to before behind → behind ≡ stands_after P step reply before
-answer_stands P step reply from to before behind answers = by_turn (turned_away step before) refl answers
-  where
-    closed_only : (b : Bool) (other : Reply) → (if b then None else Some Closed) ≡ Some other → other ≡ Closed
-    closed_only true other is = absurd (cc is)
-    closed_only false other is = cc is
-
-    by_turn : (turn : Option Reply) → turned_away step before ≡ turn → (elim turn as (λ (o : Option Reply). Type 0) [ Some other ↦ (reply ≡ other) × (behind ≡ before) | None ↦ Takes P step reply from to before behind × Foretells P step reply before ]) → behind ≡ stands_after P step reply before
-    by_turn None is takes = accepts_stands P step reply from to before behind takes.0
-    by_turn (Some other) is (same, stays) =
-        let closed : reply ≡ Closed = same ∙ closed_only before.has_writer other is in
-        stays ∙ subst (λ (r : Reply). before ≡ stands_after P step r before) (sym closed) refl
-
--- the floor stays within the content
-floor_after : (P : ℕ) (step : Step) (reply : Reply) (s : Standing) → s.floor ≤ length s.content → (stands_after P step reply s).floor ≤ length (stands_after P step reply s).content
-floor_after P (Append bytes) Closed s enough = enough
-floor_after P (Append bytes) (Fault e) s enough = enough
-floor_after P (Append bytes) (At n) s enough = omega (arith, enough, length-append s.content bytes.items)
-floor_after P (Append bytes) Nothing s enough = omega (arith, enough, length-append s.content bytes.items)
-floor_after P (Append bytes) Done s enough = omega (arith, enough, length-append s.content bytes.items)
-floor_after P (Append bytes) (Length n) s enough = omega (arith, enough, length-append s.content bytes.items)
-floor_after P (Append bytes) (Bytes read) s enough = omega (arith, enough, length-append s.content bytes.items)
-floor_after P (TryAppend bytes) Closed s enough = enough
-floor_after P (TryAppend bytes) (Fault e) s enough = enough
-floor_after P (TryAppend bytes) Nothing s enough = enough
-floor_after P (TryAppend bytes) (At n) s enough = omega (arith, enough, length-append s.content bytes.items)
-floor_after P (TryAppend bytes) Done s enough = omega (arith, enough, length-append s.content bytes.items)
-floor_after P (TryAppend bytes) (Length n) s enough = omega (arith, enough, length-append s.content bytes.items)
-floor_after P (TryAppend bytes) (Bytes read) s enough = omega (arith, enough, length-append s.content bytes.items)
-floor_after P Sync Closed s enough = enough
-floor_after P Sync (Fault e) s enough = enough
-floor_after P Sync (At n) s enough = omega arith
-floor_after P Sync Nothing s enough = omega arith
-floor_after P Sync Done s enough = omega arith
-floor_after P Sync (Length n) s enough = omega arith
-floor_after P Sync (Bytes read) s enough = omega arith
-floor_after P Size Closed s enough = enough
-floor_after P Size (Fault e) s enough = enough
-floor_after P Size (At n) s enough = enough
-floor_after P Size Nothing s enough = enough
-floor_after P Size Done s enough = enough
-floor_after P Size (Length n) s enough = enough
-floor_after P Size (Bytes read) s enough = enough
-floor_after P (Read offset len) Closed s enough = enough
-floor_after P (Read offset len) (Fault e) s enough = enough
-floor_after P (Read offset len) (At n) s enough = enough
-floor_after P (Read offset len) Nothing s enough = enough
-floor_after P (Read offset len) Done s enough = enough
-floor_after P (Read offset len) (Length n) s enough = enough
-floor_after P (Read offset len) (Bytes read) s enough = enough
-
 -- both halves at each moment
 survive_each : (sum : List ℕ → ℕ) (P : ℕ) (content other : List ℕ) (floor : ℕ) (ds : List Disk) → floor ≤ length content → Each (AllKeep sum P content floor) ds → Each (AllOnly sum P content other) ds → Each (Survives sum P content other floor) ds
 survive_each sum P content other floor [] enough kept only = tt
@@ -266,42 +144,32 @@ survive_each sum P content other floor (d ∷ ds) enough kept only = (survives s
 
 -- a run tells
 pub ran_tells : (sum : List ℕ → ℕ) (P : ℕ) (steps : List Step) (replies : List Reply) (from : Disk) (moments : List Disk) (s behind : Standing) → s.floor ≤ length s.content → Ran sum P steps replies from moments s behind
-    → Tells sum P steps replies from moments s
-ran_tells sum P [] [] from moments s behind enough (none, same, keeps, only) = (none, survives sum P s.content s.otherwise s.floor from enough keeps only)
-ran_tells sum P (step ∷ steps) (reply ∷ replies) from moments s behind enough (first, rest, is, mid, did, ran) =
-    let same : mid ≡ stands_after P step reply s = answer_stands P step reply from (last from first) s mid did.answer in (
-      first,
-      rest,
-      is,
-      subst (λ (m : Standing). Answers P step reply from (last from first) s m) same did.answer,
-      survive_each sum P s.content (other_content step s) s.floor (from ∷ first) enough did.kept did.only,
-      ran_tells sum P steps replies (last from first) rest (stands_after P step reply s) behind (floor_after P step reply s enough)
-          (subst (λ (m : Standing). Ran sum P steps replies (last from first) rest m behind) same ran),
-    )
+    → Tells sum P steps replies from moments s behind
+ran_tells sum P [] [] from moments s behind enough (none, same, keeps, only) = (none, same, survives sum P s.content s.otherwise s.floor from enough keeps only)
+ran_tells sum P (step ∷ steps) (reply ∷ replies) from moments s behind enough (first, rest, is, mid, did, ran) = (
+  first,
+  rest,
+  is,
+  mid,
+  did.answer,
+  survive_each sum P s.content (other_content step s) s.floor (from ∷ first) enough did.kept did.only,
+  ran_tells sum P steps replies (last from first) rest (raised (last from first) mid) behind did.within ran,
+)
 ran_tells sum P [] (reply ∷ replies) from moments s behind enough ran = absurd ran
 ran_tells sum P (step ∷ steps) [] from moments s behind enough ran = absurd ran
 
--- what stands at the end of a run
-ran_ends : (sum : List ℕ → ℕ) (P : ℕ) (steps : List Step) (replies : List Reply) (from : Disk) (moments : List Disk) (s behind : Standing) → Ran sum P steps replies from moments s behind → behind ≡ stands_after_all P steps replies s
-ran_ends sum P [] [] from moments s behind (none, same, keeps, only) = same
-ran_ends sum P (step ∷ steps) (reply ∷ replies) from moments s behind (first, rest, is, mid, did, ran) =
-    let same : mid ≡ stands_after P step reply s = answer_stands P step reply from (last from first) s mid did.answer in
-    ran_ends sum P steps replies (last from first) rest (stands_after P step reply s) behind (subst (λ (m : Standing). Ran sum P steps replies (last from first) rest m behind) same ran)
-ran_ends sum P [] (reply ∷ replies) from moments s behind ran = absurd ran
-ran_ends sum P (step ∷ steps) [] from moments s behind ran = absurd ran
-
 -- the promise of a run
-pub promises : (sum : List ℕ → ℕ) (steps : List Step) (was now : Option WriterState) (old new : Life) (earlier replies : List Reply) → RunsAlways sum steps was now old new earlier replies → Promises sum steps was now old new earlier replies
+pub promises : (sum : List ℕ → ℕ) (steps : List Step) (was now : SessionState) (old new : Life) (earlier replies : List Reply) → RunsAlways sum steps was now old new earlier replies → Promises sum steps was now old new earlier replies
 promises sum steps was now old new earlier replies always = λ P before stands.
     let runs = always.runs P before stands in
-    let ends : runs.behind ≡ stands_after_all P steps always.added before = ran_ends sum P steps always.added old.present runs.moments before runs.behind runs.ran in
     record {
       added = always.added;
       adds = always.adds;
       moments = runs.moments;
       goes = runs.goes;
+      behind = runs.behind;
       tells = ran_tells sum P steps always.added old.present runs.moments before runs.behind stands.floor runs.ran;
-      stands = subst (λ (s : Standing). StandsFor sum P now s new.present) ends runs.stands;
+      stands = runs.stands;
     }
 
 -- ---- how a session begins
@@ -312,7 +180,7 @@ unfolding IsSound
 stands_where_sound sum w = λ d floor sound within enough keeps.
     let s : Standing = opened w floor d.readable in
     let life : Life = record { present = d; past = [] } in
-    stands_now sum w.page_size w life life s
+    stands_now sum w.page_size (session_of w) w life life s
     (record {
       page_size = refl;
       has_writer = refl;
@@ -321,9 +189,10 @@ stands_where_sound sum w = λ d floor sound within enough keeps.
       capacity = refl;
       buffered = refl;
       within = within;
-      settled = λ is. absurd (false≢true is);
+      written = refl;
+      awaited = refl;
     })
-    enough keeps (stays_itself sum w.page_size (content_of w d.readable) d sound.truthful)
+    refl (λ name. refl) enough (λ k x lt. absurd (omega (arith, lt))) keeps (λ k x lt. absurd (omega (arith, lt))) (stays_itself sum w.page_size (content_of w d.readable) d sound.truthful)
 
 -- the size of a content is that of full pages and of a tip that is less
 tip_is : (sum : List ℕ → ℕ) (w : WriterState) (life : Life) → IsSound sum w life.present → length w.tip < w.page_size → length w.tip ≡ length (content_of w life.present.readable) % w.page_size
@@ -333,7 +202,7 @@ tip_is sum w life sound short =
 
 -- a writer that a recovery gave
 pub fresh_stands : (sum : List ℕ → ℕ) (w : WriterState) (cache : CacheState) (capacity : ℕ) (old new : Life) → Recovers sum cache capacity old new (Ok w) → HoldsWithin w
-    → KeepsAll sum cache.page_size (text sum cache.page_size old.present.readable) new → StandsFor sum cache.page_size (Some w) (fresh cache.page_size (adjusted capacity cache.page_size) (text sum cache.page_size old.present.readable)) new.present
+    → KeepsAll sum cache.page_size (text sum cache.page_size old.present.readable) new → StandsFor sum cache.page_size (session_of w) (fresh cache.page_size (adjusted capacity cache.page_size) (text sum cache.page_size old.present.readable)) new.present
 unfolding IsSound
 fresh_stands sum w cache capacity old new recovers within durable =
     let P = cache.page_size in
@@ -346,7 +215,7 @@ fresh_stands sum w cache capacity old new recovers within durable =
     let stays : Stays sum P T new.present new.present =
     subst (λ (n : ℕ). Stays sum n T new.present new.present) size
     (subst (λ (l : List ℕ). Stays sum w.page_size l new.present new.present) holds (stays_itself sum w.page_size (content_of w new.present.readable) new.present recovers.sound.truthful)) in
-    stands_now sum P w new new (fresh P (adjusted capacity P) T)
+    stands_now sum P (session_of w) w new new (fresh P (adjusted capacity P) T)
     (record {
       page_size = size;
       has_writer = refl;
@@ -355,9 +224,10 @@ fresh_stands sum w cache capacity old new recovers within durable =
       capacity = room;
       buffered = buffered;
       within = omega (arith, within, buffered, room);
-      settled = λ is. settled_idle w recovers.settled;
+      written = settled_started w recovers.settled;
+      awaited = settled_awaits w recovers.settled;
     })
-    (omega arith) durable stays
+    refl (λ name. refl) (omega arith) (λ k x lt. absurd (omega (arith, lt))) durable (λ k x lt. absurd (omega (arith, lt))) stays
 
 -- nothing is asked of what isn't fair
 pub unfair : {A : Type 0} → false ≡ true → A
@@ -372,13 +242,13 @@ pub recovered_leaves : (sum : List ℕ → ℕ) (P : ℕ) (d : Disk) (given : Li
 recovered_leaves sum P d given r = λ was s stands. comes_only sum P s.content s.otherwise d given stands.only (recovered d given r)
 
 -- so a session begins
-pub begun : (sum : List ℕ → ℕ) (w : WriterState) (now : Option WriterState) (cache : CacheState) (capacity : ℕ) (old new : Life) → now ≡ Some w → Recovers sum cache capacity old new (Ok w) → HoldsWithin w
+pub begun : (sum : List ℕ → ℕ) (w : WriterState) (now : SessionState) (cache : CacheState) (capacity : ℕ) (old new : Life) → now ≡ session_of w → Recovers sum cache capacity old new (Ok w) → HoldsWithin w
     → KeepsAll sum cache.page_size (text sum cache.page_size old.present.readable) new → IsBegun sum cache capacity old new now
 begun sum w now cache capacity old new is recovers within durable = record {
   writer = w;
-  has_writer = is;
+  begins = is;
   recovers = recovers;
-  stands = subst (λ (o : Option WriterState). StandsFor sum cache.page_size o (fresh cache.page_size (adjusted capacity cache.page_size) (text sum cache.page_size old.present.readable)) new.present) (sym is)
+  stands = subst (λ (o : SessionState). StandsFor sum cache.page_size o (fresh cache.page_size (adjusted capacity cache.page_size) (text sum cache.page_size old.present.readable)) new.present) (sym is)
       (fresh_stands sum w cache capacity old new recovers within durable);
 }
 

@@ -1,52 +1,112 @@
 -- A run goes on by one step.
-use Rattle.std.proofs.Common.{◌≡◌, ℕ, ◌+◌, List, [], ◌∷◌, ◌++◌, refl, sym, ap, ◌∙◌, subst, append-nil, append_assoc, length-append}
-use Rattle.std.specs.Prelude.{Option}
-use Rattle.disk.specs.Disk.{Disk, Life, after}
+use Rattle.std.proofs.Common.{◌≡◌, ℕ, ◌+◌, List, [], ◌∷◌, ◌++◌, length, refl, sym, ap, ◌∙◌, subst, append-nil, append_assoc, length-append}
+use Rattle.std.proofs.Common.{inl, inr, suc, ◌≤◌, arith, slice_get, Bool, true, false}
+use Rattle.std.specs.Prelude.{Option, Some, None, nat_le, max, if◌then◌else◌}
+use Rattle.std.proofs.lemmas.Bool.{cases_lt}
+use Rattle.std.proofs.lemmas.Bool.Decides.{nat_tests}
+use Rattle.std.proofs.lemmas.Option.{same_Some}
+use Rattle.disk.specs.Disk.{Disk, Life, after, coverings}
 use Rattle.crash.specs.Kept.{AllKeep, AllOnly}
+use Rattle.crash.specs.Started.{WouldKeep}
 use Rattle.crash.specs.WriterState.{WriterState}
+use Rattle.crash.proofs.StartedLaws.{settled_already}
 use Rattle.crash.specs.Moments.{after-append}
 use Rattle.session.specs.declared.steps.Step.{Step}
 use Rattle.session.specs.declared.steps.Reply.{Reply}
-use Rattle.session.specs.Run.{Standing, last, Did, Ran, RunsAlways}
+use Rattle.session.specs.Run.{Standing, SessionState, is_complete, raise, raised, AllCover, StandsFor, last, Did, Ran, RunsAlways, WriterFits}
 use Rattle.session.specs.Calls.{Steps}
-use Rattle.session.proofs.StepLaws.{last_is}
+use Rattle.session.proofs.StepLaws.{last_is, raise_within}
+
+-- ---- floors that are raised
+
+-- the greater of two floors
+greater_floor : (sum : List ℕ → ℕ) (P : ℕ) (content : List ℕ) (a b : ℕ) (d : Disk) → AllKeep sum P content a d → AllKeep sum P content b d → AllKeep sum P content (max a b) d
+greater_floor sum P content a b d first second = elim (cases_lt a b) [
+  | inl less ↦ let e : b ≡ max a b = omega arith in subst (λ (n : ℕ). AllKeep sum P content n d) e second
+  | inr more ↦ let e : a ≡ max a b = omega arith in subst (λ (n : ℕ). AllKeep sum P content n d) e first
+]
+
+-- one started sync
+raised_once : (sum : List ℕ → ℕ) (P : ℕ) (content : List ℕ) (name cover floor : ℕ) (d : Disk) → WouldKeep sum P content name cover d → AllKeep sum P content floor d → AllKeep sum P content (if is_complete d name then max cover floor else floor) d
+raised_once sum P content name cover floor d would keeps = by_cover (slice_get (coverings d) name) would.named
+  where
+    by_test : (test : Bool) → (nat_le would.covers.0 d.settled) ≡ test → AllKeep sum P content (if test then max cover floor else floor) d
+    by_test true done =
+        let settled : would.covers.0 ≤ d.settled = grind (arith, nat_tests, done) in
+        greater_floor sum P content cover floor d (subst (λ (x : Disk). AllKeep sum P content cover x) (settled_already would.covers d settled) would.keeps) keeps
+    by_test false pending = keeps
+
+    by_cover : (o : Option (ℕ × List ℕ)) → o ≡ Some would.covers → AllKeep sum P content (if elim o [ None ↦ false | Some c ↦ nat_le c.0 d.settled ] then max cover floor else floor) d
+    by_cover None is = absurd (cc is)
+    by_cover (Some c) is =
+        subst (λ (x : ℕ × List ℕ). AllKeep sum P content (if nat_le x.0 d.settled then max cover floor else floor) d) (sym (same_Some c would.covers is)) (by_test (nat_le would.covers.0 d.settled) refl)
+
+-- all of them
+raised_keeps : (sum : List ℕ → ℕ) (P : ℕ) (content : List ℕ) (covers : List (ℕ × ℕ)) (floor : ℕ) (d : Disk) → AllCover sum P content covers d → AllKeep sum P content floor d → AllKeep sum P content (raise d covers floor) d
+raised_keeps sum P content [] floor d would keeps = keeps
+raised_keeps sum P content (c ∷ covers) floor d would keeps =
+    raised_keeps sum P content covers (if is_complete d c.0 then max c.1 floor else floor) d (λ k x lt. would (suc k) x (omega (arith, lt)))
+    (raised_once sum P content c.0 c.1 floor d (would 0 c (omega arith)) keeps)
+
+-- a writer stands for the same
+raised_fits : (P : ℕ) (o : Option WriterState) (s : Standing) (d : Disk) → WriterFits P o s d → WriterFits P o (raised d s) d
+raised_fits P None s d fits = fits
+raised_fits P (Some w) s d fits = record {
+  page_size = fits.page_size;
+  has_writer = fits.has_writer;
+  content = fits.content;
+  otherwise = fits.otherwise;
+  capacity = fits.capacity;
+  buffered = fits.buffered;
+  within = fits.within;
+  written = fits.written;
+  awaited = fits.awaited;
+}
+
+-- where a session stands for something, it stands for it with the floor raised
+pub raised_stands : (sum : List ℕ → ℕ) (P : ℕ) (session : SessionState) (s : Standing) (d : Disk) → StandsFor sum P session s d → StandsFor sum P session (raised d s) d
+raised_stands sum P session s d stands = record {
+  fits = raised_fits P session.writer s d stands.fits;
+  phase = stands.phase;
+  names = stands.names;
+  floor = raise_within d s.covers s.floor (length s.content) stands.floor stands.within;
+  within = stands.within;
+  kept = raised_keeps sum P s.content s.covers s.floor d stands.covered stands.kept;
+  covered = stands.covered;
+  only = stands.only;
+}
+
+-- ---- a run
 
 -- the last of joined moments
 last-append : (d : Disk) (xs ys : List Disk) → last d (xs ++ ys) ≡ last (last d xs) ys
 last-append d [] ys = refl
 last-append d (x ∷ xs) ys = last-append x xs ys
 
--- a run of one step
-ran_one : (sum : List ℕ → ℕ) (P : ℕ) (step : Step) (reply : Reply) (from : Disk) (moments : List Disk) (before behind : Standing) → Did sum P step reply from moments before behind
-    → AllKeep sum P behind.content behind.floor (last from moments) → AllOnly sum P behind.content behind.otherwise (last from moments) → Ran sum P (step ∷ []) (reply ∷ []) from moments before behind
-ran_one sum P step reply from moments before behind did kept only = (moments, [], sym (append-nil moments), behind, did, (refl, refl, kept, only))
-
 -- one step more
 pub ran_more : (sum : List ℕ → ℕ) (P : ℕ) (steps : List Step) (replies : List Reply) (step : Step) (reply : Reply) (from to : Disk) (moments more : List Disk) (before mid behind : Standing)
     → Ran sum P steps replies from moments before mid → to ≡ last from moments → Did sum P step reply to more mid behind
-    → AllKeep sum P behind.content behind.floor (last to more) → AllOnly sum P behind.content behind.otherwise (last to more)
-    → Ran sum P (steps ++ step ∷ []) (replies ++ reply ∷ []) from (moments ++ more) before behind
+    → AllKeep sum P behind.content (raised (last to more) behind).floor (last to more) → AllOnly sum P behind.content behind.otherwise (last to more)
+    → Ran sum P (steps ++ step ∷ []) (replies ++ reply ∷ []) from (moments ++ more) before (raised (last to more) behind)
 ran_more sum P [] [] step reply from to moments more before mid behind (none, same, keeps, has) reaches did kept only =
     let at : to ≡ from = reaches ∙ ap (λ (ds : List Disk). last from ds) none in
-    let one : Ran sum P (step ∷ []) (reply ∷ []) from more before behind =
-    ran_one sum P step reply from more before behind
-    (subst (λ (s : Standing). Did sum P step reply from more s behind) same (subst (λ (d : Disk). Did sum P step reply d more mid behind) at did))
-    (subst (λ (d : Disk). AllKeep sum P behind.content behind.floor (last d more)) at kept)
-    (subst (λ (d : Disk). AllOnly sum P behind.content behind.otherwise (last d more)) at only) in
-    subst (λ (ds : List Disk). Ran sum P (step ∷ []) (reply ∷ []) from (ds ++ more) before behind) (sym none) one
+    let one : Ran sum P (step ∷ []) (reply ∷ []) to more mid (raised (last to more) behind) = (more, [], sym (append-nil more), behind, did, (refl, refl, kept, only)) in
+    subst (λ (ds : List Disk). Ran sum P (step ∷ []) (reply ∷ []) from (ds ++ more) before (raised (last to more) behind)) (sym none)
+    (subst (λ (s : Standing). Ran sum P (step ∷ []) (reply ∷ []) from more s (raised (last to more) behind)) same
+    (subst (λ (d : Disk). Ran sum P (step ∷ []) (reply ∷ []) d more mid (raised (last to more) behind)) at one))
 ran_more sum P (x ∷ xs) (r ∷ rs) step reply from to moments more before mid behind (first, rest, is, between, one, others) reaches did kept only = (
   first,
   rest ++ more,
   ap (λ (ds : List Disk). ds ++ more) is ∙ append_assoc first rest more,
   between,
   one,
-  ran_more sum P xs rs step reply (last from first) to rest more between mid behind others (reaches ∙ ap (λ (ds : List Disk). last from ds) is ∙ last-append from first rest) did kept only,
+  ran_more sum P xs rs step reply (last from first) to rest more (raised (last from first) between) mid behind others (reaches ∙ ap (λ (ds : List Disk). last from ds) is ∙ last-append from first rest) did kept only,
 )
 ran_more sum P [] (r ∷ rs) step reply from to moments more before mid behind ran reaches did kept only = absurd ran
 ran_more sum P (x ∷ xs) [] step reply from to moments more before mid behind ran reaches did kept only = absurd ran
 
 -- and one step more
-pub runs_more : (sum : List ℕ → ℕ) (steps : List Step) (step : Step) (reply : Reply) (was mid now : Option WriterState) (old between new : Life) (earlier replies more : List Reply)
+pub runs_more : (sum : List ℕ → ℕ) (steps : List Step) (step : Step) (reply : Reply) (was mid now : SessionState) (old between new : Life) (earlier replies more : List Reply)
     → RunsAlways sum steps was mid old between earlier replies → Steps sum step reply mid now between new → more ≡ replies ++ reply ∷ [] → RunsAlways sum (steps ++ step ∷ []) was now old new earlier more
 runs_more sum steps step reply was mid now old between new earlier replies more ran takes is = record {
   added = ran.added ++ reply ∷ [];
@@ -56,13 +116,13 @@ runs_more sum steps step reply was mid now old between new earlier replies more 
       let a = ran.runs P before stands in
       let b = takes.always P a.behind a.stands in
       let end : new.present ≡ last between.present b.moments = ap (λ (life : Life). life.present) b.goes ∙ last_is between b.moments in
+      let final : StandsFor sum P now (raised (last between.present b.moments) b.behind) (last between.present b.moments) =
+      raised_stands sum P now b.behind (last between.present b.moments) (subst (λ (d : Disk). StandsFor sum P now b.behind d) end b.stands) in
       record {
         moments = a.moments ++ b.moments;
         goes = b.goes ∙ ap (λ (life : Life). after life b.moments) a.goes ∙ sym (after-append old a.moments b.moments);
-        behind = b.behind;
-        ran = ran_more sum P steps ran.added step reply old.present between.present a.moments b.moments before a.behind b.behind a.ran (ap (λ (life : Life). life.present) a.goes ∙ last_is old a.moments) b.did
-            (subst (λ (d : Disk). AllKeep sum P b.behind.content b.behind.floor d) end b.stands.kept)
-            (subst (λ (d : Disk). AllOnly sum P b.behind.content b.behind.otherwise d) end b.stands.only);
-        stands = b.stands;
+        behind = raised (last between.present b.moments) b.behind;
+        ran = ran_more sum P steps ran.added step reply old.present between.present a.moments b.moments before a.behind b.behind a.ran (ap (λ (life : Life). life.present) a.goes ∙ last_is old a.moments) b.did final.kept final.only;
+        stands = subst (λ (d : Disk). StandsFor sum P now (raised (last between.present b.moments) b.behind) d) (sym end) final;
       };
 }

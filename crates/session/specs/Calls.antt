@@ -1,22 +1,39 @@
 -- What one step of a session does, and each call behind it.
-use Rattle.std.specs.Prelude.{◌≡◌, ◌<◌, ◌≤◌, ◌+◌, ◌^◌, ℕ, List, length, Option, Some, None, Result}
-use Rattle.std.specs.Prelude.{Ok, Err, IfOk}
-use Rattle.std.specs.List.{concat}
-use Rattle.disk.specs.Disk.{Disk, Life, after}
+use Rattle.std.specs.Prelude.{◌≡◌, ◌⊎◌, ◌<◌, ◌≤◌, ◌+◌, ◌^◌, ◌++◌, ℕ, List, [], ◌∷◌, length, Bool}
+use Rattle.std.specs.Prelude.{true, false, nat_eq, nat_lt, Option, Some, None, Result, Ok, Err}
+use Rattle.std.specs.Prelude.{IfOk}
+use Rattle.std.specs.List.{concat, list_any}
+use Rattle.disk.specs.Disk.{Disk, Life, after, WaitGoes}
+use Rattle.disk.specs.declared.started_sync.StartedSync.{StartedSync}
+use Rattle.disk.specs.declared.started_sync.StartedSync.TheVariants.{Done as AllDone, Named}
 use Rattle.disk.specs.declared.error.Error.{Error}
 use Rattle.disk.specs.declared.error.Error.TheVariants.{BlobInsufficientLength, OffsetOverflow}
 use Rattle.disk.specs.declared.error.Error.TheVariants.{OutOfMemory}
 use Rattle.crash.specs.WriterState.{WriterState}
+use Rattle.crash.specs.WriterState.SyncState.{Dirty}
 use Rattle.crash.specs.Looks.{Looked}
+use Rattle.crash.specs.Sound.{content as content_of}
+use Rattle.crash.specs.Started.{CoversThrough, StartsStand}
 use Rattle.paged.specs.Writer.{physical_size}
 use Rattle.paged.specs.Calls.{Appends, BuffersAll, TryAppends, BuffersOver, Syncs, HoldsWithin}
-use Rattle.paged.specs.Calls.{AsksAtMost, sync_calls}
+use Rattle.paged.specs.Calls.{AsksAtMost, sync_calls, start_calls, wait_calls, StartsSync}
+use Rattle.paged.specs.Calls.{started_already, WaitsForSync, SettlesBy}
+use Rattle.paged.specs.Flush.{outcome}
 use Rattle.paged.specs.Reads.{Reads, size_of}
 use Rattle.session.specs.declared.steps.Step.{Step}
 use Rattle.session.specs.declared.steps.Reply.{Reply}
-use Rattle.session.specs.declared.steps.Reply.TheVariants.{At, Nothing, Done, Length, Bytes, Fault}
-use Rattle.session.specs.declared.steps.Reply.TheVariants.{Closed}
-use Rattle.session.specs.Run.{Standing, Did, StandsFor, IsReady}
+use Rattle.session.specs.declared.steps.Reply.TheVariants.{At, Nothing, Done, Started, Answer}
+use Rattle.session.specs.declared.steps.Reply.TheVariants.{Length, Bytes, Fault, Closed, NoSuch}
+use Rattle.session.specs.Run.{Standing, SessionState, Did, StandsFor, IsReady}
+
+-- what a call of the writer leaves of the session but the writer
+abbrev pub KeepsRest : SessionState → SessionState → Type 0
+KeepsRest was now = now ≡ record was { writer = now.writer }
+
+-- what each call of a writer owes to the started syncs, whatever it answers
+pub record OwesStarts (sum : List ℕ → ℕ) (w : WriterState) (old new : Life) : Type 0 where
+  pub covers : CoversThrough sum w.page_size (content_of w old.present.readable) old new
+  pub starts : StartsStand new.present
 
 -- a session with no writer
 pub record IsClosed (now : Option WriterState) (old new : Life) (reply : Reply) : Type 0 where
@@ -34,7 +51,9 @@ pub record AppendSays (sum : List ℕ → ℕ) (w : WriterState) (bytes : List �
   pub buffered : length w.tip + length bytes ≤ w.capacity → BuffersAll w bytes old new result
   pub flushed : w.capacity < length w.tip + length bytes
       → IfOk result (λ r. length r.0.tip < w.page_size)
-  pub calls : AsksAtMost 1 old new
+  pub dirty : w.capacity < length w.tip + length bytes → IfOk result (λ r. r.0.sync ≡ Dirty)
+  pub calls : AsksAtMost 3 old new
+  pub owes : OwesStarts sum w old new
 
 -- an append
 abbrev pub Appended : (List ℕ → ℕ) → Option WriterState → Option WriterState → List ℕ → Life → Life
@@ -67,6 +86,7 @@ pub record SyncSays (sum : List ℕ → ℕ) (w : WriterState) (old new : Life)
   pub within : IfOk result (λ v. HoldsWithin v)
   pub calls : AsksAtMost (sync_calls w) old new
   pub idle : sync_calls w ≡ 0 → (result ≡ Ok w) × (new ≡ old)
+  pub owes : OwesStarts sum w old new
 
 -- a sync
 abbrev pub Synced : (List ℕ → ℕ) → Option WriterState → Option WriterState → Life → Life → Reply
@@ -76,6 +96,77 @@ Synced sum (Some w) now old new Done =
     (v : WriterState) × (now ≡ Some v) × SyncSays sum w old new (Ok v)
 Synced sum (Some w) now old new (Fault e) = (now ≡ None) × SyncSays sum w old new (Err e)
 Synced sum (Some w) now old new _ = ⊥
+
+-- what starting a sync says of its answer
+pub record StartSays (sum : List ℕ → ℕ) (w : WriterState) (old new : Life)
+    (result : Result (WriterState × StartedSync) Error) : Type 0 where
+  pub starts_sync : StartsSync sum w old new result
+  pub within : IfOk result (λ r. HoldsWithin r.0)
+  pub calls : AsksAtMost (start_calls w) old new
+  pub idle : start_calls w ≡ 0 → (result ≡ Ok (w, started_already w.sync)) × (new ≡ old)
+  pub fresh : 0 < start_calls w → IfOk result (λ r. r.1 ≡ Named (length old.present.started))
+  pub owes : OwesStarts sum w old new
+
+-- the names once one more was given, or none
+abbrev pub names_after : StartedSync → List ℕ → List ℕ
+names_after AllDone names = names
+names_after (Named name) names = names ++ name ∷ []
+
+-- there was no memory for the name: nothing was done
+abbrev pub HadNoRoomFor : Error → SessionState → SessionState → Life → Life → Type 0
+HadNoRoomFor e was now old new = (e ≡ OutOfMemory) × (now ≡ was) × (new ≡ old)
+
+-- a start of a sync by a session with this writer
+abbrev pub Starts : (List ℕ → ℕ) → Option WriterState → SessionState → SessionState → Life → Life
+    → Reply → Type 0
+Starts sum None was now old new reply = (reply ≡ Closed) × (now ≡ was) × (new ≡ old)
+Starts sum (Some w) was now old new (Started sync) =
+    (v : WriterState)
+    × (now ≡ record was { writer = Some v; names = names_after sync was.names })
+    × StartSays sum w old new (Ok (v, sync))
+Starts sum (Some w) was now old new (Fault e) =
+    ((now ≡ record was { writer = None }) × StartSays sum w old new (Err e))
+    ⊎ HadNoRoomFor e was now old new
+Starts sum (Some w) was now old new _ = ⊥
+
+-- what a wait says of its answer
+pub record WaitSays (sum : List ℕ → ℕ) (w : WriterState) (old new : Life)
+    (result : Result WriterState Error) : Type 0 where
+  pub waits : WaitsForSync sum w old new result
+  pub calls : AsksAtMost (wait_calls w.sync) old new
+  pub settles : wait_calls w.sync ≡ 1 → SettlesBy w.sync old new (outcome result)
+  pub idle : wait_calls w.sync ≡ 0 → (result ≡ Ok w) × (new ≡ old)
+  pub owes : OwesStarts sum w old new
+
+-- a wait
+abbrev pub Waits : (List ℕ → ℕ) → Option WriterState → Option WriterState → Life → Life → Reply
+    → Type 0
+Waits sum None now old new reply = IsClosed now old new reply
+Waits sum (Some w) now old new Done =
+    (v : WriterState) × (now ≡ Some v) × WaitSays sum w old new (Ok v)
+Waits sum (Some w) now old new (Fault e) = (now ≡ None) × WaitSays sum w old new (Err e)
+Waits sum (Some w) now old new _ = ⊥
+
+-- a wait for a name, by whether the session was given it
+abbrev pub WaitsFor : (given : Bool) → (name : ℕ) → Life → Life → Reply → Type 0
+WaitsFor true name old new Done = WaitGoes name old new (Ok tt)
+WaitsFor true name old new (Fault e) = WaitGoes name old new (Err e)
+WaitsFor true name old new _ = ⊥
+WaitsFor false name old new reply = (reply ≡ NoSuch) × (new ≡ old)
+
+-- whether it was
+abbrev pub is_given : List ℕ → (name : ℕ) → Bool
+is_given names name = list_any (λ n. nat_eq n name) names
+
+-- whether a sync has something to do
+abbrev pub Needs : Option WriterState → Reply → Type 0
+Needs None reply = reply ≡ Closed
+Needs (Some w) reply = reply ≡ Answer (nat_lt 0 (sync_calls w))
+
+-- the end of the recovery
+abbrev pub Begins : Option WriterState → SessionState → SessionState → Reply → Type 0
+Begins None was now reply = (reply ≡ Closed) × (now ≡ was)
+Begins (Some w) was now reply = (reply ≡ Done) × (now ≡ record was { recovering = false })
 
 -- the size
 abbrev pub Sized : Option WriterState → Reply → Type 0
@@ -111,22 +202,22 @@ IsBytes all _ = ⊥
 
 -- one step by a session that stood for this
 pub record Stepped (sum : List ℕ → ℕ) (P : ℕ) (step : Step) (reply : Reply)
-    (writer : Option WriterState) (old new : Life) (before : Standing) : Type 0 where
+    (session : SessionState) (old new : Life) (before : Standing) : Type 0 where
   pub moments : List Disk
   pub goes : new ≡ after old moments
   pub behind : Standing
   pub did : Did sum P step reply old.present moments before behind
-  pub stands : StandsFor sum P writer behind new.present
+  pub stands : StandsFor sum P session behind new.present
 
 -- one step, whatever the session stood for
-abbrev pub StepsAlways : (List ℕ → ℕ) → Step → Reply → Option WriterState → Option WriterState
-    → Life → Life → Type 0
+abbrev pub StepsAlways : (List ℕ → ℕ) → Step → Reply → SessionState → SessionState → Life → Life
+    → Type 0
 StepsAlways sum step reply was now old new =
     (P : ℕ) (before : Standing) → StandsFor sum P was before old.present
     → Stepped sum P step reply now old new before
 
--- one step, whatever the session stood for; its writer is sound then, if it has one
-pub record Steps (sum : List ℕ → ℕ) (step : Step) (reply : Reply) (was now : Option WriterState)
+-- one step, whatever the session stood for; it may take another then
+pub record Steps (sum : List ℕ → ℕ) (step : Step) (reply : Reply) (was now : SessionState)
     (old new : Life) : Type 0 where
   pub ready : IsReady sum now new.present
   pub always : StepsAlways sum step reply was now old new

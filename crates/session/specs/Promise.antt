@@ -2,7 +2,7 @@
 -- any number of further crashes and of recoveries that are cut short, and then a recovery that
 -- answers Ok.
 use Rattle.std.specs.Prelude.{◌≡◌, ◌⊎◌, ◌≤◌, ◌+◌, ◌%◌, ◌++◌, ℕ, List, [], ◌∷◌, length, take, Bool}
-use Rattle.std.specs.Prelude.{true, false, Option, Some, Result, Ok, Err}
+use Rattle.std.specs.Prelude.{true, false, nat_eq, Some, None, Result, Ok, Err}
 use Rattle.disk.specs.Disk.{Disk, IsImage, Life, after}
 use Rattle.disk.specs.declared.error.Error.{Error}
 use Rattle.page.specs.Page.{text}
@@ -13,14 +13,12 @@ use Rattle.crash.specs.Kept.{AllKeep, Each, Through}
 use Rattle.crash.specs.Stays.{KeepsFloors}
 use Rattle.crash.specs.WriterState.{WriterState}
 use Rattle.crash.specs.Sound.{IsSound, content as content_of}
-use Rattle.paged.specs.Calls.{HoldsWithin}
+use Rattle.paged.specs.Calls.{HoldsWithin, start_calls}
 use Rattle.paged.specs.Recovery.{IsDurable, Recovers, LeavesText}
 use Rattle.session.specs.declared.steps.Step.{Step}
-use Rattle.session.specs.declared.steps.Step.TheVariants.{Append, TryAppend, Sync}
 use Rattle.session.specs.declared.steps.Reply.{Reply}
-use Rattle.session.specs.declared.steps.Reply.TheVariants.{Nothing, Fault, Closed}
-use Rattle.session.specs.Run.{Standing, appended, synced, ended, other_content, last, Answers}
-use Rattle.session.specs.Run.{StandsFor}
+use Rattle.session.specs.Run.{Standing, other_content, last, Answers, raised, SessionState}
+use Rattle.session.specs.Run.{pending_in, StandsFor}
 
 -- ---- the way back
 
@@ -98,78 +96,72 @@ pub record Survives (sum : List ℕ → ℕ) (P : ℕ) (content other : List ℕ
 
 -- ---- a run
 
--- what stands after a step with this reply, in pages of P bytes
-abbrev pub stands_after : (P : ℕ) → Step → Reply → Standing → Standing
-stands_after P step Closed s = s
-stands_after P (Append bytes) (Fault e) s = ended (s.content ++ bytes.items) s
-stands_after P Sync (Fault e) s = ended s.content s
-stands_after P step (Fault e) s = s
-stands_after P (TryAppend bytes) Nothing s = s
-stands_after P (Append bytes) reply s = appended P bytes.items s
-stands_after P (TryAppend bytes) reply s = appended P bytes.items s
-stands_after P Sync reply s = synced P s
-stands_after P step reply s = s
-
--- after steps with these replies
-abbrev pub stands_after_all : (P : ℕ) → List Step → List Reply → Standing → Standing
-stands_after_all P [] replies s = s
-stands_after_all P (step ∷ steps) [] s = s
-stands_after_all P (step ∷ steps) (reply ∷ replies) s =
-    stands_after_all P steps replies (stands_after P step reply s)
-
 -- a run of steps with these replies, through its moments: each reply is exact; and what comes back
 -- from any moment of a step, or from the end, keeps what stood then: the contents are the fold of
--- the accepted steps, the floor is what the last sync that answered Ok made durable
+-- the accepted steps, the floor is what the last sync that answered Ok made durable, or a started
+-- sync that has completed
 abbrev pub Tells : (List ℕ → ℕ) → (P : ℕ) → List Step → List Reply → Disk → List Disk → Standing
-    → Type 0
-Tells sum P [] [] from moments s =
-    (moments ≡ []) × Survives sum P s.content s.otherwise s.floor from
-Tells sum P (step ∷ steps) (reply ∷ replies) from moments s =
-    (first : List Disk) × (rest : List Disk) × (moments ≡ first ++ rest)
-    × Answers P step reply from (last from first) s (stands_after P step reply s)
+    → Standing → Type 0
+Tells sum P [] [] from moments s behind =
+    (moments ≡ []) × (behind ≡ s) × Survives sum P s.content s.otherwise s.floor from
+Tells sum P (step ∷ steps) (reply ∷ replies) from moments s behind =
+    (first : List Disk) × (rest : List Disk) × (moments ≡ first ++ rest) × (mid : Standing)
+    × Answers P step reply from (last from first) s mid
     × Each (Survives sum P s.content (other_content step s) s.floor) (from ∷ first)
-    × Tells sum P steps replies (last from first) rest (stands_after P step reply s)
-Tells sum P [] (reply ∷ replies) from moments s = ⊥
-Tells sum P (step ∷ steps) [] from moments s = ⊥
+    × Tells sum P steps replies (last from first) rest (raised (last from first) mid) behind
+Tells sum P [] (reply ∷ replies) from moments s behind = ⊥
+Tells sum P (step ∷ steps) [] from moments s behind = ⊥
 
 -- a run, told moment by moment; the session stands at its end for what the replies say, so another
 -- run may follow
-pub record Told (sum : List ℕ → ℕ) (P : ℕ) (steps : List Step) (now : Option WriterState)
+pub record Told (sum : List ℕ → ℕ) (P : ℕ) (steps : List Step) (now : SessionState)
     (old new : Life) (earlier replies : List Reply) (before : Standing) : Type 0 where
   pub added : List Reply
   pub adds : replies ≡ earlier ++ added
   pub moments : List Disk
   pub goes : new ≡ after old moments
-  pub tells : Tells sum P steps added old.present moments before
-  pub stands : StandsFor sum P now (stands_after_all P steps added before) new.present
+  pub behind : Standing
+  pub tells : Tells sum P steps added old.present moments before behind
+  pub stands : StandsFor sum P now behind new.present
 
 -- the promise of a run: so it is told whatever the session stood for when it began
-abbrev pub Promises : (List ℕ → ℕ) → List Step → Option WriterState → Option WriterState → Life
-    → Life → List Reply → List Reply → Type 0
+abbrev pub Promises : (List ℕ → ℕ) → List Step → SessionState → SessionState → Life → Life
+    → List Reply → List Reply → Type 0
 Promises sum steps was now old new earlier replies =
     (P : ℕ) (before : Standing) → StandsFor sum P was before old.present
     → Told sum P steps now old new earlier replies before
 
 -- ---- how a session begins
 
+-- without a writer
+abbrev pub closed : SessionState
+closed = record { writer = None; recovering = false; names = [] }
+
+-- with this one, in recovery
+abbrev pub session_of : WriterState → SessionState
+session_of w = record { writer = Some w; recovering = true; names = [] }
+
 -- with this content, all of it durable, and a buffer of so many bytes
 abbrev pub fresh : (P capacity : ℕ) → List ℕ → Standing
 fresh P capacity content = record {
   has_writer = true;
+  recovering = true;
   content = content;
   floor = length content;
   otherwise = content;
   capacity = capacity;
   buffered = length content % P;
-  settled = true;
+  written = true;
+  awaited = None;
+  covers = [];
 }
 
 -- a recovery of these bytes at its end: the session that it gave stands for their text, all of it
 -- durable
 pub record IsBegun (sum : List ℕ → ℕ) (cache : CacheState) (capacity : ℕ) (old new : Life)
-    (now : Option WriterState) : Type 0 where
+    (now : SessionState) : Type 0 where
   pub writer : WriterState
-  pub has_writer : now ≡ Some writer
+  pub begins : now ≡ session_of writer
   pub recovers : Recovers sum cache capacity old new (Ok writer)
   pub stands : let P = cache.page_size in
       let given = text sum P old.present.readable in
@@ -177,12 +169,12 @@ pub record IsBegun (sum : List ℕ → ℕ) (cache : CacheState) (capacity : ℕ
 
 -- by its answer
 abbrev pub BeginsBy : (List ℕ → ℕ) → CacheState → (capacity : ℕ) → Life → Life
-    → Result (Option WriterState) Error → Type 0
+    → Result SessionState Error → Type 0
 BeginsBy sum cache capacity old new (Ok now) = IsBegun sum cache capacity old new now
 BeginsBy sum cache capacity old new (Err e) = Recovers sum cache capacity old new (Err e)
 
 -- the cache once a session has begun; where none has, an id may have been given or not
-abbrev pub GivesId : Result (Option WriterState) Error → CacheState → CacheState → Type 0
+abbrev pub GivesId : Result SessionState Error → CacheState → CacheState → Type 0
 GivesId (Ok now) old new = new ≡ record old { ids_given = old.ids_given + 1 }
 GivesId (Err e) old new = (new ≡ old) ⊎ (new ≡ record old { ids_given = old.ids_given + 1 })
 
@@ -201,13 +193,13 @@ RecoversFrom sum P d =
 -- whatever was stood for over this disk, this content keeps its floor
 abbrev pub KeepsFloor : (List ℕ → ℕ) → (P : ℕ) → Disk → List ℕ → Type 0
 KeepsFloor sum P d given =
-    (was : Option WriterState) (s : Standing) → StandsFor sum P was s d
+    (was : SessionState) (s : Standing) → StandsFor sum P was s d
     → take s.floor given ≡ take s.floor s.content
 
 -- and it is a prefix of one of the two contents
 abbrev pub LeavesContent : (List ℕ → ℕ) → (P : ℕ) → Disk → List ℕ → Type 0
 LeavesContent sum P d given =
-    (was : Option WriterState) (s : Standing) → StandsFor sum P was s d
+    (was : SessionState) (s : Standing) → StandsFor sum P was s d
     → Begins given s.content ⊎ Begins given s.otherwise
 
 -- what a recovery gave back, by what stood over d as it began
@@ -230,12 +222,15 @@ LeadsOn sum P d left m =
 abbrev pub opened : WriterState → (floor : ℕ) → List ℕ → Standing
 opened w floor readable = record {
   has_writer = true;
+  recovering = true;
   content = content_of w readable;
   floor = floor;
   otherwise = content_of w readable;
   capacity = w.capacity;
   buffered = length w.tip;
-  settled = false;
+  written = nat_eq (start_calls w) 0;
+  awaited = pending_in w.sync;
+  covers = [];
 }
 
 -- over each blob on which the writer is sound
@@ -244,4 +239,4 @@ StandsWhereSound sum w =
     (d : Disk) (floor : ℕ) → IsSound sum w d → HoldsWithin w
     → floor ≤ length (content_of w d.readable)
     → AllKeep sum w.page_size (content_of w d.readable) floor d
-    → StandsFor sum w.page_size (Some w) (opened w floor d.readable) d
+    → StandsFor sum w.page_size (session_of w) (opened w floor d.readable) d

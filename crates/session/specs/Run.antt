@@ -1,29 +1,36 @@
 -- What a list of steps did to a session, moment by moment.
-use Rattle.std.specs.Prelude.{◌≡◌, ◌<◌, ◌≤◌, ◌+◌, ◌%◌, ◌^◌, ◌++◌, ℕ, List, [], ◌∷◌, length, take}
-use Rattle.std.specs.Prelude.{drop, Bool, true, false, nat_le, if◌then◌else◌, is_some, Option, Some}
-use Rattle.std.specs.Prelude.{None}
-use Rattle.std.specs.List.{Contains}
-use Rattle.disk.specs.Disk.{Disk, Life, after, HasFailed}
+use Rattle.std.specs.Prelude.{◌≡◌, ◌⊎◌, ◌<◌, ◌≤◌, ◌+◌, ◌%◌, ◌^◌, ◌++◌, ℕ, List, [], ◌∷◌, length}
+use Rattle.std.specs.Prelude.{take, drop, max, All, Bool, true, false, not, nat_le, nat_eq, ◌||◌}
+use Rattle.std.specs.Prelude.{if◌then◌else◌, is_some, slice_get, Option, Some, None}
+use Rattle.std.specs.List.{Contains, list_any}
+use Rattle.disk.specs.Disk.{Disk, Life, after, HasFailed, coverings, had_failed}
+use Rattle.disk.specs.declared.started_sync.StartedSync.{StartedSync}
+use Rattle.disk.specs.declared.started_sync.StartedSync.TheVariants.{Done as AllDone, Named}
 use Rattle.disk.specs.declared.error.Error.{Error}
 use Rattle.disk.specs.declared.error.Error.TheVariants.{ReadFailed, WriteFailed, ResizeFailed}
 use Rattle.disk.specs.declared.error.Error.TheVariants.{SyncFailed, BlobInsufficientLength}
 use Rattle.disk.specs.declared.error.Error.TheVariants.{OffsetOverflow, OutOfMemory}
 use Rattle.crash.specs.Kept.{AllKeep, AllOnly, Each}
 use Rattle.crash.specs.Looks.{SameButLog}
-use Rattle.crash.specs.WriterState.{WriterState}
+use Rattle.crash.specs.Started.{WouldKeep, StartsStand}
+use Rattle.crash.specs.WriterState.{WriterState, SyncState}
+use Rattle.crash.specs.WriterState.SyncState.{Clean, Dirty, Pending}
 use Rattle.crash.specs.Sound.{IsSound, content as content_of}
 use Rattle.paged.specs.Writer.{physical_size}
-use Rattle.paged.specs.Calls.{sync_calls}
+use Rattle.paged.specs.Calls.{start_calls}
 use Rattle.session.specs.declared.steps.Step.{Step}
-use Rattle.session.specs.declared.steps.Step.TheVariants.{Append, TryAppend, Sync, Size, Read}
+use Rattle.session.specs.declared.steps.Step.TheVariants.{Append, Owned, TryAppend, Sync, StartSync}
+use Rattle.session.specs.declared.steps.Step.TheVariants.{Wait, WaitSync, Needs, Size, Read, Begin}
 use Rattle.session.specs.declared.steps.Reply.{Reply}
-use Rattle.session.specs.declared.steps.Reply.TheVariants.{At, Nothing, Done, Length, Bytes, Fault}
-use Rattle.session.specs.declared.steps.Reply.TheVariants.{Closed}
+use Rattle.session.specs.declared.steps.Reply.TheVariants.{At, Nothing, Done, Started, Answer}
+use Rattle.session.specs.declared.steps.Reply.TheVariants.{Length, Bytes, Fault, Closed, NoSuch}
 
 -- ---- what a session stands for
 
 pub record Standing : Type 0 where
   pub has_writer : Bool
+  -- the recovery hasn't ended
+  pub recovering : Bool
   pub content : List ℕ
   -- how much of the content every crash keeps
   pub floor : ℕ
@@ -32,8 +39,13 @@ pub record Standing : Type 0 where
   -- the bytes of the buffer, and how many it holds
   pub capacity : ℕ
   pub buffered : ℕ
-  -- nothing was appended since the last sync or recovery that answered Ok
-  pub settled : Bool
+  -- nothing was appended since the last sync, started sync or recovery that answered Ok
+  pub written : Bool
+  -- the started sync that the writer waits for
+  pub awaited : Option ℕ
+  -- the names of started syncs, the newest first, and how much of the content every crash keeps
+  -- once each has completed
+  pub covers : List (ℕ × ℕ)
 
 -- so many bytes more fit what is buffered
 abbrev pub has_room : Standing → ℕ → Bool
@@ -43,10 +55,14 @@ has_room s more = nat_le (s.buffered + more) s.capacity
 abbrev pub buffered_after : (P : ℕ) → Standing → ℕ → ℕ
 buffered_after P s more = if has_room s more then s.buffered + more else (s.buffered + more) % P
 
--- whether a sync has nothing to do then
-abbrev pub settled_after : List ℕ → Bool → Bool
-settled_after [] settled = settled
-settled_after (byte ∷ bytes) settled = false
+-- whether all is written then
+abbrev pub written_after : List ℕ → Bool → Bool
+written_after [] written = written
+written_after (byte ∷ bytes) written = false
+
+-- the started sync that is awaited then: where they don't fit it was waited for
+abbrev pub awaited_after : Standing → ℕ → Option ℕ
+awaited_after s more = if has_room s more then s.awaited else None
 
 -- with these bytes behind the content
 abbrev pub appended : (P : ℕ) → List ℕ → Standing → Standing
@@ -54,12 +70,50 @@ appended P bytes s = record s {
   content = s.content ++ bytes;
   otherwise = s.content ++ bytes;
   buffered = buffered_after P s (length bytes);
-  settled = settled_after bytes s.settled;
+  written = written_after bytes s.written;
+  awaited = awaited_after s (length bytes);
 }
 
 -- with all of the content durable
 abbrev pub synced : (P : ℕ) → Standing → Standing
-synced P s = record s { floor = length s.content; buffered = s.buffered % P; settled = true }
+synced P s = record s {
+  floor = length s.content;
+  buffered = s.buffered % P;
+  written = true;
+  awaited = None;
+}
+
+-- with a started sync: all of the content is durable, or is once this name has completed
+abbrev pub starting : (P : ℕ) → StartedSync → Standing → Standing
+starting P AllDone s = synced P s
+starting P (Named name) s = record s {
+  buffered = s.buffered % P;
+  written = true;
+  awaited = Some name;
+  covers = (name, length s.content) ∷ s.covers;
+}
+
+-- with no started sync to wait for
+abbrev pub waited : Standing → Standing
+waited s = record s { awaited = None }
+
+-- whether a sync has something to do
+abbrev pub needs_sync : Standing → Bool
+needs_sync s = not s.written || is_some s.awaited
+
+-- a started sync has completed once the operations that it covers are durable
+abbrev pub is_complete : Disk → ℕ → Bool
+is_complete d name =
+    elim (slice_get (coverings d) name) [ None ↦ false | Some c ↦ nat_le c.0 d.settled ]
+
+-- then what it covers is a floor
+abbrev pub raise : Disk → List (ℕ × ℕ) → (floor : ℕ) → ℕ
+raise d [] floor = floor
+raise d (c ∷ covers) floor =
+    raise d covers (if is_complete d c.0 then max c.1 floor else floor)
+
+abbrev pub raised : Disk → Standing → Standing
+raised d s = record s { floor = raise d s.covers s.floor }
 
 -- without its writer, whose last step would have left this content
 abbrev pub ended : List ℕ → Standing → Standing
@@ -67,8 +121,13 @@ ended otherwise s = record s { has_writer = false; otherwise = otherwise }
 
 -- ---- steps that are turned away
 
--- the reply, where the session has not what the step needs: a writer
+-- the session was given this name
+abbrev pub has_name : Standing → ℕ → Bool
+has_name s name = list_any (λ c. nat_eq c.0 name) s.covers
+
+-- the reply, where the session has not what the step needs: a writer, or a name that it was given
 abbrev pub turned_away : Step → Standing → Option Reply
+turned_away (WaitSync name) s = if has_name s name then None else Some NoSuch
 turned_away step s = if s.has_writer then None else Some Closed
 
 -- ---- steps that are accepted
@@ -78,34 +137,63 @@ abbrev pub Slices : List ℕ → (offset len : ℕ) → List ℕ → Type 0
 Slices content offset len bytes =
     (offset + len ≤ length content) × (bytes ≡ take len (drop offset content))
 
+-- what starting a sync answers: where all is written, the sync that is awaited, if one is, and else
+-- a new one, whose name is its number
+abbrev pub started_by : Standing → Disk → StartedSync
+started_by s from =
+    if s.written
+    then elim s.awaited [ None ↦ AllDone | Some name ↦ Named name ]
+    else Named (length from.started)
+
+-- this started sync has completed, if it is one
+abbrev pub HasCompleted : Option ℕ → Disk → Type 0
+HasCompleted None d = Unit {0}
+HasCompleted (Some name) d = is_complete d name ≡ true
+
 -- the reply to an accepted step, and the standing that it leaves, in pages of P bytes
-abbrev pub Accepts : (P : ℕ) → Step → Reply → Standing → Standing → Type 0
-Accepts P (Append bytes) (At n) s behind =
+abbrev pub Accepts : (P : ℕ) → Step → Reply → (from to : Disk) → Standing → Standing → Type 0
+Accepts P (Append bytes) (At n) from to s behind =
     (n ≡ length s.content) × (behind ≡ appended P bytes.items s)
-Accepts P (TryAppend bytes) (At n) s behind =
+Accepts P (Owned bytes) (At n) from to s behind =
+    (n ≡ length s.content) × (behind ≡ appended P bytes.items s)
+Accepts P (TryAppend bytes) (At n) from to s behind =
     (has_room s (length bytes.items) ≡ true) × (n ≡ length s.content)
     × (behind ≡ appended P bytes.items s)
-Accepts P (TryAppend bytes) Nothing s behind =
+Accepts P (TryAppend bytes) Nothing from to s behind =
     (has_room s (length bytes.items) ≡ false) × (behind ≡ s)
-Accepts P Sync Done s behind = behind ≡ synced P s
-Accepts P Size (Length n) s behind = (n ≡ length s.content) × (behind ≡ s)
-Accepts P (Read offset len) (Bytes bytes) s behind =
+Accepts P Sync Done from to s behind = behind ≡ synced P s
+Accepts P StartSync (Started sync) from to s behind =
+    (sync ≡ started_by s from) × (behind ≡ starting P sync s)
+Accepts P Wait Done from to s behind = HasCompleted s.awaited to × (behind ≡ waited s)
+Accepts P (WaitSync name) Done from to s behind =
+    HasCompleted (Some name) to × (behind ≡ s)
+Accepts P Needs (Answer answer) from to s behind = (answer ≡ needs_sync s) × (behind ≡ s)
+Accepts P Size (Length n) from to s behind = (n ≡ length s.content) × (behind ≡ s)
+Accepts P (Read offset len) (Bytes bytes) from to s behind =
     Slices s.content offset len bytes.items × (behind ≡ s)
-Accepts P step reply s behind = ⊥
+Accepts P Begin Done from to s behind = behind ≡ record s { recovering = false }
+Accepts P step reply from to s behind = ⊥
 
 -- ---- steps that are refused
 
 -- the errors that a step may answer
 abbrev pub faults : Step → List Error
 faults (Append bytes) = WriteFailed ∷ SyncFailed ∷ OffsetOverflow ∷ OutOfMemory ∷ []
+faults (Owned bytes) = WriteFailed ∷ SyncFailed ∷ OffsetOverflow ∷ OutOfMemory ∷ []
 faults (TryAppend bytes) = OffsetOverflow ∷ OutOfMemory ∷ []
 faults Sync = WriteFailed ∷ SyncFailed ∷ OutOfMemory ∷ []
+faults StartSync = WriteFailed ∷ SyncFailed ∷ OutOfMemory ∷ []
+faults Wait = SyncFailed ∷ OutOfMemory ∷ []
+faults (WaitSync name) = SyncFailed ∷ OutOfMemory ∷ []
+faults Needs = []
 faults Size = []
+faults Begin = []
 faults (Read offset len) = ReadFailed ∷ BlobInsufficientLength ∷ OffsetOverflow ∷ OutOfMemory ∷ []
 
 -- a place, or the blob that the new size needs in pages of P bytes, passes the greatest number
 abbrev pub Overflows : (P : ℕ) → Step → Standing → Type 0
 Overflows P (Append bytes) s = 2 ^ 64 ≤ physical_size P 0 (length s.content + length bytes.items)
+Overflows P (Owned bytes) s = 2 ^ 64 ≤ physical_size P 0 (length s.content + length bytes.items)
 Overflows P (TryAppend bytes) s = 2 ^ 64 ≤ physical_size P 0 (length s.content + length bytes.items)
 Overflows P (Read offset len) s = 2 ^ 64 ≤ offset + len
 Overflows P step s = ⊥
@@ -118,15 +206,32 @@ PassesEnd step s = ⊥
 -- a step that may ask for memory
 abbrev pub Allocates : Step → Standing → Type 0
 Allocates (TryAppend bytes) s = has_room s (length bytes.items) ≡ true
-Allocates Sync s = s.settled ≡ false
+Allocates Sync s = needs_sync s ≡ true
+Allocates Wait s = is_some s.awaited ≡ true
 Allocates step s = Unit {0}
+
+-- the started sync that a step waits for
+abbrev pub waits_for : Step → Standing → Option ℕ
+waits_for (Append bytes) s = if has_room s (length bytes.items) then None else s.awaited
+waits_for (Owned bytes) s = if has_room s (length bytes.items) then None else s.awaited
+waits_for Sync s = s.awaited
+waits_for StartSync s = if s.written then None else s.awaited
+waits_for Wait s = s.awaited
+waits_for (WaitSync name) s = Some name
+waits_for step s = None
+
+-- it had failed
+abbrev pub HadFailed : Option ℕ → Disk → Type 0
+HadFailed None d = ⊥
+HadFailed (Some name) d = had_failed d.started name ≡ true
 
 -- why a step may answer this error
 abbrev pub HasCause : (P : ℕ) → Step → Standing → Disk → Disk → Error → Type 0
 HasCause P step s from to ReadFailed = HasFailed ReadFailed from to
 HasCause P step s from to WriteFailed = HasFailed WriteFailed from to
 HasCause P step s from to ResizeFailed = HasFailed ResizeFailed from to
-HasCause P step s from to SyncFailed = HasFailed SyncFailed from to
+HasCause P step s from to SyncFailed =
+    HasFailed SyncFailed from to ⊎ HadFailed (waits_for step s) from
 HasCause P step s from to OffsetOverflow = Overflows P step s
 HasCause P step s from to BlobInsufficientLength = PassesEnd step s
 HasCause P step s from to OutOfMemory = Allocates step s
@@ -135,22 +240,31 @@ HasCause P step s from to e = ⊥
 -- the content that the step would have left
 abbrev pub content_after : Step → List ℕ → List ℕ
 content_after (Append bytes) content = content ++ bytes.items
+content_after (Owned bytes) content = content ++ bytes.items
 content_after (TryAppend bytes) content = content ++ bytes.items
 content_after step content = content
 
+-- there was no memory for a name that the session would have been given: nothing was done
+abbrev pub HadNoRoom : Error → Disk → Disk → Standing → Standing → Type 0
+HadNoRoom e from to s behind = (e ≡ OutOfMemory) × (to ≡ from) × (behind ≡ s)
+
 -- the standing after a refused step: a call that takes the writer ends it
-abbrev pub Refuses : Step → Standing → Standing → Type 0
-Refuses (Append bytes) s behind = behind ≡ ended (s.content ++ bytes.items) s
-Refuses Sync s behind = behind ≡ ended s.content s
-Refuses step s behind = behind ≡ s
+abbrev pub Refuses : Step → Error → Disk → Disk → Standing → Standing → Type 0
+Refuses (Append bytes) e from to s behind = behind ≡ ended (s.content ++ bytes.items) s
+Refuses (Owned bytes) e from to s behind = behind ≡ ended (s.content ++ bytes.items) s
+Refuses Sync e from to s behind = behind ≡ ended s.content s
+Refuses StartSync e from to s behind =
+    ((s.written ≡ false) × (behind ≡ ended s.content s)) ⊎ HadNoRoom e from to s behind
+Refuses Wait e from to s behind = behind ≡ ended s.content s
+Refuses step e from to s behind = behind ≡ s
 
 -- ---- one step
 
 -- a step that isn't turned away: it is refused for a cause, or accepted
 abbrev pub Takes : (P : ℕ) → Step → Reply → Disk → Disk → Standing → Standing → Type 0
 Takes P step (Fault e) from to s behind =
-    Contains (faults step) e × HasCause P step s from to e × Refuses step s behind
-Takes P step reply from to s behind = Accepts P step reply s behind
+    Contains (faults step) e × HasCause P step s from to e × Refuses step e from to s behind
+Takes P step reply from to s behind = Accepts P step reply from to s behind
 
 -- a fault that the standing alone tells comes before any other reply
 abbrev pub Foretells : (P : ℕ) → Step → Reply → Standing → Type 0
@@ -171,12 +285,23 @@ pub data Touch : Type 0 where
   Looks : Touch
   Changes : (most : ℕ) → Touch
 
+-- a wait for a started sync, if one is awaited
+abbrev pub wait_touch : Option ℕ → Touch
+wait_touch None = Leaves
+wait_touch (Some name) = Changes 1
+
 abbrev pub touch : Step → Standing → Touch
-touch (Append bytes) s = if has_room s (length bytes.items) then Leaves else Changes 1
+touch (Append bytes) s = if has_room s (length bytes.items) then Leaves else Changes 3
+touch (Owned bytes) s = if has_room s (length bytes.items) then Leaves else Changes 3
 touch (TryAppend bytes) s = Leaves
-touch Sync s = if s.settled then Leaves else Changes 2
+touch Sync s = if s.written then wait_touch s.awaited else Changes 2
+touch StartSync s = if s.written then Leaves else Changes 3
+touch Wait s = wait_touch s.awaited
+touch (WaitSync name) s = Changes 1
+touch Needs s = Leaves
 touch Size s = Leaves
 touch (Read offset len) s = Looks
+touch Begin s = Leaves
 
 -- the last of some moments
 abbrev pub last : Disk → List Disk → Disk
@@ -192,17 +317,24 @@ Touches (Changes most) from moments = length (last from moments).log ≤ length 
 abbrev pub other_content : Step → Standing → List ℕ
 other_content step s = if s.has_writer then content_after step s.content else s.otherwise
 
--- one step: its reply, what it did to the disk, and what a crash leaves at each of its moments
+-- each started sync would keep what it covers, once it completed
+abbrev pub AllCover : (List ℕ → ℕ) → (P : ℕ) → List ℕ → (covers : List (ℕ × ℕ)) → Disk → Type 0
+AllCover sum P content covers d = All (λ c. WouldKeep sum P content c.0 c.1 d) covers
+
+-- one step: its reply, what it did to the disk, and what a crash leaves at each of its moments, and
+-- would leave once a started sync completed
 pub record Did (sum : List ℕ → ℕ) (P : ℕ) (step : Step) (reply : Reply) (from : Disk)
     (moments : List Disk) (before behind : Standing) : Type 0 where
   pub answer : Answers P step reply from (last from moments) before behind
   pub touches : Touches (touch step before) from moments
   pub stopped : is_some (turned_away step before) ≡ true → moments ≡ []
   pub kept : Each (AllKeep sum P before.content before.floor) (from ∷ moments)
+  pub covered : Each (AllCover sum P before.content before.covers) (from ∷ moments)
   pub only : Each (AllOnly sum P before.content (other_content step before)) (from ∷ moments)
+  pub within : (raised (last from moments) behind).floor ≤ length behind.content
 
--- a list of steps, through the moments of the run, from one standing to another; where no step is
--- left, what stands is kept
+-- a list of steps, through the moments of the run, from one standing to another: after each, what a
+-- completed sync covers is a floor; and where no step is left, what stands is kept
 abbrev pub Ran : (List ℕ → ℕ) → (P : ℕ) → List Step → List Reply → Disk → List Disk → Standing
     → Standing → Type 0
 Ran sum P [] [] from moments s behind =
@@ -211,11 +343,23 @@ Ran sum P [] [] from moments s behind =
 Ran sum P (step ∷ steps) (reply ∷ replies) from moments s behind =
     (first : List Disk) × (rest : List Disk) × (moments ≡ first ++ rest) × (mid : Standing)
     × Did sum P step reply from first s mid
-    × Ran sum P steps replies (last from first) rest mid behind
+    × Ran sum P steps replies (last from first) rest (raised (last from first) mid) behind
 Ran sum P [] (reply ∷ replies) from moments s behind = ⊥
 Ran sum P (step ∷ steps) [] from moments s behind = ⊥
 
 -- ---- what a session has
+
+-- as contracts see it: the syncs by their names, the oldest first
+pub record SessionState : Type 0 where
+  pub writer : Option WriterState
+  pub recovering : Bool
+  pub names : List ℕ
+
+-- the started sync that a writer in this state waits for
+abbrev pub pending_in : SyncState → Option ℕ
+pending_in Clean = None
+pending_in Dirty = None
+pending_in (Pending name) = Some name
 
 -- a writer stands for a content, and for what is buffered of it
 pub record WriterStandsFor (P : ℕ) (w : WriterState) (s : Standing) (d : Disk) : Type 0 where
@@ -226,42 +370,59 @@ pub record WriterStandsFor (P : ℕ) (w : WriterState) (s : Standing) (d : Disk)
   pub capacity : w.capacity ≡ s.capacity
   pub buffered : length w.tip ≡ s.buffered
   pub within : s.buffered ≤ s.capacity
-  pub settled : s.settled ≡ true → sync_calls w ≡ 0
+  pub written : s.written ≡ nat_eq (start_calls w) 0
+  pub awaited : s.awaited ≡ pending_in w.sync
 
 -- so does a session with this writer, or with none
 abbrev pub WriterFits : (P : ℕ) → Option WriterState → Standing → Disk → Type 0
 WriterFits P None s d = s.has_writer ≡ false
 WriterFits P (Some w) s d = WriterStandsFor P w s d
 
+-- the session has the names that the standing tells
+abbrev pub NamesFit : List ℕ → (covers : List (ℕ × ℕ)) → Type 0
+NamesFit names covers =
+    (name : ℕ) → list_any (λ n. nat_eq n name) names ≡ list_any (λ c. nat_eq c.0 name) covers
+
 -- what a session stands for over this disk, in pages of P bytes: every image keeps the floor, and
--- chance aside has as its text a prefix of one of the two contents
-pub record StandsFor (sum : List ℕ → ℕ) (P : ℕ) (writer : Option WriterState) (s : Standing)
+-- would keep what a started sync covers once that completed; and chance aside it has as its text a
+-- prefix of one of the two contents
+pub record StandsFor (sum : List ℕ → ℕ) (P : ℕ) (session : SessionState) (s : Standing)
     (d : Disk) : Type 0 where
-  pub fits : WriterFits P writer s d
+  pub fits : WriterFits P session.writer s d
+  pub phase : session.recovering ≡ s.recovering
+  pub names : NamesFit session.names s.covers
   pub floor : s.floor ≤ length s.content
+  pub within : All (λ c. c.1 ≤ length s.content) s.covers
   pub kept : AllKeep sum P s.content s.floor d
+  pub covered : AllCover sum P s.content s.covers d
   pub only : AllOnly sum P s.content s.otherwise d
 
 -- the writer, if there is one, is sound over its blob
-abbrev pub IsReady : (List ℕ → ℕ) → Option WriterState → Disk → Type 0
-IsReady sum None d = Unit {0}
-IsReady sum (Some w) d = IsSound sum w d
+abbrev pub HasSoundWriter : (List ℕ → ℕ) → Option WriterState → Disk → Type 0
+HasSoundWriter sum None d = Unit {0}
+HasSoundWriter sum (Some w) d = IsSound sum w d
+
+-- so a session may take steps: and the syncs that it was given may be waited for, also where the
+-- writer is gone
+pub record IsReady (sum : List ℕ → ℕ) (session : SessionState) (d : Disk) : Type 0 where
+  pub writer : HasSoundWriter sum session.writer d
+  pub starts : (session.names ≡ []) ⊎ StartsStand d
 
 -- ---- a run
 
 -- a run of steps by a session: the moments that it took, and the standing at its end, for which the
 -- session stands
 pub record Runs (sum : List ℕ → ℕ) (P : ℕ) (steps : List Step) (replies : List Reply)
-    (writer : Option WriterState) (old new : Life) (before : Standing) : Type 0 where
+    (session : SessionState) (old new : Life) (before : Standing) : Type 0 where
   pub moments : List Disk
   pub goes : new ≡ after old moments
   pub behind : Standing
   pub ran : Ran sum P steps replies old.present moments before behind
-  pub stands : StandsFor sum P writer behind new.present
+  pub stands : StandsFor sum P session behind new.present
 
 -- a run, whatever the session stood for when it began: one reply a step, behind those that were
 -- there
-pub record RunsAlways (sum : List ℕ → ℕ) (steps : List Step) (was now : Option WriterState)
+pub record RunsAlways (sum : List ℕ → ℕ) (steps : List Step) (was now : SessionState)
     (old new : Life) (earlier replies : List Reply) : Type 0 where
   pub added : List Reply
   pub adds : replies ≡ earlier ++ added

@@ -1,5 +1,5 @@
 // How a session begins, and what a crash leaves of one.
-ghost use Rattle.std.specs.Prelude.{◌≡◌, ◌⊎◌, ◌≤◌, ◌^◌, None, length, IfOk, OnOk, OnErr};
+ghost use Rattle.std.specs.Prelude.{◌≡◌, ◌⊎◌, ◌≤◌, ◌^◌, length, IfOk, OnOk, OnErr};
 ghost use Rattle.std.specs.Prelude.{IsOkUnless, Err};
 ghost use Rattle.std.specs.Int.NonZero.{non_zero_usize_get};
 ghost use Rattle.disk.specs.History.{life_of};
@@ -9,7 +9,7 @@ ghost use Rattle.page.specs.Geometry.{adjusted};
 ghost use Rattle.paged.specs.Searches.{ReadsWithin, scan_bytes};
 ghost use Rattle.session.specs.Run.{StandsFor, IsReady};
 ghost use Rattle.session.specs.Promise.{HasCrashed, AttemptsThrough, BeginsBy, GivesId, GivesBack};
-ghost use Rattle.session.specs.Promise.{GivesBackLeft, LeadsOn, fresh};
+ghost use Rattle.session.specs.Promise.{GivesBackLeft, LeadsOn, fresh, closed};
 
 use crate::Session;
 use cache::CacheRef;
@@ -72,7 +72,7 @@ impl<H: Sum> Session<MemBlob, H> {
             OnOk result (HasCrashed old.present (life_of blob.new).present) }
         ensures left { let old = (life_of blob.old).present in
             OnOk result ((life_of blob.new).present.readable ≡ torn keep.now old.since old.base) }
-        ensures closed { OnOk result (self.new ≡ None) }
+        ensures closed { OnOk result (self.new ≡ closed) }
         ensures same { OnErr result ((self.new ≡ self.old) × (blob.new ≡ blob.old)) }
         ensures err { IsOkUnless result Error.OutOfMemory }
     {
@@ -100,7 +100,7 @@ impl<H: Sum> Session<MemBlob, H> {
             OnOk result (StandsFor H.sum_of P self.new s (life_of blob.new).present) }
         ensures ready { OnOk result (IsReady H.sum_of self.new (life_of blob.new).present) }
         ensures refused { let same = (self.new ≡ self.old) × (blob.new ≡ blob.old) in
-            OnErr result ((self.new ≡ None) ⊎ same) }
+            OnErr result ((self.new ≡ closed) ⊎ same) }
 
         // What came back begins with the floor that stood as the crash came, and chance aside it is
         // a prefix of what stood.

@@ -3,63 +3,76 @@ ghost use Rattle.std.specs.Prelude.{◌≡◌, option_map, IfOk, IsOkUnless, OnO
 ghost use Rattle.std.specs.List.{concat};
 ghost use Rattle.session.specs.Run.{IsReady, RunsAlways};
 ghost use Rattle.paged.specs.Reads.{size_of};
-ghost use Rattle.session.specs.Promise.{Promises, StandsWhereSound};
-ghost use Rattle.session.specs.Calls.{Appended, TriedAppend, Synced, Sized, DidRead, IsBytes};
-ghost use Rattle.session.specs.Calls.{Steps};
+ghost use Rattle.session.specs.Promise.{Promises, StandsWhereSound, closed, session_of};
+ghost use Rattle.session.specs.Calls.{Appended, TriedAppend, Synced, Starts, Waits, WaitsFor};
+ghost use Rattle.session.specs.Calls.{Needs, Sized, DidRead, IsBytes, Begins, KeepsRest, is_given};
+ghost use Rattle.session.specs.Calls.{Steps, AppendSays};
+ghost use Rattle.crash.specs.Sound.{IsSound};
 
 use crate::steps::{Reply, Step};
 use cache::CacheRef;
-use disk::{Blob, Error, IoBufs};
+use disk::{Blob, Error, IoBuf, IoBufs, StartedSync};
 use page::Sum;
 use paged::Recovery;
 use std::alloc::Global;
 use std::marker::Model;
 
-/// A writer that steps are taken on, or none.
+/// A writer that steps are taken on, or none, and the names of the syncs that it started.
 ///
-/// A step whose call takes the writer and is refused closes the session.
+/// A step whose call takes the writer and is refused closes the session. Its names stay: what was
+/// started can be waited for.
 #[derive(Drop)]
 pub struct Session<B, H> {
     pub(crate) alloc: Global,
+    // A writer that appends stands here as a recovery too, as which it has every call.
     writer: Option<Recovery<B, H>>,
+    recovering: bool,
+    names: Vec<u64>,
 }
 
 impl<B, H> Model for Session<B, H> {
-    ghost use Rattle.std.specs.Prelude.{Option};
-    ghost use Rattle.crash.specs.WriterState.{WriterState};
+    ghost use Rattle.session.specs.Run.{SessionState};
 
-    ghost Value = { Option WriterState };
+    ghost Value = { SessionState };
 
-    ghost view = { λ s. s.writer };
+    ghost view = { λ s. record {
+      writer = s.writer;
+      recovering = s.recovering;
+      names = s.names.items;
+    } };
 }
 
 impl<B, H> Session<B, H> {
     /// A session without a writer.
     pub fn closed(alloc: Global) -> Self
-        ensures { result ≡ None }
+        ensures { result ≡ closed }
     {
         Session {
             alloc,
             writer: None,
+            recovering: false,
+            names: Vec::new(alloc),
         }
     }
 }
 
 impl<B: Blob, H: Sum> Session<B, H> {
-    /// A session that begins with this writer.
+    /// A session that begins with this writer, in recovery.
     pub fn new(alloc: Global, writer: Recovery<B, H>) -> Self
-        ensures writer { result ≡ Some writer }
+        ensures writer { result ≡ session_of writer }
         ensures stands { StandsWhereSound H.sum_of writer }
     {
         Session {
             alloc,
             writer: Some(writer),
+            recovering: true,
+            names: Vec::new(alloc),
         }
     }
 
     /// How many logical bytes the writer has; `None` where there is no writer.
     pub fn size(&self) -> Option<u64>
-        ensures { result ≡ option_map size_of self.now }
+        ensures { result ≡ option_map size_of self.now.writer }
     {
         Some(self.writer.as_ref()?.size())
     }
@@ -72,17 +85,24 @@ impl<B: Blob, H: Sum> Session<B, H> {
     {
         match step {
             Step::Append(bytes) => self.append(blob, cache, bytes),
+            Step::Owned(bytes) => self.append_owned(blob, cache, bytes),
             Step::TryAppend(bytes) => self.try_append(bytes),
             Step::Sync => self.sync(blob, cache),
+            Step::StartSync => self.start_sync(blob, cache),
+            Step::Wait => self.wait_for_sync(blob),
+            Step::WaitSync(name) => self.wait_sync(blob, *name),
+            Step::Needs => self.needs_sync(),
             Step::Size => self.length(),
             Step::Read(offset, len) => self.read(blob, cache, *offset, *len),
+            Step::Begin => self.begin(),
         }
     }
 
     fn append(&mut self, blob: &mut B, cache: &mut CacheRef, bytes: &[u8]) -> Reply
         requires ready { IsReady H.sum_of self.old (B.life blob.old).present }
-        ensures { let old = B.life blob.old in let new = B.life blob.new in
-            Appended H.sum_of self.old self.new bytes.now old new result }
+        ensures goes { let old = B.life blob.old in let new = B.life blob.new in
+            Appended H.sum_of self.old.writer self.new.writer bytes.now old new result }
+        ensures rest { KeepsRest self.old self.new }
     {
         let Some(writer) = self.writer.take() else {
             return Reply::Closed;
@@ -96,8 +116,27 @@ impl<B: Blob, H: Sum> Session<B, H> {
         }
     }
 
+    fn append_owned(&mut self, blob: &mut B, cache: &mut CacheRef, bytes: &[u8]) -> Reply
+        requires ready { IsReady H.sum_of self.old (B.life blob.old).present }
+        ensures goes { let old = B.life blob.old in let new = B.life blob.new in
+            Appended H.sum_of self.old.writer self.new.writer bytes.now old new result }
+        ensures rest { KeepsRest self.old self.new }
+    {
+        let Some(writer) = self.writer.take() else {
+            return Reply::Closed;
+        };
+        match append_copy(self.alloc, writer, blob, cache, bytes) {
+            Ok((writer, place)) => {
+                self.writer = Some(writer);
+                Reply::At(place)
+            }
+            Err(error) => Reply::Fault(error),
+        }
+    }
+
     fn try_append(&mut self, bytes: &[u8]) -> Reply
-        ensures { TriedAppend H.sum_of self.old self.new bytes.now result }
+        ensures goes { TriedAppend H.sum_of self.old.writer self.new.writer bytes.now result }
+        ensures rest { KeepsRest self.old self.new }
     {
         let Some(writer) = &mut self.writer else {
             return Reply::Closed;
@@ -111,7 +150,9 @@ impl<B: Blob, H: Sum> Session<B, H> {
 
     fn sync(&mut self, blob: &mut B, cache: &mut CacheRef) -> Reply
         requires ready { IsReady H.sum_of self.old (B.life blob.old).present }
-        ensures { Synced H.sum_of self.old self.new (B.life blob.old) (B.life blob.new) result }
+        ensures goes { let old = B.life blob.old in let new = B.life blob.new in
+            Synced H.sum_of self.old.writer self.new.writer old new result }
+        ensures rest { KeepsRest self.old self.new }
     {
         let Some(writer) = self.writer.take() else {
             return Reply::Closed;
@@ -125,8 +166,74 @@ impl<B: Blob, H: Sum> Session<B, H> {
         }
     }
 
+    // Room for the name is made first: refused there, nothing is started and the writer stays.
+    fn start_sync(&mut self, blob: &mut B, cache: &mut CacheRef) -> Reply
+        requires ready { IsReady H.sum_of self.old (B.life blob.old).present }
+        ensures { let old = B.life blob.old in let new = B.life blob.new in
+            Starts H.sum_of self.old.writer self.old self.new old new result }
+    {
+        let Some(writer) = self.writer.take() else {
+            return Reply::Closed;
+        };
+        if self.names.try_reserve(1).is_err() {
+            self.writer = Some(writer);
+            return Reply::Fault(Error::OutOfMemory);
+        }
+        match writer.start_sync(blob, cache) {
+            Ok((writer, started)) => {
+                self.writer = Some(writer);
+                if let StartedSync::Named(name) = started {
+                    self.names.push_reserved(name);
+                }
+                Reply::Started(started)
+            }
+            Err(error) => Reply::Fault(error),
+        }
+    }
+
+    fn wait_for_sync(&mut self, blob: &mut B) -> Reply
+        requires ready { IsReady H.sum_of self.old (B.life blob.old).present }
+        ensures goes { let old = B.life blob.old in let new = B.life blob.new in
+            Waits H.sum_of self.old.writer self.new.writer old new result }
+        ensures rest { KeepsRest self.old self.new }
+    {
+        let Some(writer) = self.writer.take() else {
+            return Reply::Closed;
+        };
+        match writer.wait_for_sync(blob) {
+            Ok(writer) => {
+                self.writer = Some(writer);
+                Reply::Done
+            }
+            Err(error) => Reply::Fault(error),
+        }
+    }
+
+    // Behind the back of the writer, which may be gone.
+    fn wait_sync(&self, blob: &mut B, name: u64) -> Reply
+        ensures { let given = is_given self.now.names name in
+            WaitsFor given name (B.life blob.old) (B.life blob.new) result }
+    {
+        if !self.names.contains(&name) {
+            return Reply::NoSuch;
+        }
+        match blob.wait_sync(StartedSync::Named(name)) {
+            Ok(()) => Reply::Done,
+            Err(error) => Reply::Fault(error),
+        }
+    }
+
+    fn needs_sync(&self) -> Reply
+        ensures { Needs self.now.writer result }
+    {
+        match &self.writer {
+            Some(writer) => Reply::Answer(writer.needs_sync()),
+            None => Reply::Closed,
+        }
+    }
+
     fn length(&self) -> Reply
-        ensures { Sized self.now result }
+        ensures { Sized self.now.writer result }
     {
         match self.size() {
             Some(size) => Reply::Length(size),
@@ -136,7 +243,8 @@ impl<B: Blob, H: Sum> Session<B, H> {
 
     fn read(&self, blob: &mut B, cache: &mut CacheRef, offset: u64, len: usize) -> Reply
         requires ready { IsReady H.sum_of self.now (B.life blob.old).present }
-        ensures { DidRead H.sum_of self.now offset len (B.life blob.old) (B.life blob.new) result }
+        ensures { let old = B.life blob.old in let new = B.life blob.new in
+            DidRead H.sum_of self.now.writer offset len old new result }
     {
         let Some(writer) = &self.writer else {
             return Reply::Closed;
@@ -145,6 +253,16 @@ impl<B: Blob, H: Sum> Session<B, H> {
             Ok(bufs) => self.bytes_of(&bufs),
             Err(error) => Reply::Fault(error),
         }
+    }
+
+    fn begin(&mut self) -> Reply
+        ensures { Begins self.old.writer self.old self.new result }
+    {
+        if self.writer.is_none() {
+            return Reply::Closed;
+        }
+        self.recovering = false;
+        Reply::Done
     }
 
     fn bytes_of(&self, bufs: &IoBufs) -> Reply
@@ -165,11 +283,32 @@ impl<B: Blob, H: Sum> Session<B, H> {
     }
 }
 
+/// Appends a buffer of these bytes. Where there is no memory for one the bytes are appended from
+/// where they stand, so that an append tells an overflow before that.
+fn append_copy<B: Blob, H: Sum>(
+    alloc: Global,
+    writer: Recovery<B, H>,
+    blob: &mut B,
+    cache: &mut CacheRef,
+    bytes: &[u8],
+) -> Result<(Recovery<B, H>, u64), Error>
+    requires sound { IsSound H.sum_of writer (B.life blob.old).present }
+    ensures says { let old = B.life blob.old in let new = B.life blob.new in
+        AppendSays H.sum_of writer bytes.now old new result }
+{
+    match IoBuf::copy_from_slice(alloc, bytes) {
+        Ok(bytes) => writer.append_owned(blob, cache, bytes),
+        Err(_) => writer.append(blob, cache, bytes),
+    }
+}
+
 /// Takes the steps in order over the session's blob, and adds one reply a step to `replies`. The
 /// session's writer, if it has one, is sound over the blob, and stays so.
 ///
-/// An append or a sync that is refused ends the writer, and each step after it replies `Closed`. A
-/// try, a size or a read that is refused changes nothing, nor does a try whose bytes don't fit.
+/// An append, a sync, a start of one or a wait of the writer that is refused ends the writer, and
+/// each step after it that needs one replies `Closed`; but a start for whose name there is no
+/// memory changes nothing. A try, a read or a wait for a name that is refused leaves the session as
+/// it was, and so does a try whose bytes don't fit.
 ///
 /// Room for all the replies is made first. `OutOfMemory` where it is refused: then no step was
 /// taken.

@@ -1,19 +1,31 @@
 // The steps of a run, and their replies.
-use disk::Error;
+use disk::{Error, StartedSync};
 
 /// A step of a run: one call of the layer.
 #[derive(Debug, PartialEq, Eq, Drop)]
 pub enum Step {
     /// Appends these bytes.
     Append(Vec<u8>),
+    /// Appends a buffer of these bytes.
+    Owned(Vec<u8>),
     /// Appends these bytes where they fit what is buffered.
     TryAppend(Vec<u8>),
     /// Makes all that was appended durable.
     Sync,
+    /// Writes all that was appended, and starts to make it durable.
+    StartSync,
+    /// Waits for the sync that the writer started last.
+    Wait,
+    /// Waits for the started sync of this name.
+    WaitSync(u64),
+    /// Asks whether a sync has something to do.
+    Needs,
     /// Asks for the number of logical bytes.
     Size,
     /// Reads from this logical place so many bytes.
     Read(u64, usize),
+    /// Ends the recovery: from then on the writer appends.
+    Begin,
 }
 
 /// The reply to a step.
@@ -23,8 +35,12 @@ pub enum Reply {
     At(u64),
     /// The bytes don't fit what is buffered.
     Nothing,
-    /// All that was appended is durable.
+    /// The step is done.
     Done,
+    /// What starting a sync answered.
+    Started(StartedSync),
+    /// Yes or no.
+    Answer(bool),
     /// The number of logical bytes.
     Length(u64),
     /// The bytes that were asked for.
@@ -33,4 +49,6 @@ pub enum Reply {
     Fault(Error),
     /// The step needs a writer, and there is none.
     Closed,
+    /// The session wasn't given a sync of this name.
+    NoSuch,
 }

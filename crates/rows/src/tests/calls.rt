@@ -102,9 +102,9 @@ const ROWS: [Row; 5] = [
     Row {
         bytes: b"defghi",
         sync: false,
-        calls: &[Call::WriteAt(0, 32, false)],
+        calls: &[Call::WriteAt(0, 16, false), Call::WriteAt(16, 16, false)],
         error: Error::WriteFailed,
-        readable: b"abc",
+        readable: b"abcd",
     },
     Row {
         bytes: b"d",
@@ -116,7 +116,11 @@ const ROWS: [Row; 5] = [
     Row {
         bytes: b"defghi",
         sync: true,
-        calls: &[Call::WriteAt(0, 32, false), Call::WriteAt(32, 16, false)],
+        calls: &[
+            Call::WriteAt(0, 16, false),
+            Call::WriteAt(16, 16, false),
+            Call::WriteAt(32, 16, false),
+        ],
         error: Error::WriteFailed,
         readable: b"abcdefgh",
     },
@@ -124,7 +128,8 @@ const ROWS: [Row; 5] = [
         bytes: b"defghi",
         sync: true,
         calls: &[
-            Call::WriteAt(0, 32, false),
+            Call::WriteAt(0, 16, false),
+            Call::WriteAt(16, 16, false),
             Call::WriteAt(32, 16, false),
             Call::Sync,
         ],
@@ -135,7 +140,11 @@ const ROWS: [Row; 5] = [
     Row {
         bytes: b"defghijkl",
         sync: true,
-        calls: &[Call::WriteAt(0, 48, false), Call::Sync],
+        calls: &[
+            Call::WriteAt(0, 16, false),
+            Call::WriteAt(16, 32, false),
+            Call::Sync,
+        ],
         error: Error::SyncFailed,
         readable: b"abcdefghijkl",
     },

@@ -1,6 +1,6 @@
 // What a crash leaves of a write that failed, and what a recovery makes of it.
 use super::kit::{ABCD, CAPACITY, Page, Store};
-use disk::Error;
+use disk::{Error, StartedSync};
 use page::{AddSum, ConstSum, Sum};
 use std::alloc::Global;
 use std::process::Abort;
@@ -21,6 +21,21 @@ fn torn<H: Sum>(rt: &impl Abort, alloc: Global, keep: &[bool]) -> Result<Store<H
     store.append(b"g")?;
     store.fail_at(1);
     assert_eq!(rt; store.sync(), Err(Error::WriteFailed));
+    store.crash(keep)?;
+    Ok(store)
+}
+
+/// The same, where the write is done and a sync of it is started, which nobody waits for.
+fn torn_behind_a_start<H: Sum>(
+    rt: &impl Abort,
+    alloc: Global,
+    keep: &[bool],
+) -> Result<Store<H>, Error> {
+    let mut store = Store::<H>::empty(alloc)?;
+    store.append(b"abcdef")?;
+    store.sync()?;
+    store.append(b"g")?;
+    assert_eq!(rt; store.start_sync(), Ok(StartedSync::Named(0)));
     store.crash(keep)?;
     Ok(store)
 }
@@ -137,24 +152,39 @@ fn left<H: Sum>(
 fn every_choice_keeps_what_was_durable<H: Sum>(
     rt: &impl Abort,
     alloc: Global,
+    none: &Store<H>,
+    all: &Store<H>,
 ) -> Result<(), Error> {
-    let none = torn::<H>(rt, alloc, &[])?;
-    let all = torn::<H>(rt, alloc, &[true; WRITE])?;
     for bits in 0..=u16::MAX {
-        let mut store = left(alloc, &none, &all, &flags(bits))?;
+        let mut store = left(alloc, none, all, &flags(bits))?;
         recovered_size(rt, &mut store)?;
     }
     Ok(())
 }
 
+fn every_choice_of_a_failed_write<H: Sum>(rt: &impl Abort, alloc: Global) -> Result<(), Error> {
+    let none = torn::<H>(rt, alloc, &[])?;
+    let all = torn::<H>(rt, alloc, &[true; WRITE])?;
+    every_choice_keeps_what_was_durable(rt, alloc, &none, &all)
+}
+
 #[test]
 fn every_choice_of_bytes_under_a_sum(rt: HostRuntime) -> Result<(), Fail> {
-    every_choice_keeps_what_was_durable::<AddSum>(&rt, rt.alloc())?;
+    every_choice_of_a_failed_write::<AddSum>(&rt, rt.alloc())?;
     Ok(())
 }
 
 #[test]
 fn every_choice_of_bytes_under_a_constant_sum(rt: HostRuntime) -> Result<(), Fail> {
-    every_choice_keeps_what_was_durable::<ConstSum>(&rt, rt.alloc())?;
+    every_choice_of_a_failed_write::<ConstSum>(&rt, rt.alloc())?;
+    Ok(())
+}
+
+#[test]
+fn every_choice_of_bytes_behind_a_started_sync(rt: HostRuntime) -> Result<(), Fail> {
+    let alloc = rt.alloc();
+    let none = torn_behind_a_start::<AddSum>(&rt, alloc, &[])?;
+    let all = torn_behind_a_start::<AddSum>(&rt, alloc, &[true; WRITE])?;
+    every_choice_keeps_what_was_durable(&rt, alloc, &none, &all)?;
     Ok(())
 }

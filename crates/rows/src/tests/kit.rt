@@ -1,8 +1,8 @@
 // What the tests share: pages as they stand in a blob, and writers over blobs in memory.
 use cache::CacheRef;
-use disk::{Call, Error, IoBuf, MemBlob};
+use disk::{Call, Error, IoBuf, MemBlob, StartedSync};
 use page::{EncodeSize, Sum, Write};
-use paged::{Writer, recover};
+use paged::{Writer, recover, wait_sync};
 use std::alloc::Global;
 use std::marker::Model;
 use std::num::{NonZeroU16, NonZeroUsize};
@@ -114,6 +114,15 @@ impl<H: Sum> Store<H> {
         Ok(at)
     }
 
+    /// Appends a buffer of these bytes, and answers their place.
+    pub fn append_owned(&mut self, bytes: &[u8]) -> Result<u64, Error> {
+        let writer = self.writer.take().ok_or(NO_WRITER)?;
+        let bytes = IoBuf::copy_from_slice(self.alloc, bytes)?;
+        let (writer, at) = writer.append_owned(&mut self.blob, &mut self.cache, bytes)?;
+        self.writer = Some(writer);
+        Ok(at)
+    }
+
     /// Appends bytes where they fit the buffer.
     pub fn try_append(&mut self, bytes: &[u8]) -> Result<Option<u64>, Error> {
         match &mut self.writer {
@@ -138,6 +147,31 @@ impl<H: Sum> Store<H> {
         let writer = self.writer.take().ok_or(NO_WRITER)?;
         self.writer = Some(writer.sync(&mut self.blob, &mut self.cache)?);
         Ok(())
+    }
+
+    /// Writes all that was appended, and starts a sync.
+    pub fn start_sync(&mut self) -> Result<StartedSync, Error> {
+        let writer = self.writer.take().ok_or(NO_WRITER)?;
+        let (writer, started) = writer.start_sync(&mut self.blob, &mut self.cache)?;
+        self.writer = Some(writer);
+        Ok(started)
+    }
+
+    /// Waits for the sync that the writer started last.
+    pub fn wait_for_sync(&mut self) -> Result<(), Error> {
+        let writer = self.writer.take().ok_or(NO_WRITER)?;
+        self.writer = Some(writer.wait_for_sync(&mut self.blob)?);
+        Ok(())
+    }
+
+    /// Waits for the started sync of this name, behind the writer's back.
+    pub fn wait_sync(&mut self, name: u64) -> Result<(), Error> {
+        wait_sync::<MemBlob, H>(&mut self.blob, StartedSync::Named(name))
+    }
+
+    /// Whether a sync has something to do.
+    pub fn needs_sync(&self) -> Option<bool> {
+        Some(self.writer.as_ref()?.needs_sync())
     }
 
     /// The bytes of a range.

@@ -1,9 +1,7 @@
 // What appends and syncs write.
 use super::kit::{ABCD, EF, Page, Store};
-use disk::{Call, Error, MemBlob};
+use disk::{Call, Error};
 use page::AddSum;
-use paged::Writer;
-use std::mem::size_of;
 use std::process::Abort;
 use std::test::Fail;
 
@@ -86,12 +84,5 @@ fn a_full_buffer_is_written_without_a_sync(rt: HostRuntime) -> Result<(), Fail> 
     // Something is unsynced, so that the sync is a call of its own. Then all is durable.
     sync_nine(&rt, &mut store, &[Call::WriteAt(32, 16, false), Call::Sync])?;
     sync_nine(&rt, &mut store, &[])?;
-    Ok(())
-}
-
-// Up to 128 bytes a writer is moved in line.
-#[test]
-fn a_writer_has_128_bytes(rt: HostRuntime) -> Result<(), Fail> {
-    assert_eq!(rt; size_of::<Writer<MemBlob, AddSum>>(), 128);
     Ok(())
 }

@@ -5,7 +5,7 @@ ghost use Rattle.page.specs.Sums.{add_sum};
 ghost use Rattle.session.specs.Run.{IsReady};
 
 use cache::CacheRef;
-use disk::{Error, MemBlob};
+use disk::{Call, Error, MemBlob, StartedSync};
 use page::AddSum;
 use session::{Reply, Session, Step, run};
 use std::alloc::Global;
@@ -146,4 +146,104 @@ fn a_refused_sync_is_recovered_at_once(rt: HostRuntime) -> Result<(), Fail> {
     )?;
     assert_eq!(rt; begun(alloc, &mut blob, &mut cache)?.size(), Some(6));
     Ok(())
+}
+
+#[test]
+fn a_started_sync_is_waited_for_by_the_next(rt: HostRuntime) -> Result<(), Fail> {
+    let alloc = rt.alloc();
+    let mut blob = MemBlob::new(alloc);
+    let mut cache = new_cache(alloc)?;
+    let mut session = begun(alloc, &mut blob, &mut cache)?;
+    let before = blob.calls().len();
+    let steps = [
+        Step::Append(Vec::from_slice(alloc, b"ab")?),
+        Step::StartSync,
+        Step::Append(Vec::from_slice(alloc, b"c")?),
+        Step::Sync,
+    ];
+    let replies = [
+        Reply::At(0),
+        Reply::Started(StartedSync::Named(0)),
+        Reply::At(2),
+        Reply::Done,
+    ];
+    expect(
+        &rt,
+        alloc,
+        &mut session,
+        &mut blob,
+        &mut cache,
+        &steps,
+        &replies,
+    )?;
+    assert_eq!(rt;
+        blob.calls().get(before..),
+        Some([
+            Call::WriteAt(0, 16, false),
+            Call::StartSync,
+            Call::WaitSync(0),
+            Call::WriteAt(0, 16, true),
+        ]
+        .as_slice())
+    );
+    Ok(())
+}
+
+// Begins to append, starts a sync, and appends behind it.
+fn start_and_go_on(
+    rt: &impl Abort,
+    alloc: Global,
+    session: &mut Session<MemBlob, AddSum>,
+    blob: &mut MemBlob,
+    cache: &mut CacheRef,
+) -> Result<(), Fail>
+    requires { IsReady add_sum session.old (life_of blob.old).present }
+    ensures { IsReady add_sum session.new (life_of blob.new).present }
+{
+    let steps = [
+        Step::Begin,
+        Step::Owned(Vec::from_slice(alloc, b"a")?),
+        Step::StartSync,
+        Step::Append(Vec::from_slice(alloc, b"b")?),
+    ];
+    let replies = [
+        Reply::Done,
+        Reply::At(0),
+        Reply::Started(StartedSync::Named(0)),
+        Reply::At(1),
+    ];
+    expect(rt, alloc, session, blob, cache, &steps, &replies)
+}
+
+#[test]
+fn a_session_without_a_writer_waits_for_its_names(rt: HostRuntime) -> Result<(), Fail> {
+    let alloc = rt.alloc();
+    let mut blob = MemBlob::new(alloc);
+    let mut cache = new_cache(alloc)?;
+    let mut session = begun(alloc, &mut blob, &mut cache)?;
+    start_and_go_on(&rt, alloc, &mut session, &mut blob, &mut cache)?;
+    blob.fail_at(2);
+    let steps = [
+        Step::Sync,
+        Step::Needs,
+        Step::Wait,
+        Step::WaitSync(0),
+        Step::WaitSync(1),
+    ];
+    let replies = [
+        Reply::Fault(Error::WriteFailed),
+        Reply::Closed,
+        Reply::Closed,
+        Reply::Done,
+        Reply::NoSuch,
+    ];
+    expect(
+        &rt,
+        alloc,
+        &mut session,
+        &mut blob,
+        &mut cache,
+        &steps,
+        &replies,
+    )
 }

@@ -1,6 +1,7 @@
 use Rattle.std.proofs.Common.{Ok, Err, subst, sym}
 use Rattle.std.specs.Prelude.{ℕ}
 use Rattle.paged.specs.Calls.{Appends}
+use Rattle.paged.proofs.Covers.{completed}
 use Rattle.paged.proofs.Halves.{append_keeps, append_leaves}
 use Rattle.paged.proofs.There.{appended_there}
 use Rattle.paged.proofs.writer.Writer.append.Goals as goal
@@ -23,3 +24,6 @@ returns-in_err-append_bytes-clause-kept g c = append_keeps g.H.Sum.sum_of c.args
 
 pub returns-in_err-append_bytes-clause-only : goal.returns-in_err-append_bytes-clause-only
 returns-in_err-append_bytes-clause-only g c = append_leaves g.H.Sum.sum_of c.args.self c.args.bytes.now (g.B.Blob.life c.args.blob.now) (g.B.Blob.life c.append_bytes.new.blob) (Err c.in_err-append_bytes.field-0.0) c.requires.sound c.in_err-append_bytes.ensures.appends
+
+pub returns-clause-completed : goal.returns-clause-completed
+returns-clause-completed g c = completed g.H.Sum.sum_of c.args.self c.append_bytes.new.self (g.B.Blob.life c.args.blob.now) (g.B.Blob.life c.append_bytes.new.blob) c.in_ok-append_bytes.ensures.appends.1.sound c.in_ok-append_bytes.ensures.covers

@@ -1,50 +1,39 @@
-use Rattle.crash.specs.Sound.{content, IsSound}
-use Rattle.crash.proofs.CoverLaws.{covers_none}
-use Rattle.paged.proofs.Covers.{longer_covers}
-use Rattle.std.proofs.Common.{refl, ◌++◌, sym, subst}
-use Rattle.crash.proofs.BelowLaws.{pages_none}
-use Rattle.paged.proofs.Below.{pages_longer}
+use Rattle.std.proofs.Common.{refl, sym, subst, Err}
 use Rattle.std.proofs.lemmas.Result.{err_from_is_err_and}
-use Rattle.paged.proofs.Flushes.{size_is_length}
-use Rattle.paged.proofs.Appends.{append_flushed, append_unbuffered, buffered_goes}
-use Rattle.crash.specs.WriterState.{WriterState}
-use Rattle.crash.proofs.Soundness.{longer_sound}
+use Rattle.disk.specs.declared.error.Error.TheVariants.{OutOfMemory}
+use Rattle.crash.specs.Sound.{IsSound, content}
+use Rattle.crash.proofs.BelowLaws.{pages_none}
+use Rattle.crash.proofs.CoverLaws.{covers_none}
+use Rattle.crash.proofs.StandLaws.{sound_stands}
+use Rattle.paged.specs.Calls.{Appends}
+use Rattle.paged.proofs.Appends.{append_unbuffered}
 use Rattle.paged.proofs.writer.Writer.append_bytes.Goals as goal
 
-pub returns-in_err-buffer-clause-appends : goal.returns-in_err-buffer-clause-appends
-returns-in_err-buffer-clause-appends g c =
-    let p = err_from_is_err_and c.from_residual.result c.from_residual.ensures.1 in
-    rw (p.1, p.2) (append_unbuffered g.H.Sum.sum_of c.args.self.now c.buffer.new.self (g.B.Blob.life c.args.blob.now) c.args.bytes.now c.in_err-buffer.field-0.0 c.requires.sound c.in_err-buffer.ensures)
+pub returns-then-not-fits-clause-pages : goal.returns-then-not-fits-clause-pages
+returns-then-not-fits-clause-pages g c = pages_none c.args.self.now.page_size c.args.self.now.full_pages (g.B.Blob.life c.args.blob.now) (g.B.Blob.life c.args.blob.now) refl
 
-pub flush-requires : goal.flush-requires
+pub returns-then-not-fits-clause-covers : goal.returns-then-not-fits-clause-covers
+returns-then-not-fits-clause-covers g c = covers_none g.H.Sum.sum_of c.args.self.now.page_size (content c.args.self.now (g.B.Blob.life c.args.blob.now).present.readable) (g.B.Blob.life c.args.blob.now) (g.B.Blob.life c.args.blob.now) refl
+
+pub returns-then-not-fits-clause-starts : goal.returns-then-not-fits-clause-starts
 unfolding IsSound
-flush-requires g c = record {
-  sound = subst (λ (v : WriterState). IsSound g.H.Sum.sum_of v (g.B.Blob.life c.args.blob.now).present) (sym c.in_ok-buffer.ensures.1) (longer_sound g.H.Sum.sum_of c.args.self.now (g.B.Blob.life c.args.blob.now).present c.requires.sound c.args.bytes.now);
-}
+returns-then-not-fits-clause-starts g c = sound_stands g.H.Sum.sum_of c.args.self.now (g.B.Blob.life c.args.blob.now).present c.requires.sound
 
-pub returns-then-branch-clause-appends : goal.returns-then-branch-clause-appends
-returns-then-branch-clause-appends g c =
-    append_flushed g.H.Sum.sum_of c.args.self.now c.buffer.new.self c.flush.new.self (g.B.Blob.life c.args.blob.now) (g.B.Blob.life c.flush.new.blob) c.args.bytes.now c.flush.result c.requires.sound c.in_ok-buffer.ensures.1 c.flush.ensures.flushes
+pub returns-in_err-bytes-clause-appends : goal.returns-in_err-bytes-clause-appends
+returns-in_err-bytes-clause-appends g c =
+    let sum = g.H.Sum.sum_of in
+    let w = c.args.self.now in
+    let life = g.B.Blob.life c.args.blob.now in
+    let p = err_from_is_err_and c.from_residual.result c.from_residual.ensures.1 in
+    rw (p.1, p.2) (subst (λ e. Appends sum w c.args.bytes.now life life (Err e)) (sym c.in_err-bytes.ensures.err)
+    (append_unbuffered sum w w life c.args.bytes.now OutOfMemory c.requires.sound (c.fits.ensures.0 c.if-not-fits.false, refl)))
 
-pub returns-else-branch-clause-appends : goal.returns-else-branch-clause-appends
-returns-else-branch-clause-appends g c =
-    let old = g.B.Blob.life c.args.blob.now in
-    (size_is_length g.H.Sum.sum_of c.args.self.now old c.requires.sound, buffered_goes g.H.Sum.sum_of c.args.self.now c.buffer.new.self c.args.bytes.now old c.requires.sound c.in_ok-buffer.ensures.1)
+pub returns-in_err-bytes-clause-pages : goal.returns-in_err-bytes-clause-pages
+returns-in_err-bytes-clause-pages g c = pages_none c.args.self.now.page_size c.args.self.now.full_pages (g.B.Blob.life c.args.blob.now) (g.B.Blob.life c.args.blob.now) refl
 
-pub returns-in_err-buffer-clause-pages : goal.returns-in_err-buffer-clause-pages
-returns-in_err-buffer-clause-pages g c = pages_none c.args.self.now.page_size c.args.self.now.full_pages (g.B.Blob.life c.args.blob.now) (g.B.Blob.life c.args.blob.now) refl
+pub returns-in_err-bytes-clause-covers : goal.returns-in_err-bytes-clause-covers
+returns-in_err-bytes-clause-covers g c = covers_none g.H.Sum.sum_of c.args.self.now.page_size (content c.args.self.now (g.B.Blob.life c.args.blob.now).present.readable) (g.B.Blob.life c.args.blob.now) (g.B.Blob.life c.args.blob.now) refl
 
-pub returns-then-branch-clause-pages : goal.returns-then-branch-clause-pages
-returns-then-branch-clause-pages g c = pages_longer c.args.self.now c.buffer.new.self (c.args.self.now.tip ++ c.args.bytes.now) (g.B.Blob.life c.args.blob.now) (g.B.Blob.life c.flush.new.blob) c.in_ok-buffer.ensures.1 c.flush.ensures.pages
-
-pub returns-else-branch-clause-pages : goal.returns-else-branch-clause-pages
-returns-else-branch-clause-pages g c = pages_none c.args.self.now.page_size c.args.self.now.full_pages (g.B.Blob.life c.args.blob.now) (g.B.Blob.life c.args.blob.now) refl
-
-pub returns-in_err-buffer-clause-covers : goal.returns-in_err-buffer-clause-covers
-returns-in_err-buffer-clause-covers g c = covers_none g.H.Sum.sum_of c.args.self.now.page_size (content c.args.self.now (g.B.Blob.life c.args.blob.now).present.readable) (g.B.Blob.life c.args.blob.now) (g.B.Blob.life c.args.blob.now) refl
-
-pub returns-then-branch-clause-covers : goal.returns-then-branch-clause-covers
-returns-then-branch-clause-covers g c = longer_covers g.H.Sum.sum_of c.args.self.now c.buffer.new.self c.args.bytes.now (g.B.Blob.life c.args.blob.now) (g.B.Blob.life c.flush.new.blob) c.requires.sound c.in_ok-buffer.ensures.1 c.flush.ensures.covers
-
-pub returns-else-branch-clause-covers : goal.returns-else-branch-clause-covers
-returns-else-branch-clause-covers g c = covers_none g.H.Sum.sum_of c.args.self.now.page_size (content c.args.self.now (g.B.Blob.life c.args.blob.now).present.readable) (g.B.Blob.life c.args.blob.now) (g.B.Blob.life c.args.blob.now) refl
+pub returns-in_err-bytes-clause-starts : goal.returns-in_err-bytes-clause-starts
+unfolding IsSound
+returns-in_err-bytes-clause-starts g c = sound_stands g.H.Sum.sum_of c.args.self.now (g.B.Blob.life c.args.blob.now).present c.requires.sound

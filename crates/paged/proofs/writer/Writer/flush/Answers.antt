@@ -1,50 +1,88 @@
-use Rattle.crash.specs.Sound.{content, IsSound, CanWrite}
-use Rattle.crash.proofs.CoverLaws.{covers_none}
-use Rattle.paged.proofs.Covers.{carried_covers}
-use Rattle.std.proofs.Common.{ap, refl, sym, ◌∙◌, subst, false, arith}
-use Rattle.crash.proofs.BelowLaws.{pages_none}
-use Rattle.paged.proofs.Below.{flush_pages}
+use Rattle.std.proofs.Common.{◌≡◌, ◌<◌, ℕ, length, refl, sym, ◌∙◌, subst, arith, true}
+use Rattle.std.specs.Prelude.{OnOk}
+use Rattle.std.proofs.lemmas.Result.{err_from_is_err_and}
+use Rattle.crash.specs.Sound.{content, IsSound}
 use Rattle.crash.specs.WriterState.{WriterState}
-use Rattle.paged.specs.Flush.{full_in, place_of, flush_bytes}
-use Rattle.paged.proofs.Causes.{write_asks}
-use Rattle.paged.proofs.Flushing.{can_flush}
-use Rattle.paged.proofs.Flushes.{flush_call, flush_short, idle_short, goes_on_same}
+use Rattle.crash.proofs.BelowLaws.{pages_none}
+use Rattle.crash.proofs.CoverLaws.{covers_none}
+use Rattle.crash.proofs.StandLaws.{sound_stands}
+use Rattle.paged.specs.Flush.{has_work, answered}
+use Rattle.paged.specs.Calls.{WaitsForNone}
+use Rattle.paged.proofs.Flushes.{goes_on_same, idle_short_rest, idle_written}
+use Rattle.paged.proofs.Waits.{flushes_behind, pages_behind, covers_behind, waits_for_none, on_ok_after}
 use Rattle.paged.proofs.writer.Writer.flush.Goals as goal
-
-pub write_pages-requires-clause-can : goal.write_pages-requires-clause-can
-unfolding IsSound
-write_pages-requires-clause-can g c =
-    subst (λ (v : WriterState). CanWrite v.page_size v.tip (full_in v) false) (sym c.carry.ensures.is)
-    (can_flush c.args.self.now c.requires.sound.stands.some (sym c.has_flush_work.ensures.work ∙ c.if-not-has_flush_work.false))
 
 pub returns : goal.returns
 unfolding IsSound
 returns g c =
+    let sum = g.H.Sum.sum_of in
     let w = c.args.self.now in
-    let v = c.carry.new.self in
-    let now = c.write_pages.new.self in
-    let old = g.B.Blob.life c.args.blob.now in
-    let new = g.B.Blob.life c.write_pages.new.blob in
-    let can = can_flush w c.requires.sound.stands.some (sym c.has_flush_work.ensures.work ∙ c.if-not-has_flush_work.false) in
+    let life = g.B.Blob.life c.args.blob.now in
+    let idle = sym c.has_flush_work.ensures.work ∙ c.if-has_flush_work.false in
     record {
-      flushes = flush_call g.H.Sum.sum_of w v now false old new c.write_pages.result
-          g.met.H.Sum.small c.requires.sound c.carry.ensures.ready c.carry.ensures.is (subst (λ (v : WriterState). CanWrite v.page_size v.tip (full_in v) false) (sym c.carry.ensures.is) can)
-          c.write_pages.ensures.goes c.write_pages.ensures.state c.write_pages.ensures.fits;
-      calls = write_asks (place_of v) (flush_bytes g.H.Sum.sum_of v false) false old new c.write_pages.result c.write_pages.ensures.goes;
-      short = flush_short g.H.Sum.sum_of w v now c.write_pages.result c.requires.sound.stands.some c.carry.ensures.is c.write_pages.ensures.state;
+      flushes = goes_on_same sum w life c.requires.sound;
+      pages = pages_none w.page_size w.full_pages life life refl;
+      covers = covers_none sum w.page_size (content w life.present.readable) life life refl;
+      starts = sound_stands sum w life.present c.requires.sound;
+      calls = omega arith;
+      short = idle_short_rest w c.args.rest idle;
+      written = idle_written sum w c.args.rest life.present c.requires.sound idle;
+      dirty = λ work. absurd (cc (work, idle));
+      names = refl;
+      idle = λ _. (refl, refl, refl);
       room = c.has_flush_work.ensures.room;
-      pages = flush_pages g.H.Sum.sum_of w (place_of v) (flush_bytes g.H.Sum.sum_of v false) false old new c.write_pages.result c.requires.sound (ap place_of c.carry.ensures.is) c.write_pages.ensures.goes;
-      covers = carried_covers g.H.Sum.sum_of w v false false old new c.write_pages.result g.met.H.Sum.small c.requires.sound c.carry.ensures.ready c.carry.ensures.is
-          (subst (λ (v : WriterState). CanWrite v.page_size v.tip (full_in v) false) (sym c.carry.ensures.is) can) c.write_pages.ensures.goes;
     }
 
-pub returns-then-not-has_flush_work : goal.returns-then-not-has_flush_work
-unfolding IsSound
-returns-then-not-has_flush_work g c = record {
-  flushes = goes_on_same g.H.Sum.sum_of c.args.self.now (g.B.Blob.life c.args.blob.now) c.requires.sound;
-  calls = omega arith;
-  short = idle_short c.args.self.now (sym c.has_flush_work.ensures.work ∙ c.if-not-has_flush_work.true);
-  room = c.has_flush_work.ensures.room;
-  pages = pages_none c.args.self.now.page_size c.args.self.now.full_pages (g.B.Blob.life c.args.blob.now) (g.B.Blob.life c.args.blob.now) refl;
-  covers = covers_none g.H.Sum.sum_of c.args.self.now.page_size (content c.args.self.now (g.B.Blob.life c.args.blob.now).present.readable) (g.B.Blob.life c.args.blob.now) (g.B.Blob.life c.args.blob.now) refl;
-}
+pub returns-in_err-wait : goal.returns-in_err-wait
+returns-in_err-wait g c =
+    let p = err_from_is_err_and c.from_residual.result c.from_residual.ensures.1 in
+    let work = sym c.has_flush_work.ensures.work ∙ c.if-has_flush_work.true in
+    rw (p.1, p.2) (record {
+      flushes = c.in_err-wait.ensures.waits;
+      pages = c.in_err-wait.ensures.pages;
+      covers = c.in_err-wait.ensures.covers;
+      starts = c.in_err-wait.ensures.starts;
+      calls = omega (arith, c.in_err-wait.ensures.calls);
+      short = tt;
+      written = λ _. tt;
+      dirty = λ _. tt;
+      names = tt;
+      idle = λ none. absurd (cc (work, none));
+      room = c.has_flush_work.ensures.room;
+    })
+
+pub flush_pages-requires : goal.flush_pages-requires
+flush_pages-requires g c =
+    let is = c.in_ok-wait.ensures.waits.1 in
+    record {
+      sound = c.in_ok-wait.ensures.waits.0.sound;
+      waited = subst (λ (v : WriterState). WaitsForNone v.sync) (sym is) (waits_for_none c.args.self.now);
+      work = subst (λ (v : WriterState). has_work v c.args.rest ≡ true) (sym is) (sym c.has_flush_work.ensures.work ∙ c.if-has_flush_work.true);
+    }
+
+pub returns-then-has_flush_work : goal.returns-then-has_flush_work
+returns-then-has_flush_work g c =
+    let sum = g.H.Sum.sum_of in
+    let w = c.args.self.now in
+    let m = c.wait.new.self in
+    let now = c.flush_pages.new.self in
+    let old = g.B.Blob.life c.args.blob.now in
+    let mid = g.B.Blob.life c.wait.new.blob in
+    let new = g.B.Blob.life c.flush_pages.new.blob in
+    let result = c.flush_pages.result in
+    let first = c.in_ok-wait.ensures.waits.0 in
+    let is = c.in_ok-wait.ensures.waits.1 in
+    let work = sym c.has_flush_work.ensures.work ∙ c.if-has_flush_work.true in
+    record {
+      flushes = flushes_behind sum w m old mid new first (answered now result) c.flush_pages.ensures.flushes;
+      pages = pages_behind sum w m old mid new first c.in_ok-wait.ensures.pages c.flush_pages.ensures.pages;
+      covers = covers_behind sum w m old mid new first c.in_ok-wait.ensures.covers c.flush_pages.ensures.covers;
+      starts = c.flush_pages.ensures.starts;
+      calls = omega (arith, c.in_ok-wait.ensures.calls, c.flush_pages.ensures.calls);
+      short = subst (λ (P : ℕ). OnOk result (length now.tip < P)) first.same.page_size c.flush_pages.ensures.short;
+      written = c.flush_pages.ensures.written;
+      dirty = λ _. c.flush_pages.ensures.dirty;
+      names = on_ok_after old.present.started mid.present.started new.present.started result c.in_ok-wait.ensures.names c.flush_pages.ensures.names;
+      idle = λ none. absurd (cc (work, none));
+      room = c.has_flush_work.ensures.room;
+    }

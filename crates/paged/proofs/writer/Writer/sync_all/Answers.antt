@@ -13,7 +13,8 @@ returns-then-has_flush_work g c =
       covers = c.sync_pages.ensures.covers;
       calls = c.sync_pages.ensures.calls;
       idle = λ none. absurd (sync_due c.args.self.now work none);
-      unwritten = λ none dirty. absurd (cc);
+      unwritten = λ none. absurd (cc (work, none));
+      starts = c.sync_pages.ensures.starts;
     }
 
 pub returns-else-has_flush_work : goal.returns-else-has_flush_work
@@ -28,5 +29,6 @@ returns-else-has_flush_work g c =
       covers = c.settle.ensures.covers;
       calls = omega (arith, c.settle.ensures.calls);
       idle = λ none. c.settle.ensures.idle (settle_none c.args.self.now none);
-      unwritten = λ none dirty. c.settle.ensures.unwritten dirty;
+      unwritten = λ none. c.settle.ensures.unwritten;
+      starts = c.settle.ensures.starts;
     }

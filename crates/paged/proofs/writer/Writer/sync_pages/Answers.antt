@@ -1,94 +1,47 @@
-use Rattle.std.proofs.Common.{◌≡◌, ◌∙◌, refl, sym, subst, ap, arith, true, false}
-use Rattle.crash.proofs.BelowLaws.{pages_join, sync_pages_stay}
-use Rattle.paged.proofs.Below.{flush_pages}
-use Rattle.paged.proofs.Covers.{flush_covers, carried_covers, second_covers}
+use Rattle.std.proofs.Common.{◌≡◌, sym, subst, true}
 use Rattle.std.proofs.lemmas.Result.{err_from_is_err_and}
-use Rattle.crash.specs.WriterState.{WriterState, SyncState}
-use Rattle.crash.specs.WriterState.SyncState.{Clean}
-use Rattle.crash.specs.Sound.{IsSound, CanWrite, StateFits}
-use Rattle.std.specs.Prelude.{Ok, Err}
-use Rattle.paged.specs.Writer.{state_of}
-use Rattle.paged.specs.Flush.{full_in, place_of, flush_bytes}
-use Rattle.paged.proofs.Flushing.{can_sync}
-use Rattle.paged.proofs.Flushes.{flush_goes, dirty_carried, sync_write, sync_second, sync_asks_once, sync_asks_twice}
-use Rattle.paged.proofs.Causes.{write_asks, sync_asks}
+use Rattle.crash.specs.WriterState.{WriterState}
+use Rattle.paged.specs.Flush.{has_work, answered}
+use Rattle.paged.specs.Calls.{WaitsForNone}
+use Rattle.paged.proofs.Waits.{syncs_behind, pages_behind, covers_behind, waits_for_none, sync_asks_behind, sync_asks_wait}
 use Rattle.paged.proofs.writer.Writer.sync_pages.Goals as goal
 
-pub write_pages-requires-clause-can : goal.write_pages-requires-clause-can
-unfolding IsSound
-write_pages-requires-clause-can g c =
-    subst (λ (v : WriterState). CanWrite v.page_size v.tip (full_in v) c.has_rest-rest.result) (sym c.carry.ensures.is)
-    (can_sync c.args.self.now c.has_rest-rest.result c.requires.sound.stands.some c.requires.work c.has_rest-rest.ensures)
-
-pub write_pages-requires-clause-settled : goal.write_pages-requires-clause-settled
-unfolding IsSound
-write_pages-requires-clause-settled g c =
-    let clean : c.args.self.now.sync ≡ Clean = sym (ap (λ s. s.sync) c.self.view_is) ∙ ap state_of c.in-Clean.is in
-    λ durable. (subst (λ (s : SyncState). StateFits (g.B.Blob.life c.args.blob.now).present s) clean c.requires.sound.stands.state).0
-
-pub returns-in_err-write_pages-in-Dirty : goal.returns-in_err-write_pages-in-Dirty
-unfolding IsSound
-returns-in_err-write_pages-in-Dirty g c =
-    let sum = g.H.Sum.sum_of in
-    let w = c.args.self.now in
-    let rest = c.has_rest-rest.result in
-    let old = g.B.Blob.life c.args.blob.now in
-    let mid = g.B.Blob.life c.write_pages-in-Dirty.new.blob in
-    let e = c.in_err-write_pages-in-Dirty.field-0.0 in
-    let dirty = sym (ap (λ s. s.sync) c.self.view_is) ∙ ap state_of c.in-Dirty.is in
-    let can = can_sync w rest c.requires.sound.stands.some c.requires.work c.has_rest-rest.ensures in
+pub returns-in_err-wait : goal.returns-in_err-wait
+returns-in_err-wait g c =
     let p = err_from_is_err_and c.from_residual.result c.from_residual.ensures.1 in
     rw (p.1, p.2) (record {
-      syncs = flush_goes sum w c.write_pages-in-Dirty.new.self rest old mid (Err e) g.met.H.Sum.small c.requires.sound (dirty_carried w dirty) can
-          c.in_err-write_pages-in-Dirty.ensures.goes c.in_err-write_pages-in-Dirty.ensures.state c.in_err-write_pages-in-Dirty.ensures.fits;
-      pages = flush_pages sum w (place_of w) (flush_bytes sum w rest) false old mid (Err e) c.requires.sound refl c.in_err-write_pages-in-Dirty.ensures.goes;
-      covers = flush_covers sum w rest false old mid (Err e) g.met.H.Sum.small c.requires.sound (dirty_carried w dirty) can c.in_err-write_pages-in-Dirty.ensures.goes;
-      calls = sync_asks_once w old mid c.requires.work (write_asks (place_of w) (flush_bytes sum w rest) false old mid (Err e) c.in_err-write_pages-in-Dirty.ensures.goes);
+      syncs = c.in_err-wait.ensures.waits;
+      pages = c.in_err-wait.ensures.pages;
+      covers = c.in_err-wait.ensures.covers;
+      starts = c.in_err-wait.ensures.starts;
+      calls = sync_asks_wait c.args.self.now (g.B.Blob.life c.args.blob.now) (g.B.Blob.life c.wait.new.blob) c.in_err-wait.ensures.calls;
     })
 
-pub returns-in-Clean : goal.returns-in-Clean
-unfolding IsSound
-returns-in-Clean g c =
-    let sum = g.H.Sum.sum_of in
-    let w = c.args.self.now in
-    let v = c.carry.new.self in
-    let rest = c.has_rest-rest.result in
-    let old = g.B.Blob.life c.args.blob.now in
-    let new = g.B.Blob.life c.write_pages.new.blob in
-    let can = can_sync w rest c.requires.sound.stands.some c.requires.work c.has_rest-rest.ensures in
+pub write_durably-requires : goal.write_durably-requires
+write_durably-requires g c =
+    let is = c.in_ok-wait.ensures.waits.1 in
     record {
-      syncs = sync_write sum w v c.write_pages.new.self rest old new c.write_pages.result
-          g.met.H.Sum.small c.requires.sound c.carry.ensures.ready c.carry.ensures.is c.has_rest-rest.ensures (subst (λ (v : WriterState). CanWrite v.page_size v.tip (full_in v) rest) (sym c.carry.ensures.is) can)
-          c.write_pages.ensures.goes c.write_pages.ensures.state c.write_pages.ensures.fits;
-      pages = flush_pages sum w (place_of v) (flush_bytes sum v rest) true old new c.write_pages.result c.requires.sound (ap place_of c.carry.ensures.is) c.write_pages.ensures.goes;
-      covers = carried_covers sum w v rest true old new c.write_pages.result g.met.H.Sum.small c.requires.sound c.carry.ensures.ready c.carry.ensures.is
-          (subst (λ (v : WriterState). CanWrite v.page_size v.tip (full_in v) rest) (sym c.carry.ensures.is) can) c.write_pages.ensures.goes;
-      calls = sync_asks_once w old new c.requires.work (write_asks (place_of v) (flush_bytes sum v rest) true old new c.write_pages.result c.write_pages.ensures.goes);
+      sound = c.in_ok-wait.ensures.waits.0.sound;
+      waited = subst (λ (v : WriterState). WaitsForNone v.sync) (sym is) (waits_for_none c.args.self.now);
+      work = subst (λ (v : WriterState). has_work v true ≡ true) (sym is) c.requires.work;
     }
 
-pub returns-in_ok-write_pages-in-Dirty : goal.returns-in_ok-write_pages-in-Dirty
-unfolding IsSound
-returns-in_ok-write_pages-in-Dirty g c =
+pub returns : goal.returns
+returns g c =
     let sum = g.H.Sum.sum_of in
     let w = c.args.self.now in
-    let m = c.write_pages-in-Dirty.new.self in
-    let rest = c.has_rest-rest.result in
+    let m = c.wait.new.self in
+    let now = c.write_durably.new.self in
     let old = g.B.Blob.life c.args.blob.now in
-    let mid = g.B.Blob.life c.write_pages-in-Dirty.new.blob in
-    let new = g.B.Blob.life c.sync_blob.new.blob in
-    let dirty = sym (ap (λ s. s.sync) c.self.view_is) ∙ ap state_of c.in-Dirty.is in
-    let can = can_sync w rest c.requires.sound.stands.some c.requires.work c.has_rest-rest.ensures in
+    let mid = g.B.Blob.life c.wait.new.blob in
+    let new = g.B.Blob.life c.write_durably.new.blob in
+    let result = c.write_durably.result in
+    let first = c.in_ok-wait.ensures.waits.0 in
+    let is = c.in_ok-wait.ensures.waits.1 in
     record {
-      syncs = sync_second sum w m c.sync_blob.new.self rest old mid new c.sync_blob.result g.met.H.Sum.small c.requires.sound dirty c.has_rest-rest.ensures can
-          c.in_ok-write_pages-in-Dirty.ensures.goes c.in_ok-write_pages-in-Dirty.ensures.state c.sync_blob.ensures.goes c.sync_blob.ensures.state;
-      pages = pages_join w.page_size w.full_pages w.full_pages old mid new (omega arith)
-          (flush_pages sum w (place_of w) (flush_bytes sum w rest) false old mid (Ok tt) c.requires.sound refl c.in_ok-write_pages-in-Dirty.ensures.goes)
-          (sync_pages_stay w.page_size w.full_pages mid new c.sync_blob.result c.sync_blob.ensures.goes);
-      covers = second_covers sum w m old mid new c.sync_blob.result
-          (flush_covers sum w rest false old mid (Ok tt) g.met.H.Sum.small c.requires.sound (dirty_carried w dirty) can c.in_ok-write_pages-in-Dirty.ensures.goes)
-          (flush_goes sum w m rest old mid (Ok tt) g.met.H.Sum.small c.requires.sound (dirty_carried w dirty) can c.in_ok-write_pages-in-Dirty.ensures.goes c.in_ok-write_pages-in-Dirty.ensures.state (λ is. cc))
-          c.sync_blob.ensures.goes;
-      calls = sync_asks_twice w old mid new c.requires.work dirty
-          (write_asks (place_of w) (flush_bytes sum w rest) false old mid (Ok tt) c.in_ok-write_pages-in-Dirty.ensures.goes)
-          (sync_asks mid new c.sync_blob.result c.sync_blob.ensures.goes);
+      syncs = syncs_behind sum w m old mid new first (answered now result) c.write_durably.ensures.syncs;
+      pages = pages_behind sum w m old mid new first c.in_ok-wait.ensures.pages c.write_durably.ensures.pages;
+      covers = covers_behind sum w m old mid new first c.in_ok-wait.ensures.covers c.write_durably.ensures.covers;
+      starts = c.write_durably.ensures.starts;
+      calls = sync_asks_behind w m old mid new is c.in_ok-wait.ensures.calls c.write_durably.ensures.calls;
     }

@@ -1,0 +1,226 @@
+-- A wait for the pending sync, and what comes behind it.
+use Rattle.std.proofs.Common.{◌≡◌, ℕ, ◌+◌, ◌≤◌, List, [], inl, inr, ◌⊎◌, refl, sym, ap, ◌∙◌, subst, arith, append-nil, true, false, Result, Ok, Err}
+use Rattle.std.specs.Prelude.{OnOk, take, ◌*◌, if◌then◌else◌}
+use Rattle.disk.specs.declared.started_sync.StartedSync.{StartedSync}
+use Rattle.disk.specs.declared.started_sync.StartedSync.TheVariants.{Done, Named}
+use Rattle.disk.specs.Disk.{Disk, Life, WaitSync, SyncGoes, WaitGoes, WaitsFor, next, logged, settle_to, failed_at}
+use Rattle.disk.specs.declared.error.Error.{Error}
+use Rattle.disk.specs.declared.error.Error.TheVariants.{SyncFailed, OutOfMemory}
+use Rattle.crash.specs.WriterState.{WriterState, SyncState}
+use Rattle.crash.specs.WriterState.SyncState.{Clean, Dirty, Pending}
+use Rattle.crash.specs.Sound.{IsSound, Soundness, content}
+use Rattle.crash.specs.Below.{PagesStay}
+use Rattle.crash.specs.Started.{CoversThrough, StartsStand}
+use Rattle.crash.specs.Stays.{StaysThrough}
+use Rattle.crash.proofs.Moments.{stays_through_start}
+use Rattle.crash.proofs.BuiltLaws.{IsSmall}
+use Rattle.crash.proofs.BelowLaws.{pages_none, pages_one, pages_join}
+use Rattle.crash.proofs.CoverLaws.{covers_none, covers_one, covers_through_join}
+use Rattle.crash.proofs.StandLaws.{sound_stands}
+use Rattle.crash.proofs.StartedLaws.{settles_same, wait_leaves, wait_sound, wait_covers, waited_keeps}
+use Rattle.crash.proofs.Soundness.{sound_leaves}
+use Rattle.paged.specs.Writer.{state_of}
+use Rattle.paged.specs.declared.writer.SyncState.{SyncState as State}
+use Rattle.paged.specs.declared.writer.SyncState.TheVariants.{Clean as IsClean, Dirty as IsDirty}
+use Rattle.paged.specs.Flush.{has_work, synced, answered}
+use Rattle.paged.specs.Calls.{AsksAtMost, wait_calls, settle_calls, sync_calls, GoesOn, IsSameWriter, Flushes, Settles, SettlesBy, Syncs, HadFailed, HasCause, WaitsForNone, WaitsForSync, Completes, Covers, LeavesWriters, waited, waited_state}
+use Rattle.paged.proofs.Causes.{wait_cause, wait_asks, wait_grows}
+use Rattle.paged.proofs.Flushes.{size_is_length, stays_nil, goes_on_more, refuses_more}
+
+-- what a wait leaves of what is readable
+wait_readable : (name : ℕ) (old new : Life) (answer : Result (Unit {0}) Error) → WaitGoes name old new answer → new.present.readable ≡ old.present.readable
+wait_readable name old new (Ok u) (s, named, well, is) = ap (λ (l : Life). l.present.readable) is ∙ (settles_same (s.covers, s.bytes) old.present).0
+wait_readable name old new (Err SyncFailed) (failed, why, is) = ap (λ (l : Life). l.present.readable) is
+wait_readable name old new (Err OutOfMemory) is = ap (λ (l : Life). l.present.readable) is
+wait_readable name old new (Err e) goes = absurd goes
+
+-- it takes one moment, or none
+moment_is : (old new : Life) (d : Disk) → new ≡ next old d → new ≡ next old new.present
+moment_is old new d is = is ∙ ap (λ (x : Disk). next old x) (sym (ap (λ (l : Life). l.present) is))
+
+wait_moment : (name : ℕ) (old new : Life) (answer : Result (Unit {0}) Error) → WaitGoes name old new answer → (new ≡ old) ⊎ (new ≡ next old new.present)
+wait_moment name old new (Ok u) (s, named, well, is) = inr (moment_is old new (logged (WaitSync name) false (settle_to (s.covers, s.bytes) old.present)) is)
+wait_moment name old new (Err SyncFailed) (failed, why, is) = inr (moment_is old new (logged (WaitSync name) failed (record old.present { started = failed_at name old.present.started })) is)
+wait_moment name old new (Err OutOfMemory) is = inl is
+wait_moment name old new (Err e) goes = absurd goes
+
+-- so it takes nothing from what started syncs cover
+wait_covers_by : (sum : List ℕ → ℕ) (w : WriterState) (name : ℕ) (old new : Life) (result : Result (Unit {0}) Error) → Soundness sum w old.present → WaitGoes name old new result → CoversThrough sum w.page_size (content w old.present.readable) old new
+wait_covers_by sum w name old new result sound goes = elim (wait_moment name old new result goes) [
+  | inl none ↦ covers_none sum w.page_size (content w old.present.readable) old new none
+  | inr one ↦ covers_one sum w.page_size (content w old.present.readable) old new new.present one (wait_covers sum w old new name sound result goes)
+]
+
+-- the writer that waits
+module _ (sum : List ℕ → ℕ) (w now : WriterState) (name : ℕ) (old new : Life) (result : Result (Unit {0}) Error) (small : IsSmall sum) (sound : Soundness sum w old.present) (state : w.sync ≡ Pending name) (goes : WaitGoes name old new result) where
+  pub wait_pages : PagesStay w.page_size w.full_pages old new
+  wait_pages = elim (wait_moment name old new result goes) [
+    | inl none ↦ pages_none w.page_size w.full_pages old new none
+    | inr one ↦ pages_one w.page_size w.full_pages old new new.present one (ap (λ (l : List ℕ). take (w.full_pages * (w.page_size + 12)) l) (wait_readable name old new result goes))
+  ]
+
+  pub wait_covers_through : CoversThrough sum w.page_size (content w old.present.readable) old new
+  wait_covers_through = wait_covers_by sum w name old new result sound goes
+
+  pub wait_stands : StartsStand new.present
+  wait_stands = sound_stands sum w new.present (wait_leaves sum w old new name small sound result goes).0
+
+  pub wait_asks_one : AsksAtMost (wait_calls w.sync) old new
+  wait_asks_one = subst (λ (s : SyncState). AsksAtMost (wait_calls s) old new) (sym state) (wait_asks name old new result goes)
+
+  pub wait_settles : SettlesBy w.sync old new result
+  wait_settles = subst (λ (s : SyncState). SettlesBy s old new result) (sym state) goes
+
+-- a wait that is answered leaves the list of started syncs
+pub wait_names : (name : ℕ) (old new : Life) (result : Result (Unit {0}) Error) → WaitGoes name old new result → OnOk result (new.present.started ≡ old.present.started)
+wait_names name old new (Ok u) (s, named, well, is) = ap (λ (l : Life). l.present.started) is ∙ (settles_same (s.covers, s.bytes) old.present).2
+wait_names name old new (Err e) goes = tt
+
+-- so does what comes behind it
+pub on_ok_after : {A : Type 0} (a b c : A) (result : Result (Unit {0}) Error) → b ≡ a → OnOk result (c ≡ b) → OnOk result (c ≡ a)
+on_ok_after a b c (Ok u) first second = second ∙ first
+on_ok_after a b c (Err e) first second = tt
+
+pub wait_completes : (sum : List ℕ → ℕ) (P : ℕ) (s : SyncState) (name : ℕ) (old new : Life) (result : Result (Unit {0}) Error) → s ≡ Pending name → WaitGoes name old new result → OnOk result (Completes sum P s old new)
+wait_completes sum P s name old new (Ok u) state goes = subst (λ (t : SyncState). Completes sum P t old new) (sym state) (λ content cover would. waited_keeps sum P content name cover old new tt would goes)
+wait_completes sum P s name old new (Err e) state goes = tt
+
+pub wait_goes : (sum : List ℕ → ℕ) (w now : WriterState) (name : ℕ) (old new : Life) (result : Result (Unit {0}) Error) → IsSmall sum → IsSound sum w old.present → w.sync ≡ Pending name
+    → WaitGoes name old new result → OnOk result (now ≡ synced w) → WaitsForSync sum w old new (answered now result)
+unfolding IsSound
+wait_goes sum w now name old new (Ok u) small sound state goes is =
+    let here : Soundness sum now new.present = subst (λ (n : WriterState). Soundness sum n new.present) (sym is) (wait_sound sum w old new name small sound tt state goes) in (
+      record {
+        sound = here;
+        size = size_is_length sum now new here;
+        only = sound_leaves sum now new.present here;
+        content = ap (λ (n : WriterState). content n new.present.readable) is ∙ ap (λ (l : List ℕ). content w l) (wait_readable name old new (Ok u) goes) ∙ sym (append-nil (content w old.present.readable));
+        same = subst (λ (n : WriterState). IsSameWriter w n) (sym is) (record { page_size = refl; id = refl; capacity = refl; full_pages = omega arith });
+        log = wait_grows name old new (Ok u) goes;
+        stays = stays_nil sum w.page_size (content w old.present.readable) old new ((wait_leaves sum w old new name small sound (Ok u) goes).1);
+        waits = λ had. absurd (subst (λ (n : WriterState). HadFailed n.sync new.present) is had);
+      },
+      is ∙ sym (ap (λ (s : SyncState). record w { sync = waited_state s }) state),
+    )
+wait_goes sum w now name old new (Err e) small sound state goes is = record {
+  cause = subst (λ (s : SyncState). HasCause s old new e) (sym state) (wait_cause name old new e goes);
+  stays = (wait_leaves sum w old new name small sound (Err e) goes).1;
+  log = wait_grows name old new (Err e) goes;
+}
+
+-- a wait that is due
+pub wait_due : (s : SyncState) (name : ℕ) → s ≡ Pending name → wait_calls s ≡ 0 → ⊥
+wait_due s name state none = omega (arith, ap wait_calls state, none)
+
+-- where none is pending the writer waits for nothing
+pub none_pending : (w : WriterState) (s : State) → state_of s ≡ w.sync → (s ≡ IsClean) ⊎ (s ≡ IsDirty) → WaitsForNone w.sync
+none_pending w s is (inl clean) = subst (λ (t : SyncState). WaitsForNone t) (ap state_of (sym clean) ∙ is) tt
+none_pending w s is (inr dirty) = subst (λ (t : SyncState). WaitsForNone t) (ap state_of (sym dirty) ∙ is) tt
+
+module _ (w : WriterState) (none : WaitsForNone w.sync) where
+  same_state : (s : SyncState) → WaitsForNone s → s ≡ waited_state s
+  same_state Clean none = refl
+  same_state Dirty none = refl
+  same_state (Pending name) none = absurd none
+
+  pub waits_idle : w ≡ waited w
+  waits_idle = ap (λ (t : SyncState). record w { sync = t }) (same_state w.sync none)
+
+pub idle_calls : (s : SyncState) → WaitsForNone s → wait_calls s ≡ 0
+idle_calls Clean none = refl
+idle_calls Dirty none = refl
+idle_calls (Pending name) none = absurd none
+
+pub idle_completes : (sum : List ℕ → ℕ) (P : ℕ) (s : SyncState) (life : Life) → WaitsForNone s → Completes sum P s life life
+idle_completes sum P Clean life none = tt
+idle_completes sum P Dirty life none = tt
+idle_completes sum P (Pending name) life none = absurd none
+
+-- a writer that has waited waits for none
+pub waits_for_none : (w : WriterState) → WaitsForNone (waited_state w.sync)
+waits_for_none w = by_state w.sync
+  where
+    by_state : (s : SyncState) → WaitsForNone (waited_state s)
+    by_state Clean = tt
+    by_state Dirty = tt
+    by_state (Pending name) = tt
+
+-- ---- a wait behind the writer's back
+
+pub wait_leaves_writers : (sum : List ℕ → ℕ) (started : StartedSync) (old new : Life) (result : Result (Unit {0}) Error) → IsSmall sum → WaitsFor started old new result → LeavesWriters sum old new
+unfolding IsSound
+wait_leaves_writers sum (Named name) old new result small goes w sound =
+    let left = wait_leaves sum w old new name small sound result goes in
+    record {
+      sound = left.0;
+      readable = wait_readable name old new result goes;
+      stays = left.1;
+      covers = wait_covers_by sum w name old new result sound goes;
+    }
+wait_leaves_writers sum Done old new (Ok u) small is w sound = record {
+  sound = subst (λ (l : Life). Soundness sum w l.present) (sym is) sound;
+  readable = ap (λ (l : Life). l.present.readable) is;
+  stays = subst (λ (l : Life). StaysThrough sum w.page_size (content w old.present.readable) old l) (sym is) (stays_through_start sum w.page_size (content w old.present.readable) old sound.truthful);
+  covers = covers_none sum w.page_size (content w old.present.readable) old new is;
+}
+wait_leaves_writers sum Done old new (Err e) small goes w sound = absurd goes
+
+-- what it covers is kept from then on
+pub wait_covers_all : (sum : List ℕ → ℕ) (started : StartedSync) (old new : Life) (result : Result (Unit {0}) Error) → WaitsFor started old new result → OnOk result ((P : ℕ) → Covers sum P started old new)
+wait_covers_all sum (Named name) old new (Ok u) goes = λ P held cover would. waited_keeps sum P held name cover old new tt would goes
+wait_covers_all sum (Named name) old new (Err e) goes = tt
+wait_covers_all sum Done old new (Ok u) goes = λ P. tt
+wait_covers_all sum Done old new (Err e) goes = tt
+
+-- ---- a wait that makes all durable that is written
+
+pub wait_settles_all : (s : SyncState) (name : ℕ) → s ≡ Pending name → wait_calls s ≡ 1
+wait_settles_all s name state = ap wait_calls state
+
+pub settle_pending : (s : SyncState) (name : ℕ) → s ≡ Pending name → settle_calls s ≡ wait_calls s
+settle_pending s name state = omega (arith, ap settle_calls state, ap wait_calls state)
+
+pub wait_is_settle : (sum : List ℕ → ℕ) (w : WriterState) (name : ℕ) → w.sync ≡ Pending name → (old new : Life) (result : Result WriterState Error) → WaitsForSync sum w old new result → Settles sum w old new result
+wait_is_settle sum w name state old new (Ok now) (goes, is) = (goes, is ∙ ap (λ (s : SyncState). record w { sync = waited_state s }) state)
+wait_is_settle sum w name state old new (Err e) refused = refused
+
+pub settles_clean : (s : SyncState) (life : Life) → s ≡ Clean → SettlesBy s life life (Ok tt)
+settles_clean s life clean = subst (λ (t : SyncState). SettlesBy t life life (Ok tt)) (sym clean) (refl, refl)
+
+pub settles_dirty : (s : SyncState) (old new : Life) (result : Result (Unit {0}) Error) → s ≡ Dirty → SyncGoes old new result → SettlesBy s old new result
+settles_dirty s old new result dirty goes = subst (λ (t : SyncState). SettlesBy t old new result) (sym dirty) goes
+
+-- ---- a call behind a wait
+
+module _ (sum : List ℕ → ℕ) (w m : WriterState) (old mid new : Life) (first : GoesOn sum w old [] m mid) where
+  pub flushes_behind : (result : Result WriterState Error) → Flushes sum m mid new result → Flushes sum w old new result
+  flushes_behind (Ok now) goes = goes_on_more sum w m now old mid new first goes
+  flushes_behind (Err e) refused = refuses_more sum w m old mid new e first refused
+
+  pub syncs_behind : (result : Result WriterState Error) → Syncs sum m mid new result → Syncs sum w old new result
+  syncs_behind (Ok now) goes = (goes_on_more sum w m now old mid new first goes.0, goes.1)
+  syncs_behind (Err e) refused = refuses_more sum w m old mid new e first refused
+
+  pub pages_behind : PagesStay w.page_size w.full_pages old mid → PagesStay m.page_size m.full_pages mid new → PagesStay w.page_size w.full_pages old new
+  pages_behind one two = pages_join w.page_size w.full_pages m.full_pages old mid new first.same.full_pages one (subst (λ (P : ℕ). PagesStay P m.full_pages mid new) first.same.page_size two)
+
+  pub covers_behind : CoversThrough sum w.page_size (content w old.present.readable) old mid → CoversThrough sum m.page_size (content m mid.present.readable) mid new
+      → CoversThrough sum w.page_size (content w old.present.readable) old new
+  covers_behind one two =
+      covers_through_join sum w.page_size (content w old.present.readable) old mid new one
+      (subst (λ (c : List ℕ). CoversThrough sum w.page_size c mid new) (first.content ∙ append-nil (content w old.present.readable))
+      (subst (λ (P : ℕ). CoversThrough sum P (content m mid.present.readable) mid new) first.same.page_size two))
+
+-- the calls of a wait are among those that settle
+wait_within : (s : SyncState) → wait_calls s + settle_calls (waited_state s) ≤ settle_calls s
+wait_within Clean = omega arith
+wait_within Dirty = omega arith
+wait_within (Pending name) = omega arith
+
+pub sync_asks_wait : (w : WriterState) (old new : Life) → AsksAtMost (wait_calls w.sync) old new → AsksAtMost (sync_calls w) old new
+sync_asks_wait w old new calls = omega (arith, calls, wait_within w.sync)
+
+pub sync_asks_behind : (w m : WriterState) (old mid new : Life) → m ≡ waited w → AsksAtMost (wait_calls w.sync) old mid → AsksAtMost (sync_calls m) mid new → AsksAtMost (sync_calls w) old new
+sync_asks_behind w m old mid new is first second =
+    let later : sync_calls m ≡ (if has_work w true then 1 else 0) + settle_calls (waited_state w.sync) = ap sync_calls is in
+    omega (arith, first, second, later, wait_within w.sync)

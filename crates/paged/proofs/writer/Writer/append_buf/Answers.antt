@@ -1,0 +1,16 @@
+use Rattle.std.proofs.Common.{refl}
+use Rattle.crash.specs.Sound.{IsSound, content}
+use Rattle.crash.proofs.BelowLaws.{pages_none}
+use Rattle.crash.proofs.CoverLaws.{covers_none}
+use Rattle.crash.proofs.StandLaws.{sound_stands}
+use Rattle.paged.proofs.writer.Writer.append_buf.Goals as goal
+
+pub returns-then-not-fits-clause-pages : goal.returns-then-not-fits-clause-pages
+returns-then-not-fits-clause-pages g c = pages_none c.args.self.now.page_size c.args.self.now.full_pages (g.B.Blob.life c.args.blob.now) (g.B.Blob.life c.args.blob.now) refl
+
+pub returns-then-not-fits-clause-covers : goal.returns-then-not-fits-clause-covers
+returns-then-not-fits-clause-covers g c = covers_none g.H.Sum.sum_of c.args.self.now.page_size (content c.args.self.now (g.B.Blob.life c.args.blob.now).present.readable) (g.B.Blob.life c.args.blob.now) (g.B.Blob.life c.args.blob.now) refl
+
+pub returns-then-not-fits-clause-starts : goal.returns-then-not-fits-clause-starts
+unfolding IsSound
+returns-then-not-fits-clause-starts g c = sound_stands g.H.Sum.sum_of c.args.self.now (g.B.Blob.life c.args.blob.now).present c.requires.sound

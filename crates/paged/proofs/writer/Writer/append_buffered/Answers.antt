@@ -1,0 +1,69 @@
+use Rattle.crash.specs.Sound.{content, IsSound}
+use Rattle.crash.proofs.CoverLaws.{covers_none}
+use Rattle.paged.proofs.Covers.{longer_covers}
+use Rattle.std.proofs.Common.{refl, ◌++◌, sym, ap, subst, arith, length, length-append, ◌∙◌}
+use Rattle.crash.proofs.BelowLaws.{pages_none}
+use Rattle.crash.proofs.StandLaws.{sound_stands}
+use Rattle.paged.proofs.Below.{pages_longer}
+use Rattle.std.proofs.lemmas.Result.{err_from_is_err_and}
+use Rattle.paged.proofs.Flushes.{size_is_length}
+use Rattle.paged.proofs.Appends.{append_flushed, append_unbuffered, buffered_goes, unbuffered_all, over_work}
+use Rattle.crash.specs.WriterState.{WriterState}
+use Rattle.crash.proofs.Soundness.{longer_sound}
+use Rattle.paged.proofs.writer.Writer.append_buffered.Goals as goal
+
+pub returns-in_err-buffer-clause-appends : goal.returns-in_err-buffer-clause-appends
+returns-in_err-buffer-clause-appends g c =
+    let p = err_from_is_err_and c.from_residual.result c.from_residual.ensures.1 in
+    rw (p.1, p.2) (append_unbuffered g.H.Sum.sum_of c.args.self.now c.buffer.new.self (g.B.Blob.life c.args.blob.now) c.args.bytes.now c.in_err-buffer.field-0.0 c.requires.sound c.in_err-buffer.ensures)
+
+pub flush-requires : goal.flush-requires
+unfolding IsSound
+flush-requires g c = record {
+  sound = subst (λ (v : WriterState). IsSound g.H.Sum.sum_of v (g.B.Blob.life c.args.blob.now).present) (sym c.in_ok-buffer.ensures.1) (longer_sound g.H.Sum.sum_of c.args.self.now (g.B.Blob.life c.args.blob.now).present c.requires.sound c.args.bytes.now);
+}
+
+pub returns-then-branch-clause-appends : goal.returns-then-branch-clause-appends
+returns-then-branch-clause-appends g c =
+    append_flushed g.H.Sum.sum_of c.args.self.now c.buffer.new.self c.flush.new.self (g.B.Blob.life c.args.blob.now) (g.B.Blob.life c.flush.new.blob) c.args.bytes.now c.flush.result c.requires.sound c.in_ok-buffer.ensures.1 c.flush.ensures.flushes
+
+pub returns-else-branch-clause-appends : goal.returns-else-branch-clause-appends
+returns-else-branch-clause-appends g c =
+    let old = g.B.Blob.life c.args.blob.now in
+    (size_is_length g.H.Sum.sum_of c.args.self.now old c.requires.sound, buffered_goes g.H.Sum.sum_of c.args.self.now c.buffer.new.self c.args.bytes.now old c.requires.sound c.in_ok-buffer.ensures.1)
+
+pub returns-in_err-buffer-clause-pages : goal.returns-in_err-buffer-clause-pages
+returns-in_err-buffer-clause-pages g c = pages_none c.args.self.now.page_size c.args.self.now.full_pages (g.B.Blob.life c.args.blob.now) (g.B.Blob.life c.args.blob.now) refl
+
+pub returns-then-branch-clause-pages : goal.returns-then-branch-clause-pages
+returns-then-branch-clause-pages g c = pages_longer c.args.self.now c.buffer.new.self (c.args.self.now.tip ++ c.args.bytes.now) (g.B.Blob.life c.args.blob.now) (g.B.Blob.life c.flush.new.blob) c.in_ok-buffer.ensures.1 c.flush.ensures.pages
+
+pub returns-else-branch-clause-pages : goal.returns-else-branch-clause-pages
+returns-else-branch-clause-pages g c = pages_none c.args.self.now.page_size c.args.self.now.full_pages (g.B.Blob.life c.args.blob.now) (g.B.Blob.life c.args.blob.now) refl
+
+pub returns-in_err-buffer-clause-covers : goal.returns-in_err-buffer-clause-covers
+returns-in_err-buffer-clause-covers g c = covers_none g.H.Sum.sum_of c.args.self.now.page_size (content c.args.self.now (g.B.Blob.life c.args.blob.now).present.readable) (g.B.Blob.life c.args.blob.now) (g.B.Blob.life c.args.blob.now) refl
+
+pub returns-then-branch-clause-covers : goal.returns-then-branch-clause-covers
+returns-then-branch-clause-covers g c = longer_covers g.H.Sum.sum_of c.args.self.now c.buffer.new.self c.args.bytes.now (g.B.Blob.life c.args.blob.now) (g.B.Blob.life c.flush.new.blob) c.requires.sound c.in_ok-buffer.ensures.1 c.flush.ensures.covers
+
+pub returns-else-branch-clause-covers : goal.returns-else-branch-clause-covers
+returns-else-branch-clause-covers g c = covers_none g.H.Sum.sum_of c.args.self.now.page_size (content c.args.self.now (g.B.Blob.life c.args.blob.now).present.readable) (g.B.Blob.life c.args.blob.now) (g.B.Blob.life c.args.blob.now) refl
+
+pub returns-in_err-buffer-clause-starts : goal.returns-in_err-buffer-clause-starts
+unfolding IsSound
+returns-in_err-buffer-clause-starts g c = sound_stands g.H.Sum.sum_of c.args.self.now (g.B.Blob.life c.args.blob.now).present c.requires.sound
+
+pub returns-else-branch-clause-starts : goal.returns-else-branch-clause-starts
+unfolding IsSound
+returns-else-branch-clause-starts g c = sound_stands g.H.Sum.sum_of c.args.self.now (g.B.Blob.life c.args.blob.now).present c.requires.sound
+
+pub returns-in_err-buffer-clause-buffered : goal.returns-in_err-buffer-clause-buffered
+returns-in_err-buffer-clause-buffered g c = λ fit.
+    let p = err_from_is_err_and c.from_residual.result c.from_residual.ensures.1 in
+    rw (p.1, p.2) (unbuffered_all c.args.self.now c.buffer.new.self (g.B.Blob.life c.args.blob.now) c.args.bytes.now c.in_err-buffer.field-0.0 c.in_err-buffer.ensures)
+
+pub returns-then-branch-clause-dirty : goal.returns-then-branch-clause-dirty
+returns-then-branch-clause-dirty g c = λ over.
+    let tip = ap (λ (v : WriterState). length v.tip) c.in_ok-buffer.ensures.1 ∙ length-append c.args.self.now.tip c.args.bytes.now in
+    c.flush.ensures.dirty (over_work c.buffer.new.self c.flush.ensures.room (omega (arith, over, tip, ap (λ (v : WriterState). v.capacity) c.in_ok-buffer.ensures.1)))

@@ -1,0 +1,19 @@
+use Rattle.std.proofs.Common.{Ok, Err}
+use Rattle.paged.proofs.Halves.{wait_keeps, wait_leaves}
+use Rattle.paged.proofs.There.{wait_there}
+use Rattle.paged.proofs.writer.Writer.wait_for_sync.Goals as goal
+
+pub returns-clause-there : goal.returns-clause-there
+returns-clause-there g c = wait_there g.H.Sum.sum_of c.args.self (g.B.Blob.life c.args.blob.now) (g.B.Blob.life c.wait.new.blob) (Ok c.wait.new.self) c.in_ok-wait.ensures.waits
+
+pub returns-clause-kept : goal.returns-clause-kept
+returns-clause-kept g c = wait_keeps g.H.Sum.sum_of c.args.self (g.B.Blob.life c.args.blob.now) (g.B.Blob.life c.wait.new.blob) c.requires.sound (Ok c.wait.new.self) c.in_ok-wait.ensures.waits
+
+pub returns-in_err-wait-clause-kept : goal.returns-in_err-wait-clause-kept
+returns-in_err-wait-clause-kept g c = wait_keeps g.H.Sum.sum_of c.args.self (g.B.Blob.life c.args.blob.now) (g.B.Blob.life c.wait.new.blob) c.requires.sound (Err c.in_err-wait.field-0.0) c.in_err-wait.ensures.waits
+
+pub returns-clause-only : goal.returns-clause-only
+returns-clause-only g c = wait_leaves g.H.Sum.sum_of c.args.self (g.B.Blob.life c.args.blob.now) (g.B.Blob.life c.wait.new.blob) c.requires.sound (Ok c.wait.new.self) c.in_ok-wait.ensures.waits
+
+pub returns-in_err-wait-clause-only : goal.returns-in_err-wait-clause-only
+returns-in_err-wait-clause-only g c = wait_leaves g.H.Sum.sum_of c.args.self (g.B.Blob.life c.args.blob.now) (g.B.Blob.life c.wait.new.blob) c.requires.sound (Err c.in_err-wait.field-0.0) c.in_err-wait.ensures.waits

@@ -1,0 +1,65 @@
+use Rattle.std.proofs.Common.{◌++◌, [], sym, subst, arith}
+use Rattle.std.proofs.lemmas.Result.{err_from_is_err_and}
+use Rattle.crash.specs.WriterState.{WriterState}
+use Rattle.crash.specs.Sound.{content}
+use Rattle.crash.specs.Below.{PagesStay}
+use Rattle.crash.proofs.BelowLaws.{pages_join}
+use Rattle.paged.specs.Calls.{WaitsForNone}
+use Rattle.paged.proofs.Appends.{append_fails}
+use Rattle.paged.proofs.Bypass.{direct_waited, direct_places}
+use Rattle.paged.proofs.Joins.{refuses_longer, appends_join}
+use Rattle.paged.proofs.Waits.{covers_behind, waits_for_none}
+use Rattle.paged.proofs.writer.Writer.write_direct.Goals as goal
+
+pub returns-in_err-wait : goal.returns-in_err-wait
+returns-in_err-wait g c =
+    let sum = g.H.Sum.sum_of in
+    let w = c.args.self.now in
+    let more = c.args.whole ++ c.args.rest.now in
+    let old = g.B.Blob.life c.args.blob.now in
+    let new = g.B.Blob.life c.wait.new.blob in
+    let e = c.in_err-wait.field-0.0 in
+    let p = err_from_is_err_and c.from_residual.result c.from_residual.ensures.1 in
+    rw (p.1, p.2) (record {
+      appends = append_fails sum w more old new e (refuses_longer sum w (content w old.present.readable) more old new e c.in_err-wait.ensures.waits);
+      pages = c.in_err-wait.ensures.pages;
+      covers = c.in_err-wait.ensures.covers;
+      tip = tt;
+      dirty = tt;
+      calls = omega (arith, c.in_err-wait.ensures.calls);
+      starts = c.in_err-wait.ensures.starts;
+    })
+
+pub flush_direct-requires : goal.flush_direct-requires
+flush_direct-requires g c =
+    let is = c.in_ok-wait.ensures.waits.1 in
+    record {
+      sound = c.in_ok-wait.ensures.waits.0.sound;
+      waited = subst (λ (v : WriterState). WaitsForNone v.sync) (sym is) (waits_for_none c.args.self.now);
+      direct = direct_waited c.args.self.now c.wait.new.self c.args.whole c.args.rest.now is c.requires.direct;
+    }
+
+pub returns : goal.returns
+returns g c =
+    let sum = g.H.Sum.sum_of in
+    let w = c.args.self.now in
+    let m = c.wait.new.self in
+    let more = c.args.whole ++ c.args.rest.now in
+    let now = c.flush_direct.new.self in
+    let old = g.B.Blob.life c.args.blob.now in
+    let mid = g.B.Blob.life c.wait.new.blob in
+    let new = g.B.Blob.life c.flush_direct.new.blob in
+    let result = c.flush_direct.result in
+    let first = c.in_ok-wait.ensures.waits.0 in
+    let is = c.in_ok-wait.ensures.waits.1 in
+    let direct = direct_waited w m c.args.whole c.args.rest.now is c.requires.direct in
+    record {
+      appends = appends_join sum w m old mid new [] more first now result c.requires.sound (direct_places m c.args.whole c.args.rest.now direct) c.flush_direct.ensures.appends;
+      pages = pages_join w.page_size w.full_pages w.full_pages old mid new (omega arith) c.in_ok-wait.ensures.pages
+          (subst (λ (v : WriterState). PagesStay v.page_size v.full_pages mid new) is c.flush_direct.ensures.pages);
+      covers = covers_behind sum w m old mid new first c.in_ok-wait.ensures.covers c.flush_direct.ensures.covers;
+      tip = c.flush_direct.ensures.tip;
+      dirty = c.flush_direct.ensures.dirty;
+      calls = omega (arith, c.in_ok-wait.ensures.calls, c.flush_direct.ensures.calls);
+      starts = c.flush_direct.ensures.starts;
+    }

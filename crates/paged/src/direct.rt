@@ -1,0 +1,319 @@
+// Appending what is too big for the buffer: whole pages go to the device from where they stand.
+ghost use Rattle.std.specs.Prelude.{◌≡◌, ◌<◌, ◌≤◌, ◌+◌, ◌/◌, ◌%◌, ◌^◌, ◌++◌, [], true, length};
+ghost use Rattle.std.specs.Prelude.{if◌then◌else◌, false};
+ghost use Rattle.std.specs.Prelude.{IfOk, OnOk, IsErrOf, IsOkUnless, Err};
+ghost use Rattle.std.specs.List.{concat};
+ghost use Rattle.disk.specs.Disk.{WriteGoes};
+ghost use Rattle.crash.specs.WriterState.SyncState.{Dirty};
+ghost use Rattle.crash.specs.Built.{built};
+ghost use Rattle.crash.specs.Sound.{IsSound, content};
+ghost use Rattle.crash.specs.Below.{PagesStay};
+ghost use Rattle.crash.specs.Started.{CoversThrough, StartsStand};
+ghost use Rattle.crash.specs.Stays.{KeepsAllFloors, LeavesOnly};
+ghost use Rattle.paged.specs.Writer.{physical_size, FitsBlob};
+ghost use Rattle.paged.specs.Calls.{AsksAtMost, HoldsWithin, Appends, BuffersAll, WaitsForNone};
+ghost use Rattle.paged.specs.Calls.{Completed, wait_calls};
+ghost use Rattle.paged.specs.Direct.{fill_of, is_too_big, buffering, IsDirect, AsksWithWait};
+ghost use Rattle.paged.specs.Flush.{advanced, answered, flush_bytes, place_of, written};
+ghost use Rattle.paged.specs.Reads.{HasPages, size_of};
+
+use crate::Writer;
+use crate::build::physical_pages;
+use crate::writer::SyncState;
+use cache::CacheRef;
+use disk::{Blob, Error, IoBuf, IoBufs, WriteOptions};
+use page::{ActiveChecksum, Sum, split_pages};
+use std::alloc::Global;
+
+/// The physical pages of these whole pages, which aren't copied. `OutOfMemory` alone.
+fn cut_pages<H: Sum>(
+    alloc: Global,
+    page_size: usize,
+    durable: Option<ActiveChecksum>,
+    whole: IoBuf,
+) -> Result<IoBufs, Error>
+    requires some { 0 < page_size }
+    requires small { page_size < 2 ^ 16 }
+    requires whole { length whole % page_size ≡ 0 }
+    ensures bytes { IfOk result (λ bufs.
+        concat bufs ≡ built H.sum_of page_size durable (length whole / page_size) whole) }
+    ensures err { IsOkUnless result Error.OutOfMemory }
+{
+    let mut chunks = IoBufs::new(alloc);
+    chunks.append(whole)?;
+    let pages = split_pages(alloc, &chunks, page_size)?;
+    physical_pages::<H>(alloc, durable, pages)
+}
+
+impl<B, H, Phase> Writer<B, H, Phase> {
+    /// Where so many bytes more are too big for the buffer, how many of them fill the tip to a page
+    /// boundary. They are where they pass its capacity, and a whole page is left behind the
+    /// boundary.
+    pub(crate) fn too_big_for_buffer(&self, more: usize) -> Option<usize>
+        ensures { result ≡ (if is_too_big self.now more then Some (fill_of self.now) else None) }
+    {
+        let len = self.tip.len();
+        if more <= self.tip.capacity().saturating_sub(len) {
+            return None;
+        }
+        let page_size = usize::from(self.page_size.get());
+        let fill = (page_size - len % page_size) % page_size;
+        if fill + page_size <= more {
+            Some(fill)
+        } else {
+            None
+        }
+    }
+
+    /// Puts the tip, which is empty, behind whole pages, with the rest that stands behind them.
+    /// `OutOfMemory` alone.
+    fn pass(&mut self, whole: &IoBuf, rest: &[u8]) -> Result<(), Error>
+        requires direct { IsDirect self.old whole.now rest.now }
+        ensures state { let direct = buffering self.old (whole.now ++ rest.now) in
+            OnOk result (self.new ≡ advanced direct None self.old.sync) }
+        ensures err { IsOkUnless result Error.OutOfMemory }
+    {
+        self.tip
+            .replace(self.tip.offset() + whole.len() as u64, rest)?;
+        self.flushed = None;
+        self.durable = None;
+        Ok(())
+    }
+}
+
+impl<B, H: Sum, Phase> Writer<B, H, Phase> {
+    /// The physical pages of whole pages that begin where the tip does, which is empty: the writer
+    /// stands then as once they are written, with the rest in its tip. `OutOfMemory` alone.
+    fn take_direct(&mut self, whole: IoBuf, rest: &[u8]) -> Result<IoBufs, Error>
+        requires direct { IsDirect self.old whole rest.now }
+        ensures bytes { let direct = buffering self.old (whole ++ rest.now) in
+            IfOk result (λ bufs. concat bufs ≡ flush_bytes H.sum_of direct false) }
+        ensures state { let direct = buffering self.old (whole ++ rest.now) in
+            OnOk result (self.new ≡ advanced direct None self.old.sync) }
+        ensures err { IsOkUnless result Error.OutOfMemory }
+    {
+        let durable = self.durable;
+        let page_size = usize::from(self.page_size.get());
+        self.pass(&whole, rest)?;
+        cut_pages::<H>(self.alloc, page_size, durable, whole)
+    }
+}
+
+impl<B: Blob, H: Sum, Phase> Writer<B, H, Phase> {
+    /// Appends bytes that the caller owns, as [`append`](Writer::append) does: pages that don't go
+    /// through the buffer aren't copied. It answers the logical place of the first byte: the size
+    /// until now.
+    ///
+    /// It makes no device call where the bytes fit what is buffered, and at most three else: a wait
+    /// for a sync that was started, and two writes.
+    ///
+    /// `OffsetOverflow`, before anything else, where the new size or the physical size that it
+    /// needs passes the greatest `u64`; `WriteFailed` and `SyncFailed` where the device failed, and
+    /// `SyncFailed` where the started sync had failed; `OutOfMemory`. The writer is gone then.
+    pub fn append_owned(
+        mut self,
+        blob: &mut B,
+        _cache: &mut CacheRef,
+        bytes: IoBuf,
+    ) -> Result<(Self, u64), Error>
+        requires sound { IsSound H.sum_of self (B.life blob.old).present }
+        ensures appends { let old = B.life blob.old in let new = B.life blob.new in
+            Appends H.sum_of self bytes old new result }
+        ensures overflow { let buffered = length self.tip + length bytes in
+            2 ^ 64 ≤ physical_size self.page_size self.full_pages buffered
+            → result ≡ Err Error.OffsetOverflow }
+        ensures sound { IfOk result (λ r. IsSound H.sum_of r.0 (B.life blob.new).present) }
+        ensures there { IfOk result (λ r. HasPages r.0 (B.life blob.new)) }
+        ensures within { IfOk result (λ r. HoldsWithin r.0) }
+        ensures buffered { let old = B.life blob.old in let new = B.life blob.new in
+            length self.tip + length bytes ≤ self.capacity
+            → BuffersAll self bytes old new result }
+        ensures flushed { self.capacity < length self.tip + length bytes
+            → IfOk result (λ r. length r.0.tip < self.page_size) }
+        ensures dirty { self.capacity < length self.tip + length bytes
+            → IfOk result (λ r. r.0.sync ≡ Dirty) }
+        ensures calls { let old = B.life blob.old in let new = B.life blob.new in
+            AsksAtMost (wait_calls self.sync + 2) old new }
+        ensures completed { let old = B.life blob.old in let new = B.life blob.new in
+            let held = content self old.present.readable in
+            IfOk result (λ r. Completed H.sum_of self.page_size held self.sync r.0.sync old new) }
+
+        // At each moment since the call began, and at every answer.
+        ensures kept { KeepsAllFloors H.sum_of self.page_size (B.life blob.old) (B.life blob.new) }
+        ensures only { let old = B.life blob.old in let new = B.life blob.new in
+            let held = content self old.present.readable in
+            LeavesOnly H.sum_of self.page_size held (held ++ bytes) old new }
+        ensures pages { let old = B.life blob.old in let new = B.life blob.new in
+            PagesStay self.page_size self.full_pages old new }
+        ensures covers { let old = B.life blob.old in let new = B.life blob.new in
+            let held = content self old.present.readable in
+            CoversThrough H.sum_of self.page_size held old new }
+        ensures starts { StartsStand (B.life blob.new).present }
+    {
+        let at = self.size();
+        self.append_buf(blob, &bytes)?;
+        Ok((self, at))
+    }
+
+    /// The same. After an error the writer is of no use.
+    fn append_buf(&mut self, blob: &mut B, bytes: &IoBuf) -> Result<(), Error>
+        requires sound { IsSound H.sum_of self.old (B.life blob.old).present }
+        ensures appends { let old = B.life blob.old in let new = B.life blob.new in
+            let at = size_of self.old in
+            Appends H.sum_of self.old bytes.now old new (answered (self.new, at) result) }
+        ensures pages { let old = B.life blob.old in let new = B.life blob.new in
+            PagesStay self.old.page_size self.old.full_pages old new }
+        ensures covers { let old = B.life blob.old in let new = B.life blob.new in
+            let held = content self.old old.present.readable in
+            CoversThrough H.sum_of self.old.page_size held old new }
+        ensures overflow { let buffered = length self.old.tip + length bytes.now in
+            2 ^ 64 ≤ physical_size self.old.page_size self.old.full_pages buffered
+            → result ≡ Err Error.OffsetOverflow }
+        ensures within { OnOk result (HoldsWithin self.new) }
+        ensures buffered { let old = B.life blob.old in let new = B.life blob.new in
+            length self.old.tip + length bytes.now ≤ self.old.capacity
+            → BuffersAll self.old bytes.now old new (answered (self.new, size_of self.old) result) }
+        ensures flushed { self.old.capacity < length self.old.tip + length bytes.now
+            → OnOk result (length self.new.tip < self.old.page_size) }
+        ensures dirty { self.old.capacity < length self.old.tip + length bytes.now
+            → OnOk result (self.new.sync ≡ Dirty) }
+        ensures calls { let old = B.life blob.old in let new = B.life blob.new in
+            AsksAtMost (wait_calls self.old.sync + 2) old new }
+        ensures starts { StartsStand (B.life blob.new).present }
+    {
+        let Some(fill) = self.too_big_for_buffer(bytes.len()) else {
+            return self.append_buffered(blob, bytes.as_ref());
+        };
+        if !self.fits(bytes.len()) {
+            return Err(Error::OffsetOverflow);
+        }
+        self.append_direct(blob, fill, bytes)
+    }
+
+    /// Appends what is too big for the buffer: fills the tip to a page boundary, which takes `fill`
+    /// bytes, and writes it out; writes the whole pages that are left without copying them; and
+    /// buffers the rest. After an error the writer is of no use.
+    pub(crate) fn append_direct(
+        &mut self,
+        blob: &mut B,
+        fill: usize,
+        bytes: &IoBuf,
+    ) -> Result<(), Error>
+        requires sound { IsSound H.sum_of self.old (B.life blob.old).present }
+        requires big { is_too_big self.old (length bytes.now) ≡ true }
+        requires fill { fill ≡ fill_of self.old }
+        requires fits { let buffered = length self.old.tip + length bytes.now in
+            FitsBlob self.old.page_size self.old.full_pages buffered }
+        ensures appends { let old = B.life blob.old in let new = B.life blob.new in
+            let at = size_of self.old in
+            Appends H.sum_of self.old bytes.now old new (answered (self.new, at) result) }
+        ensures pages { let old = B.life blob.old in let new = B.life blob.new in
+            PagesStay self.old.page_size self.old.full_pages old new }
+        ensures covers { let old = B.life blob.old in let new = B.life blob.new in
+            let held = content self.old old.present.readable in
+            CoversThrough H.sum_of self.old.page_size held old new }
+        ensures within { OnOk result (HoldsWithin self.new) }
+        ensures short { OnOk result (length self.new.tip < self.old.page_size) }
+        ensures dirty { OnOk result (self.new.sync ≡ Dirty) }
+        ensures calls { let old = B.life blob.old in let new = B.life blob.new in
+            AsksAtMost (wait_calls self.old.sync + 2) old new }
+        ensures starts { StartsStand (B.life blob.new).present }
+    {
+        let page_size = usize::from(self.page_size.get());
+        let end = bytes.len() - (bytes.len() - fill) % page_size;
+        self.fill_tip(blob, &bytes.as_ref()[..fill])?;
+        let whole = bytes.slice(fill, end)?;
+        self.write_direct(blob, whole, &bytes.as_ref()[end..])
+    }
+
+    /// Adds the bytes that fill the tip to a page boundary, and writes it out where it isn't empty.
+    /// After an error the writer is of no use.
+    fn fill_tip(&mut self, blob: &mut B, bytes: &[u8]) -> Result<(), Error>
+        requires sound { IsSound H.sum_of self.old (B.life blob.old).present }
+        requires fill { length bytes.now ≡ fill_of self.old }
+        ensures appends { let old = B.life blob.old in let new = B.life blob.new in
+            let at = size_of self.old in
+            Appends H.sum_of self.old bytes.now old new (answered (self.new, at) result) }
+        ensures pages { let old = B.life blob.old in let new = B.life blob.new in
+            PagesStay self.old.page_size self.old.full_pages old new }
+        ensures covers { let old = B.life blob.old in let new = B.life blob.new in
+            let held = content self.old old.present.readable in
+            CoversThrough H.sum_of self.old.page_size held old new }
+        ensures empty { OnOk result (self.new.tip ≡ []) }
+        ensures calls { let old = B.life blob.old in let new = B.life blob.new in
+            AsksAtMost (wait_calls self.old.sync + 1) old new }
+        ensures waited { let old = B.life blob.old in let new = B.life blob.new in
+            OnOk result (AsksWithWait self.old.sync self.new.sync old new) }
+        ensures starts { StartsStand (B.life blob.new).present }
+    {
+        self.buffer(bytes)?;
+        self.flush(blob, false)
+    }
+
+    /// Writes whole pages that begin where the tip does, which is empty, and buffers the rest; it
+    /// waits for a pending sync before. After an error the writer is of no use.
+    fn write_direct(&mut self, blob: &mut B, whole: IoBuf, rest: &[u8]) -> Result<(), Error>
+        requires sound { IsSound H.sum_of self.old (B.life blob.old).present }
+        requires direct { IsDirect self.old whole rest.now }
+        ensures appends { let old = B.life blob.old in let new = B.life blob.new in
+            let at = size_of self.old in
+            Appends H.sum_of self.old (whole ++ rest.now) old new (answered (self.new, at) result) }
+        ensures pages { let old = B.life blob.old in let new = B.life blob.new in
+            PagesStay self.old.page_size self.old.full_pages old new }
+        ensures covers { let old = B.life blob.old in let new = B.life blob.new in
+            let held = content self.old old.present.readable in
+            CoversThrough H.sum_of self.old.page_size held old new }
+        ensures tip { OnOk result (self.new.tip ≡ rest.now) }
+        ensures dirty { OnOk result (self.new.sync ≡ Dirty) }
+        ensures calls { let old = B.life blob.old in let new = B.life blob.new in
+            AsksAtMost (wait_calls self.old.sync + 1) old new }
+        ensures starts { StartsStand (B.life blob.new).present }
+    {
+        self.wait(blob)?;
+        self.flush_direct(blob, whole, rest)
+    }
+
+    /// The same, where no sync is pending.
+    fn flush_direct(&mut self, blob: &mut B, whole: IoBuf, rest: &[u8]) -> Result<(), Error>
+        requires sound { IsSound H.sum_of self.old (B.life blob.old).present }
+        requires waited { WaitsForNone self.old.sync }
+        requires direct { IsDirect self.old whole rest.now }
+        ensures appends { let old = B.life blob.old in let new = B.life blob.new in
+            let at = size_of self.old in
+            Appends H.sum_of self.old (whole ++ rest.now) old new (answered (self.new, at) result) }
+        ensures pages { let old = B.life blob.old in let new = B.life blob.new in
+            PagesStay self.old.page_size self.old.full_pages old new }
+        ensures covers { let old = B.life blob.old in let new = B.life blob.new in
+            let held = content self.old old.present.readable in
+            CoversThrough H.sum_of self.old.page_size held old new }
+        ensures tip { OnOk result (self.new.tip ≡ rest.now) }
+        ensures dirty { OnOk result (self.new.sync ≡ Dirty) }
+        ensures calls { AsksAtMost 1 (B.life blob.old) (B.life blob.new) }
+        ensures starts { StartsStand (B.life blob.new).present }
+    {
+        self.carry();
+        self.write_taken(blob, whole, rest)
+    }
+
+    /// The same, where the durable slot is up to date.
+    fn write_taken(&mut self, blob: &mut B, whole: IoBuf, rest: &[u8]) -> Result<(), Error>
+        requires direct { IsDirect self.old whole rest.now }
+        ensures fits { IsErrOf result Error.OffsetOverflow → ⊥ }
+        ensures goes { let old = B.life blob.old in let new = B.life blob.new in
+            let direct = buffering self.old (whole ++ rest.now) in
+            let bytes = flush_bytes H.sum_of direct false in
+            WriteGoes (place_of direct) bytes false old new result }
+        ensures state { let direct = buffering self.old (whole ++ rest.now) in
+            OnOk result (self.new ≡ written H.sum_of direct false false) }
+    {
+        let place = self.place();
+        let bufs = self.take_direct(whole, rest)?;
+        let options = WriteOptions {
+            sync: false,
+            dont_cache: true,
+        };
+        blob.write_at(place, &bufs, options)?;
+        self.sync_state = SyncState::after_write(false);
+        Ok(())
+    }
+}

@@ -1,0 +1,194 @@
+// Syncs that are started, and waited for later.
+ghost use Rattle.std.specs.Prelude.{ℕ, ◌≡◌, ◌<◌, ◌≤◌, Ok, IfOk, OnOk, length, nat_lt};
+ghost use Rattle.disk.specs.declared.started_sync.StartedSync.TheVariants.{Named};
+ghost use Rattle.crash.specs.Sound.{IsSound, content};
+ghost use Rattle.crash.specs.Below.{PagesStay};
+ghost use Rattle.crash.specs.Started.{CoversThrough, StartsStand};
+ghost use Rattle.crash.specs.Stays.{KeepsAllFloors, LeavesOnly};
+ghost use Rattle.paged.specs.Calls.{AsksAtMost, HoldsWithin, IsWritten, StartsSync};
+ghost use Rattle.paged.specs.Calls.{WaitsForSync, Completed, Completes, start_calls};
+ghost use Rattle.paged.specs.Calls.{started_already, started_state, LeavesWriters, Covers};
+ghost use Rattle.disk.specs.Disk.{StartGoes, WaitsFor};
+ghost use Rattle.paged.specs.Calls.{sync_calls, unstarted_calls, wait_calls, SettlesBy};
+ghost use Rattle.paged.specs.Flush.{answered, outcome, paired};
+ghost use Rattle.paged.specs.Reads.{HasPages};
+
+use crate::Writer;
+use crate::writer::SyncState;
+use cache::CacheRef;
+use disk::{Blob, Error, StartedSync};
+use page::Sum;
+
+impl<B, H, Phase> Writer<B, H, Phase> {
+    /// Whether a sync has something to do: something isn't written, or isn't durable.
+    pub fn needs_sync(&self) -> bool
+        ensures { result ≡ nat_lt 0 (sync_calls self.now) }
+    {
+        self.sync_state != SyncState::Clean || self.has_flush_work(true)
+    }
+}
+
+impl<B: Blob, H: Sum, Phase> Writer<B, H, Phase> {
+    /// Writes all that was appended, and starts to make it durable. It answers the name to wait
+    /// for, or `Done` where all is durable already; where a sync was started and nothing was
+    /// appended since, that one's name. A wait for it that answers `Ok`, by
+    /// [`wait_for_sync`](Writer::wait_for_sync), by any later call that has to wait, or at any time
+    /// by [`wait_sync`], makes all that was appended until now durable; before that the started
+    /// sync promises nothing.
+    ///
+    /// It makes at most three device calls: a wait for the sync that was started before, a write,
+    /// and the start. A start that fails shows at the wait.
+    ///
+    /// `WriteFailed` and `SyncFailed` where the device failed, and `SyncFailed` where the sync that
+    /// was started before had failed; `OutOfMemory`. The writer is gone then.
+    pub fn start_sync(
+        mut self,
+        blob: &mut B,
+        _cache: &mut CacheRef,
+    ) -> Result<(Self, StartedSync), Error>
+        requires sound { IsSound H.sum_of self (B.life blob.old).present }
+        ensures starts_sync { let old = B.life blob.old in let new = B.life blob.new in
+            StartsSync H.sum_of self old new result }
+        ensures sound { IfOk result (λ r. IsSound H.sum_of r.0 (B.life blob.new).present) }
+        ensures there { IfOk result (λ r. HasPages r.0 (B.life blob.new)) }
+        ensures within { IfOk result (λ r. HoldsWithin r.0) }
+        ensures calls { AsksAtMost (start_calls self) (B.life blob.old) (B.life blob.new) }
+        ensures completed { let old = B.life blob.old in let new = B.life blob.new in
+            let held = content self old.present.readable in
+            IfOk result (λ r. Completed H.sum_of self.page_size held self.sync r.0.sync old new) }
+        ensures idle { start_calls self ≡ 0 → (result ≡ Ok (self, started_already self.sync))
+            × (B.life blob.new ≡ B.life blob.old) }
+        ensures fresh { 0 < start_calls self → IfOk result (λ r.
+            r.1 ≡ Named (length (B.life blob.old).present.started)) }
+
+        // At each moment since the call began, and at every answer.
+        ensures kept { KeepsAllFloors H.sum_of self.page_size (B.life blob.old) (B.life blob.new) }
+        ensures only { let old = B.life blob.old in let new = B.life blob.new in
+            let held = content self old.present.readable in
+            LeavesOnly H.sum_of self.page_size held held old new }
+        ensures pages { let old = B.life blob.old in let new = B.life blob.new in
+            PagesStay self.page_size self.full_pages old new }
+        ensures covers { let old = B.life blob.old in let new = B.life blob.new in
+            let held = content self old.present.readable in
+            CoversThrough H.sum_of self.page_size held old new }
+        ensures starts { StartsStand (B.life blob.new).present }
+    {
+        let started = self.start_all(blob)?;
+        Ok((self, started))
+    }
+
+    /// The same. After an error the writer is of no use.
+    fn start_all(&mut self, blob: &mut B) -> Result<StartedSync, Error>
+        requires sound { IsSound H.sum_of self.old (B.life blob.old).present }
+        ensures starts_sync { let old = B.life blob.old in let new = B.life blob.new in
+            StartsSync H.sum_of self.old old new (paired self.new result) }
+        ensures pages { let old = B.life blob.old in let new = B.life blob.new in
+            PagesStay self.old.page_size self.old.full_pages old new }
+        ensures covers { let old = B.life blob.old in let new = B.life blob.new in
+            let held = content self.old old.present.readable in
+            CoversThrough H.sum_of self.old.page_size held old new }
+        ensures starts { StartsStand (B.life blob.new).present }
+        ensures room { self.old.page_size ≤ self.old.capacity }
+        ensures calls { AsksAtMost (start_calls self.old) (B.life blob.old) (B.life blob.new) }
+        ensures idle { start_calls self.old ≡ 0
+            → (result ≡ Ok (started_already self.old.sync)) × (self.new ≡ self.old)
+            × (B.life blob.new ≡ B.life blob.old) }
+        ensures fresh { 0 < start_calls self.old → IfOk result (λ started.
+            started ≡ Named (length (B.life blob.old).present.started)) }
+    {
+        self.flush(blob, true)?;
+        self.start_written(blob)
+    }
+
+    /// The same, where all that was appended is written.
+    fn start_written(&mut self, blob: &mut B) -> Result<StartedSync, Error>
+        requires sound { IsSound H.sum_of self.old (B.life blob.old).present }
+        requires written { IsWritten self.old }
+        ensures starts_sync { let old = B.life blob.old in let new = B.life blob.new in
+            StartsSync H.sum_of self.old old new (paired self.new result) }
+        ensures pages { let old = B.life blob.old in let new = B.life blob.new in
+            PagesStay self.old.page_size self.old.full_pages old new }
+        ensures covers { let old = B.life blob.old in let new = B.life blob.new in
+            let held = content self.old old.present.readable in
+            CoversThrough H.sum_of self.old.page_size held old new }
+        ensures starts { StartsStand (B.life blob.new).present }
+        ensures calls { let old = B.life blob.old in let new = B.life blob.new in
+            AsksAtMost (unstarted_calls self.old.sync) old new }
+        ensures idle { unstarted_calls self.old.sync ≡ 0
+            → (result ≡ Ok (started_already self.old.sync)) × (self.new ≡ self.old)
+            × (B.life blob.new ≡ B.life blob.old) }
+        ensures fresh { 0 < unstarted_calls self.old.sync → IfOk result (λ started.
+            started ≡ Named (length (B.life blob.old).present.started)) }
+    {
+        match self.sync_state {
+            SyncState::Clean => Ok(StartedSync::Done),
+            SyncState::Pending(name) => Ok(StartedSync::Named(name)),
+            SyncState::Dirty => self.start_blob(blob),
+        }
+    }
+
+    /// Starts a sync of the blob.
+    fn start_blob(&mut self, blob: &mut B) -> Result<StartedSync, Error>
+        ensures goes { StartGoes (B.life blob.old) (B.life blob.new) result }
+        ensures state { IfOk result (λ started.
+            self.new ≡ record self.old { sync = started_state started }) }
+    {
+        let started = blob.start_sync()?;
+        self.sync_state = SyncState::after_start(started);
+        Ok(started)
+    }
+
+    /// Waits until what the sync that was started last covers is durable; where none is pending it
+    /// does nothing. It makes one device call at most.
+    ///
+    /// `SyncFailed` where the device failed, now or as the sync was started or waited for before;
+    /// `OutOfMemory`. The writer is gone then.
+    pub fn wait_for_sync(mut self, blob: &mut B) -> Result<Self, Error>
+        requires sound { IsSound H.sum_of self (B.life blob.old).present }
+        ensures waits { let old = B.life blob.old in let new = B.life blob.new in
+            WaitsForSync H.sum_of self old new result }
+        ensures sound { IfOk result (λ w. IsSound H.sum_of w (B.life blob.new).present) }
+        ensures there { IfOk result (λ w. HasPages w (B.life blob.new)) }
+        ensures calls { AsksAtMost (wait_calls self.sync) (B.life blob.old) (B.life blob.new) }
+        ensures settles { wait_calls self.sync ≡ 1
+            → SettlesBy self.sync (B.life blob.old) (B.life blob.new) (outcome result) }
+        ensures idle { wait_calls self.sync ≡ 0
+            → (result ≡ Ok self) × (B.life blob.new ≡ B.life blob.old) }
+
+        // From then on every image keeps what the sync covers.
+        ensures durable { let old = B.life blob.old in let new = B.life blob.new in
+            OnOk result (Completes H.sum_of self.page_size self.sync old new) }
+
+        // At each moment since the call began, and at every answer.
+        ensures kept { KeepsAllFloors H.sum_of self.page_size (B.life blob.old) (B.life blob.new) }
+        ensures only { let old = B.life blob.old in let new = B.life blob.new in
+            let held = content self old.present.readable in
+            LeavesOnly H.sum_of self.page_size held held old new }
+        ensures pages { let old = B.life blob.old in let new = B.life blob.new in
+            PagesStay self.page_size self.full_pages old new }
+        ensures covers { let old = B.life blob.old in let new = B.life blob.new in
+            let held = content self old.present.readable in
+            CoversThrough H.sum_of self.page_size held old new }
+        ensures starts { StartsStand (B.life blob.new).present }
+    {
+        self.wait(blob)?;
+        Ok(self)
+    }
+}
+
+/// Waits until what a started sync covers is durable, behind the back of the blob's writer, or
+/// where that is gone. The writer, if there is one, stays as it is: where it has to wait itself, it
+/// asks the device again.
+///
+/// `SyncFailed` where the device failed, now or as the sync was started or waited for before, and
+/// where it started no such sync; `OutOfMemory`. What was durable stays so.
+pub fn wait_sync<B: Blob, H: Sum>(blob: &mut B, started: StartedSync) -> Result<(), Error>
+    ensures waits { WaitsFor started (B.life blob.old) (B.life blob.new) result }
+    ensures writers { LeavesWriters H.sum_of (B.life blob.old) (B.life blob.new) }
+
+    // From then on every image keeps what the sync covers.
+    ensures durable { OnOk result ((page_size : ℕ) →
+        Covers H.sum_of page_size started (B.life blob.old) (B.life blob.new)) }
+{
+    blob.wait_sync(started)
+}
