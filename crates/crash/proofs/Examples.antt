@@ -1,7 +1,7 @@
 -- Each definition that the promise rests on, at a few bytes. Pages have 4 bytes, and the checksum is their sum, where it
 -- isn't said otherwise.
 use Rattle.std.proofs.Common.{◌≡◌, ◌⊎◌, inl, inr, ℕ, zero, suc, ◌+◌, ◌<◌, ◌≤◌, List, [], ◌∷◌, ◌++◌, length, take, drop, refl, sym, ◌∙◌, ap, subst, arith, length-take-le, lit<}
-use Rattle.std.specs.Prelude.{Some, None, true, false, slice_get, get_or}
+use Rattle.std.specs.Prelude.{Some, None, Ok, true, false, slice_get, get_or}
 use Rattle.std.proofs.lemmas.Option.{same_Some}
 use Rattle.disk.specs.Images.{only_image}
 use Rattle.disk.specs.Disk.{Disk, Operation, Operated, Request, Life, IsWhole, IsImage, LeavesNoMore, IsPartial, applied, failures, logged, next, after, settle, settle_to, starts}
@@ -22,7 +22,9 @@ use Rattle.crash.specs.Kept.{Keeps, AllKeep, AllOnly, Each, Through}
 use Rattle.crash.specs.Stays.{Stays, StaysThrough, KeepsFloors, KeepsAllFloors, LeavesOnly, KeepsAll}
 use Rattle.crash.proofs.FloorLaws.{floors_of_sound}
 use Rattle.crash.specs.Looks.{SameButLog, Looked}
-use Rattle.crash.specs.Shrink.{staged, published, cleared, HeldBy, CutStays}
+use Rattle.crash.specs.Shrink.{staged, published, cleared, HeldBy, HoldsText, SaysText, CutStays}
+use Rattle.crash.specs.Moments.{through_end}
+use Rattle.crash.proofs.ShortenLaws.{holds_at_rest, holds_keeps, stage_holds}
 use Rattle.crash.proofs.ShrinkLaws.{held_stays_cut}
 use Rattle.crash.proofs.Promise.{guards_less}
 use Rattle.crash.specs.Sound.{latest, stored, content, HasPage, Stands, guard_slot, IsSafe, Soundness, IsSound, LeavesItsContent, IsPending}
@@ -539,3 +541,48 @@ six_are_truthful =
 -- so a moment at which that slot holds owes nothing to a cut to six bytes
 pub a_cut_that_owes_nothing : CutStays add_sum 4 six 6 durable durable
 a_cut_that_owes_nothing = held_stays_cut add_sum 4 six 6 1 ef_slot durable durable (omega arith) ef_holds six_are_truthful
+
+-- ---- what a moment of a cut holds
+
+-- a blob that says "ef", and has a page behind that no reader comes to
+abbrev pub ef_and_more : Disk
+ef_and_more = at_rest (ef_page ++ abcd_page)
+
+pub its_text_ends : text add_sum 4 (ef_page ++ abcd_page) ≡ 101 ∷ 102 ∷ []
+its_text_ends = refl
+
+-- a crash keeps "ef", and leaves nothing else
+pub ef_is_all : HoldsText add_sum 4 (101 ∷ 102 ∷ []) 2 ef_and_more
+ef_is_all = holds_at_rest add_sum 4 (ef_page ++ abcd_page) 2 ef_and_more (omega arith) refl refl (omega arith)
+
+-- what the page behind says is nothing to that, though it isn't of "ef"
+pub it_says_ef : SaysText add_sum 4 (101 ∷ 102 ∷ []) ef_and_more
+it_says_ef = ef_is_all.says
+
+pub it_says_more : IsTruthful add_sum 4 (101 ∷ 102 ∷ []) ef_and_more → ⊥
+it_says_more truthful = let none : 4 ≡ 0 = ap length (truthful (ef_page ++ abcd_page) refl 1 abcd_page refl First) in absurd (omega (arith, none))
+
+-- a blob that says "ef" doesn't say "xy"
+pub it_says_ef_alone : SaysText add_sum 4 (120 ∷ 121 ∷ []) (at_rest ef_page) → ⊥
+it_says_ef_alone says = let e : 101 ≡ 120 = ap (λ (l : List ℕ). get_or l 0 0) (says ef_page refl 0 ef_page refl (omega arith) First) in omega (arith, e)
+
+-- no more is held than the text has
+pub no_more_than_ef : HoldsText add_sum 4 (101 ∷ 102 ∷ []) 3 ef_and_more → ⊥
+no_more_than_ef holds = absurd (omega (arith, holds.within))
+
+-- nor what a crash may lose
+pub g_is_not_held : HoldsText add_sum 4 seven 7 rewritten → ⊥
+g_is_not_held holds = a_lost_floor (holds_keeps add_sum 4 seven 7 rewritten holds 7 (omega arith) (abcd_page ++ ef_page) (base_is_image rewritten))
+
+-- the first of the three writes was done, and isn't durable
+abbrev pub one_staged : Disk
+one_staged = and_then (staged 4 1 First 203) (WriteAt 26 6 false) durable
+
+-- "abcdef" is held all the same
+pub six_are_held : HoldsText add_sum 4 six 6 one_staged
+six_are_held =
+    let o = staged 4 1 First 203 in
+    through_end (HoldsText add_sum 4 six 6) before (next before one_staged)
+    (stage_holds add_sum 4 six 6 1 ef_slot 203 false before (next before one_staged) (Ok tt)
+    (one_staged, refl, record { readable = partial_whole o durable.readable; done = λ is. refl; rest = refl })
+    (omega arith) refl (inr (ef_slot, ef_holds, refl, omega arith)) (holds_at_rest add_sum 4 (abcd_page ++ ef_page) 6 durable (omega arith) refl refl (omega arith)))

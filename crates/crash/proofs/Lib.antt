@@ -20,3 +20,4 @@ pub mod CoverLaws
 pub mod BelowLaws
 pub mod StandLaws
 pub mod ShrinkLaws
+pub mod ShortenLaws
