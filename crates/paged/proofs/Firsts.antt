@@ -1,7 +1,8 @@
 -- What the prefix of some pages says of them.
-use Rattle.std.proofs.Common.{◌≡◌, ◌≢◌, inl, inr, ℕ, zero, suc, ◌+◌, ◌*◌, ◌/◌, ◌<◌, ◌≤◌, List, [], ◌∷◌, ◌++◌, length, take, refl, sym, ◌∙◌, ap, subst, arith}
+use Rattle.std.proofs.Common.{◌≡◌, ◌≢◌, inl, inr, ℕ, zero, suc, ◌+◌, ◌*◌, ◌/◌, ◌<◌, ◌≤◌, List, [], ◌∷◌, ◌++◌, length, take, drop, refl, sym, ◌∙◌, ap, subst, arith, append-nil, append_assoc, length-append, take-append-drop}
 use Rattle.std.specs.Prelude.{slice_get, Option, Some, None}
-use Rattle.std.proofs.lemmas.List.{length-take-le}
+use Rattle.std.specs.List.{flat_map}
+use Rattle.std.proofs.lemmas.List.{length-take-le, take-take}
 use Rattle.std.proofs.Math.Nat.{div-mul-le_self, mul-le-mul_left}
 use Rattle.std.proofs.lemmas.Option.{same_Some}
 use Rattle.std.proofs.lemmas.Bool.{cases_eq, cases_lt}
@@ -12,7 +13,7 @@ use Rattle.crash.specs.Full.{AreFull}
 use Rattle.crash.proofs.Pages.{length-pages, pages_at, pages_fit, pages_reach, take-pieces, pieces_of_take}
 use Rattle.crash.proofs.Texts.{active_is, active_none, text_full, text_part, value_len_le}
 use Rattle.paged.specs.declared.prefix.Prefix.{Prefix}
-use Rattle.paged.specs.Prefix.{page_at, behind, value_and_slot, prefix_of, prefix_pages, partial_pages, tip_of, slot_of_tip}
+use Rattle.paged.specs.Prefix.{page_at, behind, value_and_slot, prefix_of, prefix_pages, prefix_size, partial_pages, tip_of, slot_of_tip}
 use Rattle.paged.specs.Recovery.{opened_prefix, opened_size}
 use Rattle.paged.proofs.Prefixes.{partial_pages_le, active_zero, one_page, prefix_full, prefix_part, tip_short, last_is}
 
@@ -49,6 +50,13 @@ module _ (sum : List ℕ → ℕ) (P : ℕ) where
 
   behind_more : (page : List ℕ) (rest : List (List ℕ)) (full : ℕ) (found : Option (List ℕ × ActiveChecksum)) → Behind rest full found → Behind (page ∷ rest) (1 + full) found
   behind_more page rest full found is = subst (λ (n : ℕ). Behind (page ∷ rest) n found) (let e : suc full ≡ 1 + full = omega arith in e) (behind_suc page rest full found is)
+
+  -- a value is as long as its page says
+  tip_length : (page : List ℕ) (slot : Option ActiveChecksum) → active sum P page ≡ slot → P ≤ length page → length (tip_of (value_and_slot slot page)) ≡ value_len sum P page
+  tip_length page None is long = sym (active_none sum P page is)
+  tip_length page (Some s) is long =
+      let told = active_is sum P page s is in
+      length-take-le s.len page (omega (arith, told.fits, long)) ∙ told.len
 
   pub prefix_is : (some : List (List ℕ)) → IsFirst some (prefix_of sum P some)
   prefix_is [] = record { within = omega arith; tip = λ positive. positive; full = tt; behind = λ page is. absurd (cc) }
@@ -121,6 +129,63 @@ module _ (sum : List ℕ → ℕ) (P : ℕ) where
         let less : value_len sum P page < P = omega (arith, value_len_le sum P page, part) in
         text_part sum P page (take j rest) less ∙ sym (text_part sum P page rest less)
   ]
+
+  -- so long are these pages
+  abbrev pub AreLong : List (List ℕ) → Type 0
+  AreLong some = (q : ℕ) (page : List ℕ) → slice_get some q ≡ Some page → P ≤ length page
+
+  -- a text is as long as its prefix says
+  pub prefix_size_is : (some : List (List ℕ)) → AreLong some → prefix_size P (prefix_of sum P some) ≡ length (text_of_pages sum P some)
+  prefix_size_is [] long = omega arith
+  prefix_size_is (page ∷ rest) long = elim (cases_eq (value_len sum P page) P) [
+    | inl full ↦
+        let before = prefix_size_is rest (λ q other is. long (suc q) other is) in
+        let front : length (take P page) ≡ P = length-take-le P page (long 0 page refl) in
+        omega (
+          arith,
+          ap (λ (p : Prefix). prefix_size P p) (prefix_full sum P page rest full),
+          ap length (text_full sum P page rest full),
+          length-append (take P page) (text_of_pages sum P rest),
+          before,
+          front,
+        )
+    | inr part ↦
+        let less : value_len sum P page < P = omega (arith, value_len_le sum P page, part) in
+        omega (
+          arith,
+          ap (λ (p : Prefix). prefix_size P p) (prefix_part sum P page rest part),
+          ap length (text_part sum P page rest less),
+          length-take-le (value_len sum P page) page (omega (arith, less, long 0 page refl)),
+          tip_length page (active sum P page) refl (long 0 page refl),
+        )
+  ]
+
+  -- it begins what all pages in front would say, were they full, with the text of those behind
+  pub text_begins : (front back : List (List ℕ)) → (rest : List ℕ) × (flat_map (take P) front ++ text_of_pages sum P back ≡ text_of_pages sum P (front ++ back) ++ rest)
+  text_begins [] back = ([], sym (append-nil (text_of_pages sum P back)))
+  text_begins (page ∷ front) back =
+      let more = flat_map (take P) front ++ text_of_pages sum P back in
+      let joined : flat_map (take P) (page ∷ front) ++ text_of_pages sum P back ≡ take P page ++ more = append_assoc (take P page) (flat_map (take P) front) (text_of_pages sum P back) in
+      elim (cases_eq (value_len sum P page) P) [
+        | inl full ↦
+            let before = text_begins front back in (
+              before.0,
+              joined
+                  ∙ ap (λ (l : List ℕ). take P page ++ l) before.1
+                  ∙ sym (append_assoc (take P page) (text_of_pages sum P (front ++ back)) before.0)
+                  ∙ ap (λ (l : List ℕ). l ++ before.0) (sym (text_full sum P page (front ++ back) full)),
+            )
+        | inr part ↦
+            let v = value_len sum P page in
+            let less : v < P = omega (arith, value_len_le sum P page, part) in
+            let end = drop v (take P page) in (
+              end ++ more,
+              joined
+                  ∙ ap (λ (l : List ℕ). l ++ more) (sym (take-append-drop v (take P page)))
+                  ∙ append_assoc (take v (take P page)) end more
+                  ∙ ap (λ (l : List ℕ). l ++ (end ++ more)) (take-take v P page (omega (arith, less)) ∙ sym (text_part sum P page (front ++ back) less)),
+            )
+      ]
 
   -- the pages of a beginning
   pub pages_of_beginning : (m : ℕ) (bytes : List ℕ) → m ≤ length bytes → pages P (take m bytes) ≡ take (m / (P + 12)) (pages P bytes)

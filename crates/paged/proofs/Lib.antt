@@ -22,8 +22,13 @@ pub mod Opened
 pub mod Trims
 pub mod Examples
 pub mod RecoveryExamples
+pub mod TruncateExamples
 pub mod There
 pub mod Below
 pub mod Covers
 pub mod Bypass
 pub mod Joins
+pub mod Shortening
+pub mod Shortened
+pub mod Truncated
+pub mod Truncating

@@ -1,8 +1,9 @@
 -- What opening a blob leaves of it, and where its writer is sound.
-use Rattle.std.proofs.Common.{◌≡◌, ◌≢◌, inl, inr, ℕ, zero, suc, ◌+◌, ◌*◌, ◌/◌, ◌^◌, ◌<◌, ◌≤◌, List, length, refl, sym, ◌∙◌, ap, subst, arith}
+use Rattle.std.proofs.Common.{◌≡◌, ◌≢◌, inl, inr, ℕ, zero, suc, ◌+◌, ◌*◌, ◌/◌, ◌^◌, ◌<◌, ◌≤◌, List, length, take, refl, sym, ◌∙◌, ap, subst, arith}
 use Rattle.std.specs.Prelude.{slice_get, Option, Some, None, Result, Ok, Err, IfOk}
 use Rattle.std.proofs.lemmas.Bool.{cases_eq}
 use Rattle.std.proofs.lemmas.Option.{slice_get_within}
+use Rattle.std.proofs.lemmas.List.{length-take-le}
 use Rattle.std.proofs.Math.Nat.{mul-le-mul_left}
 use Rattle.disk.specs.Disk.{AreCovered, Life, LogGrows}
 use Rattle.disk.specs.declared.error.Error.{Error}
@@ -13,21 +14,23 @@ use Rattle.page.specs.declared.slot.ActiveChecksum.{ActiveChecksum}
 use Rattle.cache.specs.CacheState.{CacheState}
 use Rattle.crash.specs.WriterState.{WriterState, SyncState}
 use Rattle.crash.specs.WriterState.SyncState.{Clean}
-use Rattle.crash.specs.Sound.{IsSound}
+use Rattle.crash.specs.Sound.{IsSound, TipPage}
+use Rattle.crash.specs.Built.{kept_len}
 use Rattle.crash.proofs.BuiltLaws.{IsSmall}
-use Rattle.crash.proofs.Pages.{pages_at, pages_reach, page_is, length-pages}
+use Rattle.crash.proofs.Pages.{pages_at, pages_reach, page_is, length-page, length-pages}
 use Rattle.crash.proofs.Texts.{active_some}
 use Rattle.paged.specs.declared.prefix.Prefix.{Prefix}
 use Rattle.paged.specs.declared.writer.SyncState.{SyncState as State}
 use Rattle.paged.specs.Writer.{state_of}
-use Rattle.paged.specs.Prefix.{page_at, last_prefix, prefix_pages, value_and_slot, at_prefix, HasBytes}
+use Rattle.paged.specs.Prefix.{page_at, last_prefix, prefix_pages, partial_pages, tip_of, slot_of_tip, value_and_slot, at_prefix, HasBytes}
 use Rattle.paged.specs.Reads.{HasPages}
-use Rattle.paged.specs.Recovery.{IsKept, Stands, SoundWhereFull, Opens, opened_prefix, opened_size}
+use Rattle.paged.specs.Calls.{WaitsForNone}
+use Rattle.paged.specs.Recovery.{IsKept, Stands, SoundWhereFull, IsAsOpened, IsOpened, Opens, opened_prefix, opened_size}
 use Rattle.paged.specs.Recovery.IsKept.{whole, cut}
 use Rattle.paged.proofs.Prefixes.{last_is, last_none_suc, last_full_suc, last_part_suc}
-use Rattle.paged.proofs.Firsts.{Behind}
-use Rattle.paged.proofs.Standing.{stands_behind}
-use Rattle.paged.proofs.Recovered.{kept_readable, opened_stays_durable, opened_length, opened_page_size}
+use Rattle.paged.proofs.Firsts.{Behind, told_len}
+use Rattle.paged.proofs.Standing.{stands_behind, page_behind}
+use Rattle.paged.proofs.Recovered.{kept_readable, kept_durable, opened_stays_durable, opened_readable, opened_length, opened_page_size}
 
 module _ (sum : List ℕ → ℕ) (P : ℕ) (bytes : List ℕ) where
   -- a page that is there is the one at its place
@@ -149,3 +152,41 @@ opened_there sum cache capacity old new (Ok w) opened =
     let here : w.full_pages * (P + 12) ≤ length new.present.readable = omega (arith, more, opened_length sum cache capacity old new w opened) in
     subst (λ (n : ℕ). w.full_pages * (n + 12) ≤ length new.present.readable) (sym (opened_page_size sum cache capacity old new w opened)) here
 opened_there sum cache capacity old new (Err e) opened = tt
+
+-- what a cut of it asks for: the tip's page
+tip_page_opened : (sum : List ℕ → ℕ) (P full : ℕ) (bytes readable : List ℕ) (found : Option (List ℕ × ActiveChecksum)) → Behind sum P (pages P bytes) full found → HasBytes P full bytes found → full + partial_pages found ≤ length bytes / (P + 12)
+    → readable ≡ take ((full + partial_pages found) * (P + 12)) bytes → TipPage sum P full (tip_of found) readable (slot_of_tip found)
+tip_page_opened sum P full bytes readable None behind has within is =
+    let e : full + 0 ≡ full = omega arith in
+    ap length is ∙ length-take-le ((full + 0) * (P + 12)) bytes (pages_reach P (full + 0) bytes within) ∙ ap (λ (n : ℕ). n * (P + 12)) e
+tip_page_opened sum P full bytes readable (Some v) behind has within is = page_behind sum P bytes readable full v behind has is
+
+-- no wait is left
+none_awaited : (old new : Life) (kept : ℕ) (s : SyncState) → IsKept old new kept s → WaitsForNone s
+none_awaited old new kept s (whole all looked) = tt
+none_awaited old new kept s (cut more readable durable) = tt
+
+pub is_as_opened : (sum : List ℕ → ℕ) (cache : CacheState) (capacity : ℕ) (old new : Life) (w : WriterState) → 0 < cache.page_size → IsOpened sum cache capacity old new w → IsAsOpened sum w new.present
+is_as_opened sum cache capacity old new w positive opened =
+    let P = cache.page_size in
+    let bytes = old.present.readable in
+    let n = length bytes / (P + 12) in
+    let p = opened_prefix sum P bytes in
+    let last = last_is sum P n bytes in
+    let behind = behind_last sum P bytes n (omega arith) (λ m le lt. absurd (omega arith)) in
+    let has : HasBytes P p.full_pages bytes p.partial = subst (λ (k : ℕ). HasBytes P k bytes p.partial) (ap (λ (x : WriterState). x.full_pages) opened.state) opened.bytes in
+    let told : kept_len (slot_of_tip p.partial) ≡ length (tip_of p.partial) = told_len sum P (pages P bytes) p.full_pages p.partial (λ page is. omega (arith, length-page P p.full_pages bytes page is)) behind in
+    subst (λ (x : WriterState). IsAsOpened sum x new.present) (sym opened.state) (record {
+      page = tip_page_opened sum P p.full_pages bytes new.present.readable p.partial behind has last.within (opened_readable sum cache capacity old new w opened);
+      written = record {
+        short = last.tip positive;
+        flushed = told;
+      };
+      carries = omega (arith, told);
+      waits = none_awaited old new (opened_size sum P bytes) opened.sync opened.kept;
+      durable = λ clean. kept_durable old new (opened_size sum P bytes) opened.sync opened.kept clean;
+    })
+
+pub opens_as_opened : (sum : List ℕ → ℕ) (cache : CacheState) (capacity : ℕ) (old new : Life) (result : Result WriterState Error) → 0 < cache.page_size → Opens sum cache capacity old new result → IfOk result (λ w. IsAsOpened sum w new.present)
+opens_as_opened sum cache capacity old new (Ok w) positive opened = is_as_opened sum cache capacity old new w positive opened
+opens_as_opened sum cache capacity old new (Err e) positive opened = tt

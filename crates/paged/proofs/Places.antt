@@ -1,26 +1,22 @@
 -- Writers that stand behind pages of a blob.
-use Rattle.std.proofs.Common.{◌≡◌, inl, inr, ℕ, ◌+◌, ◌-◌, ◌*◌, ◌/◌, ◌%◌, ◌^◌, ◌<◌, ◌≤◌, List, length, sym, ◌∙◌, ap, arith}
+use Rattle.std.proofs.Common.{◌≡◌, inl, inr, ℕ, ◌+◌, ◌-◌, ◌*◌, ◌/◌, ◌%◌, ◌<◌, ◌≤◌, List, length, sym, ◌∙◌, ap, arith}
 use Rattle.std.specs.Prelude.{Result, Ok, Err, Option, IfOk}
 use Rattle.std.specs.Int.{next_multiple_of}
 use Rattle.std.proofs.Math.Nat.{div-add-mod', mul-div_cancel, mul-mod_left, mod_self, mod-lt, mod-eq_of_lt, sub-zero, add-mul}
 use Rattle.std.proofs.lemmas.Bool.{cases_lt}
 use Rattle.disk.specs.Disk.{Life}
 use Rattle.disk.specs.declared.error.Error.{Error}
-use Rattle.disk.specs.declared.error.Error.TheVariants.{ReadFailed, WriteFailed, ResizeFailed, SyncFailed, InvalidChecksum, BlobInsufficientLength, OffsetOverflow, OutOfMemory, IdsExhausted}
 use Rattle.page.specs.Geometry.{adjusted}
-use Rattle.page.specs.Page.{pages}
-use Rattle.page.specs.Tip.{Tip, ReplaceGoes}
+use Rattle.page.specs.Tip.{Tip}
 use Rattle.page.specs.declared.slot.ActiveChecksum.{ActiveChecksum}
 use Rattle.cache.specs.CacheState.{CacheState}
 use Rattle.crash.specs.WriterState.{WriterState, SyncState}
-use Rattle.crash.specs.WriterState.SyncState.{Clean}
 use Rattle.paged.specs.declared.prefix.Prefix.{Prefix}
 use Rattle.paged.specs.Writer.{physical_size, FitsBlob, IsWriter}
-use Rattle.paged.specs.Prefix.{prefix_of, tip_of, slot_of_tip, at_prefix}
+use Rattle.paged.specs.Prefix.{tip_of, slot_of_tip, at_prefix}
 use Rattle.paged.specs.Calls.{HoldsWithin}
-use Rattle.paged.specs.Recovery.{RecoveryCause, Opens, Recovers, opened_prefix}
+use Rattle.paged.specs.Recovery.{Opens, opened_prefix}
 use Rattle.paged.proofs.Prefixes.{last_is}
-use Rattle.paged.proofs.Firsts.{prefix_is}
 
 -- what is rounded up is whole pages
 next_whole : (n P : ℕ) → 0 < P → next_multiple_of n P % P ≡ 0
@@ -85,22 +81,3 @@ module _ (sum : List ℕ → ℕ) (cache : CacheState) (capacity : ℕ) (some : 
       let last = last_is sum cache.page_size (length old.present.readable / (cache.page_size + 12)) old.present.readable in
       within_at cache.page_size cache.ids_given (adjusted capacity cache.page_size) p opened.sync w (adjusted_room capacity cache.page_size) (last.tip some) opened.state
   opens_within (Err e) opened = tt
-
-  -- recovered
-  pub recovers_within : (result : Result WriterState Error) → Recovers sum cache capacity old new result → IfOk result (λ w. HoldsWithin w)
-  recovers_within (Ok w) recovered =
-      let some_pages = pages cache.page_size old.present.readable in
-      within_at cache.page_size cache.ids_given (adjusted capacity cache.page_size) (prefix_of sum cache.page_size some_pages) Clean w (adjusted_room capacity cache.page_size) ((prefix_is sum cache.page_size some_pages).tip some) recovered.state
-  recovers_within (Err e) recovered = tt
-
--- why another tip behind pages that fit isn't set
-pub replace_cause : (old now : Tip) (place : ℕ) (bytes : List ℕ) (start new : Life) (e : Error) → place + length bytes < 2 ^ 64 → ReplaceGoes old place bytes now (Err e) → RecoveryCause start new e
-replace_cause old now place bytes start new OffsetOverflow small goes = absurd (omega (arith, small, goes.0))
-replace_cause old now place bytes start new OutOfMemory small goes = tt
-replace_cause old now place bytes start new ReadFailed small goes = absurd goes
-replace_cause old now place bytes start new WriteFailed small goes = absurd goes
-replace_cause old now place bytes start new ResizeFailed small goes = absurd goes
-replace_cause old now place bytes start new SyncFailed small goes = absurd goes
-replace_cause old now place bytes start new InvalidChecksum small goes = absurd goes
-replace_cause old now place bytes start new BlobInsufficientLength small goes = absurd goes
-replace_cause old now place bytes start new IdsExhausted small goes = absurd goes

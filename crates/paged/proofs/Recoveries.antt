@@ -3,15 +3,12 @@ use Rattle.std.proofs.Common.{◌≡◌, ◌⊎◌, inl, inr, ℕ, ◌+◌, ◌*
 use Rattle.std.specs.Prelude.{Result, Ok, Err, Option, Some, None}
 use Rattle.std.specs.Int.{div_ceil}
 use Rattle.std.proofs.Math.Nat.{div-eq_of_lt, mod-eq_of_lt, mul-le-mul_left}
-use Rattle.std.proofs.lemmas.List.{take_all}
 use Rattle.page.specs.declared.slot.ActiveChecksum.{ActiveChecksum}
 use Rattle.disk.specs.Disk.{Disk, Life, LogGrows, logged, settle, ResizeGoes, SyncGoes}
 use Rattle.disk.specs.Disk.Request.{ResizeTo, SyncAll}
 use Rattle.disk.specs.declared.error.Error.{Error}
 use Rattle.disk.specs.declared.error.Error.TheVariants.{ReadFailed, WriteFailed, ResizeFailed, SyncFailed, InvalidChecksum, BlobInsufficientLength, OffsetOverflow, OutOfMemory, IdsExhausted}
 use Rattle.cache.specs.CacheState.{CacheState}
-use Rattle.crash.specs.WriterState.{SyncState}
-use Rattle.crash.specs.WriterState.SyncState.{Clean, Dirty, Pending}
 use Rattle.crash.specs.Looks.{Looked}
 use Rattle.crash.proofs.Pages.{cut_is, pages_reach}
 use Rattle.paged.specs.declared.prefix.Prefix.{Prefix}
@@ -19,10 +16,10 @@ use Rattle.paged.specs.declared.writer.SyncState.TheVariants.{Clean as IsClean, 
 use Rattle.paged.specs.declared.writer.SyncState.{SyncState as State}
 use Rattle.paged.specs.Writer.{state_of, FitsBlob}
 use Rattle.paged.specs.Prefix.{last_prefix, prefix_pages, partial_pages, tip_of}
-use Rattle.paged.specs.Recovery.{RecoveryCause, Finds, IsDurable, Cuts, CutsBack, IsKept, SyncsIn, EndsAt, Opens, opened_prefix, opened_size}
+use Rattle.paged.specs.Recovery.{RecoveryCause, Finds, IsDurable, Cuts, CutsBack, IsKept, Opens, opened_prefix, opened_size}
 use Rattle.paged.specs.Recovery.IsKept.{whole, cut}
 use Rattle.paged.proofs.Prefixes.{IsLast, last_is}
-use Rattle.disk.proofs.Logs.{grows_same, grows_once, grows_joins, failed_once, failed_later}
+use Rattle.disk.proofs.Logs.{grows_once, grows_joins, failed_once, failed_later}
 use Rattle.crash.proofs.LookLaws.{looked_readable}
 
 -- ---- the device's calls
@@ -190,60 +187,3 @@ module _ (sum : List ℕ → ℕ) (cache : CacheState) (capacity : ℕ) (old new
   opens_cause OffsetOverflow cause = absurd cause
   opens_cause OutOfMemory cause = tt
   opens_cause IdsExhausted cause = absurd cause
-
--- ---- ending a recovery
-
--- the sync of a writer's blob, where it is needed
-synced_once : (s : SyncState) (old new : Life) (answer : Result (Unit {0}) Error) → SyncsIn s old new answer → (new ≡ old) ⊎ ((a : Result (Unit {0}) Error) × SyncGoes old new a)
-synced_once Clean old new answer syncs = inl syncs.1
-synced_once Dirty old new answer syncs = inr (answer, syncs)
-synced_once (Pending name) old new answer syncs = inr (answer, syncs)
-
--- the same, done
-pub synced_done : (s : SyncState) (old new : Life) → (s ≡ Clean → IsDurable old.present) → SyncsIn s old new (Ok tt) → (new.present.readable ≡ old.present.readable) × IsDurable new.present × LogGrows old.present new.present
-synced_done Clean old new clean syncs =
-    (ap (λ (l : Life). l.present.readable) syncs.1, subst (λ (l : Life). IsDurable l.present) (sym syncs.1) (clean refl), grows_same old.present new.present (ap (λ (l : Life). l.present.log) syncs.1))
-synced_done Dirty old new clean syncs = sync_done old new syncs
-synced_done (Pending name) old new clean syncs = sync_done old new syncs
-
--- the same, not done
-pub synced_cause : (s : SyncState) (old new : Life) (e : Error) → SyncsIn s old new (Err e) → RecoveryCause old new e
-synced_cause Clean old new e syncs = absurd (cc (syncs.0))
-synced_cause Dirty old new e syncs = sync_cause old new e syncs
-synced_cause (Pending name) old new e syncs = sync_cause old new e syncs
-
--- nothing was cut yet
-pub ends_synced : (kept : ℕ) (s : SyncState) (old new : Life) (answer : Result (Unit {0}) Error) → SyncsIn s old new answer → EndsAt kept old new
-ends_synced kept s old new answer syncs = (new, synced_once s old new answer syncs, inl refl)
-
--- what is behind was cut, where there was more
-pub ends_back : (kept : ℕ) (s : SyncState) (old mid new : Life) (answer : Result State Error) → SyncsIn s old mid (Ok tt) → CutsBack kept mid new answer → EndsAt kept old new
-ends_back kept s old mid new (Ok IsDirty) syncs cuts = (mid, synced_once s old mid (Ok tt) syncs, inl cuts.1)
-ends_back kept s old mid new (Ok IsClean) syncs cuts = (mid, synced_once s old mid (Ok tt) syncs, inr (Ok tt, cuts.1))
-ends_back kept s old mid new (Ok (IsPending name)) syncs cuts = absurd cuts
-ends_back kept s old mid new (Err e) syncs cuts = (mid, synced_once s old mid (Ok tt) syncs, inr (Err e, cuts))
-
--- the same, done
-pub ended : (kept : ℕ) (s : SyncState) (t : State) (old mid new : Life) → (s ≡ Clean → IsDurable old.present) → kept ≤ length old.present.readable → SyncsIn s old mid (Ok tt) → CutsBack kept mid new (Ok t)
-    → (new.present.readable ≡ take kept old.present.readable) × IsDurable new.present × LogGrows old.present new.present
-ended kept s IsDirty old mid new clean le syncs cuts =
-    let first = synced_done s old mid clean syncs in (
-      ap (λ (l : Life). l.present.readable) cuts.1 ∙ first.0 ∙ sym (take_all kept old.present.readable (omega (arith, cuts.0, ap length first.0))),
-      subst (λ (l : Life). IsDurable l.present) (sym cuts.1) first.1,
-      subst (λ (l : Life). LogGrows old.present l.present) (sym cuts.1) first.2,
-    )
-ended kept s IsClean old mid new clean le syncs cuts =
-    let first = synced_done s old mid clean syncs in
-    let second = cut_done kept mid new (omega (arith, ap length first.0)) cuts.1 in
-    (second.0 ∙ ap (λ (l : List ℕ). take kept l) first.0, second.1, grows_joins old.present mid.present new.present first.2 second.2)
-ended kept s (IsPending name) old mid new clean le syncs cuts = absurd cuts
-
--- the same, not done
-pub ended_cause : (kept : ℕ) (s : SyncState) (old mid new : Life) (e : Error) → (s ≡ Clean → IsDurable old.present) → kept ≤ length old.present.readable → SyncsIn s old mid (Ok tt) → CutsBack kept mid new (Err e) → RecoveryCause old new e
-ended_cause kept s old mid new e clean le syncs cuts =
-    let first = synced_done s old mid clean syncs in
-    cause_later old mid new e first.2 (cut_cause kept mid new e (omega (arith, ap length first.0)) cuts)
-
--- fewer pages than there are
-pub fewer_bytes : (P size k n : ℕ) → k ≤ n → size ≡ n * (P + 12) → k * (P + 12) ≤ size
-fewer_bytes P size k n le is = let more : (P + 12) * k ≤ (P + 12) * n = mul-le-mul_left (P + 12) le in omega (arith, more)

@@ -5,8 +5,9 @@ use Rattle.disk.specs.Disk.{Life, Entry, ReadAt, ResizeTo, SyncAll, next, settle
 use Rattle.page.specs.Page.{pages, text}
 use Rattle.page.specs.Sums.{add_sum, small_add_sum}
 use Rattle.page.proofs.Examples.{abcd_page, ef_page}
-use Rattle.page.specs.declared.slot.Slot.TheVariants.{First}
+use Rattle.page.specs.declared.slot.Slot.TheVariants.{First, Second}
 use Rattle.page.specs.declared.slot.ActiveChecksum.{ActiveChecksum}
+use Rattle.crash.specs.WriterState.{WriterState}
 use Rattle.crash.specs.WriterState.SyncState.{Clean, Dirty}
 use Rattle.crash.specs.Stays.{KeepsFloors}
 use Rattle.crash.proofs.CutLaws.{rest_through_start}
@@ -17,7 +18,8 @@ use Rattle.crash.proofs.Texts.{bytes_from_all}
 use Rattle.crash.proofs.Examples.{durable, rewritten, seven, before, behind}
 use Rattle.paged.specs.Prefix.{prefix_of, last_prefix, prefix_pages, at_prefix}
 use Rattle.paged.specs.Calls.{AsksAtMost, IsSettled}
-use Rattle.paged.specs.Recovery.{IsDurable, KeepsText, LeavesText, SoundWhereFull, opened_prefix, opened_size, recovered_size, recovered_writer}
+use Rattle.paged.specs.Recovery.{IsDurable, IsAsOpened, KeepsText, LeavesText, SoundWhereFull, opened_prefix, opened_size, opened_writer}
+use Rattle.paged.specs.Recovers.{recovered_writer, recovered_bytes}
 use Rattle.cache.specs.CacheState.{CacheState}
 use Rattle.paged.specs.Recovery.IsKept.{whole}
 use Rattle.paged.specs.Searches.{AreWithin, FallFrom, ReadsWithin, ReadsBack, scan_bytes}
@@ -61,16 +63,56 @@ pub an_opened_size : opened_size add_sum 4 (abcd_page ++ ef_page ++ no_page) ≡
 an_opened_size = refl
 
 -- of zeros, a full page and "ef", opening keeps all three; a recovery keeps none, since the first has no value
-pub a_recovered_size : recovered_size add_sum 4 (no_page ++ abcd_page ++ ef_page) ≡ 0
-a_recovered_size = refl
-
 pub all_is_opened : opened_size add_sum 4 (no_page ++ abcd_page ++ ef_page) ≡ 48
 all_is_opened = refl
+
+pub none_is_recovered : recovered_bytes add_sum a_cache 8 (no_page ++ abcd_page ++ ef_page) ≡ []
+none_is_recovered = refl
 
 -- a writer that stands behind two pages: one full page, and a tip of "ef" under its slot
 pub a_recovered_writer : recovered_writer add_sum a_cache 8 (abcd_page ++ ef_page ++ no_page)
     ≡ record { page_size = 4; id = 0; capacity = 8; full_pages = 1; tip = 101 ∷ 102 ∷ []; flushed = Some slot_of_ef; durable = Some slot_of_ef; sync = Clean }
 a_recovered_writer = refl
+
+-- the text ends with the last page that has a value, which stays as it is
+pub a_last_page_stays : recovered_bytes add_sum a_cache 8 (abcd_page ++ ef_page ++ no_page) ≡ abcd_page ++ ef_page
+a_last_page_stays = refl
+
+-- "ab", which is less than a page, and a full page behind it: the text is "ab"
+abbrev ab_page : List ℕ
+ab_page = 97 ∷ 98 ∷ 0 ∷ 0 ∷ 0 ∷ 2 ∷ 0 ∷ 0 ∷ 0 ∷ 195 ∷ 0 ∷ 0 ∷ 0 ∷ 0 ∷ 0 ∷ 0 ∷ []
+
+abbrev efgh_page : List ℕ
+efgh_page = 101 ∷ 102 ∷ 103 ∷ 104 ∷ 0 ∷ 4 ∷ 0 ∷ 0 ∷ 1 ∷ 154 ∷ 0 ∷ 0 ∷ 0 ∷ 0 ∷ 0 ∷ 0 ∷ []
+
+pub a_text_that_ends : text add_sum 4 (ab_page ++ efgh_page) ≡ 97 ∷ 98 ∷ []
+a_text_that_ends = refl
+
+-- opening keeps both pages, and takes both for full
+abbrev an_opened_writer : WriterState
+an_opened_writer = opened_writer add_sum a_cache 8 (ab_page ++ efgh_page) Dirty
+
+pub both_are_opened : an_opened_writer ≡ record { page_size = 4; id = 0; capacity = 8; full_pages = 2; tip = []; flushed = None; durable = None; sync = Dirty }
+both_are_opened = refl
+
+-- which a cut of it asks for
+pub an_opening_to_cut : IsAsOpened add_sum an_opened_writer (record durable { readable = ab_page ++ efgh_page })
+an_opening_to_cut = record { page = refl; written = record { short = omega arith; flushed = refl }; carries = omega arith; waits = tt; durable = λ clean. absurd (cc clean) }
+
+-- a recovery cuts behind the first page, which is told by the slot that wasn't its value's: the other is zero
+pub a_page_before_the_last : recovered_bytes add_sum a_cache 8 (ab_page ++ efgh_page) ≡ 97 ∷ 98 ∷ 0 ∷ 0 ∷ 0 ∷ 0 ∷ 0 ∷ 0 ∷ 0 ∷ 0 ∷ 0 ∷ 2 ∷ 0 ∷ 0 ∷ 0 ∷ 195 ∷ []
+a_page_before_the_last = refl
+
+abbrev slot_of_ab : ActiveChecksum
+slot_of_ab = record { slot = Second; len = 2; crc = 195 }
+
+pub a_writer_there : recovered_writer add_sum a_cache 8 (ab_page ++ efgh_page)
+    ≡ record { page_size = 4; id = 0; capacity = 8; full_pages = 0; tip = 97 ∷ 98 ∷ []; flushed = Some slot_of_ab; durable = Some slot_of_ab; sync = Clean }
+a_writer_there = refl
+
+-- those 16 bytes say the same
+pub the_same_text : text add_sum 4 (recovered_bytes add_sum a_cache 8 (ab_page ++ efgh_page)) ≡ 97 ∷ 98 ∷ []
+the_same_text = refl
 
 -- all of the blob is durable
 pub all_durable : IsDurable durable

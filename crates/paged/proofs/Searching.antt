@@ -7,7 +7,7 @@ use Rattle.disk.specs.declared.error.Error.{Error}
 use Rattle.disk.specs.declared.error.Error.TheVariants.{ReadFailed, WriteFailed, ResizeFailed, SyncFailed, InvalidChecksum, BlobInsufficientLength, OffsetOverflow, OutOfMemory, IdsExhausted}
 use Rattle.paged.specs.declared.writer.SyncState.TheVariants.{Clean as IsClean, Dirty as IsDirty, Pending as IsPending}
 use Rattle.paged.specs.declared.writer.SyncState.{SyncState as State}
-use Rattle.paged.specs.Recovery.{Cuts, CutsBack, EndsAt}
+use Rattle.paged.specs.Recovery.{Cuts, CutsBack}
 use Rattle.paged.specs.Searches.{Gained, AreWithin, FallFrom, ReadsWithin, ReadsBack, scan_bytes}
 
 -- ---- requests
@@ -35,7 +35,7 @@ quiet_joins (ReadMany ranges ∷ xs) ys first second = absurd first
 quiet_joins (StartReadMany ranges ∷ xs) ys first second = absurd first
 quiet_joins (_ ∷ xs) ys first second = quiet_joins xs ys first second
 
-within_joins : (most : ℕ) (xs ys : List Request) → AreWithin most xs → AreWithin most ys → AreWithin most (xs ++ ys)
+pub within_joins : (most : ℕ) (xs ys : List Request) → AreWithin most xs → AreWithin most ys → AreWithin most (xs ++ ys)
 within_joins most [] ys first second = second
 within_joins most (ReadAt place len ∷ xs) ys first second = (first.0, within_joins most xs ys first.1 second)
 within_joins most (ReadMany ranges ∷ xs) ys first second = absurd first
@@ -69,6 +69,14 @@ fall_within size top most (ReadMany ranges ∷ xs) enough fall = absurd fall
 fall_within size top most (StartReadMany ranges ∷ xs) enough fall = absurd fall
 fall_within size top most (_ ∷ xs) enough fall = fall_within size top most xs enough fall
 
+-- more may be read at once
+within_more : (few most : ℕ) (xs : List Request) → few ≤ most → AreWithin few xs → AreWithin most xs
+within_more few most [] enough fit = tt
+within_more few most (ReadAt place len ∷ xs) enough fit = (omega (arith, fit.0), within_more few most xs enough fit.1)
+within_more few most (ReadMany ranges ∷ xs) enough fit = absurd fit
+within_more few most (StartReadMany ranges ∷ xs) enough fit = absurd fit
+within_more few most (_ ∷ xs) enough fit = within_more few most xs enough fit
+
 -- however low they end
 fall_forget : (size top bottom : ℕ) (xs : List Request) → FallTo size top bottom xs → FallFrom size top xs
 fall_forget size top bottom [] fall = tt
@@ -95,15 +103,15 @@ fall_lower size top bottom place (_ ∷ xs) fall below = fall_lower size top bot
 -- ---- the log
 
 -- the same log
-gained_none : (Q : List Request → Type 0) (old new : Life) → new ≡ old → Q [] → Gained Q old new
+pub gained_none : (Q : List Request → Type 0) (old new : Life) → new ≡ old → Q [] → Gained Q old new
 gained_none Q old new same holds = ([], ap (λ (l : Life). l.present.log) same ∙ sym (append-nil old.present.log), holds)
 
 -- one call more
-gained_once : (Q : List Request → Type 0) (request : Request) (failed : Bool) (old new : Life) → new.present.log ≡ old.present.log ++ record { request = request; failed = failed } ∷ [] → Q (request ∷ []) → Gained Q old new
+pub gained_once : (Q : List Request → Type 0) (request : Request) (failed : Bool) (old new : Life) → new.present.log ≡ old.present.log ++ record { request = request; failed = failed } ∷ [] → Q (request ∷ []) → Gained Q old new
 gained_once Q request failed old new is holds = (record { request = request; failed = failed } ∷ [], is, holds)
 
 -- one part of a call after another
-gained_joins : (Q R S : List Request → Type 0) (old mid new : Life) → ((xs ys : List Request) → Q xs → R ys → S (xs ++ ys)) → Gained Q old mid → Gained R mid new → Gained S old new
+pub gained_joins : (Q R S : List Request → Type 0) (old mid new : Life) → ((xs ys : List Request) → Q xs → R ys → S (xs ++ ys)) → Gained Q old mid → Gained R mid new → Gained S old new
 gained_joins Q R S old mid new joins first second = (
   first.0 ++ second.0,
   second.1 ∙ ap (λ (l : List Entry). l ++ second.0) first.1 ∙ append_assoc old.present.log first.0 second.0,
@@ -117,7 +125,7 @@ gained_then Q R old new then gained = (gained.0, gained.1, then (map (λ (e : En
 -- ---- reads
 
 -- a read asks for nothing else
-read_asks : (place len : ℕ) (old new : Life) (answer : Result (List ℕ) Error) → ReadGoes place len old new answer → (new ≡ old) ⊎ ((failed : Bool) × AskedOnce (ReadAt place len) failed old new)
+pub read_asks : (place len : ℕ) (old new : Life) (answer : Result (List ℕ) Error) → ReadGoes place len old new answer → (new ≡ old) ⊎ ((failed : Bool) × AskedOnce (ReadAt place len) failed old new)
 read_asks place len old new (Ok bytes) goes = inr (false, goes.2)
 read_asks place len old new (Err ReadFailed) goes = inr (true, goes)
 read_asks place len old new (Err BlobInsufficientLength) goes = inl goes.0
@@ -221,17 +229,6 @@ cuts_back_quiet kept old new (Ok IsClean) cuts = cuts_quiet kept old new (Ok tt)
 cuts_back_quiet kept old new (Ok (IsPending name)) cuts = absurd cuts
 cuts_back_quiet kept old new (Err e) cuts = cuts_quiet kept old new (Err e) cuts
 
-ends_quiet : (kept : ℕ) (old new : Life) → EndsAt kept old new → Quiet old new
-ends_quiet kept old new ends = quiet_both old ends.0 new
-    (elim ends.1 [
-      | inl none ↦ gained_none AreQuiet old ends.0 none tt
-      | inr syncs ↦ sync_quiet old ends.0 syncs.0 syncs.1
-    ])
-    (elim ends.2 [
-      | inl none ↦ gained_none AreQuiet ends.0 new none tt
-      | inr cuts ↦ cuts_quiet kept ends.0 new cuts.0 cuts.1
-    ])
-
 -- ---- the calls
 
 -- opening: a search back, and then a cut
@@ -245,11 +242,11 @@ pub scans_within : (size most : ℕ) (old mid new : Life) → size ≤ most → 
 scans_within size most old mid new enough back within =
     gained_joins (AreWithin most) (AreWithin most) (AreWithin most) old mid new (within_joins most) (back_within size most old mid enough back) within
 
--- and what follows it
-pub ends_within : (most kept : ℕ) (old mid new : Life) → ReadsWithin most old mid → EndsAt kept mid new → ReadsWithin most old new
-ends_within most kept old mid new within ends =
+-- and what follows it, which reads no more at once
+pub cuts_within : (few most : ℕ) (old mid new : Life) → few ≤ most → ReadsWithin most old mid → ReadsWithin few mid new → ReadsWithin most old new
+cuts_within few most old mid new enough within last =
     gained_joins (AreWithin most) (AreWithin most) (AreWithin most) old mid new (within_joins most) within
-    (gained_then AreQuiet (AreWithin most) mid new (quiet_within most) (ends_quiet kept mid new ends))
+    (gained_then (AreWithin few) (AreWithin most) mid new (λ xs fit. within_more few most xs enough fit) last)
 
 -- a batch of pages, no more than the most
 pub within_batch : (P size place batch most : ℕ) (start old new : Life) (answer : Result (List ℕ) Error) → size ≡ P + 12 → batch ≤ most → ReadsWithin (most * (P + 12)) start old → ReadGoes place (batch * size) old new answer

@@ -19,6 +19,42 @@ use Rattle.paged.specs.Prefix.{page_at, prefix_of, prefix_pages, partial_pages, 
 use Rattle.paged.specs.Recovery.{IsDurable}
 use Rattle.paged.proofs.Firsts.{Behind, IsFirst, prefix_is}
 
+module _ (sum : List ℕ → ℕ) (P : ℕ) (bytes readable : List ℕ) (full : ℕ) (v : List ℕ × ActiveChecksum) (behind : Behind sum P (pages P bytes) full (Some v)) where
+  -- the page behind some pages, where what is readable ends with it
+  pub record IsTold : Type 0 where
+    pub size : length readable ≡ (full + 1) * (P + 12)
+    pub same : page_at P full bytes ≡ page_at P full readable
+    pub told : active sum P (page_at P full readable) ≡ Some v.1
+    pub part : v.1.len < P
+    pub tip : v.0 ≡ take v.1.len (drop (full * (P + 12)) readable)
+
+  pub told_behind : readable ≡ take ((full + 1) * (P + 12)) bytes → IsTold
+  told_behind cut =
+      let a = v.1 in
+      let k = full * (P + 12) in
+      let n = (full + 1) * (P + 12) in
+      let page_eq : behind.0 ≡ page_at P full bytes = page_is P full bytes behind.0 behind.1 in
+      let fits : n ≤ length bytes = page_fits P full bytes behind.0 behind.1 in
+      let page_same : page_at P full bytes ≡ page_at P full readable = sym (ap (λ (l : List ℕ). page_at P full l) cut ∙ within_take (P + 12) k n bytes (omega arith)) in
+      let told : active sum P (page_at P full readable) ≡ Some a = ap (λ (l : List ℕ). active sum P l) (sym (page_eq ∙ page_same)) ∙ behind.2 in
+      let is = active_is sum P (page_at P full readable) a told in
+      let len : value_len sum P (page_at P full readable) ≡ value_len sum P behind.0 = ap (λ (l : List ℕ). value_len sum P l) (sym (page_eq ∙ page_same)) in
+      let part : a.len < P = omega (arith, is.len, is.fits, len, behind.4) in
+      record {
+        size = ap length cut ∙ length-take-le n bytes fits;
+        same = page_same;
+        told = told;
+        part = part;
+        tip = behind.3 ∙ ap (λ (l : List ℕ). take a.len l) (page_eq ∙ page_same) ∙ take-take a.len (P + 12) (drop k readable) (omega (arith, part));
+      }
+
+  -- it is the tip's page
+  pub page_behind : HasBytes P full bytes (Some v) → readable ≡ take ((full + 1) * (P + 12)) bytes → HasPage sum P full v.0 readable v.1
+  page_behind has cut =
+      let shown = told_behind cut in
+      let are_bytes : AreBytes (page_at P full readable) = subst (λ (l : List ℕ). AreBytes l) shown.same has in
+      has_page sum P full v.0 readable v.1 shown.size are_bytes shown.told shown.part shown.tip
+
 module _ (sum : List ℕ → ℕ) (small_sum : IsSmall sum) (P id capacity : ℕ) (bytes : List ℕ) (d : Disk) (positive : 0 < P) (small : P < 2 ^ 16) (durable : IsDurable d) (covered : AreCovered d) where
   -- it is sound, and stands for what the bytes say
   abbrev pub StandsFor : Prefix → Type 0
@@ -48,22 +84,15 @@ module _ (sum : List ℕ → ℕ) (small_sum : IsSmall sum) (P id capacity : ℕ
       let a = v.1 in
       let k = full * (P + 12) in
       let n = (full + 1) * (P + 12) in
-      let page_eq : behind.0 ≡ page_at P full bytes = page_is P full bytes behind.0 behind.1 in
       let fits : n ≤ length bytes = page_fits P full bytes behind.0 behind.1 in
-      let size : length d.readable ≡ n = ap length cut ∙ length-take-le n bytes fits in
-      let page_same : page_at P full bytes ≡ page_at P full d.readable = sym (ap (λ (l : List ℕ). page_at P full l) cut ∙ within_take (P + 12) k n bytes (omega arith)) in
+      let shown = told_behind sum P bytes d.readable full v behind cut in
       let same : take k bytes ≡ take k d.readable = sym (ap (λ (l : List ℕ). take k l) cut ∙ take-take k n bytes (omega arith)) in
       let here : AreFull sum P (take full (pages P d.readable)) = AreFull_same sum P full bytes d.readable (omega (arith, fits)) same are in
-      let told : active sum P (page_at P full d.readable) ≡ Some a = ap (λ (l : List ℕ). active sum P l) (sym (page_eq ∙ page_same)) ∙ behind.2 in
-      let is = active_is sum P (page_at P full d.readable) a told in
-      let len : value_len sum P (page_at P full d.readable) ≡ value_len sum P behind.0 = ap (λ (l : List ℕ). value_len sum P l) (sym (page_eq ∙ page_same)) in
-      let part : a.len < P = omega (arith, is.len, is.fits, len, behind.4) in
-      let tip : v.0 ≡ take a.len (drop k d.readable) = behind.3 ∙ ap (λ (l : List ℕ). take a.len l) (page_eq ∙ page_same) ∙ take-take a.len (P + 12) (drop k d.readable) (omega (arith, part)) in
-      let are_bytes : AreBytes (page_at P full d.readable) = subst (λ (l : List ℕ). AreBytes l) page_same has in
-      let page : HasPage sum P full v.0 d.readable a = has_page sum P full v.0 d.readable a size are_bytes told part tip in
-      let less : value_len sum P (page_at P full bytes) < P = omega (arith, part, is.len, ap (λ (l : List ℕ). value_len sum P l) page_same) in (
+      let is = active_is sum P (page_at P full d.readable) a shown.told in
+      let page : HasPage sum P full v.0 d.readable a = page_behind sum P bytes d.readable full v behind has cut in
+      let less : value_len sum P (page_at P full bytes) < P = omega (arith, shown.part, is.len, ap (λ (l : List ℕ). value_len sum P l) shown.same) in (
         page_sound sum w d durable.since durable.base positive small here refl (rest_settled d covered durable.since) small_sum a refl page,
-        page_content sum w d.readable a here (omega (arith, size)) told part tip
+        page_content sum w d.readable a here (omega (arith, shown.size)) shown.told shown.part shown.tip
             ∙ ap (λ (l : List ℕ). text sum P l) cut
             ∙ text_cut_part sum P full bytes are fits less,
       )

@@ -17,7 +17,7 @@ use Rattle.crash.proofs.Soundness.{looked_sound}
 use Rattle.disk.specs.declared.started_sync.StartedSync.{StartedSync}
 use Rattle.paged.specs.Calls.{Syncs, Appends, StartsSync, WaitsForSync}
 use Rattle.paged.specs.Reads.{HasPages}
-use Rattle.paged.specs.Recovery.{Recovers}
+use Rattle.paged.specs.Recovers.{Recovers}
 
 -- the pages below the tip of a sound writer are in its blob
 pub sound_has_pages : (sum : List ℕ → ℕ) (w : WriterState) (life : Life) → IsSound sum w life.present → HasPages w life
@@ -35,10 +35,6 @@ appended_there sum w bytes old new (Ok r) (at, goes) = sound_has_pages sum r.0 n
 appended_there sum w bytes old new (Err e) refused = tt
 
 -- after a recovery
-pub recovered_there : (sum : List ℕ → ℕ) (cache : CacheState) (capacity : ℕ) (old new : Life) (result : Result WriterState Error) → Recovers sum cache capacity old new result → IfOk result (λ w. HasPages w new)
-recovered_there sum cache capacity old new (Ok w) is = sound_has_pages sum w new is.sound
-recovered_there sum cache capacity old new (Err e) refused = tt
-
 pub recovered_sound : (sum : List ℕ → ℕ) (cache : CacheState) (capacity : ℕ) (old new : Life) (result : Result WriterState Error) → Recovers sum cache capacity old new result → IfOk result (λ w. IsSound sum w new.present)
 recovered_sound sum cache capacity old new (Ok w) is = is.sound
 recovered_sound sum cache capacity old new (Err e) refused = tt

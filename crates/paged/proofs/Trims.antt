@@ -1,25 +1,24 @@
 -- What each moment of opening and recovering a blob owes to the first.
 use Rattle.std.proofs.Common.{◌≡◌, ◌⊎◌, inl, inr, ℕ, ◌+◌, ◌*◌, ◌<◌, ◌≤◌, List, length, take, refl, sym, ◌∙◌, ap, subst, arith, Result, Ok, Err}
+use Rattle.std.proofs.lemmas.List.{take_all}
 use Rattle.disk.specs.declared.error.Error.TheVariants.{ReadFailed, WriteFailed, ResizeFailed, SyncFailed, InvalidChecksum, BlobInsufficientLength, OffsetOverflow, OutOfMemory, IdsExhausted}
-use Rattle.page.specs.Page.{text, pages}
-use Rattle.disk.specs.Disk.{Disk, Life, SyncGoes}
+use Rattle.page.specs.Page.{text}
+use Rattle.disk.specs.Disk.{Disk, Life}
 use Rattle.disk.specs.declared.error.Error.{Error}
-use Rattle.std.specs.Prelude.{OnOk}
-use Rattle.cache.specs.CacheState.{CacheState}
-use Rattle.crash.specs.WriterState.{WriterState, SyncState}
+use Rattle.crash.specs.WriterState.{SyncState}
 use Rattle.crash.specs.Looks.{Looked}
-use Rattle.crash.proofs.Pages.{pages_reach, length-pages}
 use Rattle.crash.specs.Kept.{AllOnly}
-use Rattle.crash.specs.Stays.{StaysThrough, KeepsAll, KeepsFloors, KeepsAllFloors}
+use Rattle.crash.specs.Stays.{StaysThrough, LeavesOnly, KeepsFloors, KeepsAllFloors}
 use Rattle.crash.specs.Moments.{through_joins}
 use Rattle.crash.proofs.Moments.{stays_through_joins, only_through}
-use Rattle.crash.proofs.FloorLaws.{ReadsImage, floors_of_content, floors_none, floors_joins, floors_looked, floors_sync, floors_resize, floors_cut, looked_image, sync_image, sync_readable}
+use Rattle.crash.proofs.FloorLaws.{ReadsImage, floors_of_content, floors_none, floors_joins, floors_looked, floors_resize, floors_cut, looked_image}
 use Rattle.crash.proofs.LookLaws.{looked_readable}
-use Rattle.crash.proofs.CutLaws.{cut_few, rest_keeps, resize_stays, cut_sync_stays, rest_through_start, rest_looked_stays, rest_looked_rests, rest_sync_stays, rest_sync_rests}
+use Rattle.crash.proofs.CutLaws.{cut_few, rest_keeps, resize_stays, cut_sync_stays, rest_through_start, rest_looked_stays, rest_looked_rests}
 use Rattle.paged.specs.declared.prefix.Prefix.{Prefix}
-use Rattle.paged.specs.Prefix.{prefix_of, prefix_pages}
-use Rattle.paged.specs.Recovery.{IsDurable, Cuts, EndsAt, KeepsText, LeavesText, Recovers, IsKept, Finds, opened_prefix, opened_size}
-use Rattle.paged.proofs.Firsts.{prefix_is, text_of_beginning, first_size_le}
+use Rattle.paged.specs.Prefix.{prefix_pages}
+use Rattle.paged.specs.Recovery.{IsDurable, Cuts, KeepsText, LeavesText, IsKept, Finds, opened_prefix, opened_size}
+use Rattle.paged.specs.Truncate.{KeepsFloorsWithin}
+use Rattle.paged.proofs.Firsts.{text_of_beginning, first_size_le}
 use Rattle.paged.proofs.Recoveries.{TrimsTo, opened_size_le}
 use Rattle.paged.proofs.Recovered.{kept_readable, opened_stays_durable}
 
@@ -73,22 +72,6 @@ module _ (sum : List ℕ → ℕ) (P : ℕ) (content bytes : List ℕ) (some : 0
   trims_stay k old new rest within leaves trims =
       stays_through_joins sum P content old trims.0 new (looked_stays old trims.0 rest trims.1) (once_stays k trims.0 new (looked_rests old trims.0 rest trims.1) within leaves trims.2)
 
-  -- so does a sync
-  pub sync_rests : (old new : Life) (answer : Result (Unit {0}) Error) → AtRest sum P content bytes old.present → SyncGoes old new answer → AtRest sum P content bytes new.present
-  sync_rests old new answer rest goes =
-      let now = rest_sync_rests old new answer rest.durable.since rest.durable.base goes in
-      record { durable = record { since = now.0; base = now.1 }; readable = now.2 ∙ rest.readable; says = rest.says }
-
-  -- a sync, and then a cut, each at most once
-  pub ends_stay : (k : ℕ) (old new : Life) → AtRest sum P content bytes old.present → k * (P + 12) ≤ length bytes → text sum P (take (k * (P + 12)) bytes) ≡ content
-      → EndsAt (k * (P + 12)) old new → StaysThrough sum P content old new
-  ends_stay k old new rest within leaves ends = elim ends.1 [
-    | inl none ↦ stays_through_joins sum P content old ends.0 new (none_stays old ends.0 rest none) (once_stays k ends.0 new (subst (λ (l : Life). AtRest sum P content bytes l.present) (sym none) rest) within leaves ends.2)
-    | inr syncs ↦ stays_through_joins sum P content old ends.0 new
-        (rest_sync_stays sum P content old ends.0 syncs.0 rest.durable.since rest.durable.base (here old.present rest) syncs.1)
-        (once_stays k ends.0 new (sync_rests old ends.0 syncs.0 rest syncs.1) within leaves ends.2)
-  ]
-
 -- ---- each floor, whatever was durable
 
 -- a cut that leaves a text leaves pages enough for it
@@ -116,15 +99,6 @@ module _ (sum : List ℕ → ℕ) (P k : ℕ) (content : List ℕ) (few : length
   trims_floors old new image within trims =
       floors_joins sum P content old trims.0 new (floors_looked sum P content old trims.0 trims.1)
       (once_floors trims.0 new (looked_image old trims.0 trims.1 image) (omega (arith, within, ap length (looked_readable old trims.0 trims.1))) trims.2)
-
-  -- a sync, and then a cut, each at most once
-  ends_floors : (old new : Life) → ReadsImage old → k * (P + 12) ≤ length old.present.readable → EndsAt (k * (P + 12)) old new → KeepsFloors sum P content old new
-  ends_floors old new image within ends = elim ends.1 [
-    | inl none ↦ floors_joins sum P content old ends.0 new (floors_none sum P content old ends.0 none)
-        (once_floors ends.0 new (subst ReadsImage (sym none) image) (subst (λ (l : Life). k * (P + 12) ≤ length l.present.readable) (sym none) within) ends.2)
-    | inr syncs ↦ floors_joins sum P content old ends.0 new (floors_sync sum P content old ends.0 syncs.0 image syncs.1)
-        (once_floors ends.0 new (sync_image old ends.0 syncs.0 syncs.1 image) (omega (arith, within, ap length (sync_readable old ends.0 syncs.0 syncs.1))) ends.2)
-  ]
 
 -- ---- what a call owes at each moment, at every answer
 
@@ -173,40 +147,37 @@ module _ (sum : List ℕ → ℕ) (P : ℕ) (old mid : Life) (some : 0 < P) (s :
   opened_rests durable = record { durable = opened_stays_durable old mid (opened_size sum P old.present.readable) s kept durable; readable = refl; says = opened_says }
 
   -- what a later part of the call owes
-  joins_owe : (new : Life) → KeepsFloors sum P (text sum P old.present.readable) mid new → (IsDurable old.present → StaysThrough sum P (text sum P old.present.readable) mid new) → Owes sum P old new
-  joins_owe new floors stays =
+  joins_owe : (new : Life) → KeepsFloors sum P (text sum P old.present.readable) mid new → (IsDurable old.present → LeavesOnly sum P (text sum P old.present.readable) (text sum P old.present.readable) mid new) → Owes sum P old new
+  joins_owe new floors leaves =
       let content = text sum P old.present.readable in
       let all = floors_joins sum P content old mid new (owes.floors content) floors in
       record {
         floors = λ other. floors_of_content sum P other old new begun all;
         kept = keeps_text sum P old new all;
-        only = λ durable. through_joins (AllOnly sum P content content) old mid new (owes.only durable) (only_through sum P content content mid new (stays durable));
+        only = λ durable. through_joins (AllOnly sum P content content) old mid new (owes.only durable) (leaves durable);
       }
 
   -- a scan of what opening left
   pub scanned_owe : (scanned : Life) → Looked mid scanned → Owes sum P old scanned
   scanned_owe scanned looked =
       let content = text sum P old.present.readable in
-      joins_owe scanned (floors_looked sum P content mid scanned looked) (λ durable. looked_stays sum P content mid.present.readable some mid scanned (opened_rests durable) looked)
+      joins_owe scanned (floors_looked sum P content mid scanned looked)
+      (λ durable. only_through sum P content content mid scanned (looked_stays sum P content mid.present.readable some mid scanned (opened_rests durable) looked))
 
-  -- and of what is kept of it
-  pub recovers_owe : (scanned new : Life) (Q : ℕ) (p : Prefix) → ReadsImage mid → Looked mid scanned → Q ≡ P → p ≡ prefix_of sum P (pages P mid.present.readable) → EndsAt (prefix_pages p * (Q + 12)) scanned new → Owes sum P old new
-  recovers_owe scanned new Q p image looked same is ends =
-      let bytes = mid.present.readable in
+  -- and a cut of it to the text
+  pub recovers_owe : (scanned new : Life) (n Q : ℕ) → Looked mid scanned → Q ≡ P → n ≡ length (text sum P scanned.present.readable) → KeepsFloorsWithin n sum Q scanned new → LeavesText sum Q scanned new → Owes sum P old new
+  recovers_owe scanned new n Q looked same is floors leaves =
       let content = text sum P old.present.readable in
-      let k = prefix_pages (prefix_of sum P (pages P bytes)) in
-      let le : k * (P + 12) ≤ length bytes = pages_reach P k bytes (omega (arith, (prefix_is sum P (pages P bytes)).within, length-pages P bytes)) in
-      let leaves : text sum P (take (k * (P + 12)) bytes) ≡ content = text_of_beginning sum P (k * (P + 12)) bytes some le (omega arith) ∙ opened_says in
-      let place : prefix_pages p * (Q + 12) ≡ k * (P + 12) = ap (λ (n : ℕ). prefix_pages p * (n + 12)) same ∙ ap (λ (q : Prefix). prefix_pages q * (P + 12)) is in
-      let here : EndsAt (k * (P + 12)) scanned new = subst (λ (n : ℕ). EndsAt n scanned new) place ends in
-      let reach : k * (P + 12) ≤ length scanned.present.readable = omega (arith, le, ap length (looked_readable mid scanned looked)) in
-      joins_owe new
-      (floors_joins sum P content mid scanned new (floors_looked sum P content mid scanned looked)
-      (ends_floors sum P k content (content_few sum P k content bytes le leaves) scanned new (looked_image mid scanned looked image) reach here))
+      let says : text sum P scanned.present.readable ≡ content = ap (λ (l : List ℕ). text sum P l) (looked_readable mid scanned looked) ∙ opened_says in
+      let all : take n content ≡ content = take_all n content (omega (arith, is, ap length says)) in
+      let here : KeepsFloors sum P content scanned new = subst (λ (l : List ℕ). KeepsFloors sum P l scanned new) all (subst (λ (k : ℕ). KeepsFloorsWithin n sum k scanned new) same floors content) in
+      joins_owe new (floors_joins sum P content mid scanned new (floors_looked sum P content mid scanned looked) here)
       (λ durable.
       let rest = opened_rests durable in
-      stays_through_joins sum P content mid scanned new (looked_stays sum P content bytes some mid scanned rest looked)
-      (ends_stay sum P content bytes some k scanned new (looked_rests sum P content bytes some mid scanned rest looked) le leaves here))
+      let now = looked_rests sum P content mid.present.readable some mid scanned rest looked in
+      through_joins (AllOnly sum P content content) mid scanned new
+      (only_through sum P content content mid scanned (looked_stays sum P content mid.present.readable some mid scanned rest looked))
+      (subst (λ (l : List ℕ). LeavesOnly sum P l l scanned new) says (subst (λ (k : ℕ). LeavesText sum k scanned new) same leaves now.durable)))
 
 -- a search that isn't answered looked too
 pub finds_looked : (p : Prefix) (old new : Life) (e : Error) → Finds p old new (Err e) → Looked old new
@@ -219,15 +190,3 @@ finds_looked p old new BlobInsufficientLength finds = absurd finds
 finds_looked p old new OffsetOverflow finds = absurd finds
 finds_looked p old new OutOfMemory finds = finds
 finds_looked p old new IdsExhausted finds = absurd finds
-
--- a recovery keeps all
-pub recovers_keep_all : (sum : List ℕ → ℕ) (cache : CacheState) (capacity : ℕ) (old new : Life) (result : Result WriterState Error) → 0 < cache.page_size → Recovers sum cache capacity old new result
-    → OnOk result (KeepsAll sum cache.page_size (text sum cache.page_size old.present.readable) new)
-recovers_keep_all sum cache capacity old new (Ok w) some is =
-    let P = cache.page_size in
-    let bytes = old.present.readable in
-    let k = prefix_pages (prefix_of sum P (pages P bytes)) in
-    let le : k * (P + 12) ≤ length bytes = pages_reach P k bytes (omega (arith, (prefix_is sum P (pages P bytes)).within, length-pages P bytes)) in
-    rest_keeps sum P (text sum P bytes) new.present is.durable.since
-    (ap (λ (l : List ℕ). text sum P l) (is.durable.base ∙ is.readable) ∙ text_of_beginning sum P (k * (P + 12)) bytes some le (omega arith))
-recovers_keep_all sum cache capacity old new (Err e) some is = tt

@@ -1,9 +1,9 @@
 -- A wait for the pending sync, and what comes behind it.
-use Rattle.std.proofs.Common.{◌≡◌, ℕ, ◌+◌, ◌≤◌, List, [], inl, inr, ◌⊎◌, refl, sym, ap, ◌∙◌, subst, arith, append-nil, true, false, Result, Ok, Err}
+use Rattle.std.proofs.Common.{◌≡◌, ℕ, ◌+◌, ◌≤◌, List, length, [], inl, inr, ◌⊎◌, refl, sym, ap, ◌∙◌, subst, arith, append-nil, true, false, Result, Ok, Err}
 use Rattle.std.specs.Prelude.{OnOk, take, ◌*◌, if◌then◌else◌}
 use Rattle.disk.specs.declared.started_sync.StartedSync.{StartedSync}
 use Rattle.disk.specs.declared.started_sync.StartedSync.TheVariants.{Done, Named}
-use Rattle.disk.specs.Disk.{Disk, Life, WaitSync, SyncGoes, WaitGoes, WaitsFor, next, logged, settle_to, failed_at}
+use Rattle.disk.specs.Disk.{Disk, Life, WaitSync, WaitGoes, WaitsFor, next, logged, settle_to, failed_at}
 use Rattle.disk.specs.declared.error.Error.{Error}
 use Rattle.disk.specs.declared.error.Error.TheVariants.{SyncFailed, OutOfMemory}
 use Rattle.crash.specs.WriterState.{WriterState, SyncState}
@@ -14,9 +14,10 @@ use Rattle.crash.specs.Started.{CoversThrough, StartsStand}
 use Rattle.crash.specs.Stays.{StaysThrough}
 use Rattle.crash.proofs.Moments.{stays_through_start}
 use Rattle.crash.proofs.BuiltLaws.{IsSmall}
-use Rattle.crash.proofs.BelowLaws.{pages_none, pages_one, pages_join}
-use Rattle.crash.proofs.CoverLaws.{covers_none, covers_one, covers_through_join}
-use Rattle.crash.proofs.StandLaws.{sound_stands}
+use Rattle.crash.proofs.BelowLaws.{pages_none, pages_one, pages_join, sync_pages_stay}
+use Rattle.crash.proofs.CoverLaws.{covers_none, covers_one, covers_through_join, sync_covers}
+use Rattle.crash.proofs.StandLaws.{sound_stands, sync_stands}
+use Rattle.crash.proofs.FloorLaws.{sync_readable}
 use Rattle.crash.proofs.StartedLaws.{settles_same, wait_leaves, wait_sound, wait_covers, waited_keeps}
 use Rattle.crash.proofs.Soundness.{sound_leaves}
 use Rattle.paged.specs.Writer.{state_of}
@@ -24,8 +25,8 @@ use Rattle.paged.specs.declared.writer.SyncState.{SyncState as State}
 use Rattle.paged.specs.declared.writer.SyncState.TheVariants.{Clean as IsClean, Dirty as IsDirty}
 use Rattle.paged.specs.Flush.{has_work, synced, answered}
 use Rattle.paged.specs.Calls.{AsksAtMost, wait_calls, settle_calls, sync_calls, GoesOn, IsSameWriter, Flushes, Settles, SettlesBy, Syncs, HadFailed, HasCause, WaitsForNone, WaitsForSync, Completes, Covers, LeavesWriters, waited, waited_state}
-use Rattle.paged.proofs.Causes.{wait_cause, wait_asks, wait_grows}
-use Rattle.paged.proofs.Flushes.{size_is_length, stays_nil, goes_on_more, refuses_more}
+use Rattle.paged.proofs.Causes.{wait_cause, wait_asks, wait_grows, sync_asks}
+use Rattle.paged.proofs.Flushes.{size_is_length, stays_nil, goes_on_more, refuses_more, goes_on_same, settle_goes}
 
 -- what a wait leaves of what is readable
 wait_readable : (name : ℕ) (old new : Life) (answer : Result (Unit {0}) Error) → WaitGoes name old new answer → new.present.readable ≡ old.present.readable
@@ -174,21 +175,9 @@ wait_covers_all sum Done old new (Err e) goes = tt
 
 -- ---- a wait that makes all durable that is written
 
-pub wait_settles_all : (s : SyncState) (name : ℕ) → s ≡ Pending name → wait_calls s ≡ 1
-wait_settles_all s name state = ap wait_calls state
-
-pub settle_pending : (s : SyncState) (name : ℕ) → s ≡ Pending name → settle_calls s ≡ wait_calls s
-settle_pending s name state = omega (arith, ap settle_calls state, ap wait_calls state)
-
 pub wait_is_settle : (sum : List ℕ → ℕ) (w : WriterState) (name : ℕ) → w.sync ≡ Pending name → (old new : Life) (result : Result WriterState Error) → WaitsForSync sum w old new result → Settles sum w old new result
 wait_is_settle sum w name state old new (Ok now) (goes, is) = (goes, is ∙ ap (λ (s : SyncState). record w { sync = waited_state s }) state)
 wait_is_settle sum w name state old new (Err e) refused = refused
-
-pub settles_clean : (s : SyncState) (life : Life) → s ≡ Clean → SettlesBy s life life (Ok tt)
-settles_clean s life clean = subst (λ (t : SyncState). SettlesBy t life life (Ok tt)) (sym clean) (refl, refl)
-
-pub settles_dirty : (s : SyncState) (old new : Life) (result : Result (Unit {0}) Error) → s ≡ Dirty → SyncGoes old new result → SettlesBy s old new result
-settles_dirty s old new result dirty goes = subst (λ (t : SyncState). SettlesBy t old new result) (sym dirty) goes
 
 -- ---- a call behind a wait
 
@@ -224,3 +213,60 @@ pub sync_asks_behind : (w m : WriterState) (old mid new : Life) → m ≡ waited
 sync_asks_behind w m old mid new is first second =
     let later : sync_calls m ≡ (if has_work w true then 1 else 0) + settle_calls (waited_state w.sync) = ap sync_calls is in
     omega (arith, first, second, later, wait_within w.sync)
+
+-- ---- what is written is made durable
+
+-- it leaves the pages
+pub settled_pages : (P k : ℕ) (s : SyncState) (old new : Life) (result : Result (Unit {0}) Error) → SettlesBy s old new result → PagesStay P k old new
+settled_pages P k Clean old new result (ok, same) = pages_none P k old new same
+settled_pages P k Dirty old new result goes = sync_pages_stay P k old new result goes
+settled_pages P k (Pending name) old new result goes = elim (wait_moment name old new result goes) [
+  | inl none ↦ pages_none P k old new none
+  | inr one ↦ pages_one P k old new new.present one (ap (λ (l : List ℕ). take (k * (P + 12)) l) (wait_readable name old new result goes))
+]
+
+-- and what is readable
+pub settled_readable : (s : SyncState) (old new : Life) (result : Result (Unit {0}) Error) → SettlesBy s old new result → new.present.readable ≡ old.present.readable
+settled_readable Clean old new result (ok, same) = ap (λ (l : Life). l.present.readable) same
+settled_readable Dirty old new result goes = sync_readable old new result goes
+settled_readable (Pending name) old new result goes = wait_readable name old new result goes
+
+-- by at most one call
+pub settled_asks : (s : SyncState) (old new : Life) (result : Result (Unit {0}) Error) → SettlesBy s old new result → AsksAtMost (settle_calls s) old new
+settled_asks Clean old new result (ok, same) = omega (arith, ap (λ (l : Life). length l.present.log) same)
+settled_asks Dirty old new result goes = sync_asks old new result goes
+settled_asks (Pending name) old new result goes = wait_asks name old new result goes
+
+-- what that owes to a sound writer
+pub record SettledOwes (sum : List ℕ → ℕ) (w now : WriterState) (old new : Life) (result : Result (Unit {0}) Error) : Type 0 where
+  pub settles : Settles sum w old new (answered now result)
+  pub covers : CoversThrough sum w.page_size (content w old.present.readable) old new
+  pub starts : StartsStand new.present
+  pub idle : settle_calls w.sync ≡ 0 → (result ≡ Ok tt) × (now ≡ w) × (new ≡ old)
+
+pub settled_owes : (sum : List ℕ → ℕ) (w now : WriterState) (old new : Life) (result : Result (Unit {0}) Error) → IsSmall sum → IsSound sum w old.present → SettlesBy w.sync old new result → OnOk result (now ≡ synced w)
+    → SettledOwes sum w now old new result
+unfolding IsSound
+settled_owes sum w now old new result small sound goes state = by_state w.sync refl goes
+  where
+    by_state : (s : SyncState) → w.sync ≡ s → SettlesBy s old new result → SettledOwes sum w now old new result
+    by_state Clean clean (ok, same) =
+        let is : now ≡ w = subst (λ (r : Result (Unit {0}) Error). OnOk r (now ≡ synced w)) ok state ∙ sym (ap (λ (s : SyncState). record w { sync = s }) clean) in
+        record {
+          settles = rw (ok, is, same) (goes_on_same sum w old sound, ap (λ (s : SyncState). record w { sync = s }) clean);
+          covers = covers_none sum w.page_size (content w old.present.readable) old new same;
+          starts = subst (λ (l : Life). StartsStand l.present) (sym same) (sound_stands sum w old.present sound);
+          idle = λ none. (ok, is, same);
+        }
+    by_state Dirty dirty goes = record {
+      settles = settle_goes sum w now old new result small sound goes state;
+      covers = sync_covers sum w old new sound result goes;
+      starts = sync_stands sum w old new result sound goes;
+      idle = λ none. absurd (omega (arith, ap settle_calls dirty, none));
+    }
+    by_state (Pending name) pending goes = record {
+      settles = wait_is_settle sum w name pending old new (answered now result) (wait_goes sum w now name old new result small sound pending goes state);
+      covers = wait_covers_through sum w now name old new result small sound pending goes;
+      starts = wait_stands sum w now name old new result small sound pending goes;
+      idle = λ none. absurd (omega (arith, ap settle_calls pending, none));
+    }

@@ -6,3 +6,5 @@ pub mod Recovery
 pub mod Reads
 pub mod Searches
 pub mod Direct
+pub mod Truncate
+pub mod Recovers

@@ -1,6 +1,6 @@
 -- The pages of a blob that a recovery keeps.
 use Rattle.std.specs.Prelude.{◌==◌, ◌+◌, ◌*◌, ◌<◌, ℕ, zero, suc, List, [], ◌∷◌, take, drop, get_or}
-use Rattle.std.specs.Prelude.{Option, Some, None, if◌then◌else◌}
+use Rattle.std.specs.Prelude.{length, Option, Some, None, if◌then◌else◌}
 use Rattle.page.specs.Page.{value_len, active}
 use Rattle.page.specs.declared.slot.ActiveChecksum.{ActiveChecksum}
 use Rattle.crash.specs.WriterState.{WriterState, SyncState}
@@ -47,6 +47,10 @@ prefix_pages p = p.full_pages + partial_pages p.partial
 abbrev pub tip_of : Option (List ℕ × ActiveChecksum) → List ℕ
 tip_of None = []
 tip_of (Some p) = p.0
+
+-- how many logical bytes a prefix has
+abbrev pub prefix_size : ℕ → Prefix → ℕ
+prefix_size P p = p.full_pages * P + length (tip_of p.partial)
 
 abbrev pub slot_of_tip : Option (List ℕ × ActiveChecksum) → Option ActiveChecksum
 slot_of_tip None = None

@@ -1,4 +1,4 @@
--- What opening and recovering a blob do, by cases on the answer.
+-- What opening a blob does, by cases on the answer.
 use Rattle.std.specs.Prelude.{◌≡◌, ◌≢◌, ◌⊎◌, ◌≤◌, ◌+◌, ◌*◌, ◌/◌, ◌^◌, ℕ, List, [], length, take}
 use Rattle.std.specs.Prelude.{Option, Some, None, Result, Ok, Err}
 use Rattle.page.specs.Geometry.{adjusted}
@@ -10,20 +10,21 @@ use Rattle.page.specs.Page.{pages, text}
 use Rattle.page.specs.declared.slot.ActiveChecksum.{ActiveChecksum}
 use Rattle.cache.specs.CacheState.{CacheState}
 use Rattle.crash.specs.WriterState.{WriterState, SyncState}
-use Rattle.crash.specs.WriterState.SyncState.{Clean, Dirty, Pending}
+use Rattle.crash.specs.WriterState.SyncState.{Clean, Dirty}
 use Rattle.crash.specs.Looks.{Looked}
-use Rattle.crash.specs.Sound.{IsSound, LeavesItsContent, content}
+use Rattle.crash.specs.Sound.{IsSound, TipPage, content}
 use Rattle.crash.specs.Kept.{AllKeep, Through}
 use Rattle.crash.specs.Full.{AreFull}
+use Rattle.crash.specs.Built.{kept_len}
 use Rattle.crash.specs.Stays.{LeavesOnly}
 use Rattle.paged.specs.declared.prefix.Prefix.{Prefix}
 use Rattle.paged.specs.declared.writer.SyncState.TheVariants.{Clean as IsClean, Dirty as IsDirty}
 use Rattle.paged.specs.declared.writer.SyncState.TheVariants.{Pending as IsPending}
 use Rattle.paged.specs.declared.writer.SyncState.{SyncState as State}
-use Rattle.paged.specs.Prefix.{prefix_of, last_prefix, prefix_pages, at_prefix, HasBytes}
-use Rattle.paged.specs.Calls.{IsSettled}
+use Rattle.paged.specs.Prefix.{last_prefix, prefix_pages, at_prefix, HasBytes}
+use Rattle.paged.specs.Calls.{IsWritten, WaitsForNone}
 
--- why opening or recovering a blob may answer this error: neither writes
+-- why opening a blob may answer this error: it doesn't write
 abbrev pub RecoveryCause : Life → Life → Error → Type 0
 RecoveryCause old new ReadFailed = HasFailed ReadFailed old.present new.present
 RecoveryCause old new ResizeFailed = HasFailed ResizeFailed old.present new.present
@@ -90,33 +91,22 @@ abbrev pub slot_pages : Option ActiveChecksum → ℕ
 slot_pages None = 0
 slot_pages (Some slot) = 1
 
--- a sync of the blob of a writer in this state, where there may be something to sync
-abbrev pub SyncsIn : SyncState → Life → Life → Result (Unit {0}) Error → Type 0
-SyncsIn Clean old new answer = (answer ≡ Ok tt) × (new ≡ old)
-SyncsIn Dirty old new answer = SyncGoes old new answer
-SyncsIn (Pending name) old new answer = SyncGoes old new answer
-
--- all that is written is made durable and what stands behind these pages is cut, durably; the
--- writer stands there
-abbrev pub Keeps : WriterState → Prefix → Life → Life → Result WriterState Error → Type 0
-Keeps w p old new (Ok now) =
-    (now ≡ at_prefix w.page_size w.id w.capacity p Clean)
-    × (new.present.readable ≡ take (prefix_pages p * (w.page_size + 12)) old.present.readable)
-    × IsDurable new.present × LogGrows old.present new.present
-Keeps w p old new (Err e) = RecoveryCause old new e
-
--- the blob was synced at most once, and then cut to so many bytes at most once
-abbrev pub EndsAt : ℕ → Life → Life → Type 0
-EndsAt kept old new =
-    (mid : Life) × ((mid ≡ old) ⊎ ((answer : Result (Unit {0}) Error) × SyncGoes old mid answer))
-    × ((new ≡ mid) ⊎ ((answer : Result (Unit {0}) Error) × Cuts kept mid new answer))
-
 -- where all was durable and the pages below the tip are full, a writer is sound, and its content
 -- the text
 abbrev pub SoundWhereFull : (List ℕ → ℕ) → ℕ → Life → Life → WriterState → Type 0
 SoundWhereFull sum P old new w =
     IsDurable old.present → AreFull sum P (take w.full_pages (pages P old.present.readable))
     → IsSound sum w new.present × (content w new.present.readable ≡ text sum P old.present.readable)
+
+-- a writer as it is opened, whatever its blob: the blob ends with the tip's page, of which all is
+-- written; what a flush repeats of that page is of the tip; and where the writer is clean all of
+-- the blob is durable
+pub record IsAsOpened (sum : List ℕ → ℕ) (w : WriterState) (d : Disk) : Type 0 where
+  pub page : TipPage sum w.page_size w.full_pages w.tip d.readable w.flushed
+  pub written : IsWritten w
+  pub carries : kept_len w.durable ≤ length w.tip
+  pub waits : WaitsForNone w.sync
+  pub durable : w.sync ≡ Clean → IsDurable d
 
 -- how opening ends, where it does: the writer stands at the pages up to the last that has a value
 pub record IsOpened (sum : List ℕ → ℕ) (cache : CacheState) (capacity : ℕ) (old new : Life)
@@ -142,49 +132,6 @@ Opens sum cache capacity old new (Err e) = RecoveryCause old new e
 abbrev pub cache_after : Result WriterState Error → CacheState → CacheState
 cache_after (Ok w) cache = record cache { ids_given = cache.ids_given + 1 }
 cache_after (Err e) cache = cache
-
--- the same after a recovery: where that didn't end, the call may have come so far or not
-abbrev pub GivesId : Result WriterState Error → CacheState → CacheState → Type 0
-GivesId (Ok w) old new = new ≡ cache_after (Ok w) old
-GivesId (Err e) old new = (new ≡ old) ⊎ (new ≡ record old { ids_given = old.ids_given + 1 })
-
--- the full pages from the first on, and the value behind them
-abbrev pub recovered_prefix : (List ℕ → ℕ) → ℕ → List ℕ → Prefix
-recovered_prefix sum P bytes = prefix_of sum P (pages P bytes)
-
--- the writer that stands there, with nothing unsynced
-abbrev pub recovered_writer : (List ℕ → ℕ) → CacheState → ℕ → List ℕ → WriterState
-recovered_writer sum cache capacity bytes =
-    let P = cache.page_size in
-    at_prefix P cache.ids_given (adjusted capacity P) (recovered_prefix sum P bytes) Clean
-
--- the bytes of those pages
-abbrev pub recovered_size : (List ℕ → ℕ) → ℕ → List ℕ → ℕ
-recovered_size sum P bytes = prefix_pages (recovered_prefix sum P bytes) * (P + 12)
-
--- how a recovery ends, where it does: the writer stands at the full pages from the first on and the
--- value behind them, nothing else is left in the blob, and all of it is durable
-pub record IsRecovered (sum : List ℕ → ℕ) (cache : CacheState) (capacity : ℕ) (old new : Life)
-    (w : WriterState) : Type 0 where
-  pub state : w ≡ recovered_writer sum cache capacity old.present.readable
-  pub sound : IsSound sum w new.present
-  pub page_size : w.page_size ≡ cache.page_size
-  pub size : w.full_pages * w.page_size + length w.tip ≡ length (content w new.present.readable)
-  pub only : LeavesItsContent sum w new.present
-  pub content : content w new.present.readable ≡ text sum cache.page_size old.present.readable
-  pub readable : new.present.readable
-      ≡ take (recovered_size sum cache.page_size old.present.readable) old.present.readable
-  pub durable : IsDurable new.present
-  pub settled : IsSettled w
-  pub log : LogGrows old.present new.present
-
-abbrev pub Recovers : (List ℕ → ℕ) → CacheState → ℕ → Life → Life → Result WriterState Error
-    → Type 0
-Recovers sum cache capacity old new (Ok w) = IsRecovered sum cache capacity old new w
-Recovers sum cache capacity old new (Err OffsetOverflow) =
-    (new ≡ old) × (2 ^ 64 ≤ adjusted capacity cache.page_size)
-Recovers sum cache capacity old new (Err IdsExhausted) = 2 ^ 64 ≤ cache.ids_given
-Recovers sum cache capacity old new (Err e) = RecoveryCause old new e
 
 -- where all was durable as the call began, every image at each moment since keeps the whole text
 abbrev pub KeepsText : (List ℕ → ℕ) → ℕ → Life → Life → Type 0

@@ -40,6 +40,8 @@ impl<B, H, Phase> Writer<B, H, Phase> {
     pub(crate) fn has_flush_work(&self, rest: bool) -> bool
         ensures work { result ≡ has_work self.now rest }
         ensures room { self.now.page_size ≤ self.now.capacity }
+        ensures some { 0 < self.now.page_size }
+        ensures small { self.now.page_size < 2 ^ 16 }
     {
         let page_size = usize::from(self.page_size.get());
         let partial = self.tip.len() % page_size;
@@ -333,7 +335,7 @@ impl<B: Blob, H: Sum, Phase> Writer<B, H, Phase> {
     }
 
     /// Writes the tip out and makes it durable. After an error the writer is of no use.
-    fn sync_pages(&mut self, blob: &mut B) -> Result<(), Error>
+    pub(crate) fn sync_pages(&mut self, blob: &mut B) -> Result<(), Error>
         requires sound { IsSound H.sum_of self.old (B.life blob.old).present }
         requires work { has_work self.old true ≡ true }
         ensures syncs { let old = B.life blob.old in let new = B.life blob.new in
@@ -396,10 +398,18 @@ impl<B: Blob, H: Sum, Phase> Writer<B, H, Phase> {
         ensures unwritten { SettlesBy self.old.sync (B.life blob.old) (B.life blob.new) result }
         ensures starts { StartsStand (B.life blob.new).present }
     {
+        self.settle_blob(blob)
+    }
+
+    /// The same, whatever the blob: it is synced, or a pending sync is waited for.
+    pub(crate) fn settle_blob(&mut self, blob: &mut B) -> Result<(), Error>
+        ensures goes { SettlesBy self.old.sync (B.life blob.old) (B.life blob.new) result }
+        ensures state { OnOk result (self.new ≡ synced self.old) }
+    {
         match self.sync_state {
             SyncState::Clean => Ok(()),
             SyncState::Dirty => self.sync_blob(blob),
-            SyncState::Pending(_) => self.wait(blob),
+            SyncState::Pending(name) => self.wait_for(blob, name),
         }
     }
 }

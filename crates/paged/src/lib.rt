@@ -11,6 +11,7 @@ mod read;
 mod recovery;
 mod search;
 mod start;
+mod truncate;
 mod writer;
 
 pub use recovery::recover;

@@ -3,12 +3,12 @@ ghost use Rattle.std.specs.Prelude.{◌≡◌, ◌+◌, ◌*◌, ◌%◌, ◌≤
 ghost use Rattle.page.specs.Geometry.{adjusted};
 ghost use Rattle.std.specs.Int.NonZero.{non_zero_u16_get, non_zero_usize_get};
 ghost use Rattle.crash.specs.WriterState.SyncState.{Clean};
-ghost use Rattle.paged.specs.Prefix.{prefix_pages, at_prefix, tip_of, slot_of_tip};
+ghost use Rattle.paged.specs.Prefix.{prefix_pages, prefix_size, at_prefix, tip_of, slot_of_tip};
 ghost use Rattle.paged.specs.Writer.{state_of, FitsBlob};
 ghost use Rattle.paged.specs.Calls.{HoldsWithin};
-ghost use Rattle.paged.specs.Recovery.{Opens, Recovers, IsDurable, Cuts, CutsBack, Stands, SyncsIn};
-ghost use Rattle.paged.specs.Recovery.{Keeps, EndsAt, slot_pages, cache_after, GivesId, KeepsText};
-ghost use Rattle.paged.specs.Recovery.{LeavesText};
+ghost use Rattle.paged.specs.Recovery.{Opens, Cuts, CutsBack, Stands, slot_pages, cache_after};
+ghost use Rattle.paged.specs.Recovery.{IsAsOpened, KeepsText, LeavesText};
+ghost use Rattle.paged.specs.Recovers.{Recovers, GivesId};
 ghost use Rattle.paged.specs.Searches.{ReadsBack, ReadsWithin, scan_bytes};
 ghost use Rattle.page.specs.Page.{text};
 ghost use Rattle.paged.specs.Reads.{HasPages};
@@ -24,10 +24,10 @@ use disk::{Blob, Error};
 use page::{ActiveChecksum, Buffer, Sum, adjusted_capacity};
 use std::alloc::Global;
 use std::marker::PhantomData;
-use std::num::NonZeroUsize;
+use std::num::{NonZeroU16, NonZeroUsize};
 
 /// Cuts a blob to so many bytes, durably.
-fn cut<B: Blob>(blob: &mut B, kept: u64) -> Result<(), Error>
+pub(crate) fn cut<B: Blob>(blob: &mut B, kept: u64) -> Result<(), Error>
     ensures cuts { Cuts kept (B.life blob.old) (B.life blob.new) result }
 {
     blob.resize(kept)?;
@@ -47,16 +47,6 @@ fn cut_back<B: Blob>(blob: &mut B, size: u64, kept: u64) -> Result<SyncState, Er
     Ok(SyncState::Clean)
 }
 
-/// Syncs the blob of a writer in this state, where it may have something unsynced.
-fn sync_dirty<B: Blob>(blob: &mut B, sync_state: SyncState) -> Result<(), Error>
-    ensures syncs { SyncsIn (state_of sync_state) (B.life blob.old) (B.life blob.new) result }
-{
-    match sync_state {
-        SyncState::Clean => Ok(()),
-        SyncState::Dirty | SyncState::Pending(_) => blob.sync(),
-    }
-}
-
 /// The bytes that a writer buffers whose tip's page has this value, and the slot that tells it.
 fn tip_and_slot(partial: &Partial) -> (&[u8], Option<ActiveChecksum>)
     ensures tip { result.0.now ≡ tip_of partial.now }
@@ -66,6 +56,17 @@ fn tip_and_slot(partial: &Partial) -> (&[u8], Option<ActiveChecksum>)
         None => (&[], None),
         Some((value, slot)) => (value.as_ref(), Some(*slot)),
     }
+}
+
+/// How many logical bytes a prefix has.
+fn size_of(prefix: &Prefix, page_size: NonZeroU16) -> u64
+    requires fits { let P = non_zero_u16_get page_size in
+        prefix_pages prefix.now * (P + 12) < 2 ^ 64 }
+    requires short { length (tip_of prefix.now.partial) < non_zero_u16_get page_size }
+    ensures { result ≡ prefix_size (non_zero_u16_get page_size) prefix.now }
+{
+    let (bytes, _) = tip_and_slot(&prefix.partial);
+    prefix.full_pages * u64::from(page_size.get()) + bytes.len() as u64
 }
 
 impl<B, H> Recovery<B, H> {
@@ -106,7 +107,7 @@ impl<B, H> Recovery<B, H> {
 
 impl<B, H> Recovery<B, H> {
     /// How many pages the blob has.
-    fn flushed_pages(&self) -> u64
+    pub(crate) fn flushed_pages(&self) -> u64
         ensures { result ≡ self.now.full_pages + slot_pages self.now.flushed }
     {
         match self.flushed {
@@ -143,6 +144,10 @@ impl<B: Blob, H: Sum> Recovery<B, H> {
         ensures within { IfOk result (λ w. HoldsWithin w) }
         ensures ids { cache.new ≡ cache_after result cache.old }
 
+        // What a cut of it asks for.
+        ensures as_opened { let new = B.life blob.new in
+            IfOk result (λ w. IsAsOpened H.sum_of w new.present) }
+
         // At each moment since the call began, and at every answer.
         ensures floors { let old = B.life blob.old in let new = B.life blob.new in
             KeepsAllFloors H.sum_of cache.old.page_size old new }
@@ -161,31 +166,6 @@ impl<B: Blob, H: Sum> Recovery<B, H> {
         let kept = pages_of(&last) * physical_size;
         let sync_state = cut_back(blob, size, kept)?;
         Self::at_prefix(alloc, cache, capacity, last, sync_state)
-    }
-
-    /// Ends a recovery whose blob has `pages` pages, of which these are kept: all that is written
-    /// is made durable, then what stands behind them is cut, durably, and the writer stands there.
-    /// `ResizeFailed` and `SyncFailed` where the device failed, `OutOfMemory`.
-    fn keep(mut self, blob: &mut B, pages: u64, prefix: Prefix) -> Result<Self, Error>
-        requires clean { self.sync ≡ Clean → IsDurable (B.life blob.old).present }
-        requires size { length (B.life blob.old).present.readable ≡ pages * (self.page_size + 12) }
-        requires small { pages * (self.page_size + 12) < 2 ^ 64 }
-        requires within { prefix_pages prefix ≤ pages }
-        requires short { length (tip_of prefix.partial) < self.page_size }
-        ensures keeps { Keeps self prefix (B.life blob.old) (B.life blob.new) result }
-        ensures ends { let old = B.life blob.old in let new = B.life blob.new in
-            EndsAt (prefix_pages prefix * (self.page_size + 12)) old new }
-    {
-        sync_dirty(blob, self.sync_state)?;
-        let size = self.physical_page_size();
-        cut_back(blob, pages * size, pages_of(&prefix) * size)?;
-        let (bytes, slot) = tip_and_slot(&prefix.partial);
-        let offset = prefix.full_pages * u64::from(self.page_size.get());
-        self.tip.replace(offset, bytes)?;
-        self.flushed = slot;
-        self.durable = slot;
-        self.sync_state = SyncState::Clean;
-        Ok(self)
     }
 }
 
@@ -210,6 +190,10 @@ impl<B: Blob, H: Sum> Writer<B, H> {
         ensures within { IfOk result (λ w. HoldsWithin w) }
         ensures ids { cache.new ≡ cache_after result cache.old }
 
+        // What a cut of it asks for.
+        ensures as_opened { let new = B.life blob.new in
+            IfOk result (λ w. IsAsOpened H.sum_of w new.present) }
+
         // At each moment since the call began, and at every answer.
         ensures floors { let old = B.life blob.old in let new = B.life blob.new in
             KeepsAllFloors H.sum_of cache.old.page_size old new }
@@ -229,11 +213,11 @@ impl<B: Blob, H: Sum> Writer<B, H> {
 /// Recovers a blob of `size` physical bytes, whatever they are, also where something is unsynced,
 /// as after a call that was refused: the writer's content is the text of the bytes, which are the
 /// values of the pages from the first on joined while each is full, and the next page's value. What
-/// else the blob had is cut, and all of it is durable. Each read has at most as many pages as fit
-/// `buffer_size`, and at least one.
+/// else the blob had is cut, as [`Recovery::truncate`] does, and all of it is durable. Each read
+/// has at most as many pages as fit `buffer_size`, and at least one.
 ///
-/// Errors are those of [`Recovery::open`]; what the blob then holds has the same text. After one
-/// the cache may have given an id.
+/// Errors are those of [`Recovery::open`], and `WriteFailed` where the device failed; what the blob
+/// then holds has the same text. After one the cache may have given an id.
 pub fn recover<B: Blob, H: Sum>(
     alloc: Global,
     blob: &mut B,
@@ -272,5 +256,6 @@ pub fn recover<B: Blob, H: Sum>(
     let recovery = Recovery::<B, H>::open(alloc, blob, size, capacity, cache)?;
     let pages = recovery.flushed_pages();
     let prefix = scan::<B, H>(alloc, blob, recovery.page_size, pages, buffer_size)?;
-    recovery.keep(blob, pages, prefix)
+    let text_size = size_of(&prefix, recovery.page_size);
+    recovery.truncate(blob, cache, text_size)
 }

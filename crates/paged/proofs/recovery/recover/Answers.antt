@@ -1,21 +1,20 @@
-use Rattle.std.proofs.Common.{◌≡◌, ◌+◌, ◌*◌, ℕ, length, ◌∙◌, ap, arith, refl, subst}
+use Rattle.std.proofs.Common.{◌≡◌, ◌≤◌, ◌+◌, ◌*◌, ℕ, length, ◌∙◌, ap, arith, refl, subst, inr}
 use Rattle.std.proofs.lemmas.Result.{err_from_is_err_and}
+use Rattle.std.proofs.Math.Nat.{mul-le-mul_left}
 use Rattle.std.specs.Int.NonZero.{non_zero_u16_get, non_zero_usize_get}
 use Rattle.crash.specs.WriterState.{WriterState}
-use Rattle.page.specs.Page.{pieces}
-use Rattle.paged.specs.Prefix.{HasBytes, prefix_of, prefix_pages}
-use Rattle.paged.specs.Recovery.{Recovers}
-use Rattle.crash.proofs.LookLaws.{looked_readable}
-use Rattle.paged.proofs.Recoveries.{opened_size_le, cause_later, finds_cause}
-use Rattle.paged.proofs.Recovered.{counted_length, opened_length, found_is, found_within, found_short, opened_page_size, opened_durable, looked_durable, recovers_end, recovers_cause, opened_positive}
-use Rattle.paged.proofs.Trims.{Owes, scanned_owe, recovers_owe, finds_looked, recovers_keep_all}
+use Rattle.page.specs.Page.{pieces, text}
+use Rattle.paged.specs.Prefix.{prefix_of, prefix_pages}
+use Rattle.paged.specs.Recovers.{Recovers}
+use Rattle.paged.proofs.Recoveries.{opened_size_le, finds_cause}
+use Rattle.paged.proofs.Recovered.{counted_length, opened_length, opened_page_size, opened_positive, found_is, found_within, found_short, counted_text, no_work, CutToText, scanned_length, scanned_as_opened, recovers_unfound, recovers_end, recovers_keep}
+use Rattle.paged.proofs.Trims.{Owes, scanned_owe, recovers_owe, finds_looked}
 use Rattle.paged.specs.Searches.{ReadsWithin, scan_bytes}
-use Rattle.paged.proofs.Searching.{back_within, page_within, scans_within, ends_within}
-use Rattle.paged.proofs.Places.{recovers_within}
-use Rattle.paged.proofs.There.{recovered_there, recovered_sound}
+use Rattle.paged.proofs.Searching.{back_within, page_within, scans_within, cuts_within}
+use Rattle.paged.proofs.There.{recovered_sound}
 use Rattle.paged.proofs.recovery.recover.Given.{Over}
 use Rattle.paged.proofs.recovery.recover.Goals as goal
-use Rattle.paged.proofs.recovery.recover.Goals.{In_err-prefix, After-scan, After-keep}
+use Rattle.paged.proofs.recovery.recover.Goals.{In_err-prefix, After-scan, After-size_of-text_size, After-truncate}
 
 pub scan-requires-clause-there : goal.scan-requires-clause-there
 scan-requires-clause-there g c =
@@ -43,13 +42,8 @@ scan-requires-clause-fits g c =
     let same : Q ≡ cache.page_size = ap (λ (x : WriterState). x.page_size) c.recovery.view_is ∙ opened_page_size sum cache c.args.capacity old mid w opened in
     omega (arith, counted_length sum cache c.args.capacity old mid w opened c.flushed_pages-pages.result Q same c.flushed_pages-pages.ensures, opened_length sum cache c.args.capacity old mid w opened, opened_size_le sum cache.page_size old.present.readable)
 
-pub keep-requires-clause-clean : goal.keep-requires-clause-clean
-keep-requires-clause-clean g c = λ is.
-    let life = g.B.Blob.life in
-    looked_durable (life c.open.new.blob) (life c.scan.new.blob) c.in_ok-prefix.ensures.finds.1 (opened_durable g.H.Sum.sum_of c.args.cache.now c.args.capacity (life c.args.blob.now) (life c.open.new.blob) c.in_ok-recovery.recovery c.in_ok-recovery.ensures.opens is)
-
-pub keep-requires-clause-size : goal.keep-requires-clause-size
-keep-requires-clause-size g c =
+pub size_of-text_size-requires-clause-fits : goal.size_of-text_size-requires-clause-fits
+size_of-text_size-requires-clause-fits g c =
     let life = g.B.Blob.life in
     let sum = g.H.Sum.sum_of in
     let cache = c.args.cache.now in
@@ -57,33 +51,21 @@ keep-requires-clause-size g c =
     let mid = life c.open.new.blob in
     let w = c.in_ok-recovery.recovery in
     let opened = c.in_ok-recovery.ensures.opens in
-    ap length (looked_readable mid (life c.scan.new.blob) c.in_ok-prefix.ensures.finds.1)
-    ∙ counted_length sum cache c.args.capacity old mid w opened c.flushed_pages-pages.result w.page_size (opened_page_size sum cache c.args.capacity old mid w opened) c.flushed_pages-pages.ensures
-
-pub keep-requires-clause-small : goal.keep-requires-clause-small
-keep-requires-clause-small g c =
-    let life = g.B.Blob.life in
-    let sum = g.H.Sum.sum_of in
-    let cache = c.args.cache.now in
-    let old = life c.args.blob.now in
-    let mid = life c.open.new.blob in
-    let w = c.in_ok-recovery.recovery in
-    let opened = c.in_ok-recovery.ensures.opens in
+    let Q = non_zero_u16_get c.recovery.inside.page_size in
+    let same : Q ≡ cache.page_size = ap (λ (x : WriterState). x.page_size) c.recovery.view_is ∙ opened_page_size sum cache c.args.capacity old mid w opened in
+    let few = found_within sum Q c.flushed_pages-pages.result mid.present.readable c.in_ok-prefix.prefix c.in_ok-prefix.ensures.finds.0 in
+    let more : (Q + 12) * prefix_pages c.in_ok-prefix.prefix ≤ (Q + 12) * c.flushed_pages-pages.result = mul-le-mul_left (Q + 12) few in
     omega (
       arith,
-      counted_length sum cache c.args.capacity old mid w opened c.flushed_pages-pages.result w.page_size (opened_page_size sum cache c.args.capacity old mid w opened) c.flushed_pages-pages.ensures,
+      more,
+      counted_length sum cache c.args.capacity old mid w opened c.flushed_pages-pages.result Q same c.flushed_pages-pages.ensures,
       opened_length sum cache c.args.capacity old mid w opened,
       opened_size_le sum cache.page_size old.present.readable,
     )
 
-pub keep-requires-clause-within : goal.keep-requires-clause-within
-keep-requires-clause-within g c =
-    found_within g.H.Sum.sum_of (non_zero_u16_get c.recovery.inside.page_size) c.flushed_pages-pages.result (g.B.Blob.life c.open.new.blob).present.readable c.in_ok-prefix.prefix c.in_ok-prefix.ensures.finds.0
-
-pub keep-requires-clause-short : goal.keep-requires-clause-short
-keep-requires-clause-short g c =
-    let short = found_short g.H.Sum.sum_of (non_zero_u16_get c.recovery.inside.page_size) c.flushed_pages-pages.result (g.B.Blob.life c.open.new.blob).present.readable c.in_ok-prefix.prefix c.recovery.inside.page_size.ok c.in_ok-prefix.ensures.finds.0 in
-    omega (arith, short, ap (λ (x : WriterState). x.page_size) c.recovery.view_is)
+pub size_of-text_size-requires-clause-short : goal.size_of-text_size-requires-clause-short
+size_of-text_size-requires-clause-short g c =
+    found_short g.H.Sum.sum_of (non_zero_u16_get c.recovery.inside.page_size) c.flushed_pages-pages.result (g.B.Blob.life c.open.new.blob).present.readable c.in_ok-prefix.prefix c.recovery.inside.page_size.ok c.in_ok-prefix.ensures.finds.0
 
 pub returns-in_err-prefix-clause-recovers : goal.returns-in_err-prefix-clause-recovers
 returns-in_err-prefix-clause-recovers g c =
@@ -96,7 +78,7 @@ returns-in_err-prefix-clause-recovers g c =
     let e = c.in_err-prefix.field-0.0 in
     let Q = non_zero_u16_get c.recovery.inside.page_size in
     let p = err_from_is_err_and c.from_residual-in_err-prefix.result c.from_residual-in_err-prefix.ensures.1 in
-    rw (p.1, p.2) (recovers_cause sum cache c.args.capacity old new e (cause_later old mid new e c.in_ok-recovery.ensures.opens.log (finds_cause (prefix_of sum Q (pieces c.flushed_pages-pages.result (Q + 12) mid.present.readable)) mid new e c.in_err-prefix.ensures.finds)))
+    rw (p.1, p.2) (recovers_unfound sum cache c.args.capacity old new mid e c.in_ok-recovery.ensures.opens.log (finds_cause (prefix_of sum Q (pieces c.flushed_pages-pages.result (Q + 12) mid.present.readable)) mid new e c.in_err-prefix.ensures.finds))
 
 -- what was opened, and looked at
 owes-looked : (g : Over) (c : In_err-prefix g) → Owes g.H.Sum.sum_of c.args.cache.now.page_size (g.B.Blob.life c.args.blob.now) (g.B.Blob.life c.scan.new.blob)
@@ -122,9 +104,40 @@ returns-in_err-prefix-clause-kept g c = (owes-looked g (goal.at.returns-in_err-p
 pub returns-in_err-prefix-clause-only : goal.returns-in_err-prefix-clause-only
 returns-in_err-prefix-clause-only g c = (owes-looked g (goal.at.returns-in_err-prefix-clause-only g c).In_err-prefix).only
 
+-- what is cut, and where its text ends
+cuts : (g : Over) (c : After-size_of-text_size g) → CutToText g.H.Sum.sum_of c.args.cache.now c.args.capacity c.size_of-text_size.result (g.B.Blob.life c.args.blob.now) (g.B.Blob.life c.open.new.blob) (g.B.Blob.life c.scan.new.blob) c.in_ok-recovery.recovery
+cuts g c =
+    let life = g.B.Blob.life in
+    let sum = g.H.Sum.sum_of in
+    let cache = c.args.cache.now in
+    let old = life c.args.blob.now in
+    let mid = life c.open.new.blob in
+    let w = c.in_ok-recovery.recovery in
+    let p = c.in_ok-prefix.prefix in
+    let opened = c.in_ok-recovery.ensures.opens in
+    let Q = non_zero_u16_get c.recovery.inside.page_size in
+    let is = ap (λ (x : WriterState). x.page_size) c.recovery.view_is in
+    let same : Q ≡ cache.page_size = is ∙ opened_page_size sum cache c.args.capacity old mid w opened in
+    record {
+      positive = opened_positive sum cache c.args.capacity old mid w opened Q c.recovery.inside.page_size.ok is;
+      opened = opened;
+      as_opened = c.in_ok-recovery.ensures.as_opened;
+      looked = c.in_ok-prefix.ensures.finds.1;
+      text = counted_text sum cache.page_size c.size_of-text_size.result Q mid.present.readable p same
+          (found_is sum cache c.args.capacity old mid w opened c.flushed_pages-pages.result Q p same c.flushed_pages-pages.ensures c.in_ok-prefix.ensures.finds.0) c.size_of-text_size.ensures;
+    }
+
+pub truncate-requires : goal.truncate-requires
+truncate-requires g c =
+    let life = g.B.Blob.life in
+    record {
+      stands = inr (scanned_as_opened g.H.Sum.sum_of c.args.cache.now c.args.capacity c.size_of-text_size.result (life c.args.blob.now) (life c.open.new.blob) (life c.scan.new.blob) c.in_ok-recovery.recovery
+          (cuts g (goal.at.truncate-requires g c).After-size_of-text_size));
+    }
+
 -- how the recovery ends, where it does
-recovers : (g : Over) (c : After-keep g) → Recovers g.H.Sum.sum_of c.args.cache.now c.args.capacity (g.B.Blob.life c.args.blob.now) (g.B.Blob.life c.keep.new.blob) c.keep.result
-recovers g c =
+recovers : (g : Over) (c : After-truncate g) → CutToText g.H.Sum.sum_of c.args.cache.now c.args.capacity c.size_of-text_size.result (g.B.Blob.life c.args.blob.now) (g.B.Blob.life c.open.new.blob) (g.B.Blob.life c.scan.new.blob) c.in_ok-recovery.recovery → Recovers g.H.Sum.sum_of c.args.cache.now c.args.capacity (g.B.Blob.life c.args.blob.now) (g.B.Blob.life c.truncate.new.blob) c.truncate.result
+recovers g c all =
     let life = g.B.Blob.life in
     let sum = g.H.Sum.sum_of in
     let cache = c.args.cache.now in
@@ -132,68 +145,57 @@ recovers g c =
     let mid = life c.open.new.blob in
     let scanned = life c.scan.new.blob in
     let w = c.in_ok-recovery.recovery in
-    let opened = c.in_ok-recovery.ensures.opens in
-    let p = c.in_ok-prefix.prefix in
-    let Q = non_zero_u16_get c.recovery.inside.page_size in
-    let same : Q ≡ cache.page_size = ap (λ (x : WriterState). x.page_size) c.recovery.view_is ∙ opened_page_size sum cache c.args.capacity old mid w opened in
-    let is = found_is sum cache c.args.capacity old mid w opened c.flushed_pages-pages.result Q p same c.flushed_pages-pages.ensures c.in_ok-prefix.ensures.finds.0 in
-    let has = subst (λ (n : ℕ). HasBytes n p.full_pages mid.present.readable p.partial) same c.in_ok-prefix.ensures.bytes in
-    recovers_end sum cache c.args.capacity old mid scanned (life c.keep.new.blob) w opened c.in_ok-prefix.ensures.finds.1 g.met.H.Sum.small (omega (arith, same)) (omega (arith, same)) p is has c.keep.result (g.met.B.Blob.starts_are_covered c.keep.new.blob) c.keep.ensures.keeps
+    let n = c.size_of-text_size.result in
+    let none = no_work sum w scanned.present (scanned_as_opened sum cache c.args.capacity n old mid scanned w all) in
+    recovers_end sum cache c.args.capacity n old mid scanned w all (life c.truncate.new.blob) c.truncate.result c.truncate.ensures.truncates (c.truncate.ensures.exact none) (c.truncate.ensures.full none)
 
 pub returns-clause-recovers : goal.returns-clause-recovers
-returns-clause-recovers g c = recovers g (goal.at.returns-clause-recovers g c).After-keep
-
-pub returns-clause-there : goal.returns-clause-there
-returns-clause-there g c = recovered_there g.H.Sum.sum_of c.args.cache.now c.args.capacity (g.B.Blob.life c.args.blob.now) (g.B.Blob.life c.keep.new.blob) c.keep.result (recovers g (goal.at.returns-clause-there g c).After-keep)
+returns-clause-recovers g c = recovers g (goal.at.returns-clause-recovers g c).After-truncate (cuts g (goal.at.returns-clause-recovers g c).After-size_of-text_size)
 
 pub returns-clause-sound : goal.returns-clause-sound
-returns-clause-sound g c = recovered_sound g.H.Sum.sum_of c.args.cache.now c.args.capacity (g.B.Blob.life c.args.blob.now) (g.B.Blob.life c.keep.new.blob) c.keep.result (recovers g (goal.at.returns-clause-sound g c).After-keep)
-
-pub returns-clause-within : goal.returns-clause-within
-returns-clause-within g c =
-    let sum = g.H.Sum.sum_of in
-    let cache = c.args.cache.now in
-    let old = g.B.Blob.life c.args.blob.now in
-    let mid = g.B.Blob.life c.open.new.blob in
-    let some = opened_positive sum cache c.args.capacity old mid c.in_ok-recovery.recovery c.in_ok-recovery.ensures.opens (non_zero_u16_get c.recovery.inside.page_size) c.recovery.inside.page_size.ok (ap (λ (x : WriterState). x.page_size) c.recovery.view_is) in
-    recovers_within sum cache c.args.capacity some old (g.B.Blob.life c.keep.new.blob) c.keep.result (recovers g (goal.at.returns-clause-within g c).After-keep)
+returns-clause-sound g c = recovered_sound g.H.Sum.sum_of c.args.cache.now c.args.capacity (g.B.Blob.life c.args.blob.now) (g.B.Blob.life c.truncate.new.blob) c.truncate.result (recovers g (goal.at.returns-clause-sound g c).After-truncate (cuts g (goal.at.returns-clause-sound g c).After-size_of-text_size))
 
 pub returns-clause-durable : goal.returns-clause-durable
 returns-clause-durable g c =
-    let sum = g.H.Sum.sum_of in
-    let cache = c.args.cache.now in
-    let old = g.B.Blob.life c.args.blob.now in
-    let mid = g.B.Blob.life c.open.new.blob in
-    let some = opened_positive sum cache c.args.capacity old mid c.in_ok-recovery.recovery c.in_ok-recovery.ensures.opens (non_zero_u16_get c.recovery.inside.page_size) c.recovery.inside.page_size.ok (ap (λ (x : WriterState). x.page_size) c.recovery.view_is) in
-    recovers_keep_all sum cache c.args.capacity old (g.B.Blob.life c.keep.new.blob) c.keep.result some (recovers g (goal.at.returns-clause-durable g c).After-keep)
-
--- and of what it did before, whatever the answer
-owes : (g : Over) (c : After-keep g) → Owes g.H.Sum.sum_of c.args.cache.now.page_size (g.B.Blob.life c.args.blob.now) (g.B.Blob.life c.keep.new.blob)
-owes g c =
     let life = g.B.Blob.life in
     let sum = g.H.Sum.sum_of in
     let cache = c.args.cache.now in
     let old = life c.args.blob.now in
     let mid = life c.open.new.blob in
+    let scanned = life c.scan.new.blob in
     let w = c.in_ok-recovery.recovery in
-    let p = c.in_ok-prefix.prefix in
+    let n = c.size_of-text_size.result in
+    let all = cuts g (goal.at.returns-clause-durable g c).After-size_of-text_size in
+    let none = no_work sum w scanned.present (scanned_as_opened sum cache c.args.capacity n old mid scanned w all) in
+    recovers_keep sum cache c.args.capacity n old mid scanned w all (life c.truncate.new.blob) c.truncate.result c.truncate.ensures.truncates (c.truncate.ensures.full none)
+
+-- and of what it did before, whatever the answer
+owes : (g : Over) (c : After-truncate g) → CutToText g.H.Sum.sum_of c.args.cache.now c.args.capacity c.size_of-text_size.result (g.B.Blob.life c.args.blob.now) (g.B.Blob.life c.open.new.blob) (g.B.Blob.life c.scan.new.blob) c.in_ok-recovery.recovery → Owes g.H.Sum.sum_of c.args.cache.now.page_size (g.B.Blob.life c.args.blob.now) (g.B.Blob.life c.truncate.new.blob)
+owes g c all =
+    let life = g.B.Blob.life in
+    let sum = g.H.Sum.sum_of in
+    let cache = c.args.cache.now in
+    let old = life c.args.blob.now in
+    let mid = life c.open.new.blob in
+    let scanned = life c.scan.new.blob in
+    let w = c.in_ok-recovery.recovery in
+    let n = c.size_of-text_size.result in
     let opened = c.in_ok-recovery.ensures.opens in
-    let Q = non_zero_u16_get c.recovery.inside.page_size in
-    let here = opened_page_size sum cache c.args.capacity old mid w opened in
-    let same : Q ≡ cache.page_size = ap (λ (x : WriterState). x.page_size) c.recovery.view_is ∙ here in
-    let is = found_is sum cache c.args.capacity old mid w opened c.flushed_pages-pages.result Q p same c.flushed_pages-pages.ensures c.in_ok-prefix.ensures.finds.0 in
-    let some = opened_positive sum cache c.args.capacity old mid c.in_ok-recovery.recovery c.in_ok-recovery.ensures.opens (non_zero_u16_get c.recovery.inside.page_size) c.recovery.inside.page_size.ok (ap (λ (x : WriterState). x.page_size) c.recovery.view_is) in
+    let none = no_work sum w scanned.present (scanned_as_opened sum cache c.args.capacity n old mid scanned w all) in
+    let same = opened_page_size sum cache c.args.capacity old mid w opened in
+    let length_is = subst (λ (k : ℕ). n ≡ length (text sum k scanned.present.readable)) same (scanned_length sum cache c.args.capacity n old mid scanned w all) in
     let before : Owes sum cache.page_size old mid = record { floors = c.in_ok-recovery.ensures.floors; kept = c.in_ok-recovery.ensures.kept; only = c.in_ok-recovery.ensures.only } in
-    recovers_owe sum cache.page_size old mid some opened.sync opened.kept before (g.met.B.Blob.readable_is_image c.args.blob.now) (life c.scan.new.blob) (life c.keep.new.blob) w.page_size p (g.met.B.Blob.readable_is_image c.open.new.blob) c.in_ok-prefix.ensures.finds.1 here is c.keep.ensures.ends
+    recovers_owe sum cache.page_size old mid all.positive opened.sync opened.kept before (g.met.B.Blob.readable_is_image c.args.blob.now) scanned (life c.truncate.new.blob) n w.page_size all.looked same length_is
+    c.truncate.ensures.floors (c.truncate.ensures.text none)
 
 pub returns-clause-floors : goal.returns-clause-floors
-returns-clause-floors g c = (owes g (goal.at.returns-clause-floors g c).After-keep).floors
+returns-clause-floors g c = (owes g (goal.at.returns-clause-floors g c).After-truncate (cuts g (goal.at.returns-clause-floors g c).After-size_of-text_size)).floors
 
 pub returns-clause-kept : goal.returns-clause-kept
-returns-clause-kept g c = (owes g (goal.at.returns-clause-kept g c).After-keep).kept
+returns-clause-kept g c = (owes g (goal.at.returns-clause-kept g c).After-truncate (cuts g (goal.at.returns-clause-kept g c).After-size_of-text_size)).kept
 
 pub returns-clause-only : goal.returns-clause-only
-returns-clause-only g c = (owes g (goal.at.returns-clause-only g c).After-keep).only
+returns-clause-only g c = (owes g (goal.at.returns-clause-only g c).After-truncate (cuts g (goal.at.returns-clause-only g c).After-size_of-text_size)).only
 
 pub returns-in_err-recovery-clause-reads : goal.returns-in_err-recovery-clause-reads
 returns-in_err-recovery-clause-reads g c =
@@ -222,5 +224,17 @@ returns-in_err-prefix-clause-reads g c = reads g (goal.at.returns-in_err-prefix-
 pub returns-clause-reads : goal.returns-clause-reads
 returns-clause-reads g c =
     let life = g.B.Blob.life in
-    let kept = prefix_pages c.in_ok-prefix.prefix * (c.in_ok-recovery.recovery.page_size + 12) in
-    ends_within (scan_bytes c.args.cache.now.page_size (non_zero_usize_get c.args.buffer_size)) kept (life c.args.blob.now) (life c.scan.new.blob) (life c.keep.new.blob) (reads g (goal.at.returns-clause-reads g c).After-scan) c.keep.ensures.ends
+    let sum = g.H.Sum.sum_of in
+    let cache = c.args.cache.now in
+    let old = life c.args.blob.now in
+    let mid = life c.open.new.blob in
+    let scanned = life c.scan.new.blob in
+    let new = life c.truncate.new.blob in
+    let w = c.in_ok-recovery.recovery in
+    let n = c.size_of-text_size.result in
+    let P = cache.page_size in
+    let buffer_size = non_zero_usize_get c.args.buffer_size in
+    let all = cuts g (goal.at.returns-clause-reads g c).After-size_of-text_size in
+    let none = no_work sum w scanned.present (scanned_as_opened sum cache c.args.capacity n old mid scanned w all) in
+    let last = subst (λ (k : ℕ). ReadsWithin (k + 12) scanned new) (opened_page_size sum cache c.args.capacity old mid w c.in_ok-recovery.ensures.opens) (c.truncate.ensures.reads none) in
+    cuts_within (P + 12) (scan_bytes P buffer_size) old scanned new (page_within P buffer_size (P + 12) refl) (reads g (goal.at.returns-clause-reads g c).After-scan) last

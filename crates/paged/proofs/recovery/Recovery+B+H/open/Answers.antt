@@ -10,7 +10,7 @@ use Rattle.crash.proofs.FloorLaws.{floors_none}
 use Rattle.paged.proofs.Recoveries.{opened_is, opened_last, opened_reach, opened_kept, opened_size_le, pages_count, fits_prefix, opens_cause, back_cause, kept_back, trims_back}
 use Rattle.paged.specs.Searches.{ReadsBack}
 use Rattle.paged.proofs.Searching.{opens_back}
-use Rattle.paged.proofs.Opened.{opens_end, opened_there}
+use Rattle.paged.proofs.Opened.{opens_end, opened_there, opens_as_opened}
 use Rattle.paged.proofs.Trims.{Owes, opens_owe, finds_looked}
 use Rattle.paged.proofs.Places.{opens_within}
 use Rattle.paged.proofs.Places.{adjusted_whole, adjusted_room}
@@ -186,3 +186,7 @@ pub returns-in_err-capacity-clause-floors : goal.returns-in_err-capacity-clause-
 returns-in_err-capacity-clause-floors g c =
     let life = g.B.Blob.life c.args.blob.now in
     λ content. floors_none g.H.Sum.sum_of c.args.cache.now.page_size content life life refl
+
+pub returns-clause-as_opened : goal.returns-clause-as_opened
+returns-clause-as_opened g c =
+    opens_as_opened g.H.Sum.sum_of c.args.cache.now c.args.capacity (g.B.Blob.life c.args.blob.now) (g.B.Blob.life c.cut_back.new.blob) c.at_prefix.result (omega (arith, c.page_size-page_size.result.ok, c.page_size-page_size.ensures)) (opens g (goal.at.returns-clause-as_opened g c).After-at_prefix)

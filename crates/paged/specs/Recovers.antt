@@ -1,0 +1,72 @@
+-- What recovering a blob does, by cases on the answer: it is opened, and cut to its text.
+use Rattle.std.specs.Prelude.{◌≡◌, ◌⊎◌, ◌≤◌, ◌+◌, ◌*◌, ◌^◌, ℕ, List, length, take, Result, Ok, Err}
+use Rattle.page.specs.Geometry.{adjusted}
+use Rattle.page.specs.Page.{text}
+use Rattle.disk.specs.Disk.{Life, LogGrows, HasFailed}
+use Rattle.disk.specs.declared.error.Error.{Error}
+use Rattle.disk.specs.declared.error.Error.TheVariants.{ReadFailed, WriteFailed, ResizeFailed}
+use Rattle.disk.specs.declared.error.Error.TheVariants.{SyncFailed, OffsetOverflow, OutOfMemory}
+use Rattle.disk.specs.declared.error.Error.TheVariants.{IdsExhausted}
+use Rattle.cache.specs.CacheState.{CacheState}
+use Rattle.crash.specs.WriterState.{WriterState}
+use Rattle.crash.specs.WriterState.SyncState.{Clean}
+use Rattle.crash.specs.Sound.{IsSound, LeavesItsContent, content}
+use Rattle.paged.specs.Calls.{IsSettled}
+use Rattle.paged.specs.Recovery.{IsDurable, opened_writer, opened_size, cache_after}
+use Rattle.paged.specs.Truncate.{cut_writer, cut_bytes}
+
+-- why recovering a blob may answer this error: a device call failed in it, or memory was refused
+abbrev pub RecoverCause : Life → Life → Error → Type 0
+RecoverCause old new ReadFailed = HasFailed ReadFailed old.present new.present
+RecoverCause old new WriteFailed = HasFailed WriteFailed old.present new.present
+RecoverCause old new ResizeFailed = HasFailed ResizeFailed old.present new.present
+RecoverCause old new SyncFailed = HasFailed SyncFailed old.present new.present
+RecoverCause old new OutOfMemory = Unit {0}
+RecoverCause old new _ = ⊥
+
+-- the pages that opening keeps of some bytes
+abbrev pub opened_bytes : (List ℕ → ℕ) → ℕ → List ℕ → List ℕ
+opened_bytes sum P bytes = take (opened_size sum P bytes) bytes
+
+-- the writer that stands where the text of some bytes ends, with nothing unsynced: the one that
+-- opening gives, or, where the text ends before those pages do, what a cut to the text makes of it
+abbrev pub recovered_writer : (List ℕ → ℕ) → CacheState → ℕ → List ℕ → WriterState
+recovered_writer sum cache capacity bytes =
+    let P = cache.page_size in
+    let opened = opened_writer sum cache capacity bytes Clean in
+    cut_writer sum opened (length (text sum P bytes)) (opened_bytes sum P bytes)
+
+-- and the bytes of its blob
+abbrev pub recovered_bytes : (List ℕ → ℕ) → CacheState → ℕ → List ℕ → List ℕ
+recovered_bytes sum cache capacity bytes =
+    let P = cache.page_size in
+    let opened = opened_writer sum cache capacity bytes Clean in
+    cut_bytes sum opened (length (text sum P bytes)) (opened_bytes sum P bytes)
+
+-- how a recovery ends, where it does: the writer stands where the text ends, nothing else is left
+-- in the blob, and all of it is durable
+pub record IsRecovered (sum : List ℕ → ℕ) (cache : CacheState) (capacity : ℕ) (old new : Life)
+    (w : WriterState) : Type 0 where
+  pub state : w ≡ recovered_writer sum cache capacity old.present.readable
+  pub sound : IsSound sum w new.present
+  pub page_size : w.page_size ≡ cache.page_size
+  pub size : w.full_pages * w.page_size + length w.tip ≡ length (content w new.present.readable)
+  pub only : LeavesItsContent sum w new.present
+  pub content : content w new.present.readable ≡ text sum cache.page_size old.present.readable
+  pub readable : new.present.readable ≡ recovered_bytes sum cache capacity old.present.readable
+  pub durable : IsDurable new.present
+  pub settled : IsSettled w
+  pub log : LogGrows old.present new.present
+
+abbrev pub Recovers : (List ℕ → ℕ) → CacheState → ℕ → Life → Life → Result WriterState Error
+    → Type 0
+Recovers sum cache capacity old new (Ok w) = IsRecovered sum cache capacity old new w
+Recovers sum cache capacity old new (Err OffsetOverflow) =
+    (new ≡ old) × (2 ^ 64 ≤ adjusted capacity cache.page_size)
+Recovers sum cache capacity old new (Err IdsExhausted) = 2 ^ 64 ≤ cache.ids_given
+Recovers sum cache capacity old new (Err e) = RecoverCause old new e
+
+-- the cache after a recovery: where that didn't end, an id may have been given or not
+abbrev pub GivesId : Result WriterState Error → CacheState → CacheState → Type 0
+GivesId (Ok w) old new = new ≡ cache_after (Ok w) old
+GivesId (Err e) old new = (new ≡ old) ⊎ (new ≡ record old { ids_given = old.ids_given + 1 })

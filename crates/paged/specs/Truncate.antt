@@ -1,0 +1,256 @@
+-- What a truncate does, by cases on its answer.
+use Rattle.std.specs.Prelude.{◌≡◌, ◌≢◌, ◌⊎◌, ◌<◌, ◌≤◌, ◌+◌, ◌*◌, ◌/◌, ◌%◌, ◌==◌, ◌++◌, ℕ, List}
+use Rattle.std.specs.Prelude.{length, take, drop, min, nat_lt, if◌then◌else◌, Option, Some, None, Result, Ok, Err}
+use Rattle.std.specs.Prelude.{Bool, true, false, get_or}
+use Rattle.std.specs.Int.{div_ceil, w16, to_be_bytes}
+use Rattle.disk.specs.Disk.{Disk, Life, LogGrows, HasFailed, AskedOnce, ReadAt}
+use Rattle.disk.specs.Disk.{WriteGoes, ResizeGoes, SyncGoes}
+use Rattle.disk.specs.declared.error.Error.{Error}
+use Rattle.disk.specs.declared.error.Error.TheVariants.{ReadFailed, WriteFailed, ResizeFailed}
+use Rattle.disk.specs.declared.error.Error.TheVariants.{SyncFailed, InvalidChecksum, OutOfMemory}
+use Rattle.page.specs.Slot.{other, slot_offset}
+use Rattle.page.specs.Page.{slot_bytes, value_len, value_slot, active, pages, text}
+use Rattle.page.specs.declared.slot.Slot.{Slot}
+use Rattle.page.specs.declared.slot.ActiveChecksum.{ActiveChecksum}
+use Rattle.crash.specs.WriterState.{WriterState}
+use Rattle.crash.specs.WriterState.SyncState.{Clean}
+use Rattle.crash.specs.Sound.{IsSound, content}
+use Rattle.crash.specs.Full.{AreFull}
+use Rattle.crash.specs.Built.{footer}
+use Rattle.crash.specs.Stays.{KeepsAll, KeepsFloors}
+use Rattle.crash.specs.Kept.{Through}
+use Rattle.crash.specs.Below.{PagesStay}
+use Rattle.crash.specs.Shrink.{HeldBy, HoldsText, StaysHeld}
+use Rattle.paged.specs.Prefix.{page_at}
+use Rattle.paged.specs.Reads.{size_of}
+use Rattle.paged.specs.Flush.{synced}
+use Rattle.paged.specs.Recovery.{IsDurable}
+use Rattle.paged.specs.Calls.{AsksAtMost, IsSettled, HadFailed, sync_calls}
+use Rattle.paged.specs.Searches.{ReadsWithin}
+
+-- the slot that tells the last page of a blob that is cut inside it: the one that isn't its value's
+abbrev pub shortened_slot : (List ℕ → ℕ) → (P n : ℕ) → List ℕ → Option ActiveChecksum
+shortened_slot sum P n bytes =
+    if n % P == 0 then None else Some (record {
+      slot = other (value_slot sum P (page_at P (n / P) bytes));
+      len = n % P;
+      crc = sum (take (n % P) (drop (n / P * (P + 12)) bytes));
+    })
+
+-- the pages of the first n logical bytes; where they end inside a page, that page with its bytes,
+-- told by the slot that wasn't its value's, and six zeros in the other
+abbrev pub shortened : (List ℕ → ℕ) → (P n : ℕ) → List ℕ → List ℕ
+shortened sum P n bytes =
+    let place = n / P * (P + 12) in
+    if n % P == 0 then take place bytes
+    else (take (place + P) bytes ++ footer (value_slot sum P (page_at P (n / P) bytes))
+    (slot_bytes 0 0) (slot_bytes (n % P) (sum (take (n % P) (drop place bytes)))))
+
+-- the writer that stands behind them
+abbrev pub shortened_writer : (List ℕ → ℕ) → WriterState → (n : ℕ) → List ℕ → WriterState
+shortened_writer sum w n bytes =
+    let P = w.page_size in
+    let slot = shortened_slot sum P n bytes in
+    record w {
+      full_pages = n / P;
+      tip = take (n % P) (drop (n / P * (P + 12)) bytes);
+      flushed = slot;
+      durable = slot;
+      sync = Clean;
+    }
+
+-- what a truncate to n bytes leaves of a blob of which all is written, and of its writer: a cut
+-- where there is more, and else a sync alone
+abbrev pub cut_bytes : (List ℕ → ℕ) → WriterState → (n : ℕ) → List ℕ → List ℕ
+cut_bytes sum w n bytes = if nat_lt n (size_of w) then shortened sum w.page_size n bytes else bytes
+
+abbrev pub cut_writer : (List ℕ → ℕ) → WriterState → (n : ℕ) → List ℕ → WriterState
+cut_writer sum w n bytes = if nat_lt n (size_of w) then shortened_writer sum w n bytes else synced w
+
+pub record IsCut (sum : List ℕ → ℕ) (n : ℕ) (w : WriterState) (old new : Life) (now : WriterState)
+    : Type 0 where
+  pub state : now ≡ cut_writer sum w n old.present.readable
+  pub readable : new.present.readable ≡ cut_bytes sum w n old.present.readable
+
+-- the device calls of a cut to n bytes, of a blob of which all is durable: a resize and a sync,
+-- where the number of pages changes; a read and three writes, where n lies inside a page
+abbrev pub shorten_calls : (P size n : ℕ) → ℕ
+shorten_calls P size n =
+    (if div_ceil n P == div_ceil size P then 0 else 2) + (if n % P == 0 then 0 else 4)
+
+-- those of a truncate to n bytes
+abbrev pub truncate_calls : WriterState → (n : ℕ) → ℕ
+truncate_calls w n =
+    sync_calls w
+    + (if nat_lt n (size_of w) then shorten_calls w.page_size (size_of w) n else 0)
+
+-- the writer is one of the same blob, with a buffer of the same size
+pub record IsOfSameBlob (w now : WriterState) : Type 0 where
+  pub page_size : now.page_size ≡ w.page_size
+  pub id : now.id ≡ w.id
+  pub capacity : now.capacity ≡ w.capacity
+
+-- how a truncate ends, where it does: the first n bytes of the content are left, or all of it, and
+-- all of that is written and durable
+pub record IsTruncated (sum : List ℕ → ℕ) (n : ℕ) (w : WriterState) (old new : Life)
+    (now : WriterState) : Type 0 where
+  pub same : IsOfSameBlob w now
+  pub size : size_of now ≡ min n (size_of w)
+  pub content : content now new.present.readable ≡ take n (content w old.present.readable)
+  pub settled : IsSettled now
+  pub durable : IsDurable new.present
+  pub log : LogGrows old.present new.present
+
+-- why a truncate may answer this error: a device call failed in it, or the started sync that it
+-- waited for had failed; the page in which it was to cut doesn't tell as many bytes, which never is
+-- so of a sound writer; or memory was refused
+abbrev pub TruncateCause : (List ℕ → ℕ) → (n : ℕ) → WriterState → Life → Life → Error → Type 0
+TruncateCause sum n w old new ReadFailed = HasFailed ReadFailed old.present new.present
+TruncateCause sum n w old new WriteFailed = HasFailed WriteFailed old.present new.present
+TruncateCause sum n w old new ResizeFailed = HasFailed ResizeFailed old.present new.present
+TruncateCause sum n w old new SyncFailed =
+    HasFailed SyncFailed old.present new.present ⊎ HadFailed w.sync old.present
+TruncateCause sum n w old new InvalidChecksum =
+    (n < size_of w)
+    × (value_len sum w.page_size (page_at w.page_size (n / w.page_size) old.present.readable)
+    < n % w.page_size)
+    × (IsSound sum w old.present → ⊥)
+TruncateCause sum n w old new OutOfMemory = Unit {0}
+TruncateCause sum n w old new _ = ⊥
+
+abbrev pub Truncates : (List ℕ → ℕ) → (n : ℕ) → WriterState → Life → Life
+    → Result WriterState Error → Type 0
+Truncates sum n w old new (Ok now) = IsTruncated sum n w old new now
+Truncates sum n w old new (Err e) =
+    TruncateCause sum n w old new e × LogGrows old.present new.present
+
+-- where the pages below the new tip were full, the writer is sound, and every image keeps all that
+-- is left
+abbrev pub SoundAndKept : (List ℕ → ℕ) → (n : ℕ) → WriterState → Life → Life → WriterState → Type 0
+SoundAndKept sum n w old new now =
+    AreFull sum w.page_size (take now.full_pages (pages w.page_size old.present.readable))
+    → IsSound sum now new.present
+    × KeepsAll sum w.page_size (take n (content w old.present.readable)) new
+
+-- any floor of any content that lies within the first n bytes is kept
+abbrev pub KeepsFloorsWithin : (n : ℕ) → (List ℕ → ℕ) → ℕ → Life → Life → Type 0
+KeepsFloorsWithin n sum P old new =
+    (content : List ℕ) → KeepsFloors sum P (take n content) old new
+
+-- ---- the steps of a cut
+
+-- one call, and where it is done another
+abbrev pub Then : (first second : Life → Life → Result (Unit {0}) Error → Type 0) → Life → Life
+    → Result (Unit {0}) Error → Type 0
+Then first second old new (Ok done) = (mid : Life) × first old mid (Ok tt) × second mid new (Ok tt)
+Then first second old new (Err e) =
+    first old new (Err e) ⊎ ((mid : Life) × first old mid (Ok tt) × second mid new (Err e))
+
+-- bytes are written into a slot of a page's footer, durably or not
+abbrev pub WritesSlot : (P page : ℕ) → Slot → List ℕ → Bool → Life → Life
+    → Result (Unit {0}) Error → Type 0
+WritesSlot P page s bytes sync old new answer =
+    WriteGoes (page * (P + 12) + P + slot_offset s) bytes sync old new answer
+
+-- the checksum goes into the slot that isn't this one, with no length: durably at once, or where
+-- something else is unsynced by a sync behind it
+abbrev pub Stages : (P page : ℕ) → Slot → (crc : ℕ) → (unsynced : Bool) → Life → Life
+    → Result (Unit {0}) Error → Type 0
+Stages P page s crc false old new answer =
+    WritesSlot P page (other s) (slot_bytes 0 crc) true old new answer
+Stages P page s crc true old new answer =
+    Then (WritesSlot P page (other s) (slot_bytes 0 crc) false) SyncGoes old new answer
+
+-- then its length, and then this one is emptied
+abbrev pub Rewrites : (P page : ℕ) → Slot → (len crc : ℕ) → (unsynced : Bool) → Life → Life
+    → Result (Unit {0}) Error → Type 0
+Rewrites P page s len crc unsynced old new answer =
+    Then (Stages P page s crc unsynced)
+    (Then (WritesSlot P page (other s) (to_be_bytes w16 len) true)
+    (WritesSlot P page s (slot_bytes 0 0) true)) old new answer
+
+-- what this slot of a page holds, it holds at each moment since
+abbrev pub SparesSlot : (List ℕ → ℕ) → (P page : ℕ) → ActiveChecksum → Life → Life → Type 0
+SparesSlot sum P page slot old new =
+    (content : List ℕ) → HeldBy sum P content page slot old.present
+    → StaysHeld sum P content page slot old new
+
+-- the writer behind so many pages, and these bytes of the next, which this slot tells
+abbrev pub standing : WriterState → (pages : ℕ) → List ℕ → Option ActiveChecksum → WriterState
+standing w pages bytes slot = record w {
+  full_pages = pages;
+  tip = bytes;
+  flushed = slot;
+  durable = slot;
+}
+
+-- the blob has so many pages, and is cut to fewer: whether there were more
+abbrev pub ResizesTo : (P kept held : ℕ) → Life → Life → Result Bool Error → Type 0
+ResizesTo P kept held old new (Ok false) = (kept ≡ held) × (new ≡ old)
+ResizesTo P kept held old new (Ok true) =
+    (kept ≢ held) × ResizeGoes (kept * (P + 12)) old new (Ok tt)
+ResizesTo P kept held old new (Err e) =
+    (kept ≢ held) × ResizeGoes (kept * (P + 12)) old new (Err e)
+
+-- a page was read, or nothing was
+abbrev pub ReadsOnce : (P page : ℕ) → Life → Life → Type 0
+ReadsOnce P page old new =
+    (new ≡ old)
+    ⊎ ((failed : Bool) × AskedOnce (ReadAt (page * (P + 12)) (P + 12)) failed old new)
+
+-- the first bytes of a page, of which its value has so many, and the slot that tells that
+abbrev pub ReadsValue : (List ℕ → ℕ) → (P page len : ℕ) → Life → Life
+    → Result (List ℕ × ActiveChecksum) Error → Type 0
+ReadsValue sum P page len old new (Ok r) =
+    (r.0 ≡ take len (drop (page * (P + 12)) old.present.readable))
+    × (active sum P (page_at P page old.present.readable) ≡ Some r.1) × (len ≤ r.1.len)
+    × ((i : ℕ) → get_or (page_at P page old.present.readable) i 0 < 256)
+ReadsValue sum P page len old new (Err ReadFailed) = HasFailed ReadFailed old.present new.present
+ReadsValue sum P page len old new (Err InvalidChecksum) =
+    value_len sum P (page_at P page old.present.readable) < len
+ReadsValue sum P page len old new (Err OutOfMemory) = Unit {0}
+ReadsValue sum P page len old new (Err _) = ⊥
+
+-- why a cut of a blob of which all is durable may answer this error
+abbrev pub ShortenCause : (List ℕ → ℕ) → (P n : ℕ) → Life → Life → Error → Type 0
+ShortenCause sum P n old new ReadFailed = HasFailed ReadFailed old.present new.present
+ShortenCause sum P n old new WriteFailed = HasFailed WriteFailed old.present new.present
+ShortenCause sum P n old new ResizeFailed = HasFailed ResizeFailed old.present new.present
+ShortenCause sum P n old new SyncFailed = HasFailed SyncFailed old.present new.present
+ShortenCause sum P n old new InvalidChecksum =
+    value_len sum P (page_at P (n / P) old.present.readable) < n % P
+ShortenCause sum P n old new OutOfMemory = Unit {0}
+ShortenCause sum P n old new _ = ⊥
+
+-- the first n bytes are left, durably
+pub record IsShortened (sum : List ℕ → ℕ) (n : ℕ) (w : WriterState) (old new : Life)
+    (now : WriterState) : Type 0 where
+  pub state : now ≡ shortened_writer sum w n old.present.readable
+  pub readable : new.present.readable ≡ shortened sum w.page_size n old.present.readable
+  pub durable : IsDurable new.present
+
+abbrev pub Shortens : (List ℕ → ℕ) → (n : ℕ) → WriterState → Life → Life
+    → Result WriterState Error → Type 0
+Shortens sum n w old new (Ok now) = IsShortened sum n w old new now
+Shortens sum n w old new (Err e) = ShortenCause sum w.page_size n old new e
+
+-- no sync was started since, and what was durable is
+abbrev pub GoesOnStarted : Disk → Disk → Type 0
+GoesOnStarted d e = (e.started ≡ d.started) × (d.settled ≤ e.settled)
+
+-- what a cut owes whatever it answers: at each moment the text is kept up to the floor, and nothing
+-- else is there; the first k pages stay
+pub record Cutting (sum : List ℕ → ℕ) (P : ℕ) (told : List ℕ) (floor k calls : ℕ) (old new : Life)
+    : Type 0 where
+  pub asks : AsksAtMost calls old new
+  pub reads : ReadsWithin (P + 12) old new
+  pub pages : PagesStay P k old new
+  pub started : Through (GoesOnStarted old.present) old new
+  pub holds : Through (HoldsText sum P told floor) old new
+
+-- the same of a cut to n bytes of a blob of which all is durable
+abbrev pub CutsTo : (List ℕ → ℕ) → (n : ℕ) → WriterState → Life → Life → Type 0
+CutsTo sum n w old new =
+    let told = text sum w.page_size old.present.readable in
+    let calls = shorten_calls w.page_size (size_of w) n in
+    Cutting sum w.page_size told (min n (length told)) (n / w.page_size) calls old new

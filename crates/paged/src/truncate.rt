@@ -1,0 +1,381 @@
+// Cutting what a recovery keeps.
+ghost use Rattle.std.specs.Prelude.{◌≡◌, ◌⊎◌, ◌<◌, ◌≤◌, ◌+◌, ◌*◌, ◌/◌, ◌%◌, ◌^◌, IfOk, OnOk};
+ghost use Rattle.std.specs.Prelude.{IsOkUnless, MatchOption, Some, Ok, true, false, [], length, min};
+ghost use Rattle.std.specs.Prelude.{ℕ, ◌-◌, slice_index, take};
+ghost use Rattle.std.specs.Int.{w16, to_be_bytes};
+ghost use Rattle.page.specs.Slot.{other};
+ghost use Rattle.page.specs.Page.{active, slot_bytes, value_len};
+ghost use Rattle.crash.specs.WriterState.SyncState.{Clean};
+ghost use Rattle.crash.specs.Sound.{IsSound, LeavesItsContent, content};
+ghost use Rattle.crash.specs.Below.{PagesStay};
+ghost use Rattle.crash.specs.Started.{CoversThrough, StartsStand};
+ghost use Rattle.crash.specs.Stays.{KeepsAll, LeavesOnly};
+ghost use Rattle.paged.specs.Calls.{AsksAtMost, HoldsWithin, SettlesBy, Syncs, sync_calls};
+ghost use Rattle.paged.specs.Flush.{answered, has_work, synced};
+ghost use Rattle.paged.specs.Reads.{HasPages, size_of};
+ghost use Rattle.paged.specs.Recovery.{IsAsOpened, LeavesText, slot_pages};
+ghost use Rattle.paged.specs.Searches.{ReadsWithin};
+ghost use Rattle.paged.specs.Truncate.{Truncates, IsCut, SoundAndKept, KeepsFloorsWithin};
+ghost use Rattle.paged.specs.Truncate.{truncate_calls, WritesSlot, Stages, Rewrites, ResizesTo};
+ghost use Rattle.paged.specs.Truncate.{ReadsOnce, ReadsValue, Shortens, CutsTo, SparesSlot};
+ghost use Rattle.paged.specs.Truncate.{standing};
+ghost use Rattle.paged.specs.Writer.{FitsBlob};
+
+use crate::Recovery;
+use crate::recovery::cut;
+use cache::CacheRef;
+use disk::{Blob, Error, IoBuf, IoBufs, ReadOptions, WriteOptions};
+use page::{ActiveChecksum, Checksum, Slot, Sum};
+
+/// The slot that tells a page's value, where that has so many bytes.
+fn value_of<H: Sum>(page: &[u8], len: u16) -> Option<ActiveChecksum>
+    requires some { 0 < len }
+    requires footer { 12 ≤ length page.now }
+    ensures slot { let P = length page.now - 12 in
+        MatchOption result (value_len H.sum_of P page.now < len)
+        (λ slot. (active H.sum_of P page.now ≡ Some slot) × (len ≤ slot.len)) }
+    ensures bytes { (i : ℕ) → slice_index page.now i < 256 }
+{
+    Checksum::validate_page::<H>(page).filter(|value| len <= value.len)
+}
+
+impl<B: Blob, H: Sum> Recovery<B, H> {
+    /// Cuts the blob to its first `size` logical bytes, durably; where it has no more, it is synced
+    /// alone. A crash at any moment leaves each byte of these that it would have left before.
+    ///
+    /// All that was appended is made durable first. Then what stands behind the page of the last
+    /// byte is cut. Where that page is to keep a part, it is read, and rewritten in three steps,
+    /// each durable before the next: the slot that isn't its value's gets the new checksum with no
+    /// length, then the length, and then the other slot is emptied.
+    ///
+    /// `InvalidChecksum` where that page doesn't tell as many bytes as it is to keep, which it
+    /// always does in a sound blob. `ReadFailed`, `WriteFailed`, `ResizeFailed` and `SyncFailed`
+    /// where the device failed, and `SyncFailed` where a started sync had failed; `OutOfMemory`.
+    /// The writer is gone then.
+    pub fn truncate(mut self, blob: &mut B, _cache: &mut CacheRef, size: u64) -> Result<Self, Error>
+        requires stands { let old = B.life blob.old in
+            IsSound H.sum_of self old.present ⊎ IsAsOpened H.sum_of self old.present }
+        ensures truncates { let old = B.life blob.old in let new = B.life blob.new in
+            Truncates H.sum_of size self old new result }
+        ensures there { IfOk result (λ w. HasPages w (B.life blob.new)) }
+        ensures within { IfOk result (λ w. HoldsWithin w) }
+        ensures cache { _cache.new ≡ _cache.old }
+        ensures calls { AsksAtMost (truncate_calls self size) (B.life blob.old) (B.life blob.new) }
+        ensures synced { let old = B.life blob.old in let new = B.life blob.new in
+            IsSound H.sum_of self old.present → size_of self ≤ size
+            → Syncs H.sum_of self old new result }
+        ensures idle { sync_calls self ≡ 0 → size_of self ≤ size
+            → (result ≡ Ok self) × (B.life blob.new ≡ B.life blob.old) }
+
+        // Where nothing is buffered that isn't written.
+        ensures exact { let old = B.life blob.old in let new = B.life blob.new in
+            has_work self true ≡ false → IfOk result (IsCut H.sum_of size self old new) }
+        ensures text { has_work self true ≡ false
+            → LeavesText H.sum_of self.page_size (B.life blob.old) (B.life blob.new) }
+        ensures reads { has_work self true ≡ false
+            → ReadsWithin (self.page_size + 12) (B.life blob.old) (B.life blob.new) }
+
+        // Of a sound writer, and of one as it was opened where the pages are full.
+        ensures sound { let old = B.life blob.old in let new = B.life blob.new in
+            IsSound H.sum_of self old.present → IfOk result (λ w. IsSound H.sum_of w new.present) }
+        ensures left { let old = B.life blob.old in let new = B.life blob.new in
+            IsSound H.sum_of self old.present
+            → IfOk result (λ w. LeavesItsContent H.sum_of w new.present) }
+        ensures durable { let old = B.life blob.old in let new = B.life blob.new in
+            let kept = take size (content self old.present.readable) in
+            IsSound H.sum_of self old.present
+            → OnOk result (KeepsAll H.sum_of self.page_size kept new) }
+        ensures full { let old = B.life blob.old in let new = B.life blob.new in
+            has_work self true ≡ false → IfOk result (SoundAndKept H.sum_of size self old new) }
+
+        // At each moment since the call began, and at every answer.
+        ensures floors { let old = B.life blob.old in let new = B.life blob.new in
+            KeepsFloorsWithin size H.sum_of self.page_size old new }
+        ensures only { let old = B.life blob.old in let new = B.life blob.new in
+            let held = content self old.present.readable in
+            IsSound H.sum_of self old.present
+            → LeavesOnly H.sum_of self.page_size held (take size held) old new }
+        ensures pages { let old = B.life blob.old in let new = B.life blob.new in
+            PagesStay self.page_size (min self.full_pages (size / self.page_size)) old new }
+        ensures covers { let old = B.life blob.old in let new = B.life blob.new in
+            let held = content self old.present.readable in
+            IsSound H.sum_of self old.present
+            → CoversThrough H.sum_of self.page_size (take size held) old new }
+        ensures starts { let old = B.life blob.old in let new = B.life blob.new in
+            IsSound H.sum_of self old.present → StartsStand new.present }
+    {
+        self.sync_written(blob)?;
+        if size < self.size() {
+            self.shorten(blob, size)?;
+        }
+        Ok(self)
+    }
+
+    /// Makes all that was appended durable. After an error the writer is of no use.
+    fn sync_written(&mut self, blob: &mut B) -> Result<(), Error>
+        requires stands { let old = B.life blob.old in
+            IsSound H.sum_of self.old old.present ⊎ IsAsOpened H.sum_of self.old old.present }
+        ensures syncs { let old = B.life blob.old in let new = B.life blob.new in
+            IsSound H.sum_of self.old old.present
+            → Syncs H.sum_of self.old old new (answered self.new result) }
+        ensures written { let old = B.life blob.old in let new = B.life blob.new in
+            has_work self.old true ≡ false → SettlesBy self.old.sync old new result }
+        ensures state { has_work self.old true ≡ false
+            → OnOk result (self.new ≡ synced self.old) }
+        ensures pages { let old = B.life blob.old in let new = B.life blob.new in
+            PagesStay self.old.page_size self.old.full_pages old new }
+        ensures covers { let old = B.life blob.old in let new = B.life blob.new in
+            let held = content self.old old.present.readable in
+            IsSound H.sum_of self.old old.present
+            → CoversThrough H.sum_of self.old.page_size held old new }
+        ensures starts { let old = B.life blob.old in let new = B.life blob.new in
+            IsSound H.sum_of self.old old.present → StartsStand new.present }
+        ensures calls { AsksAtMost (sync_calls self.old) (B.life blob.old) (B.life blob.new) }
+        ensures some { 0 < self.old.page_size }
+        ensures small { self.old.page_size < 2 ^ 16 }
+        ensures room { self.old.page_size ≤ self.old.capacity }
+    {
+        if self.has_flush_work(true) {
+            self.sync_pages(blob)
+        } else {
+            self.settle_blob(blob)
+        }
+    }
+
+    /// Cuts a blob of which all is durable to its first `size` bytes, where it has more. After an
+    /// error the writer is of no use.
+    fn shorten(&mut self, blob: &mut B, size: u64) -> Result<(), Error>
+        requires opened { IsAsOpened H.sum_of self.old (B.life blob.old).present }
+        requires clean { self.old.sync ≡ Clean }
+        requires less { size < size_of self.old }
+        ensures shortens { let old = B.life blob.old in let new = B.life blob.new in
+            Shortens H.sum_of size self.old old new (answered self.new result) }
+        ensures cuts { CutsTo H.sum_of size self.old (B.life blob.old) (B.life blob.new) }
+    {
+        if size % u64::from(self.page_size.get()) == 0 {
+            self.cut_behind(blob, size)
+        } else {
+            self.cut_within(blob, size)
+        }
+    }
+
+    /// The same, behind a page.
+    fn cut_behind(&mut self, blob: &mut B, size: u64) -> Result<(), Error>
+        requires opened { IsAsOpened H.sum_of self.old (B.life blob.old).present }
+        requires clean { self.old.sync ≡ Clean }
+        requires less { size < size_of self.old }
+        requires whole { size % self.old.page_size ≡ 0 }
+        ensures shortens { let old = B.life blob.old in let new = B.life blob.new in
+            Shortens H.sum_of size self.old old new (answered self.new result) }
+        ensures cuts { CutsTo H.sum_of size self.old (B.life blob.old) (B.life blob.new) }
+    {
+        let pages = size / u64::from(self.page_size.get());
+        cut(blob, pages * self.physical_page_size())?;
+        self.stand_at(pages, &[], None)
+    }
+
+    /// The same, within a page.
+    fn cut_within(&mut self, blob: &mut B, size: u64) -> Result<(), Error>
+        requires opened { IsAsOpened H.sum_of self.old (B.life blob.old).present }
+        requires clean { self.old.sync ≡ Clean }
+        requires less { size < size_of self.old }
+        requires part { 0 < size % self.old.page_size }
+        ensures shortens { let old = B.life blob.old in let new = B.life blob.new in
+            Shortens H.sum_of size self.old old new (answered self.new result) }
+        ensures cuts { CutsTo H.sum_of size self.old (B.life blob.old) (B.life blob.new) }
+    {
+        let page_size = u64::from(self.page_size.get());
+        let page = size / page_size;
+        let len = (size % page_size) as u16;
+        let unsynced = self.resize_to(blob, page + 1)?;
+        let (bytes, value) = self.read_value(blob, page, len)?;
+        let crc = H::sum(bytes.as_ref());
+        let new = ActiveChecksum::new(value.slot.other(), len, crc);
+        self.rewrite(blob, page, value, new, unsynced)?;
+        self.stand_at(page, bytes.as_ref(), Some(new))
+    }
+
+    /// Cuts the blob to so many pages, where it has more: whether it did.
+    fn resize_to(&self, blob: &mut B, pages: u64) -> Result<bool, Error>
+        requires fits { pages * (self.now.page_size + 12) < 2 ^ 64 }
+        ensures { let held = self.now.full_pages + slot_pages self.now.flushed in
+            ResizesTo self.now.page_size pages held (B.life blob.old) (B.life blob.new) result }
+    {
+        if pages == self.flushed_pages() {
+            return Ok(false);
+        }
+        blob.resize(pages * self.physical_page_size())?;
+        Ok(true)
+    }
+
+    /// The first `len` bytes of a page, and the slot that tells its value. `InvalidChecksum` where
+    /// that has fewer bytes.
+    fn read_value(
+        &self,
+        blob: &mut B,
+        page: u64,
+        len: u16,
+    ) -> Result<(IoBuf, ActiveChecksum), Error>
+        requires some { 0 < len }
+        requires fits { (page + 1) * (self.now.page_size + 12) < 2 ^ 64 }
+        requires there { (page + 1) * (self.now.page_size + 12)
+            ≤ length (B.life blob.old).present.readable }
+        ensures reads { let old = B.life blob.old in let new = B.life blob.new in
+            ReadsValue H.sum_of self.now.page_size page len old new result }
+        ensures once { ReadsOnce self.now.page_size page (B.life blob.old) (B.life blob.new) }
+    {
+        let size = self.physical_page_size();
+        let options = ReadOptions { dont_cache: true };
+        let bytes = blob.read_at(self.alloc, page * size, size as usize, options)?;
+        let Some(value) = value_of::<H>(bytes.as_ref(), len) else {
+            return Err(Error::InvalidChecksum);
+        };
+        let kept = bytes.slice(0, usize::from(len))?;
+        Ok((kept, value))
+    }
+
+    /// Rewrites the footer of a page so that `new` tells it, in the slot that isn't its value's.
+    /// Where something else is unsynced, it is durable with the first of the three writes.
+    fn rewrite(
+        &self,
+        blob: &mut B,
+        page: u64,
+        value: ActiveChecksum,
+        new: ActiveChecksum,
+        unsynced: bool,
+    ) -> Result<(), Error>
+        requires fits { (page + 1) * (self.now.page_size + 12) < 2 ^ 64 }
+        requires settled { unsynced ≡ false → (B.life blob.old).present.since ≡ [] }
+        requires slot { new.slot ≡ other value.slot }
+        ensures { let old = B.life blob.old in let now = B.life blob.new in
+            let P = self.now.page_size in
+            Rewrites P page value.slot new.len new.crc unsynced old now result }
+    {
+        self.stage_durably(blob, page, value, new.crc, unsynced)?;
+        self.publish(blob, page, value, new.len)?;
+        self.clear(blob, page, new)
+    }
+
+    /// The first of the three writes, made durable.
+    fn stage_durably(
+        &self,
+        blob: &mut B,
+        page: u64,
+        value: ActiveChecksum,
+        crc: u32,
+        unsynced: bool,
+    ) -> Result<(), Error>
+        requires fits { (page + 1) * (self.now.page_size + 12) < 2 ^ 64 }
+        requires settled { unsynced ≡ false → (B.life blob.old).present.since ≡ [] }
+        ensures { let old = B.life blob.old in let new = B.life blob.new in
+            Stages self.now.page_size page value.slot crc unsynced old new result }
+    {
+        if unsynced {
+            self.stage(blob, page, value, crc, false)?;
+            blob.sync()
+        } else {
+            self.stage(blob, page, value, crc, true)
+        }
+    }
+
+    /// Writes the new checksum into the slot that isn't the value's, with no length, so that it
+    /// tells nothing yet: the value's slot holds meanwhile.
+    fn stage(
+        &self,
+        blob: &mut B,
+        page: u64,
+        value: ActiveChecksum,
+        crc: u32,
+        sync: bool,
+    ) -> Result<(), Error>
+        requires fits { (page + 1) * (self.now.page_size + 12) < 2 ^ 64 }
+        requires settled { sync ≡ true → (B.life blob.old).present.since ≡ [] }
+        ensures goes { let old = B.life blob.old in let new = B.life blob.new in
+            let bytes = slot_bytes 0 crc in
+            WritesSlot self.now.page_size page (other value.slot) bytes sync old new result }
+        ensures holds { let old = B.life blob.old in let new = B.life blob.new in
+            SparesSlot H.sum_of self.now.page_size page value old new }
+    {
+        let bytes = Checksum::slot_bytes(0, crc);
+        self.write_slot(blob, page, value.slot.other(), &bytes, sync)
+    }
+
+    /// Writes its length there, and from here on it tells the page: the value's slot, which tells
+    /// as many bytes or more, holds meanwhile.
+    fn publish(&self, blob: &mut B, page: u64, value: ActiveChecksum, len: u16) -> Result<(), Error>
+        requires fits { (page + 1) * (self.now.page_size + 12) < 2 ^ 64 }
+        requires settled { (B.life blob.old).present.since ≡ [] }
+        ensures goes { let old = B.life blob.old in let new = B.life blob.new in
+            let bytes = to_be_bytes w16 len in
+            WritesSlot self.now.page_size page (other value.slot) bytes true old new result }
+        ensures holds { let old = B.life blob.old in let new = B.life blob.new in
+            SparesSlot H.sum_of self.now.page_size page value old new }
+    {
+        let bytes = Checksum::slot_len_bytes(len);
+        self.write_slot(blob, page, value.slot.other(), &bytes, true)
+    }
+
+    /// Empties the slot that isn't this one, which holds meanwhile.
+    fn clear(&self, blob: &mut B, page: u64, new: ActiveChecksum) -> Result<(), Error>
+        requires fits { (page + 1) * (self.now.page_size + 12) < 2 ^ 64 }
+        requires settled { (B.life blob.old).present.since ≡ [] }
+        ensures goes { let old = B.life blob.old in let now = B.life blob.new in
+            let bytes = slot_bytes 0 0 in
+            WritesSlot self.now.page_size page (other new.slot) bytes true old now result }
+        ensures holds { let old = B.life blob.old in let now = B.life blob.new in
+            SparesSlot H.sum_of self.now.page_size page new old now }
+    {
+        self.write_slot(
+            blob,
+            page,
+            new.slot.other(),
+            &Checksum::slot_bytes(0, 0),
+            true,
+        )
+    }
+
+    /// Writes bytes into a slot of a page, durably or not.
+    fn write_slot(
+        &self,
+        blob: &mut B,
+        page: u64,
+        slot: Slot,
+        bytes: &[u8],
+        sync: bool,
+    ) -> Result<(), Error>
+        requires few { length bytes.now ≤ 6 }
+        requires fits { (page + 1) * (self.now.page_size + 12) < 2 ^ 64 }
+        requires settled { sync ≡ true → (B.life blob.old).present.since ≡ [] }
+        ensures { let old = B.life blob.old in let new = B.life blob.new in
+            WritesSlot self.now.page_size page slot bytes.now sync old new result }
+    {
+        let mut bufs = IoBufs::new(self.alloc);
+        bufs.append(IoBuf::copy_from_slice(self.alloc, bytes)?)?;
+        let footer = page * self.physical_page_size() + u64::from(self.page_size.get());
+        let options = WriteOptions {
+            sync,
+            dont_cache: true,
+        };
+        blob.write_at(footer + slot.offset() as u64, &bufs, options)
+    }
+
+    /// The writer stands behind so many pages, and these bytes of the next, which this slot tells.
+    /// `OutOfMemory` alone.
+    fn stand_at(
+        &mut self,
+        pages: u64,
+        bytes: &[u8],
+        slot: Option<ActiveChecksum>,
+    ) -> Result<(), Error>
+        requires short { length bytes.now < self.old.page_size }
+        requires fits { FitsBlob self.old.page_size pages (length bytes.now) }
+        ensures ok { OnOk result (self.new ≡ standing self.old pages bytes.now slot) }
+        ensures err { IsOkUnless result Error.OutOfMemory }
+    {
+        let offset = pages * u64::from(self.page_size.get());
+        self.tip.replace(offset, bytes)?;
+        self.flushed = slot;
+        self.durable = slot;
+        Ok(())
+    }
+}
