@@ -8,7 +8,7 @@ use Rattle.std.specs.Int.NonZero.{non_zero_u64_get}
 use Rattle.std.proofs.lemmas.Fmt.{decimal_injective}
 use Rattle.pagedctl.specs.declared.script.Line.{Line}
 use Rattle.pagedctl.specs.declared.script.Line.TheVariants.{Step, Fail, Crash, Recover, Dump}
-use Rattle.session.specs.declared.steps.Step.TheVariants.{Append, Owned, TryAppend, Sync, StartSync, Wait, WaitSync, Needs, Size, Read, Begin}
+use Rattle.session.specs.declared.steps.Step.TheVariants.{Append, Owned, TryAppend, Sync, StartSync, Wait, WaitSync, Needs, Size, Read, Begin, Truncate}
 use Rattle.pagedctl.specs.Script.{IsLine, line_words, parts_of}
 
 -- no line fails the call of number 0
@@ -22,6 +22,7 @@ no_fail_zero word n written zero (Step Wait) is same = cc
 no_fail_zero word n written zero (Step (WaitSync name)) is same = cc
 no_fail_zero word n written zero (Step Needs) is same = cc
 no_fail_zero word n written zero (Step Begin) is same = cc
+no_fail_zero word n written zero (Step (Truncate size)) is same = cc
 no_fail_zero word n written zero (Step Size) is same = cc
 no_fail_zero word n written zero (Step (Read offset len)) is same = cc
 no_fail_zero word n written zero (Fail number) is same =
@@ -47,28 +48,30 @@ no_one_word name a b c d e f g h (Step (Append bytes)) is same = cc
 no_one_word name a b c d e f g h (Step (Owned bytes)) is same = cc
 no_one_word name a b c d e f g h (Step (TryAppend bytes)) is same = cc
 no_one_word name a b c d e f g h (Step (WaitSync n)) is same = cc
+no_one_word name a b c d e f g h (Step (Truncate n)) is same = cc
 no_one_word name a b c d e f g h (Fail n) is same = cc
 no_one_word name a b c d e f g h (Crash keep) is same = cc
 no_one_word name a b c d e f g h (Step (Read offset len)) is same = cc
 
 -- one of two words begins with one of these
-pub no_two_words : (name word : List ℕ) → name ≢ codes "append" → name ≢ codes "owned" → name ≢ codes "try" → name ≢ codes "wait-sync" → name ≢ codes "fail" → name ≢ codes "crash"
+pub no_two_words : (name word : List ℕ) → name ≢ codes "append" → name ≢ codes "owned" → name ≢ codes "try" → name ≢ codes "wait-sync" → name ≢ codes "truncate" → name ≢ codes "fail" → name ≢ codes "crash"
     → (v : Line) → IsLine v → name ∷ word ∷ [] ≢ line_words v
-no_two_words name word a b c d e f (Step (Append bytes)) is same = a cc
-no_two_words name word a b c d e f (Step (Owned bytes)) is same = b cc
-no_two_words name word a b c d e f (Step (TryAppend bytes)) is same = c cc
-no_two_words name word a b c d e f (Step (WaitSync n)) is same = d cc
-no_two_words name word a b c d e f (Fail n) is same = e cc
-no_two_words name word a b c d e f (Crash keep) is same = f cc
-no_two_words name word a b c d e f (Step Sync) is same = cc
-no_two_words name word a b c d e f (Step StartSync) is same = cc
-no_two_words name word a b c d e f (Step Wait) is same = cc
-no_two_words name word a b c d e f (Step Needs) is same = cc
-no_two_words name word a b c d e f (Step Size) is same = cc
-no_two_words name word a b c d e f (Step Begin) is same = cc
-no_two_words name word a b c d e f Recover is same = cc
-no_two_words name word a b c d e f Dump is same = cc
-no_two_words name word a b c d e f (Step (Read offset len)) is same = cc
+no_two_words name word a b c d e f g (Step (Append bytes)) is same = a cc
+no_two_words name word a b c d e f g (Step (Owned bytes)) is same = b cc
+no_two_words name word a b c d e f g (Step (TryAppend bytes)) is same = c cc
+no_two_words name word a b c d e f g (Step (WaitSync n)) is same = d cc
+no_two_words name word a b c d e f g (Step (Truncate n)) is same = e cc
+no_two_words name word a b c d e f g (Fail n) is same = f cc
+no_two_words name word a b c d e f g (Crash keep) is same = g cc
+no_two_words name word a b c d e f g (Step Sync) is same = cc
+no_two_words name word a b c d e f g (Step StartSync) is same = cc
+no_two_words name word a b c d e f g (Step Wait) is same = cc
+no_two_words name word a b c d e f g (Step Needs) is same = cc
+no_two_words name word a b c d e f g (Step Size) is same = cc
+no_two_words name word a b c d e f g (Step Begin) is same = cc
+no_two_words name word a b c d e f g Recover is same = cc
+no_two_words name word a b c d e f g Dump is same = cc
+no_two_words name word a b c d e f g (Step (Read offset len)) is same = cc
 
 -- there is a part, if only an empty one
 pub some_parts : {E : Type 0} (at : ℕ) (bytes : List ℕ) (r : Result (Vec (Bor (List ℕ)) Global) E) → IfOk r (λ parts. map (λ part. part.now) parts.items ≡ parts_of at bytes) → IfOk r (λ parts. 0 < vec_len parts)

@@ -8,6 +8,7 @@ use Rattle.session.specs.declared.steps.Reply.{Reply}
 use Rattle.disk.specs.declared.started_sync.StartedSync.TheVariants.{Done as AllDone, Named}
 use Rattle.session.specs.declared.steps.Reply.TheVariants.{At, Nothing, Done, Started, Answer}
 use Rattle.session.specs.declared.steps.Reply.TheVariants.{Length, Bytes, Fault, Closed, NoSuch}
+use Rattle.session.specs.declared.steps.Reply.TheVariants.{NotRecovering}
 
 -- a byte as two hexadecimal digits
 abbrev pub hex_digits : ℕ → List ℕ
@@ -31,4 +32,5 @@ reply_text (Bytes bytes) = codes "bytes " ++ hex_of bytes.items
 reply_text (Fault error) =
     codes "fault E" ++ decimal (number_of error) ++ codes " " ++ name_of error
 reply_text Closed = codes "closed"
+reply_text NotRecovering = codes "not-recovering"
 reply_text NoSuch = codes "no-such"

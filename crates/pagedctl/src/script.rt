@@ -219,6 +219,7 @@ fn parse_two_words(alloc: Global, name: &[u8], word: &[u8]) -> Result<Line, Read
         b"append" => parse_append(alloc, word),
         b"owned" => parse_owned(alloc, word),
         b"wait-sync" => parse_wait_sync(word),
+        b"truncate" => parse_truncate(word),
         b"try" => parse_try(alloc, word),
         b"fail" => parse_fail(word),
         b"crash" => parse_crash(alloc, word),
@@ -255,6 +256,13 @@ fn parse_wait_sync(word: &[u8]) -> Result<Line, ReadError>
 {
     let name = parse_number(word)?;
     Ok(Line::Step(Step::WaitSync(name)))
+}
+
+fn parse_truncate(word: &[u8]) -> Result<Line, ReadError>
+    ensures reads { Reads line_words IsLine (codes "truncate" ∷ word.now ∷ []) result }
+{
+    let size = parse_number(word)?;
+    Ok(Line::Step(Step::Truncate(size)))
 }
 
 fn parse_try(alloc: Global, word: &[u8]) -> Result<Line, ReadError>

@@ -324,6 +324,120 @@ size 2
 }
 
 #[test]
+fn a_truncate_keeps_the_first_bytes(rt: HostRuntime) -> Result<(), Fail> {
+    let script = "\
+start 4 8 4 add
+append 616263646566
+truncate 8
+append 67
+truncate 2
+size
+dump
+needs
+append 63
+read 0 3
+sync
+crash -
+recover
+";
+    let out = "\
+recovered 0
+at 0
+size 6
+at 6
+size 2
+size 2
+blob 616263640000000000000002000000c3
+no
+at 2
+bytes 616263
+ok
+crashed 16
+recovered 3
+";
+    plays(&rt, rt.alloc(), script, out)
+}
+
+#[test]
+fn a_truncate_follows_no_begin(rt: HostRuntime) -> Result<(), Fail> {
+    let script = "\
+start 4 8 4 add
+append 616263
+begin
+truncate 2
+size
+fail 1
+sync
+truncate 2
+crash -
+truncate 2
+";
+    let out = "\
+recovered 0
+at 0
+ok
+not-recovering
+size 3
+ok
+fault E2 WriteFailed
+closed
+crashed 0
+closed
+";
+    plays(&rt, rt.alloc(), script, out)
+}
+
+// Two pages, of which the second has two slots that verify; then a truncate that fails at its call
+// of this number, and a crash that keeps what these flags say.
+fn cut(rt: &impl Abort, alloc: Global, number: u64, flags: &str, out: &str) -> Result<(), Fail> {
+    let script = format!(in alloc;
+        "\
+start 4 8 4 add
+append 616263646566
+sync
+append 67
+sync
+append 68
+sync
+fail {number}
+truncate 6
+size
+crash {flags}
+recover
+"
+    )?;
+    let out = format!(in alloc;
+        "\
+recovered 0
+at 0
+ok
+at 6
+ok
+at 7
+ok
+ok
+{out}"
+    )?;
+    plays(rt, alloc, &script, &out)
+}
+
+#[test]
+fn a_refused_truncate_closes(rt: HostRuntime) -> Result<(), Fail> {
+    let alloc = rt.alloc();
+    let write_failed = "fault E2 WriteFailed\nclosed\ncrashed 32\n";
+    let read_failed = "fault E1 ReadFailed\nclosed\ncrashed 32\nrecovered 8\n";
+    cut(&rt, alloc, 1, "-", read_failed)?;
+    let eight = format!(in alloc; "{write_failed}recovered 8\n")?;
+    cut(&rt, alloc, 2, "111111", &eight)?;
+    cut(&rt, alloc, 3, "11", &eight)?;
+    cut(&rt, alloc, 4, "-", &eight)?;
+    let six = format!(in alloc; "{write_failed}recovered 6\n")?;
+    cut(&rt, alloc, 4, "11", &six)?;
+    let done = "size 6\nsize 6\ncrashed 32\nrecovered 6\n";
+    cut(&rt, alloc, 100, "-", done)
+}
+
+#[test]
 fn a_recovery_follows_a_crash_alone(rt: HostRuntime) -> Result<(), Fail> {
     let script = "\
 start 4 8 4 add
@@ -419,7 +533,7 @@ fn a_bad_first_line_is_named(rt: HostRuntime) -> Result<(), Fail> {
 }
 
 // Lines that can't be read, also behind a first one that can.
-const BAD_LINES: [&[u8]; 40] = [
+const BAD_LINES: [&[u8]; 43] = [
     b"",
     b" ",
     b"append",
@@ -457,7 +571,10 @@ const BAD_LINES: [&[u8]; 40] = [
     b"try",
     b"try 6",
     b"try 6A",
-    b"truncate 0",
+    b"truncate",
+    b"truncate 00",
+    b"truncate -1",
+    b"truncate 6 1",
     b"replay 64",
     b"start 4 8 4 add",
 ];

@@ -44,6 +44,7 @@ impl fmt::Display for Said<'_> {
             Reply::Bytes(bytes) => write!(f, "bytes {}", Hex(bytes)),
             Reply::Fault(error) => write!(f, "fault E{} {}", error.number(), error.name()),
             Reply::Closed => write!(f, "closed"),
+            Reply::NotRecovering => write!(f, "not-recovering"),
             Reply::NoSuch => write!(f, "no-such"),
         }
     }

@@ -17,9 +17,9 @@ use Rattle.crash.proofs.Disks.{base_is_image, base_is_whole}
 use Rattle.crash.proofs.Promise.{whole_is_chance_free}
 use Rattle.crash.proofs.Examples.{durable, six, all_keep}
 use Rattle.session.specs.declared.steps.Step.{Step}
-use Rattle.session.specs.declared.steps.Step.TheVariants.{Append, Owned, TryAppend, Sync, StartSync, Wait, WaitSync, Needs, Size, Read, Begin}
-use Rattle.session.specs.declared.steps.Reply.TheVariants.{At, Nothing, Done, Length, Fault, Closed, NoSuch}
-use Rattle.session.specs.Run.{Standing, buffered_after, awaited_after, appended, synced, starting, waited, needs_sync, raised, started_by, ended, turned_away, Accepts, faults, HasCause, Allocates, waits_for, Refuses, Answers, touch, Ran}
+use Rattle.session.specs.declared.steps.Step.TheVariants.{Append, Owned, TryAppend, Sync, StartSync, Wait, WaitSync, Needs, Size, Read, Begin, Truncate}
+use Rattle.session.specs.declared.steps.Reply.TheVariants.{At, Nothing, Done, Length, Fault, Closed, NotRecovering, NoSuch}
+use Rattle.session.specs.Run.{Standing, buffered_after, awaited_after, appended, synced, starting, truncated, waited, begun, needs_sync, raised, started_by, ended, turned_away, Accepts, faults, HasCause, Allocates, waits_for, Refuses, Takes, Answers, touch, Ran}
 use Rattle.session.specs.Run.Touch.{Leaves, Changes}
 use Rattle.session.specs.Promise.{Crashes, fresh}
 
@@ -201,6 +201,74 @@ no_room_for_a_name = inr (refl, refl, refl)
 pub a_recovery_ends : Accepts 4 Begin Done durable durable six_stand (record six_stand { recovering = false })
 a_recovery_ends = refl
 
+-- ---- truncates
+
+-- of "abcdef" two bytes are left, all durable and buffered
+abbrev two_stand : Standing
+two_stand = record six_stand {
+  content = 97 ∷ 98 ∷ [];
+  floor = 2;
+  otherwise = 97 ∷ 98 ∷ [];
+}
+
+pub a_truncate : truncated 4 2 six_stand ≡ two_stand
+a_truncate = refl
+
+-- the same by the steps: six bytes, a sync, and a truncate
+pub a_truncate_behind_a_sync : truncated 4 2 (begun (Truncate 2) (synced 4 (appended 4 six (fresh 4 8 [])))) ≡ two_stand
+a_truncate_behind_a_sync = refl
+
+-- as it begins the floor is lowered, and what a started sync covers
+pub a_floor_is_lowered : begun (Truncate 2) six_stand ≡ record six_stand { floor = 2 }
+a_floor_is_lowered = refl
+
+pub a_cover_is_lowered : begun (Truncate 2) six_started ≡ record six_started { covers = (0, 2) ∷ [] }
+a_cover_is_lowered = refl
+
+-- no floor is raised
+pub no_floor_is_raised : begun (Truncate 7) six_stand ≡ six_stand
+no_floor_is_raised = refl
+
+-- other steps begin with what stands
+pub a_sync_begins : begun Sync six_stand ≡ six_stand
+a_sync_begins = refl
+
+-- it answers the size that is left, which isn't what it was asked for where there was less
+pub a_truncate_done : Accepts 4 (Truncate 2) (Length 2) durable durable six_stand two_stand
+a_truncate_done = (refl, refl)
+
+pub a_truncate_above : Accepts 4 (Truncate 7) (Length 6) durable durable none_synced six_stand
+a_truncate_above = (refl, refl)
+
+pub no_size_before : Takes 4 (Truncate 2) (Length 6) durable durable six_stand two_stand → ⊥
+no_size_before takes = omega (arith, takes.0)
+
+-- behind a sync and a truncate a started sync that completes raises no floor past what is left
+pub a_cut_cover : (raised (record pending { settled = 2 }) (truncated 4 2 (begun (Truncate 2) six_started))).floor ≡ 2
+a_cut_cover = refl
+
+-- refused, it takes the writer, and leaves the content or the bytes that it was to leave: no more than these is kept
+pub a_refused_truncate : Refuses (Truncate 2) WriteFailed durable durable (begun (Truncate 2) six_stand) (record six_stand { has_writer = false; floor = 2; otherwise = 97 ∷ 98 ∷ [] })
+a_refused_truncate = refl
+
+-- it isn't taken once the recovery has ended, and then nothing is lowered
+pub no_truncate_appending : turned_away (Truncate 2) (record six_stand { recovering = false }) ≡ Some NotRecovering
+no_truncate_appending = refl
+
+pub nothing_lowered : begun (Truncate 2) (record six_stand { recovering = false }) ≡ record six_stand { recovering = false }
+nothing_lowered = refl
+
+-- where there is no writer that is told first
+pub closed_first : turned_away (Truncate 2) (record six_stand { has_writer = false; recovering = false }) ≡ Some Closed
+closed_first = refl
+
+-- a cut may ask for eight calls, and a truncate that is none for those of a sync
+pub a_busy_truncate : touch (Truncate 2) six_stand ≡ Changes 8
+a_busy_truncate = refl
+
+pub a_truncate_that_syncs : touch (Truncate 6) six_stand ≡ Changes 2
+a_truncate_that_syncs = refl
+
 -- ---- replies
 
 pub a_size_reply : Accepts 4 Size (Length 6) durable durable six_stand six_stand
@@ -243,6 +311,7 @@ nothing_is_of_a_try P Needs from to before behind accepts = absurd accepts
 nothing_is_of_a_try P Size from to before behind accepts = absurd accepts
 nothing_is_of_a_try P (Read offset len) from to before behind accepts = absurd accepts
 nothing_is_of_a_try P Begin from to before behind accepts = absurd accepts
+nothing_is_of_a_try P (Truncate n) from to before behind accepts = absurd accepts
 
 -- a size has no error
 pub no_fault_of_a_size : (e : Error) → Contains (faults Size) e → ⊥
@@ -270,6 +339,8 @@ six_only = λ image is_image free.
 -- a run of one step: the size
 pub a_run_of_one : Ran add_sum 4 (Size ∷ []) (Length 6 ∷ []) durable [] six_stand six_stand
 a_run_of_one = (
+  all_keep,
+  six_only,
   [],
   [],
   refl,

@@ -1,5 +1,6 @@
 pub mod StepLaws
 pub mod StartLaws
+pub mod TruncateLaws
 pub mod RunLaws
 pub mod PromiseLaws
 pub mod Examples

@@ -17,13 +17,15 @@ use Rattle.crash.specs.Moments.{each_last, through_end, after-append, each_then}
 use Rattle.crash.proofs.Moments.{stays_itself}
 use Rattle.crash.proofs.Promise.{whole_is_chance_free}
 use Rattle.paged.specs.Calls.{HoldsWithin}
-use Rattle.paged.specs.Recovery.{IsDurable, Recovers, LeavesText}
+use Rattle.paged.specs.Recovery.{IsDurable, LeavesText}
+use Rattle.paged.specs.Recovers.{Recovers}
+use Rattle.paged.proofs.Recovered.{recovered_capacity}
 use Rattle.session.specs.declared.steps.Step.{Step}
 use Rattle.session.specs.declared.steps.Reply.{Reply}
-use Rattle.session.specs.Run.{Standing, SessionState, raised, other_content, last, Ran, StandsFor, RunsAlways}
+use Rattle.session.specs.Run.{Standing, SessionState, raised, begun as begun_with, other_content, last, Ran, StandsFor, RunsAlways}
 use Rattle.session.specs.Promise.{IsMoment, HasCrashed, Crashes, Attempts, HasRecovered, ComesBack, Begins, Survives, Tells, Promises, session_of, fresh, KeepsFloor, LeavesContent, IsBegun, AttemptsThrough, opened, StandsWhereSound, RecoversFrom, GivesBack, GivesBackLeft, LeadsOn}
 use Rattle.session.specs.Promise.ComesBack.{recovered, crashed, attempted}
-use Rattle.session.proofs.StepLaws.{same_moments, stands_now, settled_started, settled_awaits}
+use Rattle.session.proofs.StepLaws.{same_moments, begun_within, stands_now, settled_started, settled_awaits}
 use Rattle.paged.proofs.Flushes.{size_is_length}
 use Rattle.std.proofs.Math.Nat.{mul-add-mod_self_right, mod-eq_of_lt}
 use Rattle.std.proofs.lemmas.Bool.{false≢true}
@@ -146,13 +148,14 @@ survive_each sum P content other floor (d ∷ ds) enough kept only = (survives s
 pub ran_tells : (sum : List ℕ → ℕ) (P : ℕ) (steps : List Step) (replies : List Reply) (from : Disk) (moments : List Disk) (s behind : Standing) → s.floor ≤ length s.content → Ran sum P steps replies from moments s behind
     → Tells sum P steps replies from moments s behind
 ran_tells sum P [] [] from moments s behind enough (none, same, keeps, only) = (none, same, survives sum P s.content s.otherwise s.floor from enough keeps only)
-ran_tells sum P (step ∷ steps) (reply ∷ replies) from moments s behind enough (first, rest, is, mid, did, ran) = (
+ran_tells sum P (step ∷ steps) (reply ∷ replies) from moments s behind enough (keeps, only, first, rest, is, mid, did, ran) = (
+  survives sum P s.content s.otherwise s.floor from enough keeps only,
   first,
   rest,
   is,
   mid,
   did.answer,
-  survive_each sum P s.content (other_content step s) s.floor (from ∷ first) enough did.kept did.only,
+  survive_each sum P s.content (other_content step s) (begun_with step s).floor (from ∷ first) (begun_within step s (length s.content) enough) did.kept did.only,
   ran_tells sum P steps replies (last from first) rest (raised (last from first) mid) behind did.within ran,
 )
 ran_tells sum P [] (reply ∷ replies) from moments s behind enough ran = absurd ran
@@ -195,7 +198,7 @@ stands_where_sound sum w = λ d floor sound within enough keeps.
     refl (λ name. refl) enough (λ k x lt. absurd (omega (arith, lt))) keeps (λ k x lt. absurd (omega (arith, lt))) (stays_itself sum w.page_size (content_of w d.readable) d sound.truthful)
 
 -- the size of a content is that of full pages and of a tip that is less
-tip_is : (sum : List ℕ → ℕ) (w : WriterState) (life : Life) → IsSound sum w life.present → length w.tip < w.page_size → length w.tip ≡ length (content_of w life.present.readable) % w.page_size
+pub tip_is : (sum : List ℕ → ℕ) (w : WriterState) (life : Life) → IsSound sum w life.present → length w.tip < w.page_size → length w.tip ≡ length (content_of w life.present.readable) % w.page_size
 tip_is sum w life sound short =
     let size : w.full_pages * w.page_size + length w.tip ≡ length (content_of w life.present.readable) = size_is_length sum w life sound in
     sym (mod-eq_of_lt short) ∙ sym (mul-add-mod_self_right w.full_pages w.page_size (length w.tip)) ∙ ap (λ (n : ℕ). n % w.page_size) size
@@ -207,8 +210,8 @@ unfolding IsSound
 fresh_stands sum w cache capacity old new recovers within durable =
     let P = cache.page_size in
     let T = text sum P old.present.readable in
-    let size : w.page_size ≡ P = ap (λ (x : WriterState). x.page_size) recovers.state in
-    let room : w.capacity ≡ adjusted capacity P = ap (λ (x : WriterState). x.capacity) recovers.state in
+    let size : w.page_size ≡ P = recovers.page_size in
+    let room : w.capacity ≡ adjusted capacity P = recovered_capacity sum cache capacity old new w recovers in
     let holds : content_of w new.present.readable ≡ T = recovers.content in
     let buffered : length w.tip ≡ length T % P =
     tip_is sum w new recovers.sound recovers.settled.short ∙ ap (λ (l : List ℕ). length l % w.page_size) holds ∙ ap (λ (n : ℕ). length T % n) size in

@@ -90,11 +90,16 @@ pub ran_more : (sum : List ℕ → ℕ) (P : ℕ) (steps : List Step) (replies :
     → Ran sum P (steps ++ step ∷ []) (replies ++ reply ∷ []) from (moments ++ more) before (raised (last to more) behind)
 ran_more sum P [] [] step reply from to moments more before mid behind (none, same, keeps, has) reaches did kept only =
     let at : to ≡ from = reaches ∙ ap (λ (ds : List Disk). last from ds) none in
-    let one : Ran sum P (step ∷ []) (reply ∷ []) to more mid (raised (last to more) behind) = (more, [], sym (append-nil more), behind, did, (refl, refl, kept, only)) in
+    let stood : AllKeep sum P mid.content mid.floor to × AllOnly sum P mid.content mid.otherwise to =
+    subst (λ (s : Standing). AllKeep sum P s.content s.floor to × AllOnly sum P s.content s.otherwise to) (sym same)
+    (subst (λ (d : Disk). AllKeep sum P before.content before.floor d × AllOnly sum P before.content before.otherwise d) (sym at) (keeps, has)) in
+    let one : Ran sum P (step ∷ []) (reply ∷ []) to more mid (raised (last to more) behind) = (stood.0, stood.1, more, [], sym (append-nil more), behind, did, (refl, refl, kept, only)) in
     subst (λ (ds : List Disk). Ran sum P (step ∷ []) (reply ∷ []) from (ds ++ more) before (raised (last to more) behind)) (sym none)
     (subst (λ (s : Standing). Ran sum P (step ∷ []) (reply ∷ []) from more s (raised (last to more) behind)) same
     (subst (λ (d : Disk). Ran sum P (step ∷ []) (reply ∷ []) d more mid (raised (last to more) behind)) at one))
-ran_more sum P (x ∷ xs) (r ∷ rs) step reply from to moments more before mid behind (first, rest, is, between, one, others) reaches did kept only = (
+ran_more sum P (x ∷ xs) (r ∷ rs) step reply from to moments more before mid behind (keeps, has, first, rest, is, between, one, others) reaches did kept only = (
+  keeps,
+  has,
   first,
   rest ++ more,
   ap (λ (ds : List Disk). ds ++ more) is ∙ append_assoc first rest more,

@@ -1,9 +1,10 @@
 -- What one step of a session does, from what the calls of its writer did.
-use Rattle.std.proofs.Common.{◌≡◌, ◌⊎◌, ℕ, suc, ◌+◌, ◌<◌, ◌≤◌, List, [], ◌∷◌, ◌++◌, length, take, drop, refl, sym, ap, ◌∙◌, subst, arith, append-nil, length-append, inl, inr, Bool, true, false, Ok, Err, Result, Vec, ◌*◌, ◌/◌, ◌%◌, min, max, lit<, lit≤}
+use Rattle.std.proofs.Common.{◌≡◌, ◌⊎◌, ℕ, zero, suc, ◌+◌, ◌<◌, ◌≤◌, List, [], ◌∷◌, ◌++◌, length, take, drop, map, refl, sym, ap, ◌∙◌, subst, arith, append-nil, length-append, inl, inr, Bool, true, false, Ok, Err, Result, Vec, ◌*◌, ◌/◌, ◌%◌, min, max, lit<, lit≤}
 use Rattle.std.specs.Prelude.{All, Option, Some, None, nat_le, nat_lt, nat_eq, if◌then◌else◌, is_some, ◌==◌, ◌||◌, ◌&&◌, not}
 use Rattle.std.specs.List.{Contains}
 use Rattle.std.specs.declared.alloc.Global.{Global}
 use Rattle.std.proofs.Math.Seq.{take-length}
+use Rattle.std.proofs.lemmas.List.{take-take}
 use Rattle.std.proofs.Math.Nat.{mul-add-div_right, mul-add-mod_self_right, mod-eq_of_lt}
 use Rattle.std.proofs.lemmas.Bool.{false≢true, leb-true, le-leb, cases_lt}
 use Rattle.std.proofs.lemmas.Bool.Decides.{nat_tests}
@@ -33,10 +34,10 @@ use Rattle.crash.proofs.Texts.{AreFull_page}
 use Rattle.paged.proofs.There.{sound_has_pages, reads_keep_sound}
 use Rattle.paged.proofs.Halves.{appends_stay, syncs_stay, sync_keeps_all}
 use Rattle.session.specs.declared.steps.Step.{Step}
-use Rattle.session.specs.declared.steps.Step.TheVariants.{Append, Owned, TryAppend, Sync, Size, Read}
+use Rattle.session.specs.declared.steps.Step.TheVariants.{Append, Owned, TryAppend, Sync, StartSync, Wait, WaitSync, Needs, Size, Read, Begin, Truncate}
 use Rattle.session.specs.declared.steps.Reply.{Reply}
-use Rattle.session.specs.declared.steps.Reply.TheVariants.{At, Nothing, Done, Started, Answer, Length, Bytes, Fault, Closed, NoSuch}
-use Rattle.session.specs.Run.{Standing, SessionState, has_room, buffered_after, written_after, awaited_after, appended, synced, ended, needs_sync, is_complete, raise, raised, turned_away, faults, HasCause, HadFailed, content_after, Takes, Foretells, Answers, Touch, touch, wait_touch, last, Touches, AllCover, pending_in, WriterStandsFor, WriterFits, NamesFit, StandsFor, HasSoundWriter, IsReady}
+use Rattle.session.specs.declared.steps.Reply.TheVariants.{At, Nothing, Done, Started, Answer, Length, Bytes, Fault, Closed, NotRecovering, NoSuch}
+use Rattle.session.specs.Run.{Standing, SessionState, has_room, buffered_after, written_after, awaited_after, appended, synced, ended, needs_sync, is_complete, raise, raised, lowered, begun, turned_away, faults, HasCause, HadFailed, content_after, Takes, Foretells, Answers, Touch, touch, wait_touch, last, Touches, AllCover, pending_in, WriterStandsFor, WriterFits, NamesFit, StandsFor, HasSoundWriter, IsReady}
 use Rattle.session.specs.Run.Touch.{Leaves, Looks, Changes}
 use Rattle.session.specs.Calls.{IsClosed, KeepsRest, OwesStarts, AppendSays, Appended, TriedAppend, SyncSays, Synced, Sized, ReadsBytes, ReadSays, DidRead, Stepped, StepsAlways, Steps}
 
@@ -150,6 +151,62 @@ raise_within d (c ∷ covers) floor n enough within =
     by_test true few = omega (arith, few, enough)
     by_test false few = enough
 
+-- ---- what stands as a step begins
+
+-- fewer bytes are kept too
+pub keeps_fewer : (sum : List ℕ → ℕ) (P : ℕ) (content : List ℕ) (fewer floor : ℕ) (d : Disk) → fewer ≤ floor → AllKeep sum P content floor d → AllKeep sum P content fewer d
+keeps_fewer sum P content fewer floor d less keeps = λ image is_image.
+    sym (take-take fewer floor (text sum P image) less) ∙ ap (λ (l : List ℕ). take fewer l) (keeps image is_image) ∙ take-take fewer floor content less
+
+-- and covered
+pub would_fewer : (sum : List ℕ → ℕ) (P : ℕ) (content : List ℕ) (name fewer cover : ℕ) (d : Disk) → fewer ≤ cover → WouldKeep sum P content name cover d → WouldKeep sum P content name fewer d
+would_fewer sum P content name fewer cover d less would = record { covers = would.covers; named = would.named; keeps = keeps_fewer sum P content fewer cover _ less would.keeps }
+
+-- what holds of each cover holds of the lowered ones in other words
+pub all_lowered : (Q R : ℕ × ℕ → Type 0) (n : ℕ) (covers : List (ℕ × ℕ)) → ((c : ℕ × ℕ) → Q c → R (c.0, min n c.1)) → All Q covers → All R (map (λ (c : ℕ × ℕ). (c.0, min n c.1)) covers)
+all_lowered Q R n [] turned all = λ k x lt. absurd (omega (arith, lt))
+all_lowered Q R n (c ∷ cs) turned all = both (all_lowered Q R n cs turned (λ j y below. all (suc j) y (omega (arith, below))))
+  where
+    both : All R (map (λ (c : ℕ × ℕ). (c.0, min n c.1)) cs) → All R ((c.0, min n c.1) ∷ map (λ (c : ℕ × ℕ). (c.0, min n c.1)) cs)
+    both more zero x lt = turned c (all 0 c (omega arith))
+    both more (suc k) x lt = more k x (omega (arith, lt))
+
+-- a step never begins with more
+lowered_keeps : (sum : List ℕ → ℕ) (P n : ℕ) (s : Standing) (d : Disk) → AllKeep sum P s.content s.floor d → AllKeep sum P s.content (lowered n s).floor d
+lowered_keeps sum P n s d keeps = keeps_fewer sum P s.content (min n s.floor) s.floor d (omega arith) keeps
+
+lowered_covers : (sum : List ℕ → ℕ) (P n : ℕ) (s : Standing) (d : Disk) → AllCover sum P s.content s.covers d → AllCover sum P s.content (lowered n s).covers d
+lowered_covers sum P n s d covered =
+    all_lowered (λ c. WouldKeep sum P s.content c.0 c.1 d) (λ c. WouldKeep sum P s.content c.0 c.1 d) n s.covers (λ c would. would_fewer sum P s.content c.0 (min n c.1) c.1 d (omega arith) would) covered
+
+-- what holds of the standing and of the lowered one holds of what stands as a step begins
+begun_either : (Q : Standing → Type 0) (step : Step) (s : Standing) → Q s → ((n : ℕ) → Q (lowered n s)) → Q (begun step s)
+begun_either Q (Truncate n) s same less = by_phase (s.has_writer && s.recovering)
+  where
+    by_phase : (cuts : Bool) → Q (if cuts then lowered n s else s)
+    by_phase true = less n
+    by_phase false = same
+begun_either Q (Append bytes) s same less = same
+begun_either Q (Owned bytes) s same less = same
+begun_either Q (TryAppend bytes) s same less = same
+begun_either Q Sync s same less = same
+begun_either Q StartSync s same less = same
+begun_either Q Wait s same less = same
+begun_either Q (WaitSync name) s same less = same
+begun_either Q Needs s same less = same
+begun_either Q Size s same less = same
+begun_either Q (Read offset len) s same less = same
+begun_either Q Begin s same less = same
+
+pub begun_keeps : (sum : List ℕ → ℕ) (P : ℕ) (step : Step) (s : Standing) (d : Disk) → AllKeep sum P s.content s.floor d → AllKeep sum P s.content (begun step s).floor d
+begun_keeps sum P step s d keeps = begun_either (λ x. AllKeep sum P s.content x.floor d) step s keeps (λ n. lowered_keeps sum P n s d keeps)
+
+pub begun_covers : (sum : List ℕ → ℕ) (P : ℕ) (step : Step) (s : Standing) (d : Disk) → AllCover sum P s.content s.covers d → AllCover sum P s.content (begun step s).covers d
+begun_covers sum P step s d covered = begun_either (λ x. AllCover sum P s.content x.covers d) step s covered (λ n. lowered_covers sum P n s d covered)
+
+pub begun_within : (step : Step) (s : Standing) (n : ℕ) → s.floor ≤ n → (begun step s).floor ≤ n
+begun_within step s n within = begun_either (λ x. x.floor ≤ n) step s within (λ m. omega (arith, within))
+
 -- ---- both halves, and what started syncs cover
 
 -- what a started sync covers of a content it covers of a longer one
@@ -204,25 +261,33 @@ pub raised_within : (sum : List ℕ → ℕ) (P : ℕ) (now : SessionState) (old
     → (raised (last old.present moments) behind).floor ≤ length behind.content
 raised_within sum P now old new behind moments goes stands = raise_within (last old.present moments) behind.covers behind.floor (length behind.content) stands.floor stands.within
 
--- a step by a session with a writer, from both halves and the answer
-pub stepped : (sum : List ℕ → ℕ) (P : ℕ) (step : Step) (reply : Reply) (now : SessionState) (old new : Life) (before behind : Standing) (moments : List Disk) → before.has_writer ≡ true → turned_away step before ≡ None
-    → Halves sum P before.content (content_after step before.content) before.floor before.covers old new moments → Touches (touch step before) old.present moments → Takes P step reply old.present new.present before behind → Foretells P step reply before
+-- a step by a session with a writer, from what each moment says and the answer
+pub stepped_by : (sum : List ℕ → ℕ) (P : ℕ) (step : Step) (reply : Reply) (now : SessionState) (old new : Life) (before behind : Standing) (moments : List Disk) → before.has_writer ≡ true → turned_away step before ≡ None
+    → new ≡ after old moments → Each (AllKeep sum P before.content (begun step before).floor) (old.present ∷ moments) → Each (AllCover sum P before.content (begun step before).covers) (old.present ∷ moments)
+    → Each (AllOnly sum P before.content (content_after step before.content)) (old.present ∷ moments) → Touches (touch step before) old.present moments → Takes P step reply old.present new.present before behind → Foretells P step reply before
     → StandsFor sum P now behind new.present → Stepped sum P step reply now old new before
-stepped sum P step reply now old new before behind moments has here h touches takes foretells stands = record {
+stepped_by sum P step reply now old new before behind moments has here goes kept covered only touches takes foretells stands = record {
   moments = moments;
-  goes = h.goes;
+  goes = goes;
   behind = behind;
   did = record {
-    answer = subst (λ (to : Disk). Answers P step reply old.present to before behind) (ap (λ (life : Life). life.present) h.goes ∙ last_is old moments) (answers_here P step reply old.present new.present before behind here takes foretells);
+    answer = subst (λ (to : Disk). Answers P step reply old.present to before behind) (ap (λ (life : Life). life.present) goes ∙ last_is old moments) (answers_here P step reply old.present new.present before behind here takes foretells);
     touches = touches;
     stopped = not_turned_away step before moments here;
-    kept = h.kept;
-    covered = h.covered;
-    only = subst (λ (b : Bool). Each (AllOnly sum P before.content (if b then content_after step before.content else before.otherwise)) (old.present ∷ moments)) (sym has) h.only;
-    within = raised_within sum P now old new behind moments h.goes stands;
+    kept = kept;
+    covered = covered;
+    only = subst (λ (b : Bool). Each (AllOnly sum P before.content (if b then content_after step before.content else before.otherwise)) (old.present ∷ moments)) (sym has) only;
+    within = raised_within sum P now old new behind moments goes stands;
   };
   stands = stands;
 }
+
+-- from both halves
+pub stepped : (sum : List ℕ → ℕ) (P : ℕ) (step : Step) (reply : Reply) (now : SessionState) (old new : Life) (before behind : Standing) (moments : List Disk) → before.has_writer ≡ true → turned_away step before ≡ None
+    → Halves sum P before.content (content_after step before.content) (begun step before).floor (begun step before).covers old new moments → Touches (touch step before) old.present moments → Takes P step reply old.present new.present before behind
+    → Foretells P step reply before → StandsFor sum P now behind new.present → Stepped sum P step reply now old new before
+stepped sum P step reply now old new before behind moments has here h touches takes foretells stands =
+    stepped_by sum P step reply now old new before behind moments has here h.goes h.kept h.covered h.only touches takes foretells stands
 
 -- of either content the one that a step may leave, where that of its writer stays
 pub only_there : (sum : List ℕ → ℕ) (P : ℕ) (o : Option WriterState) (before : Standing) (d e : Disk) → WriterFits P o before d → AllOnly sum P before.content before.otherwise e
@@ -245,8 +310,8 @@ closed_steps sum step was now old new reply none away replied same_session same 
         answer = answers_away P step Closed old.present old.present before (away before fits);
         touches = leaves (touch step before) old.present;
         stopped = λ gone. refl;
-        kept = (stands.kept, tt);
-        covered = (stands.covered, tt);
+        kept = (begun_keeps sum P step before old.present stands.kept, tt);
+        covered = (begun_covers sum P step before old.present stands.covered, tt);
         only = (subst (λ (b : Bool). AllOnly sum P before.content (if b then content_after step before.content else before.otherwise) old.present) (sym fits) stands.only, tt);
         within = raised_within sum P was old old before [] refl stands;
       };
@@ -274,8 +339,8 @@ unasked sum P was w step reply now life before behind here stands takes foretell
         answer = answers_here P step reply life.present life.present before behind here takes foretells;
         touches = leaves (touch step before) life.present;
         stopped = λ away. refl;
-        kept = (stands.kept, tt);
-        covered = (stands.covered, tt);
+        kept = (begun_keeps sum P step before life.present stands.kept, tt);
+        covered = (begun_covers sum P step before life.present stands.covered, tt);
         only = (subst (λ (b : Bool). AllOnly sum P before.content (if b then content_after step before.content else before.otherwise) life.present) (sym has) only, tt);
         within = raised_within sum P now life life behind [] refl after;
       };
@@ -438,7 +503,7 @@ pub sync_needed : (w : WriterState) (P : ℕ) (s : Standing) (d : Disk) → Writ
 sync_needed w P s d fits some = sym (needs_is w P s d fits) ∙ (elim (cases_lt 0 (sync_calls w)) [ inl more ↦ (let yes : nat_lt 0 (sync_calls w) ≡ true = grind (arith, nat_tests, more) in yes) | inr none ↦ absurd (some (omega (arith, none))) ])
 
 -- two calls at most
-calls_few : (work : Bool) (state : SyncState) → (if work then 1 else 0) + settle_calls state ≤ 2
+pub calls_few : (work : Bool) (state : SyncState) → (if work then 1 else 0) + settle_calls state ≤ 2
 calls_few true Clean = lit≤ tt
 calls_few true Dirty = lit≤ tt
 calls_few true (Pending name) = lit≤ tt
@@ -828,11 +893,11 @@ alike_stays_started : (d e : Disk) → SameButLog d e → StartsStand d → Star
 alike_stays_started d e alike stand = subst StartsStand (sym alike) stand
 
 -- a step that only reads and leaves the standing
-pub looked_steps : (sum : List ℕ → ℕ) (was : SessionState) (P : ℕ) (w : WriterState) (step : Step) (reply : Reply) (old new : Life) (before : Standing) → content_after step before.content ≡ before.content → turned_away step before ≡ None → IsSound sum w old.present
-    → Looked old new → (seen : Moments (SameButLog old.present) old new) → Touches (touch step before) old.present seen.moments → StandsFor sum P (held was (Some w)) before old.present → Takes P step reply old.present new.present before before → Foretells P step reply before
+pub looked_steps : (sum : List ℕ → ℕ) (was : SessionState) (P : ℕ) (w : WriterState) (step : Step) (reply : Reply) (old new : Life) (before : Standing) → content_after step before.content ≡ before.content → begun step before ≡ before → turned_away step before ≡ None
+    → IsSound sum w old.present → Looked old new → (seen : Moments (SameButLog old.present) old new) → Touches (touch step before) old.present seen.moments → StandsFor sum P (held was (Some w)) before old.present → Takes P step reply old.present new.present before before → Foretells P step reply before
     → Stepped sum P step reply (held was (Some w)) old new before
 unfolding Through IsSound
-looked_steps sum was P w step reply old new before same here sound looked seen touches stands takes foretells =
+looked_steps sum was P w step reply old new before same begins here sound looked seen touches stands takes foretells =
     let fits = stands.fits in
     let start : Stays sum P before.content old.present old.present =
     subst (λ (n : ℕ). Stays sum n before.content old.present old.present) fits.page_size
@@ -855,7 +920,8 @@ looked_steps sum was P w step reply old new before same here sound looked seen t
       each = each_then (SameButLog old.present) (CoversStay sum P before.content old.present) seen.moments cover seen.each;
     } in
     let h = same_halves sum was P w old new before stands through covering in
-    stepped sum P step reply (held was (Some w)) old new before before through.moments fits.has_writer here (subst (λ (l : List ℕ). Halves sum P before.content l before.floor before.covers old new through.moments) (sym same) h) touches takes
+    stepped sum P step reply (held was (Some w)) old new before before through.moments fits.has_writer here (subst (λ (s : Standing). Halves sum P before.content (content_after step before.content) s.floor s.covers old new through.moments) (sym begins)
+    (subst (λ (l : List ℕ). Halves sum P before.content l before.floor before.covers old new through.moments) (sym same) h)) touches takes
     foretells
     (stands_now sum P was w old new before
     (record {
@@ -894,7 +960,7 @@ unfolding Through
 read_steps sum was w offset len old new reply sound says = λ P before stands.
     let size : size_of w ≡ length before.content = size_is_length sum w old sound ∙ ap length (sym stands.fits.content) in
     let foretold : Foretells P (Read offset len) reply before = (says.overflow, λ passes. says.end passes.0 (omega (arith, size, passes.1))) in
-    looked_steps sum was P w (Read offset len) reply old new before refl (turned_here before.has_writer stands.fits.has_writer) sound says.looked says.looked.through says.looked.through.each stands (taken reply P before stands size says.reads) foretold
+    looked_steps sum was P w (Read offset len) reply old new before refl refl (turned_here before.has_writer stands.fits.has_writer) sound says.looked says.looked.through says.looked.through.each stands (taken reply P before stands size says.reads) foretold
   where
     taken : (r : Reply) (P : ℕ) (before : Standing) → StandsFor sum P (held was (Some w)) before old.present → size_of w ≡ length before.content → ReadsBytes sum w offset len old new r → Takes P (Read offset len) r old.present new.present before before
     taken (Bytes bytes) P before stands size (bufs, is, reads) = ((omega (arith, size, reads.0), is ∙ reads.1 ∙ ap (λ (l : List ℕ). take len (drop offset l)) (sym stands.fits.content)), refl)
@@ -905,6 +971,7 @@ read_steps sum was w offset len old new reply sound says = λ P before stands.
     taken (Started sync) P before stands size reads = absurd reads
     taken (Answer answer) P before stands size reads = absurd reads
     taken NoSuch P before stands size reads = absurd reads
+    taken NotRecovering P before stands size reads = absurd reads
     taken (Length n) P before stands size reads = absurd reads
     taken Closed P before stands size reads = absurd reads
 
@@ -963,6 +1030,7 @@ appended_takes sum was now bytes old new reply ready rest goes = by_writer was.w
     by_writer (Some w) at (Bytes read) goes = absurd goes
     by_writer (Some w) at Closed goes = absurd goes
     by_writer (Some w) at NoSuch goes = absurd goes
+    by_writer (Some w) at NotRecovering goes = absurd goes
 
 -- a cause of an append is one of an append of a buffer
 owned_cause : (P : ℕ) (bytes : Vec ℕ Global) (s : Standing) (from to : Disk) (e : Error) → HasCause P (Append bytes) s from to e → HasCause P (Owned bytes) s from to e
@@ -988,6 +1056,7 @@ owned_takes P bytes (Length n) s behind from to takes = takes
 owned_takes P bytes (Bytes read) s behind from to takes = takes
 owned_takes P bytes Closed s behind from to takes = takes
 owned_takes P bytes NoSuch s behind from to takes = takes
+owned_takes P bytes NotRecovering s behind from to takes = takes
 
 owned_answers : (P : ℕ) (bytes : Vec ℕ Global) (reply : Reply) (s behind : Standing) (from to : Disk) → Answers P (Append bytes) reply from to s behind → Answers P (Owned bytes) reply from to s behind
 owned_answers P bytes reply s behind from to = by_turn (if s.has_writer then None else Some Closed)
@@ -1044,6 +1113,7 @@ tried_takes sum was now bytes life reply ready rest goes = by_writer was.writer 
     by_writer (Some w) at (Bytes read) goes = absurd goes
     by_writer (Some w) at Closed goes = absurd goes
     by_writer (Some w) at NoSuch goes = absurd goes
+    by_writer (Some w) at NotRecovering goes = absurd goes
 
 -- a sync by a session
 pub synced_takes : (sum : List ℕ → ℕ) (was now : SessionState) (old new : Life) (reply : Reply) → IsReady sum was old.present → KeepsRest was now → Synced sum was.writer now.writer old new reply → Steps sum Sync reply was now old new
@@ -1061,6 +1131,7 @@ synced_takes sum was now old new reply ready rest goes = by_writer was.writer re
     by_writer (Some w) at (Bytes read) goes = absurd goes
     by_writer (Some w) at Closed goes = absurd goes
     by_writer (Some w) at NoSuch goes = absurd goes
+    by_writer (Some w) at NotRecovering goes = absurd goes
 
 -- what is read of a session leaves all of it
 pub same_rest : (was : SessionState) → KeepsRest was was

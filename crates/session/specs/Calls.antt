@@ -1,7 +1,7 @@
 -- What one step of a session does, and each call behind it.
 use Rattle.std.specs.Prelude.{◌≡◌, ◌⊎◌, ◌<◌, ◌≤◌, ◌+◌, ◌^◌, ◌++◌, ℕ, List, [], ◌∷◌, length, Bool}
 use Rattle.std.specs.Prelude.{true, false, nat_eq, nat_lt, Option, Some, None, Result, Ok, Err}
-use Rattle.std.specs.Prelude.{IfOk}
+use Rattle.std.specs.Prelude.{IfOk, OnOk, take}
 use Rattle.std.specs.List.{concat, list_any}
 use Rattle.disk.specs.Disk.{Disk, Life, after, WaitGoes}
 use Rattle.disk.specs.declared.started_sync.StartedSync.{StartedSync}
@@ -12,18 +12,21 @@ use Rattle.disk.specs.declared.error.Error.TheVariants.{OutOfMemory}
 use Rattle.crash.specs.WriterState.{WriterState}
 use Rattle.crash.specs.WriterState.SyncState.{Dirty}
 use Rattle.crash.specs.Looks.{Looked}
-use Rattle.crash.specs.Sound.{content as content_of}
+use Rattle.crash.specs.Sound.{IsSound, content as content_of}
 use Rattle.crash.specs.Started.{CoversThrough, StartsStand}
+use Rattle.crash.specs.Stays.{KeepsAll, LeavesOnly}
 use Rattle.paged.specs.Writer.{physical_size}
 use Rattle.paged.specs.Calls.{Appends, BuffersAll, TryAppends, BuffersOver, Syncs, HoldsWithin}
 use Rattle.paged.specs.Calls.{AsksAtMost, sync_calls, start_calls, wait_calls, StartsSync}
 use Rattle.paged.specs.Calls.{started_already, WaitsForSync, SettlesBy}
 use Rattle.paged.specs.Flush.{outcome}
 use Rattle.paged.specs.Reads.{Reads, size_of}
+use Rattle.paged.specs.Truncate.{Truncates, KeepsFloorsWithin, truncate_calls}
 use Rattle.session.specs.declared.steps.Step.{Step}
 use Rattle.session.specs.declared.steps.Reply.{Reply}
 use Rattle.session.specs.declared.steps.Reply.TheVariants.{At, Nothing, Done, Started, Answer}
 use Rattle.session.specs.declared.steps.Reply.TheVariants.{Length, Bytes, Fault, Closed, NoSuch}
+use Rattle.session.specs.declared.steps.Reply.TheVariants.{NotRecovering}
 use Rattle.session.specs.Run.{Standing, SessionState, Did, StandsFor, IsReady}
 
 -- what a call of the writer leaves of the session but the writer
@@ -167,6 +170,37 @@ Needs (Some w) reply = reply ≡ Answer (nat_lt 0 (sync_calls w))
 abbrev pub Begins : Option WriterState → SessionState → SessionState → Reply → Type 0
 Begins None was now reply = (reply ≡ Closed) × (now ≡ was)
 Begins (Some w) was now reply = (reply ≡ Done) × (now ≡ record was { recovering = false })
+
+-- what a truncate to n bytes says of its answer
+pub record TruncateSays (sum : List ℕ → ℕ) (w : WriterState) (n : ℕ) (old new : Life)
+    (result : Result WriterState Error) : Type 0 where
+  pub truncates : Truncates sum n w old new result
+  pub sound : IfOk result (λ v. IsSound sum v new.present)
+  pub within : IfOk result (λ v. HoldsWithin v)
+  pub calls : AsksAtMost (truncate_calls w n) old new
+  pub durable : let kept = take n (content_of w old.present.readable) in
+      OnOk result (KeepsAll sum w.page_size kept new)
+  pub floors : KeepsFloorsWithin n sum w.page_size old new
+  pub only : let held = content_of w old.present.readable in
+      LeavesOnly sum w.page_size held (take n held) old new
+  pub covers : CoversThrough sum w.page_size (take n (content_of w old.present.readable)) old new
+  pub starts : StartsStand new.present
+
+-- a truncate by a session with a writer in recovery
+abbrev pub Cuts : (List ℕ → ℕ) → WriterState → Option WriterState → (n : ℕ) → Life → Life → Reply
+    → Type 0
+Cuts sum w now n old new (Length m) =
+    (v : WriterState) × (now ≡ Some v) × (m ≡ size_of v) × TruncateSays sum w n old new (Ok v)
+Cuts sum w now n old new (Fault e) = (now ≡ None) × TruncateSays sum w n old new (Err e)
+Cuts sum w now n old new _ = ⊥
+
+-- a truncate, by whether the session is in recovery, and its writer
+abbrev pub Truncated : (List ℕ → ℕ) → (recovering : Bool) → Option WriterState → Option WriterState
+    → (n : ℕ) → Life → Life → Reply → Type 0
+Truncated sum recovering None now n old new reply = IsClosed now old new reply
+Truncated sum true (Some w) now n old new reply = Cuts sum w now n old new reply
+Truncated sum false (Some w) now n old new reply =
+    (reply ≡ NotRecovering) × (now ≡ Some w) × (new ≡ old)
 
 -- the size
 abbrev pub Sized : Option WriterState → Reply → Type 0

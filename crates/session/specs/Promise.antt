@@ -14,10 +14,11 @@ use Rattle.crash.specs.Stays.{KeepsFloors}
 use Rattle.crash.specs.WriterState.{WriterState}
 use Rattle.crash.specs.Sound.{IsSound, content as content_of}
 use Rattle.paged.specs.Calls.{HoldsWithin, start_calls}
-use Rattle.paged.specs.Recovery.{IsDurable, Recovers, LeavesText}
+use Rattle.paged.specs.Recovery.{IsDurable, LeavesText}
+use Rattle.paged.specs.Recovers.{Recovers}
 use Rattle.session.specs.declared.steps.Step.{Step}
 use Rattle.session.specs.declared.steps.Reply.{Reply}
-use Rattle.session.specs.Run.{Standing, other_content, last, Answers, raised, SessionState}
+use Rattle.session.specs.Run.{Standing, begun, other_content, last, Answers, raised, SessionState}
 use Rattle.session.specs.Run.{pending_in, StandsFor}
 
 -- ---- the way back
@@ -97,17 +98,19 @@ pub record Survives (sum : List ℕ → ℕ) (P : ℕ) (content other : List ℕ
 -- ---- a run
 
 -- a run of steps with these replies, through its moments: each reply is exact; and what comes back
--- from any moment of a step, or from the end, keeps what stood then: the contents are the fold of
--- the accepted steps, the floor is what the last sync that answered Ok made durable, or a started
--- sync that has completed
+-- from between two steps, from any moment of one, or from the end, keeps what stood then: the
+-- contents are the fold of the accepted steps, the floor is what the last sync or truncate that
+-- answered Ok made durable, or a started sync that has completed, but for what a truncate was asked
+-- to cut since
 abbrev pub Tells : (List ℕ → ℕ) → (P : ℕ) → List Step → List Reply → Disk → List Disk → Standing
     → Standing → Type 0
 Tells sum P [] [] from moments s behind =
     (moments ≡ []) × (behind ≡ s) × Survives sum P s.content s.otherwise s.floor from
 Tells sum P (step ∷ steps) (reply ∷ replies) from moments s behind =
-    (first : List Disk) × (rest : List Disk) × (moments ≡ first ++ rest) × (mid : Standing)
+    Survives sum P s.content s.otherwise s.floor from
+    × (first : List Disk) × (rest : List Disk) × (moments ≡ first ++ rest) × (mid : Standing)
     × Answers P step reply from (last from first) s mid
-    × Each (Survives sum P s.content (other_content step s) s.floor) (from ∷ first)
+    × Each (Survives sum P s.content (other_content step s) (begun step s).floor) (from ∷ first)
     × Tells sum P steps replies (last from first) rest (raised (last from first) mid) behind
 Tells sum P [] (reply ∷ replies) from moments s behind = ⊥
 Tells sum P (step ∷ steps) [] from moments s behind = ⊥

@@ -1,6 +1,7 @@
 -- What a list of steps did to a session, moment by moment.
 use Rattle.std.specs.Prelude.{◌≡◌, ◌⊎◌, ◌<◌, ◌≤◌, ◌+◌, ◌%◌, ◌^◌, ◌++◌, ℕ, List, [], ◌∷◌, length}
-use Rattle.std.specs.Prelude.{take, drop, max, All, Bool, true, false, not, nat_le, nat_eq, ◌||◌}
+use Rattle.std.specs.Prelude.{take, drop, min, max, map, All, Bool, true, false, not, nat_le}
+use Rattle.std.specs.Prelude.{nat_lt, nat_eq, ◌||◌, ◌&&◌}
 use Rattle.std.specs.Prelude.{if◌then◌else◌, is_some, slice_get, Option, Some, None}
 use Rattle.std.specs.List.{Contains, list_any}
 use Rattle.disk.specs.Disk.{Disk, Life, after, HasFailed, coverings, had_failed}
@@ -21,9 +22,11 @@ use Rattle.paged.specs.Calls.{start_calls}
 use Rattle.session.specs.declared.steps.Step.{Step}
 use Rattle.session.specs.declared.steps.Step.TheVariants.{Append, Owned, TryAppend, Sync, StartSync}
 use Rattle.session.specs.declared.steps.Step.TheVariants.{Wait, WaitSync, Needs, Size, Read, Begin}
+use Rattle.session.specs.declared.steps.Step.TheVariants.{Truncate}
 use Rattle.session.specs.declared.steps.Reply.{Reply}
 use Rattle.session.specs.declared.steps.Reply.TheVariants.{At, Nothing, Done, Started, Answer}
 use Rattle.session.specs.declared.steps.Reply.TheVariants.{Length, Bytes, Fault, Closed, NoSuch}
+use Rattle.session.specs.declared.steps.Reply.TheVariants.{NotRecovering}
 
 -- ---- what a session stands for
 
@@ -93,6 +96,19 @@ starting P (Named name) s = record s {
   covers = (name, length s.content) ∷ s.covers;
 }
 
+-- with its first n bytes alone, all of them durable
+abbrev pub truncated : (P n : ℕ) → Standing → Standing
+truncated P n s =
+    let content = take n s.content in
+    record s {
+      content = content;
+      floor = length content;
+      otherwise = content;
+      buffered = length content % P;
+      written = true;
+      awaited = None;
+    }
+
 -- with no started sync to wait for
 abbrev pub waited : Standing → Standing
 waited s = record s { awaited = None }
@@ -119,15 +135,30 @@ raised d s = record s { floor = raise d s.covers s.floor }
 abbrev pub ended : List ℕ → Standing → Standing
 ended otherwise s = record s { has_writer = false; otherwise = otherwise }
 
+-- of the content no more than its first n bytes is kept, nor will be by a started sync
+abbrev pub lowered : (n : ℕ) → Standing → Standing
+lowered n s = record s {
+  floor = min n s.floor;
+  covers = map (λ c. (c.0, min n c.1)) s.covers;
+}
+
+-- the standing as a step begins: where bytes are asked to be cut, they aren't kept from then on
+abbrev pub begun : Step → Standing → Standing
+begun (Truncate n) s = if s.has_writer && s.recovering then lowered n s else s
+begun step s = s
+
 -- ---- steps that are turned away
 
 -- the session was given this name
 abbrev pub has_name : Standing → ℕ → Bool
 has_name s name = list_any (λ c. nat_eq c.0 name) s.covers
 
--- the reply, where the session has not what the step needs: a writer, or a name that it was given
+-- the reply, where the session has not what the step needs: a writer, one whose recovery hasn't
+-- ended, or a name that it was given
 abbrev pub turned_away : Step → Standing → Option Reply
 turned_away (WaitSync name) s = if has_name s name then None else Some NoSuch
+turned_away (Truncate n) s =
+    if s.has_writer then (if s.recovering then None else Some NotRecovering) else Some Closed
 turned_away step s = if s.has_writer then None else Some Closed
 
 -- ---- steps that are accepted
@@ -172,6 +203,8 @@ Accepts P Size (Length n) from to s behind = (n ≡ length s.content) × (behind
 Accepts P (Read offset len) (Bytes bytes) from to s behind =
     Slices s.content offset len bytes.items × (behind ≡ s)
 Accepts P Begin Done from to s behind = behind ≡ record s { recovering = false }
+Accepts P (Truncate n) (Length m) from to s behind =
+    (m ≡ min n (length s.content)) × (behind ≡ truncated P n s)
 Accepts P step reply from to s behind = ⊥
 
 -- ---- steps that are refused
@@ -188,6 +221,8 @@ faults (WaitSync name) = SyncFailed ∷ OutOfMemory ∷ []
 faults Needs = []
 faults Size = []
 faults Begin = []
+faults (Truncate n) =
+    ReadFailed ∷ WriteFailed ∷ ResizeFailed ∷ SyncFailed ∷ OutOfMemory ∷ []
 faults (Read offset len) = ReadFailed ∷ BlobInsufficientLength ∷ OffsetOverflow ∷ OutOfMemory ∷ []
 
 -- a place, or the blob that the new size needs in pages of P bytes, passes the greatest number
@@ -218,6 +253,7 @@ waits_for Sync s = s.awaited
 waits_for StartSync s = if s.written then None else s.awaited
 waits_for Wait s = s.awaited
 waits_for (WaitSync name) s = Some name
+waits_for (Truncate n) s = s.awaited
 waits_for step s = None
 
 -- it had failed
@@ -242,6 +278,7 @@ abbrev pub content_after : Step → List ℕ → List ℕ
 content_after (Append bytes) content = content ++ bytes.items
 content_after (Owned bytes) content = content ++ bytes.items
 content_after (TryAppend bytes) content = content ++ bytes.items
+content_after (Truncate n) content = take n content
 content_after step content = content
 
 -- there was no memory for a name that the session would have been given: nothing was done
@@ -256,6 +293,7 @@ Refuses Sync e from to s behind = behind ≡ ended s.content s
 Refuses StartSync e from to s behind =
     ((s.written ≡ false) × (behind ≡ ended s.content s)) ⊎ HadNoRoom e from to s behind
 Refuses Wait e from to s behind = behind ≡ ended s.content s
+Refuses (Truncate n) e from to s behind = behind ≡ ended (take n s.content) s
 Refuses step e from to s behind = behind ≡ s
 
 -- ---- one step
@@ -263,8 +301,9 @@ Refuses step e from to s behind = behind ≡ s
 -- a step that isn't turned away: it is refused for a cause, or accepted
 abbrev pub Takes : (P : ℕ) → Step → Reply → Disk → Disk → Standing → Standing → Type 0
 Takes P step (Fault e) from to s behind =
-    Contains (faults step) e × HasCause P step s from to e × Refuses step e from to s behind
-Takes P step reply from to s behind = Accepts P step reply from to s behind
+    Contains (faults step) e × HasCause P step s from to e
+    × Refuses step e from to (begun step s) behind
+Takes P step reply from to s behind = Accepts P step reply from to (begun step s) behind
 
 -- a fault that the standing alone tells comes before any other reply
 abbrev pub Foretells : (P : ℕ) → Step → Reply → Standing → Type 0
@@ -302,6 +341,7 @@ touch Needs s = Leaves
 touch Size s = Leaves
 touch (Read offset len) s = Looks
 touch Begin s = Leaves
+touch (Truncate n) s = Changes (if nat_lt n (length s.content) then 8 else 2)
 
 -- the last of some moments
 abbrev pub last : Disk → List Disk → Disk
@@ -322,26 +362,28 @@ abbrev pub AllCover : (List ℕ → ℕ) → (P : ℕ) → List ℕ → (covers 
 AllCover sum P content covers d = All (λ c. WouldKeep sum P content c.0 c.1 d) covers
 
 -- one step: its reply, what it did to the disk, and what a crash leaves at each of its moments, and
--- would leave once a started sync completed
+-- would leave once a started sync completed, by what stands as it begins
 pub record Did (sum : List ℕ → ℕ) (P : ℕ) (step : Step) (reply : Reply) (from : Disk)
     (moments : List Disk) (before behind : Standing) : Type 0 where
   pub answer : Answers P step reply from (last from moments) before behind
   pub touches : Touches (touch step before) from moments
   pub stopped : is_some (turned_away step before) ≡ true → moments ≡ []
-  pub kept : Each (AllKeep sum P before.content before.floor) (from ∷ moments)
-  pub covered : Each (AllCover sum P before.content before.covers) (from ∷ moments)
+  pub kept : Each (AllKeep sum P before.content (begun step before).floor) (from ∷ moments)
+  pub covered : Each (AllCover sum P before.content (begun step before).covers) (from ∷ moments)
   pub only : Each (AllOnly sum P before.content (other_content step before)) (from ∷ moments)
   pub within : (raised (last from moments) behind).floor ≤ length behind.content
 
 -- a list of steps, through the moments of the run, from one standing to another: after each, what a
--- completed sync covers is a floor; and where no step is left, what stands is kept
+-- completed sync covers is a floor; and what stands between two steps, or where none is left, is
+-- kept
 abbrev pub Ran : (List ℕ → ℕ) → (P : ℕ) → List Step → List Reply → Disk → List Disk → Standing
     → Standing → Type 0
 Ran sum P [] [] from moments s behind =
     (moments ≡ []) × (behind ≡ s) × AllKeep sum P s.content s.floor from
     × AllOnly sum P s.content s.otherwise from
 Ran sum P (step ∷ steps) (reply ∷ replies) from moments s behind =
-    (first : List Disk) × (rest : List Disk) × (moments ≡ first ++ rest) × (mid : Standing)
+    AllKeep sum P s.content s.floor from × AllOnly sum P s.content s.otherwise from
+    × (first : List Disk) × (rest : List Disk) × (moments ≡ first ++ rest) × (mid : Standing)
     × Did sum P step reply from first s mid
     × Ran sum P steps replies (last from first) rest (raised (last from first) mid) behind
 Ran sum P [] (reply ∷ replies) from moments s behind = ⊥

@@ -26,8 +26,9 @@ impl<B: Blob, H: Sum> Session<B, H> {
     /// at least one.
     ///
     /// `OffsetOverflow` where that capacity passes `usize`: then nothing changed. `ReadFailed`,
-    /// `ResizeFailed` and `SyncFailed` where the device failed, `OutOfMemory`; `IdsExhausted` where
-    /// the cache has no id left. After an error the blob may be recovered again.
+    /// `WriteFailed`, `ResizeFailed` and `SyncFailed` where the device failed, `OutOfMemory`;
+    /// `IdsExhausted` where the cache has no id left. After an error the blob may be recovered
+    /// again.
     pub fn recover(
         alloc: Global,
         blob: &mut B,

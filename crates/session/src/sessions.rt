@@ -6,7 +6,7 @@ ghost use Rattle.paged.specs.Reads.{size_of};
 ghost use Rattle.session.specs.Promise.{Promises, StandsWhereSound, closed, session_of};
 ghost use Rattle.session.specs.Calls.{Appended, TriedAppend, Synced, Starts, Waits, WaitsFor};
 ghost use Rattle.session.specs.Calls.{Needs, Sized, DidRead, IsBytes, Begins, KeepsRest, is_given};
-ghost use Rattle.session.specs.Calls.{Steps, AppendSays};
+ghost use Rattle.session.specs.Calls.{Steps, AppendSays, Truncated};
 ghost use Rattle.crash.specs.Sound.{IsSound};
 
 use crate::steps::{Reply, Step};
@@ -95,6 +95,7 @@ impl<B: Blob, H: Sum> Session<B, H> {
             Step::Size => self.length(),
             Step::Read(offset, len) => self.read(blob, cache, *offset, *len),
             Step::Begin => self.begin(),
+            Step::Truncate(size) => self.truncate(blob, cache, *size),
         }
     }
 
@@ -265,6 +266,30 @@ impl<B: Blob, H: Sum> Session<B, H> {
         Reply::Done
     }
 
+    fn truncate(&mut self, blob: &mut B, cache: &mut CacheRef, size: u64) -> Reply
+        requires ready { IsReady H.sum_of self.old (B.life blob.old).present }
+        ensures goes { let old = B.life blob.old in let new = B.life blob.new in
+            Truncated H.sum_of self.old.recovering self.old.writer self.new.writer size old new
+            result }
+        ensures rest { KeepsRest self.old self.new }
+    {
+        let Some(writer) = self.writer.take() else {
+            return Reply::Closed;
+        };
+        if !self.recovering {
+            self.writer = Some(writer);
+            return Reply::NotRecovering;
+        }
+        match writer.truncate(blob, cache, size) {
+            Ok(writer) => {
+                let size = writer.size();
+                self.writer = Some(writer);
+                Reply::Length(size)
+            }
+            Err(error) => Reply::Fault(error),
+        }
+    }
+
     fn bytes_of(&self, bufs: &IoBufs) -> Reply
         ensures { IsBytes (concat bufs.now) result }
     {
@@ -305,10 +330,10 @@ fn append_copy<B: Blob, H: Sum>(
 /// Takes the steps in order over the session's blob, and adds one reply a step to `replies`. The
 /// session's writer, if it has one, is sound over the blob, and stays so.
 ///
-/// An append, a sync, a start of one or a wait of the writer that is refused ends the writer, and
-/// each step after it that needs one replies `Closed`; but a start for whose name there is no
-/// memory changes nothing. A try, a read or a wait for a name that is refused leaves the session as
-/// it was, and so does a try whose bytes don't fit.
+/// An append, a sync, a start of one, a wait of the writer or a truncate that is refused ends the
+/// writer, and each step after it that needs one replies `Closed`; but a start for whose name there
+/// is no memory changes nothing. A try, a read or a wait for a name that is refused leaves the
+/// session as it was, and so does a try whose bytes don't fit.
 ///
 /// Room for all the replies is made first. `OutOfMemory` where it is refused: then no step was
 /// taken.

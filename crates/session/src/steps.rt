@@ -26,6 +26,8 @@ pub enum Step {
     Read(u64, usize),
     /// Ends the recovery: from then on the writer appends.
     Begin,
+    /// Cuts the blob to its first so many logical bytes, durably, where the recovery hasn't ended.
+    Truncate(u64),
 }
 
 /// The reply to a step.
@@ -49,6 +51,8 @@ pub enum Reply {
     Fault(Error),
     /// The step needs a writer, and there is none.
     Closed,
+    /// The step needs a writer in recovery, and its recovery has ended.
+    NotRecovering,
     /// The session wasn't given a sync of this name.
     NoSuch,
 }

@@ -10,5 +10,11 @@ returns-in-119 c = record {
       c.parse_wait_sync.ensures.reads;
 }
 
+pub returns-in-truncate : goal.returns-in-truncate
+returns-in-truncate c = record {
+  reads = subst (λ (name : List ℕ). Reads line_words IsLine (name ∷ c.args.word.now ∷ []) c.parse_truncate.result) (sym (text_from_reads c.args.name.now (codes "truncate") (omega arith) (search rules)))
+      c.parse_truncate.ensures.reads;
+}
+
 pub returns-in_default : goal.returns-in_default
-returns-in_default c = record { reads = no_two_words c.args.name.now c.args.word.now (λ is. search rules) (λ is. search rules) (λ is. search rules) (λ is. search rules) (λ is. search rules) (λ is. search rules) }
+returns-in_default c = record { reads = no_two_words c.args.name.now c.args.word.now (λ is. search rules) (λ is. search rules) (λ is. search rules) (λ is. search rules) (λ is. search rules) (λ is. search rules) (λ is. search rules) }

@@ -2,6 +2,7 @@ use Rattle.std.proofs.Common.{ℕ, List, subst}
 use Rattle.session.specs.Calls.{Appended, TriedAppend}
 use Rattle.session.proofs.StepLaws.{appended_takes, owned_steps, tried_takes, synced_takes, sized_takes, read_takes}
 use Rattle.session.proofs.StartLaws.{started_takes, waited_takes, named_takes, needed_takes, begun_takes}
+use Rattle.session.proofs.TruncateLaws.{truncated_takes}
 use Rattle.session.proofs.sessions.Session.step.Goals as goal
 
 pub returns-in-Append : goal.returns-in-Append
@@ -56,3 +57,8 @@ returns-in-Needs g c = rw c.in-Needs.is (needed_takes g.H.Sum.sum_of c.args.self
 
 pub returns-in-Begin : goal.returns-in-Begin
 returns-in-Begin g c = rw c.in-Begin.is (begun_takes g.H.Sum.sum_of c.args.self.now c.begin.new.self (g.B.Blob.life c.args.blob.now) c.begin.result c.requires.ready c.begin.ensures)
+
+pub returns-in-Truncate : goal.returns-in-Truncate
+returns-in-Truncate g c =
+    rw c.in-Truncate.is (truncated_takes g.H.Sum.sum_of c.args.self.now c.truncate.new.self c.in-Truncate.size (g.B.Blob.life c.args.blob.now) (g.B.Blob.life c.truncate.new.blob) c.truncate.result c.requires.ready c.truncate.ensures.rest
+    c.truncate.ensures.goes)
