@@ -2,7 +2,7 @@
 use Rattle.std.proofs.Common.{◌≡◌, ℕ, List, [], ◌∷◌, ◌++◌, refl}
 use Rattle.std.specs.Prelude.{Some, None, false}
 use Rattle.page.specs.Sums.{add_sum, const_sum}
-use Rattle.journal.specs.Frame.{frame, record_len, frame_len, is_record, record_of, frames, records, missing, IsWhole, filled, IsPrefix}
+use Rattle.journal.specs.Frame.{frame, record_len, frame_len, is_record, record_of, frames, records, whole_frames, IsWhole, IsPrefix}
 
 -- the frame of "ab": its length, its bytes, their sum 195, and the mark
 abbrev pub ab_frame : List ℕ
@@ -12,9 +12,13 @@ ab_frame = 0 ∷ 2 ∷ 97 ∷ 98 ∷ 0 ∷ 0 ∷ 0 ∷ 195 ∷ 1 ∷ []
 abbrev pub c_frame : List ℕ
 c_frame = 0 ∷ 1 ∷ 99 ∷ 0 ∷ 0 ∷ 0 ∷ 99 ∷ 1 ∷ []
 
--- that of "ab" of which the last two bytes are missing, filled up
-abbrev pub cut_frame : List ℕ
-cut_frame = 0 ∷ 2 ∷ 97 ∷ 98 ∷ 0 ∷ 0 ∷ 0 ∷ 0 ∷ 0 ∷ []
+-- that of "ab" with another checksum and no mark
+abbrev pub bad_frame : List ℕ
+bad_frame = 0 ∷ 2 ∷ 97 ∷ 98 ∷ 0 ∷ 0 ∷ 0 ∷ 0 ∷ 0 ∷ []
+
+-- that of "ab" of which the last four bytes are missing
+abbrev pub half_frame : List ℕ
+half_frame = 0 ∷ 2 ∷ 97 ∷ 98 ∷ 0 ∷ []
 
 pub a_frame : frame add_sum (97 ∷ 98 ∷ []) ≡ ab_frame
 unfolding frame
@@ -42,7 +46,7 @@ unfolding record_len is_record record_of
 a_record = refl
 
 -- its mark is 0
-pub no_record : record_of const_sum cut_frame ≡ None
+pub no_record : record_of const_sum bad_frame ≡ None
 unfolding record_len is_record record_of
 no_record = refl
 
@@ -64,27 +68,29 @@ pub two_records : records add_sum (ab_frame ++ c_frame) ≡ (97 ∷ 98 ∷ []) �
 unfolding record_len is_record record_of frames records
 two_records = refl
 
--- a frame that was cut is passed over, and what was appended behind it is there
-pub passed_over : records add_sum (ab_frame ++ cut_frame ++ c_frame) ≡ (97 ∷ 98 ∷ []) ∷ (99 ∷ []) ∷ []
+-- a whole frame that is no record is passed over, and what was appended behind it is there
+pub passed_over : records add_sum (ab_frame ++ bad_frame ++ c_frame) ≡ (97 ∷ 98 ∷ []) ∷ (99 ∷ []) ∷ []
 unfolding record_len is_record record_of frames records
 passed_over = refl
 
-pub missing_bytes : missing (ab_frame ++ 0 ∷ 2 ∷ 97 ∷ 98 ∷ 0 ∷ []) ≡ 4
-unfolding record_len frames missing
-missing_bytes = refl
+-- such a frame is whole
+pub whole_is_kept : whole_frames (ab_frame ++ bad_frame) ≡ ab_frame ++ bad_frame
+unfolding record_len frames whole_frames
+whole_is_kept = refl
 
--- of a length of which one byte was left
-pub missing_behind_a_byte : missing (0 ∷ []) ≡ 6
-unfolding record_len frames missing
-missing_behind_a_byte = refl
+-- one that is cut short isn't
+pub half_is_left_out : whole_frames (ab_frame ++ bad_frame ++ half_frame) ≡ ab_frame ++ bad_frame
+unfolding record_len frames whole_frames
+half_is_left_out = refl
 
-pub a_whole : IsWhole (ab_frame ++ cut_frame)
-unfolding record_len frames missing
+-- nor is one of whose length a byte is left
+pub a_byte_is_left_out : whole_frames (c_frame ++ 0 ∷ []) ≡ c_frame
+unfolding record_len frames whole_frames
+a_byte_is_left_out = refl
+
+pub a_whole : IsWhole (ab_frame ++ c_frame)
+unfolding record_len frames whole_frames
 a_whole = refl
-
-pub a_filled : filled (0 ∷ 2 ∷ 97 ∷ 98 ∷ 0 ∷ []) ≡ cut_frame
-unfolding record_len frames missing
-a_filled = refl
 
 pub a_prefix : IsPrefix ((97 ∷ 98 ∷ []) ∷ []) ((97 ∷ 98 ∷ []) ∷ (99 ∷ []) ∷ [])
 a_prefix = ((99 ∷ []) ∷ [], refl)

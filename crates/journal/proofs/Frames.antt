@@ -1,13 +1,13 @@
 -- Laws of frames.
-use Rattle.std.proofs.Common.{◌≡◌, inl, inr, ◌&&◌, ◌==◌, ℕ, zero, suc, ◌+◌, ◌-◌, ◌^◌, ◌<◌, ◌≤◌, List, [], ◌∷◌, ◌++◌, length, take, drop, replicate, get_or, Bool, true, false, refl, sym, ap, ap₂, ◌∙◌, arith, min, append-nil, length-append, length-take, length-drop, eq-eqb}
+use Rattle.std.proofs.Common.{◌≡◌, inl, inr, ◌&&◌, ◌==◌, ℕ, zero, suc, ◌+◌, ◌-◌, ◌^◌, ◌<◌, ◌≤◌, List, [], ◌∷◌, ◌++◌, length, take, drop, get_or, Bool, true, false, refl, sym, ap, ap₂, ◌∙◌, arith, min, append-nil, subst, length-append, length-take, length-drop, eq-eqb}
 use Rattle.std.specs.Prelude.{Some, None, Option, if◌then◌else◌, slice_range}
 use Rattle.std.specs.List.{flat_map}
 use Rattle.std.specs.Int.{w16, w32, to_be_bytes, from_be_bytes}
-use Rattle.std.proofs.lemmas.List.{append_assoc, take-take, get_or-take, get_or-drop, get_or_past, get_or_append_left, take_all, take_at, drop_all, drop-drop, drop-take, drop-append-le, drop_at, length-replicate}
+use Rattle.std.proofs.lemmas.List.{append_assoc, take-take, get_or-take, get_or-drop, get_or_past, get_or_append_left, take_all, take_at, drop_all, drop-drop, drop-take, drop-append-le, drop_at, take-append-le, take-append-drop}
 use Rattle.std.proofs.lemmas.Nat.{from_be_bytes-to_be_bytes_2, from_be_bytes-to_be_bytes_4}
 use Rattle.std.proofs.Math.Nat.{add_comm}
-use Rattle.std.proofs.lemmas.Bool.{cases_lt, ne_eqb}
-use Rattle.journal.specs.Frame.{frame, record_len, frame_len, is_record, record_of, frames_in, frames, listed, records, lacking, missing, IsWhole, filled, IsPrefix}
+use Rattle.std.proofs.lemmas.Bool.{cases_lt, lt-ltb, le-ltb, ne_eqb}
+use Rattle.journal.specs.Frame.{frame, record_len, frame_len, is_record, record_of, frames_in, frames, listed, records, if_whole, whole_frames, IsWhole, IsPrefix}
 
 -- what stands within a beginning of some bytes stands in all of them
 within_take : (n k m : ℕ) (xs : List ℕ) → k + n ≤ m → take n (drop k (take m xs)) ≡ take n (drop k xs)
@@ -37,16 +37,6 @@ record_len-take k xs enough = record_len-agree (take k xs) xs (λ i lt. get_or-t
 
 record_len-append : (xs ys : List ℕ) → 2 ≤ length xs → record_len (xs ++ ys) ≡ record_len xs
 record_len-append xs ys enough = record_len-agree (xs ++ ys) xs (λ i lt. get_or_append_left xs ys 0 i (omega arith))
-
-get_or-zeros : (xs : List ℕ) (n i : ℕ) → get_or (xs ++ replicate n 0) i 0 ≡ get_or xs i 0
-get_or-zeros [] zero i = refl
-get_or-zeros [] (suc n) zero = refl
-get_or-zeros [] (suc n) (suc i) = get_or-zeros [] n i
-get_or-zeros (x ∷ xs) n zero = refl
-get_or-zeros (x ∷ xs) n (suc i) = get_or-zeros xs n i
-
-record_len-zeros : (xs : List ℕ) (n : ℕ) → record_len (xs ++ replicate n 0) ≡ record_len xs
-record_len-zeros xs n = record_len-agree (xs ++ replicate n 0) xs (λ i lt. get_or-zeros xs n i)
 
 -- a checksum, read byte by byte
 four_read : (xs : List ℕ) (n : ℕ) → from_be_bytes w32 (get_or xs (n + 2) 0 ∷ get_or xs (n + 3) 0 ∷ get_or xs (n + 4) 0 ∷ get_or xs (n + 5) 0 ∷ []) ≡ from_be_bytes w32 (drop (n + 2) xs)
@@ -114,12 +104,6 @@ record_of-unmarked sum xs none = ap (λ b. if b then Some (take (record_len xs) 
 pub record_of-short : (sum : List ℕ → ℕ) (xs : List ℕ) → length xs < frame_len xs → record_of sum xs ≡ None
 record_of-short sum xs lt = record_of-unmarked sum xs (get_or_past xs (record_len xs + 6) 0 (omega arith))
 
--- nor is it where it was filled up
-record_of-filled : (sum : List ℕ → ℕ) (xs : List ℕ) (n : ℕ) → length xs < frame_len xs → record_of sum (xs ++ replicate n 0) ≡ None
-record_of-filled sum xs n lt =
-    record_of-unmarked sum (xs ++ replicate n 0)
-    (get_or-zeros xs n (record_len (xs ++ replicate n 0) + 6) ∙ get_or_past xs (record_len (xs ++ replicate n 0) + 6) 0 (omega (arith, record_len-zeros xs n)))
-
 -- a whole frame is what it is, whatever stands behind it
 record_of-append : (sum : List ℕ → ℕ) (xs ys : List ℕ) → frame_len xs ≤ length xs → record_of sum (xs ++ ys) ≡ record_of sum xs
 record_of-append sum xs ys le =
@@ -156,9 +140,9 @@ pub records-none : (sum : List ℕ → ℕ) → records sum [] ≡ []
 unfolding records
 records-none sum = ap (λ fs. flat_map (λ f. listed (record_of sum f)) fs) frames-none
 
-pub missing-none : missing [] ≡ 0
-unfolding missing
-missing-none = ap lacking frames-none
+whole-none : whole_frames [] ≡ []
+unfolding whole_frames
+whole-none = ap (λ fs. flat_map if_whole fs) frames-none
 
 -- the record of the first frame, if it is one, and those behind it
 pub records-step : (sum : List ℕ → ℕ) (xs : List ℕ) → 0 < length xs → records sum xs ≡ listed (record_of sum xs) ++ records sum (drop (frame_len xs) xs)
@@ -168,14 +152,33 @@ records-step sum xs some =
     ap (λ fs. flat_map g fs) (frames-step xs some)
     ∙ ap (λ (r : Option (List ℕ)). listed r ++ flat_map g (frames (drop (frame_len xs) xs))) (record_of-take sum (frame_len xs) xs (omega arith))
 
--- what the first frame lacks, and what those behind it do
-pub missing-step : (xs : List ℕ) → 0 < length xs → missing xs ≡ (frame_len xs - length xs) + missing (drop (frame_len xs) xs)
-unfolding missing
-missing-step xs some =
-    ap lacking (frames-step xs some)
-    ∙ ap (λ n. n + lacking (frames (drop (frame_len xs) xs)))
-    (let t = length-take (frame_len xs) xs in let n = record_len-take (frame_len xs) xs (omega arith) in
-    let same : frame_len (take (frame_len xs) xs) - length (take (frame_len xs) xs) ≡ frame_len xs - length xs = omega arith in same)
+-- the first frame, if it is whole, and the whole ones behind it
+whole-step : (xs : List ℕ) → 0 < length xs → whole_frames xs ≡ if_whole (take (frame_len xs) xs) ++ whole_frames (drop (frame_len xs) xs)
+unfolding whole_frames
+whole-step xs some = ap (λ fs. flat_map if_whole fs) (frames-step xs some)
+
+-- where it is whole
+whole-first : (xs : List ℕ) → frame_len xs ≤ length xs → whole_frames xs ≡ take (frame_len xs) xs ++ whole_frames (drop (frame_len xs) xs)
+whole-first xs le =
+    let f = take (frame_len xs) xs in
+    let same : frame_len f ≡ frame_len xs = ap (λ m. m + 7) (record_len-take (frame_len xs) xs (omega arith)) in
+    let long : length f ≡ frame_len xs = omega (arith, le, length-take (frame_len xs) xs) in
+    whole-step xs (omega (arith, le))
+    ∙ ap (λ b. (if b then [] else f) ++ whole_frames (drop (frame_len xs) xs)) (le-ltb (length f) (frame_len f) (omega (arith, same, long)))
+
+-- where it is cut short, or there is none, there is no record and no whole frame
+none_left : (sum : List ℕ → ℕ) (xs : List ℕ) → length xs < frame_len xs → (records sum xs ≡ []) × (whole_frames xs ≡ [])
+none_left sum [] short = (records-none sum, whole-none)
+none_left sum (x ∷ xs) short =
+    let l = x ∷ xs in
+    let F = frame_len l in
+    let f = take F l in
+    let all : f ≡ l = take_all F l (omega (arith, short)) in
+    let end : drop F l ≡ [] = drop_all F l (omega (arith, short)) in
+    let lacks : length f < frame_len f = subst (λ (t : List ℕ). length t < frame_len t) (sym all) short in (
+      records-step sum l (omega arith) ∙ ap₂ (λ r b. listed r ++ records sum b) (record_of-short sum l short) end ∙ records-none sum,
+      whole-step l (omega arith) ∙ ap₂ (λ b t. (if b then [] else f) ++ whole_frames t) (lt-ltb (length f) (frame_len f) lacks) end ∙ whole-none,
+    )
 
 -- what stands behind the first frame of two joined lists
 drop_whole : (n : ℕ) (xs ys : List ℕ) → n ≤ length xs → drop n (xs ++ ys) ≡ drop n xs ++ ys
@@ -183,7 +186,17 @@ drop_whole n xs ys le = drop-append-le n xs ys le
 
 -- whole frames, where the first is whole and the others are
 whole_parts : (xs : List ℕ) → 0 < length xs → IsWhole xs → (frame_len xs ≤ length xs) × IsWhole (drop (frame_len xs) xs)
-whole_parts xs some whole = let e = missing-step xs some in (omega arith, omega arith)
+whole_parts xs some whole = elim (cases_lt (length xs) (frame_len xs)) [
+  | inl short ↦ let none : xs ≡ [] = sym whole ∙ (none_left (λ l. 0) xs short).1 in absurd (omega (arith, some, ap length none))
+  | inr le ↦
+      let F = frame_len xs in
+      let rest = whole_frames (drop F xs) in
+      let long : length (take F xs) ≡ F = omega (arith, le, length-take F xs) in
+      let joined : take F xs ++ rest ≡ xs = sym (whole-first xs le) ∙ whole in (
+        le,
+        sym (drop_at (take F xs) rest F long) ∙ ap (λ (l : List ℕ). drop F l) joined,
+      )
+]
 
 records_append : (sum : List ℕ → ℕ) (n : ℕ) (xs ys : List ℕ) → length xs ≤ n → IsWhole xs → records sum (xs ++ ys) ≡ records sum xs ++ records sum ys
 records_append sum n [] ys le whole = ap (λ rs. rs ++ records sum ys) (sym (records-none sum))
@@ -199,26 +212,38 @@ records_append sum (suc n) (x ∷ xs) ys le whole =
     ∙ sym (append_assoc (listed (record_of sum l)) (records sum (drop F l)) (records sum ys))
     ∙ ap (λ rs. rs ++ records sum ys) (sym (records-step sum l (omega arith)))
 
-missing_append : (n : ℕ) (xs ys : List ℕ) → length xs ≤ n → IsWhole xs → missing (xs ++ ys) ≡ missing ys
-missing_append n [] ys le whole = refl
-missing_append zero (x ∷ xs) ys le whole = absurd (omega arith)
-missing_append (suc n) (x ∷ xs) ys le whole =
+whole_append : (n : ℕ) (xs ys : List ℕ) → length xs ≤ n → IsWhole xs → whole_frames (xs ++ ys) ≡ xs ++ whole_frames ys
+whole_append n [] ys le whole = refl
+whole_append zero (x ∷ xs) ys le whole = absurd (omega arith)
+whole_append (suc n) (x ∷ xs) ys le whole =
     let l = x ∷ xs in
     let F = frame_len l in
     let parts = whole_parts l (omega arith) whole in
     let same : frame_len (l ++ ys) ≡ F = ap (λ k. k + 7) (record_len-append l ys (omega (arith, parts.0))) in
-    let rest : missing (drop (frame_len (l ++ ys)) (l ++ ys)) ≡ missing ys =
-    ap missing (ap (λ k. drop k (l ++ ys)) same ∙ drop_whole F l ys parts.0) ∙ missing_append n (drop F l) ys (omega (arith, length-drop F l)) parts.1 in
-    let step = missing-step (l ++ ys) (omega arith) in
-    omega (arith, length-append l ys, parts.0)
+    whole-first (l ++ ys) (omega (arith, same, parts.0, length-append l ys))
+    ∙ ap (λ k. take k (l ++ ys) ++ whole_frames (drop k (l ++ ys))) same
+    ∙ ap₂ (λ (a b : List ℕ). a ++ whole_frames b) (take-append-le F l ys parts.0) (drop_whole F l ys parts.0)
+    ∙ ap (λ (b : List ℕ). take F l ++ b) (whole_append n (drop F l) ys (omega (arith, length-drop F l)) parts.1)
+    ∙ sym (append_assoc (take F l) (drop F l) (whole_frames ys))
+    ∙ ap (λ (a : List ℕ). a ++ whole_frames ys) (take-append-drop F l)
 
 -- behind whole frames the records of what follows are appended
 pub records-append : (sum : List ℕ → ℕ) (xs ys : List ℕ) → IsWhole xs → records sum (xs ++ ys) ≡ records sum xs ++ records sum ys
 records-append sum xs ys whole = records_append sum (length xs) xs ys (omega arith) whole
 
--- and what is lacking is what lacks there
-pub missing-append : (xs ys : List ℕ) → IsWhole xs → missing (xs ++ ys) ≡ missing ys
-missing-append xs ys whole = missing_append (length xs) xs ys (omega arith) whole
+-- and what is whole of it
+whole-append : (xs ys : List ℕ) → IsWhole xs → whole_frames (xs ++ ys) ≡ xs ++ whole_frames ys
+whole-append xs ys whole = whole_append (length xs) xs ys (omega arith) whole
+
+-- whole frames and more of them
+pub whole_more : (xs ys : List ℕ) → IsWhole xs → IsWhole ys → IsWhole (xs ++ ys)
+whole_more xs ys first second = whole-append xs ys first ∙ ap (λ (l : List ℕ). xs ++ l) second
+
+-- one frame that is whole
+whole_alone : (f : List ℕ) → frame_len f ≡ length f → IsWhole f
+whole_alone f same =
+    whole-first f (omega (arith, same)) ∙ ap₂ (λ (a b : List ℕ). a ++ whole_frames b) (take_all (frame_len f) f (omega (arith, same))) (drop_all (frame_len f) f (omega (arith, same)))
+    ∙ ap (λ (l : List ℕ). f ++ l) whole-none ∙ append-nil f
 
 -- a beginning that ends inside a frame lacks its end
 shorter : (k : ℕ) (xs : List ℕ) → k < frame_len xs → length (take k xs) < frame_len (take k xs)
@@ -263,54 +288,64 @@ records_begin sum (suc n) (suc k) (x ∷ xs) le =
 pub records-take : (sum : List ℕ → ℕ) (k : ℕ) (xs : List ℕ) → IsPrefix (records sum (take k xs)) (records sum xs)
 records-take sum k xs = records_begin sum (length xs) k xs (omega arith)
 
--- a frame that is cut short and filled up
-filled_once : (sum : List ℕ → ℕ) (xs : List ℕ) → 0 < length xs → length xs < frame_len xs → (records sum (filled xs) ≡ records sum xs) × IsWhole (filled xs)
-filled_once sum xs some short =
+-- the whole frames of some bytes are whole, have their records, and are a beginning of them
+record Kept (sum : List ℕ → ℕ) (xs : List ℕ) : Type 0 where
+  whole : IsWhole (whole_frames xs)
+  same : records sum (whole_frames xs) ≡ records sum xs
+  rest : List ℕ
+  joined : whole_frames xs ++ rest ≡ xs
+
+kept_none : (sum : List ℕ → ℕ) (xs : List ℕ) → length xs < frame_len xs → Kept sum xs
+kept_none sum xs short =
+    let none = none_left sum xs short in
+    record {
+      whole = ap whole_frames none.1 ∙ whole-none ∙ sym none.1;
+      same = ap (λ (l : List ℕ). records sum l) none.1 ∙ records-none sum ∙ sym none.0;
+      rest = xs;
+      joined = ap (λ (l : List ℕ). l ++ xs) none.1;
+    }
+
+kept_more : (sum : List ℕ → ℕ) (xs : List ℕ) → frame_len xs ≤ length xs → Kept sum (drop (frame_len xs) xs) → Kept sum xs
+kept_more sum xs whole later =
     let F = frame_len xs in
-    let lacks : missing xs ≡ F - length xs =
-    (let e = missing-step xs some in let none : missing (drop F xs) ≡ 0 = ap missing (drop_all F xs (omega (arith, short))) ∙ missing-none in omega arith) in
-    let zeros : List ℕ = replicate (missing xs) 0 in
-    let same : frame_len (xs ++ zeros) ≡ F = ap (λ m. m + 7) (record_len-zeros xs (missing xs)) in
-    let long : length (xs ++ zeros) ≡ F = omega (arith, length-append xs zeros, length-replicate {A = ℕ} (missing xs) 0, lacks, short) in
-    let end : drop (frame_len (xs ++ zeros)) (xs ++ zeros) ≡ [] = drop_all (frame_len (xs ++ zeros)) (xs ++ zeros) (omega (arith, same, long)) in (
-      records-step sum (xs ++ zeros) (omega (arith, long))
-          ∙ ap₂ (λ r b. listed r ++ records sum b) (record_of-filled sum xs (missing xs) short) end
-          ∙ sym (records-step sum xs some ∙ ap₂ (λ r b. listed r ++ records sum b) (record_of-short sum xs short) (drop_all F xs (omega (arith, short)))),
-      (let e = missing-step (xs ++ zeros) (omega (arith, long)) in let none : missing (drop (frame_len (xs ++ zeros)) (xs ++ zeros)) ≡ 0 = ap missing end ∙ missing-none in omega (arith, same, long)),
-    )
+    let f = take F xs in
+    let rest = drop F xs in
+    let first : whole_frames xs ≡ f ++ whole_frames rest = whole-first xs whole in
+    let same : frame_len f ≡ F = ap (λ m. m + 7) (record_len-take F xs (omega arith)) in
+    let alone : IsWhole f = whole_alone f (omega (arith, same, length-take F xs, whole)) in
+    record {
+      whole = subst (λ (l : List ℕ). IsWhole l) (sym first) (whole_more f (whole_frames rest) alone later.whole);
+      same = ap (λ (l : List ℕ). records sum l) first ∙ records-append sum f (whole_frames rest) alone ∙ ap (λ rs. records sum f ++ rs) later.same
+          ∙ sym (records-append sum f rest alone) ∙ ap (λ (l : List ℕ). records sum l) (take-append-drop F xs);
+      rest = later.rest;
+      joined = ap (λ (l : List ℕ). l ++ later.rest) first ∙ append_assoc f (whole_frames rest) later.rest ∙ ap (λ (l : List ℕ). f ++ l) later.joined ∙ take-append-drop F xs;
+    }
 
-records_filled : (sum : List ℕ → ℕ) (n : ℕ) (xs : List ℕ) → length xs ≤ n → (records sum (filled xs) ≡ records sum xs) × IsWhole (filled xs)
-records_filled sum n [] le = (ap (λ m. records sum (replicate m 0)) missing-none, ap (λ m. missing (replicate m 0)) missing-none ∙ missing-none)
-records_filled sum zero (x ∷ xs) le = absurd (omega arith)
-records_filled sum (suc n) (x ∷ xs) le =
-    let l = x ∷ xs in
-    let F = frame_len l in
-    elim (cases_lt (length l) F) [
-      | inl short ↦ filled_once sum l (omega arith) short
-      | inr whole ↦
-          let later = records_filled sum n (drop F l) (omega (arith, length-drop F l)) in
-          let lacks : missing l ≡ missing (drop F l) = (let e = missing-step l (omega arith) in omega (arith, whole)) in
-          let zeros : List ℕ = replicate (missing l) 0 in
-          let same : frame_len (l ++ zeros) ≡ F = ap (λ m. m + 7) (record_len-zeros l (missing l)) in
-          let rest : drop (frame_len (l ++ zeros)) (l ++ zeros) ≡ filled (drop F l) =
-          ap (λ m. drop m (l ++ zeros)) same ∙ drop_whole F l zeros whole ∙ ap (λ m. drop F l ++ replicate m 0) lacks in (
-            records-step sum (l ++ zeros) (omega arith)
-                ∙ ap₂ (λ r b. listed r ++ records sum b) (record_of-append sum l zeros whole) rest
-                ∙ ap (λ rs. listed (record_of sum l) ++ rs) later.0
-                ∙ sym (records-step sum l (omega arith)),
-            (let e = missing-step (l ++ zeros) (omega arith) in
-                let none : missing (drop (frame_len (l ++ zeros)) (l ++ zeros)) ≡ 0 = ap missing rest ∙ later.1 in
-                omega (arith, same, whole, length-append l zeros)),
-          )
-    ]
+whole_kept : (sum : List ℕ → ℕ) (n : ℕ) (xs : List ℕ) → length xs ≤ n → Kept sum xs
+whole_kept sum zero xs le = kept_none sum xs (omega (arith, le))
+whole_kept sum (suc n) xs le = elim (cases_lt (length xs) (frame_len xs)) [
+  | inl short ↦ kept_none sum xs short
+  | inr whole ↦ kept_more sum xs whole (whole_kept sum n (drop (frame_len xs) xs) (omega (arith, le, whole, length-drop (frame_len xs) xs)))
+]
 
--- bytes whose last frame is filled up have the same records
-pub records-filled : (sum : List ℕ → ℕ) (xs : List ℕ) → records sum (filled xs) ≡ records sum xs
-records-filled sum xs = (records_filled sum (length xs) xs (omega arith)).0
+-- the whole frames of some bytes are whole
+pub whole_is_whole : (xs : List ℕ) → IsWhole (whole_frames xs)
+whole_is_whole xs = (whole_kept (λ l. 0) (length xs) xs (omega arith)).whole
 
--- and are whole frames
-pub filled_is_whole : (xs : List ℕ) → IsWhole (filled xs)
-filled_is_whole xs = (records_filled (λ l. 0) (length xs) xs (omega arith)).1
+-- have the same records
+pub records-whole : (sum : List ℕ → ℕ) (xs : List ℕ) → records sum (whole_frames xs) ≡ records sum xs
+records-whole sum xs = (whole_kept sum (length xs) xs (omega arith)).same
+
+-- and are the first of the bytes
+pub whole_first : (xs : List ℕ) → take (length (whole_frames xs)) xs ≡ whole_frames xs
+whole_first xs =
+    let kept = whole_kept (λ l. 0) (length xs) xs (omega arith) in
+    ap (λ (l : List ℕ). take (length (whole_frames xs)) l) (sym kept.joined) ∙ take_at (whole_frames xs) kept.rest (length (whole_frames xs)) refl
+
+pub length-whole : (xs : List ℕ) → length (whole_frames xs) ≤ length xs
+length-whole xs =
+    let kept = whole_kept (λ l. 0) (length xs) xs (omega arith) in
+    omega (arith, ap length kept.joined, length-append (whole_frames xs) kept.rest)
 
 -- the parts of a record's frame, with what stands behind it
 frame_parts : (sum : List ℕ → ℕ) (bytes rest : List ℕ) → frame sum bytes ++ rest ≡ to_be_bytes w16 (length bytes) ++ (bytes ++ (to_be_bytes w32 (sum bytes) ++ 1 ∷ rest))
@@ -373,11 +408,7 @@ frame_alone sum bytes fits =
     ap (λ (l : List ℕ). frame_len l) (sym (append-nil (frame sum bytes))) ∙ ap (λ m. m + 7) (record_len-frame sum bytes [] fits) ∙ sym (length-frame sum bytes)
 
 pub frame_is_whole : (sum : List ℕ → ℕ) (bytes : List ℕ) → length bytes < 2 ^ 16 → IsWhole (frame sum bytes)
-frame_is_whole sum bytes fits =
-    let same = frame_alone sum bytes fits in
-    let e = missing-step (frame sum bytes) (omega (arith, length-frame sum bytes)) in
-    let none : missing (drop (frame_len (frame sum bytes)) (frame sum bytes)) ≡ 0 = ap missing (drop_all (frame_len (frame sum bytes)) (frame sum bytes) (omega (arith, same))) ∙ missing-none in
-    omega arith
+frame_is_whole sum bytes fits = whole_alone (frame sum bytes) (frame_alone sum bytes fits)
 
 -- and has that one record
 pub records-frame : (sum : List ℕ → ℕ) (bytes : List ℕ) → length bytes < 2 ^ 16 → sum bytes < 2 ^ 32 → records sum (frame sum bytes) ≡ bytes ∷ []
@@ -396,22 +427,27 @@ records-next sum xs i n found r lt is held so_far =
     ∙ append_assoc found (listed (record_of sum (drop i xs))) (records sum (drop (frame_len (drop i xs)) (drop i xs)))
     ∙ ap (λ rs. found ++ rs) (sym (records-step sum (drop i xs) (omega (arith, length-drop i xs)))) ∙ so_far
 
--- so for what is lacking
-pub missing-next : (xs : List ℕ) (i n : ℕ) → i < length xs → n ≡ frame_len (drop i xs) → (i - length xs) + missing (drop i xs) ≡ missing xs
-    → ((i + n) - length xs) + missing (drop (i + n) xs) ≡ missing xs
-missing-next xs i n lt is so_far =
-    let step = missing-step (drop i xs) (omega (arith, length-drop i xs)) in
-    let rest : missing (drop (i + n) xs) ≡ missing (drop (frame_len (drop i xs)) (drop i xs)) =
-    ap (λ m. missing (drop (i + m) xs)) is ∙ ap missing (sym (drop-drop (frame_len (drop i xs)) i xs)) in
-    omega (arith, length-drop i xs)
+-- so for how many bytes they have
+pub whole-next : (xs : List ℕ) (i n : ℕ) → i + n ≤ length xs → n ≡ frame_len (drop i xs) → i + length (whole_frames (drop i xs)) ≡ length (whole_frames xs)
+    → (i + n) + length (whole_frames (drop (i + n) xs)) ≡ length (whole_frames xs)
+whole-next xs i n le is so_far =
+    let rest = drop i xs in
+    let F = frame_len rest in
+    let first = whole-first rest (omega (arith, le, is, length-drop i xs)) in
+    let later : drop (i + n) xs ≡ drop F rest = ap (λ m. drop (i + m) xs) is ∙ sym (drop-drop F i xs) in
+    let sizes : length (whole_frames rest) ≡ length (take F rest) + length (whole_frames (drop (i + n) xs)) =
+    ap length first ∙ length-append (take F rest) (whole_frames (drop F rest)) ∙ ap (λ (l : List ℕ). length (take F rest) + length (whole_frames l)) (sym later) in
+    omega (arith, so_far, sizes, is, le, length-take F rest, length-drop i xs)
 
--- nothing is left
-pub records-end : (sum : List ℕ → ℕ) (xs : List ℕ) (i : ℕ) (found : List (List ℕ)) → length xs ≤ i → found ++ records sum (drop i xs) ≡ records sum xs → found ≡ records sum xs
-records-end sum xs i found le so_far =
-    sym (append-nil found) ∙ ap (λ rs. found ++ rs) (sym (ap (λ (l : List ℕ). records sum l) (drop_all i xs le) ∙ records-none sum)) ∙ so_far
+-- no whole frame is left
+pub records-end : (sum : List ℕ → ℕ) (xs : List ℕ) (i : ℕ) (found : List (List ℕ)) → length xs < i + frame_len (drop i xs) → found ++ records sum (drop i xs) ≡ records sum xs → found ≡ records sum xs
+records-end sum xs i found lt so_far =
+    sym (append-nil found) ∙ ap (λ rs. found ++ rs) (sym (none_left sum (drop i xs) (omega (arith, lt, length-drop i xs))).0) ∙ so_far
 
-pub missing-end : (xs : List ℕ) (i : ℕ) → length xs ≤ i → (i - length xs) + missing (drop i xs) ≡ missing xs → i - length xs ≡ missing xs
-missing-end xs i le so_far = let none : missing (drop i xs) ≡ 0 = ap missing (drop_all i xs le) ∙ missing-none in omega arith
+pub whole-end : (xs : List ℕ) (i : ℕ) → length xs < i + frame_len (drop i xs) → i + length (whole_frames (drop i xs)) ≡ length (whole_frames xs) → i ≡ length (whole_frames xs)
+whole-end xs i lt so_far =
+    let none : length (whole_frames (drop i xs)) ≡ 0 = ap length (none_left (λ l. 0) (drop i xs) (omega (arith, lt, length-drop i xs))).1 in
+    omega (arith, so_far, none)
 
 -- what the front of some bytes says, where it holds as much of it as there is
 pub record_len-front : (k : ℕ) (xs : List ℕ) → min 2 (length xs) ≤ k → record_len (take k xs) ≡ record_len xs

@@ -1,9 +1,10 @@
 -- What a journal's calls do, from what the writer's do.
-use Rattle.std.proofs.Common.{◌≡◌, inl, inr, ℕ, ◌+◌, ◌-◌, ◌*◌, ◌^◌, ◌<◌, ◌≤◌, List, [], ◌∷◌, ◌++◌, length, take, drop, replicate, refl, sym, ap, ap₂, ◌∙◌, subst, arith, append-nil, length-append, length-take, length-drop, min, Ok, Err, Result}
+use Rattle.std.proofs.Common.{◌≡◌, inl, inr, ℕ, ◌+◌, ◌-◌, ◌*◌, ◌^◌, ◌<◌, ◌≤◌, List, [], ◌∷◌, ◌++◌, length, take, drop, refl, sym, ap, ap₂, ◌∙◌, subst, arith, append-nil, length-append, length-take, length-drop, min, Ok, Err, Result}
 use Rattle.std.specs.Prelude.{Option, IfOk, OnOk, IsOkUnless, Vec}
 use Rattle.std.specs.Result.{IsErrAnd}
 use Rattle.std.specs.declared.alloc.Global.{Global}
-use Rattle.std.proofs.lemmas.List.{append_assoc, take-append-le, drop_at}
+use Rattle.std.proofs.lemmas.List.{append_assoc, take-append-le, take-take, take_all, drop_at}
+use Rattle.std.proofs.lemmas.Bool.{cases_lt}
 use Rattle.std.proofs.Math.Seq.{take-length}
 use Rattle.disk.specs.Disk.{Disk, Life, IsImage, LeavesNoMore}
 use Rattle.disk.specs.declared.error.Error.{Error}
@@ -17,13 +18,14 @@ use Rattle.crash.specs.Sound.{IsSound, LeavesItsContent, content}
 use Rattle.crash.specs.WriterState.{WriterState}
 use Rattle.crash.specs.Moments.{through_start, through_then, through_joins, through_end}
 use Rattle.paged.specs.Calls.{GoesOn, Appends, Syncs}
-use Rattle.paged.specs.Reads.{HasPages}
-use Rattle.paged.specs.Recovery.{Recovers}
+use Rattle.paged.specs.Reads.{HasPages, size_of}
+use Rattle.paged.specs.Recovers.{Recovers}
+use Rattle.paged.specs.Truncate.{Truncates, KeepsFloorsWithin}
 use Rattle.paged.specs.Writer.{physical_size}
 use Rattle.journal.specs.declared.frame.Found.{Found}
-use Rattle.journal.specs.Frame.{frame, record_len, frame_len, listed, record_of, records, missing, IsWhole, filled, IsPrefix}
-use Rattle.journal.specs.Journal.{IsReady, IsJournal, OnlyReads, LeavesContent, Commits, OnlyRecords, KeepsCommitted, LeavesRecords, CommitsAll, IsAppended, AppendsRecord, IsCommitted, CommitGoes, BringsBack, BringsOnly, ReadRefused, ReadRefusedLater, ReadsBytes, ReadsFrame, ReadsRecord, IsFound, IsFilled, FillsUp, ReadsAll, RecoversJournal}
-use Rattle.journal.proofs.Frames.{records-append, missing-append, records-take, frame_is_whole, records-frame, record_of-frame, length-frame, record_len-front, record_of-front, records-from, records-filled, filled_is_whole}
+use Rattle.journal.specs.Frame.{frame, record_len, frame_len, listed, record_of, records, whole_frames, IsWhole, IsPrefix}
+use Rattle.journal.specs.Journal.{IsReady, IsJournal, OnlyReads, LeavesContent, Commits, OnlyRecords, KeepsCommitted, LeavesRecords, CommitsAll, IsAppended, AppendsRecord, IsCommitted, CommitGoes, BringsBack, BringsOnly, ReadRefused, ReadRefusedLater, ReadsBytes, ReadsFrame, ReadsRecord, IsFound, IsTrimmed, Trims, ReadsAll, HasRecovered, RecoversJournal}
+use Rattle.journal.proofs.Frames.{records-append, records-take, whole_more, whole_is_whole, records-whole, whole_first, length-whole, frame_is_whole, records-frame, record_of-frame, length-frame, record_len-front, record_of-front, records-from}
 
 -- the first of the first are the first
 pub prefix_trans : (a b c : List (List ℕ)) → IsPrefix a b → IsPrefix b c → IsPrefix a c
@@ -107,7 +109,7 @@ appended sum own w bytes old new now place short small whole there (at, goes) =
       at = at;
       journal = record {
         ready = gone_on sum w old framed now new goes there;
-        whole = ap missing goes.content ∙ missing-append before framed whole ∙ frame_is_whole own bytes fits;
+        whole = subst (λ (l : List ℕ). IsWhole l) (sym goes.content) (whole_more before framed whole (frame_is_whole own bytes fits));
       };
       holds = goes.content;
       added = ap (λ (l : List ℕ). records own l) goes.content ∙ records-append own before framed whole ∙ ap (λ rs. records own before ++ rs) (records-frame own bytes fits small);
@@ -145,7 +147,7 @@ pub committed : (sum own : List ℕ → ℕ) (w : WriterState) (old new : Life) 
 committed sum own w old new now whole there (goes, settled) keeps =
     let same : content now new.present.readable ≡ content w old.present.readable = goes.content ∙ append-nil (content w old.present.readable) in
     record {
-      journal = record { ready = gone_on sum w old [] now new goes there; whole = ap missing same ∙ whole };
+      journal = record { ready = gone_on sum w old [] now new goes there; whole = subst (λ (l : List ℕ). IsWhole l) (sym same) whole };
       holds = same;
       same = goes.same;
       all = subst (λ (P : ℕ). CommitsAll sum own P (content now new.present.readable) new.present) (sym goes.same.page_size)
@@ -271,31 +273,68 @@ leaves_or sum P held behind old new only =
     through_then (AllOnly sum P held held) (AllOnly sum P held behind) old new
     (λ d left. λ image is_image free. elim (left image is_image free) [ inl is ↦ inl is | inr is ↦ inl is ]) only
 
--- zeros appended behind a read
-pub fill_leaves : (sum : List ℕ → ℕ) (w : WriterState) (zeros : List ℕ) (old mid new : Life) → OnlyReads sum w old mid → zeros ≡ replicate (missing (content w old.present.readable)) 0
-    → LeavesOnly sum w.page_size (content w mid.present.readable) (content w mid.present.readable ++ zeros) mid new → LeavesOnly sum w.page_size (content w old.present.readable) (filled (content w old.present.readable)) old new
-fill_leaves sum w zeros old mid new left is leaves =
-    let held = content w old.present.readable in
-    through_joins (AllOnly sum w.page_size held (filled held)) old mid new (leaves_or sum w.page_size held (filled held) old mid left.only)
-    (subst (λ (z : List ℕ). LeavesOnly sum w.page_size held (held ++ z) mid new) is
-    (subst (λ (l : List ℕ). LeavesOnly sum w.page_size l (l ++ zeros) mid new) left.holds leaves))
+-- all floors are kept, so those within the first n bytes are
+pub floors_within : (sum : List ℕ → ℕ) (n P : ℕ) (old new : Life) → KeepsAllFloors sum P old new → KeepsFloorsWithin n sum P old new
+floors_within sum n P old new keeps = λ content. keeps (take n content)
 
--- so the last frame is filled up
-pub fill_goes : (sum own : List ℕ → ℕ) (w : WriterState) (found : List (List ℕ)) (zeros : List ℕ) (old mid new : Life) (now : WriterState) (place : ℕ) → OnlyReads sum w old mid → found ≡ records own (content w old.present.readable)
-    → zeros ≡ replicate (missing (content w old.present.readable)) 0 → Appends sum w zeros mid new (Ok (now, place)) → HasPages now new → IsFilled sum own w old new now found
-fill_goes sum own w found zeros old mid new now place left given is (at, goes) there =
+-- floors within the first n bytes are kept by one call after another
+pub within_join : (sum : List ℕ → ℕ) (n P : ℕ) (old mid new : Life) → KeepsFloorsWithin n sum P old mid → KeepsFloorsWithin n sum P mid new → KeepsFloorsWithin n sum P old new
+within_join sum n P old mid new first second = λ content floor enough kept.
+    let begun = first content floor enough kept in
+    through_joins (AllKeep sum P (take n content) floor) old mid new begun (second content floor enough (through_end (AllKeep sum P (take n content) floor) old mid begun))
+
+-- a cut behind the whole frames, after a read
+pub trim_leaves : (sum : List ℕ → ℕ) (w : WriterState) (end : ℕ) (old mid new : Life) → OnlyReads sum w old mid → end ≡ length (whole_frames (content w old.present.readable))
+    → LeavesOnly sum w.page_size (content w mid.present.readable) (take end (content w mid.present.readable)) mid new
+    → LeavesOnly sum w.page_size (content w old.present.readable) (whole_frames (content w old.present.readable)) old new
+trim_leaves sum w end old mid new left is leaves =
     let held = content w old.present.readable in
-    let holds : content now new.present.readable ≡ filled held = goes.content ∙ ap₂ (λ (a b : List ℕ). a ++ b) left.holds is in
+    let whole = whole_frames held in
+    let first : take end (content w mid.present.readable) ≡ whole = ap₂ (λ n (l : List ℕ). take n l) is left.holds ∙ whole_first held in
+    through_joins (AllOnly sum w.page_size held whole) old mid new (leaves_or sum w.page_size held whole old mid left.only)
+    (subst (λ (l : List ℕ). LeavesOnly sum w.page_size l whole mid new) left.holds
+    (subst (λ (l : List ℕ). LeavesOnly sum w.page_size (content w mid.present.readable) l mid new) first leaves))
+
+-- so the whole frames are left
+pub trim_goes : (sum own : List ℕ → ℕ) (w : WriterState) (end : ℕ) (found : List (List ℕ)) (old mid new : Life) (now : WriterState) → OnlyReads sum w old mid → found ≡ records own (content w old.present.readable)
+    → end ≡ length (whole_frames (content w old.present.readable)) → Truncates sum end w mid new (Ok now) → IsSound sum now new.present → HasPages now new → LeavesItsContent sum now new.present → IsTrimmed sum own w old new now found
+trim_goes sum own w end found old mid new now left given is cut sound there only =
+    let held = content w old.present.readable in
+    let whole = whole_frames held in
+    let holds : content now new.present.readable ≡ whole = cut.content ∙ ap₂ (λ n (l : List ℕ). take n l) is left.holds ∙ whole_first held in
+    let size : size_of now ≡ length (content now new.present.readable) =
+    omega (arith, cut.size, is, ap length holds, length-whole held, left.ready.size, ap length left.holds) in
     record {
-      journal = record { ready = gone_on sum w mid zeros now new goes there; whole = ap missing holds ∙ filled_is_whole held };
+      ready = record { sound = sound; there = there; size = size; only = only };
       holds = holds;
       given = given;
-      same = goes.same;
+      page_size = cut.same.page_size;
     }
 
--- a recovered writer is ready
-pub recovered_ready : (sum : List ℕ → ℕ) (cache : CacheState) (capacity : ℕ) (old new : Life) (w : WriterState) → Recovers sum cache capacity old new (Ok w) → HasPages w new → IsReady sum w new
-recovered_ready sum cache capacity old new w recovers there = record { sound = recovers.sound; there = there; size = recovers.size; only = recovers.only }
+-- where all frames are whole nothing is to be cut
+pub trim_stays : (sum own : List ℕ → ℕ) (w : WriterState) (end : ℕ) (found : List (List ℕ)) (old new : Life) → OnlyReads sum w old new → found ≡ records own (content w old.present.readable)
+    → end ≡ length (whole_frames (content w old.present.readable)) → end ≡ size_of w → IsTrimmed sum own w old new w found
+trim_stays sum own w end found old new left given is all =
+    let held = content w old.present.readable in
+    let long : length held ≤ length (whole_frames held) = omega (arith, is, all, left.ready.size, ap length left.holds) in
+    record {
+      ready = left.ready;
+      holds = left.holds ∙ sym (take_all (length (whole_frames held)) held long) ∙ whole_first held;
+      given = given;
+      page_size = refl;
+    }
+
+-- the cut was refused
+pub trim_refused : (sum own : List ℕ → ℕ) (w : WriterState) (end : ℕ) (old mid new : Life) (e : Error) → OnlyReads sum w old mid → end ≡ length (whole_frames (content w old.present.readable)) → (end ≡ size_of w → ⊥)
+    → Truncates sum end w mid new (Err e) → Trims sum own w old new (Err e)
+trim_refused sum own w end old mid new e left is more refused =
+    let held = content w old.present.readable in
+    let whole = length (whole_frames held) in
+    let less : whole < size_of w = (elim (cases_lt whole (size_of w)) [
+      | inl lt ↦ lt
+      | inr le ↦ absurd (more (omega (arith, is, le, length-whole held, left.ready.size, ap length left.holds)))
+    ]) in
+    inr (mid, left.looked, less, subst (λ (n : ℕ). Truncates sum n w mid new (Err e)) is refused)
 
 -- no frame was read
 pub not_found : (sum own : List ℕ → ℕ) (w : WriterState) (place rest : ℕ) (old new : Life) (e : Error) (result : Result (Option Found) Error) → IsErrAnd result (λ x. x ≡ e)
@@ -303,51 +342,122 @@ pub not_found : (sum own : List ℕ → ℕ) (w : WriterState) (place rest : ℕ
 not_found sum own w place rest old new e (Ok f) is refused = absurd is
 not_found sum own w place rest old new e (Err x) is refused = subst (λ (y : Error). ReadRefusedLater sum w old new y) (sym is) refused
 
--- what a recovery keeps of a text T, once the blob's recovered writer stands for it and goes on
-pub recovered_keeps : (sum : List ℕ → ℕ) (P : ℕ) (T : List ℕ) (old mid new : Life) → Through (AllKeep sum P T (length T)) old mid → KeepsAllFloors sum P mid new → Through (AllKeep sum P T (length T)) old new
-recovered_keeps sum P T old mid new first keeps =
-    through_joins (AllKeep sum P T (length T)) old mid new first (keeps T (length T) (omega arith) (through_end (AllKeep sum P T (length T)) old mid first))
+-- a floor is one of less, too
+less_kept : (sum : List ℕ → ℕ) (P : ℕ) (content : List ℕ) (floor less : ℕ) (d : Disk) → less ≤ floor → AllKeep sum P content floor d → AllKeep sum P content less d
+less_kept sum P content floor less d le kept = λ image is_image.
+    sym (take-take less floor (text sum P image) le) ∙ ap (λ (l : List ℕ). take less l) (kept image is_image) ∙ take-take less floor content le
 
+-- of a content and of its first n bytes the floors within these are the same
+first_kept : (sum : List ℕ → ℕ) (P n : ℕ) (content : List ℕ) (floor : ℕ) (d : Disk) → floor ≤ n → AllKeep sum P content floor d → AllKeep sum P (take n content) floor d
+first_kept sum P n content floor d le kept = λ image is_image. kept image is_image ∙ sym (take-take floor n content le)
+
+all_kept : (sum : List ℕ → ℕ) (P n : ℕ) (content : List ℕ) (floor : ℕ) (d : Disk) → floor ≤ n → AllKeep sum P (take n content) floor d → AllKeep sum P content floor d
+all_kept sum P n content floor d le kept = λ image is_image. kept image is_image ∙ take-take floor n content le
+
+-- floors within the first n bytes of any content are kept from mid on
+within_kept : (sum : List ℕ → ℕ) (P n : ℕ) (content : List ℕ) (floor : ℕ) (mid new : Life) → floor ≤ n → floor ≤ length content → KeepsFloorsWithin n sum P mid new
+    → AllKeep sum P content floor mid.present → Through (AllKeep sum P content floor) mid new
+within_kept sum P n content floor mid new le within keeps kept =
+    through_then (AllKeep sum P (take n content) floor) (AllKeep sum P content floor) mid new (λ d. all_kept sum P n content floor d le)
+    (keeps content floor (omega (arith, le, within, length-take n content)) (first_kept sum P n content floor mid.present le kept))
+
+-- what is committed stands in the whole frames of the text
+pub whole_commits : (sum own : List ℕ → ℕ) (P : ℕ) (T content : List ℕ) (floor n : ℕ) → floor ≤ length content → take floor T ≡ take floor content → n ≤ length (records own (take floor content))
+    → n ≤ length (records own (take (min floor (length (whole_frames T))) content))
+whole_commits sum own P T content floor n within same there =
+    let m = length (whole_frames T) in elim (cases_lt floor m) [
+      | inl less ↦ let e : min floor m ≡ floor = omega (arith, less) in subst (λ (k : ℕ). n ≤ length (records own (take k content))) (sym e) there
+      | inr more ↦
+          let e : min floor m ≡ m = omega (arith, more) in
+          let read = records-take own floor T in
+          let first : take m content ≡ whole_frames T =
+          sym (take-take m floor content more) ∙ ap (λ (l : List ℕ). take m l) (sym same) ∙ take-take m floor T more ∙ whole_first T in
+          let all : records own (take (min floor m) content) ≡ records own T = ap (λ k. records own (take k content)) e ∙ ap (λ (l : List ℕ). records own l) first ∙ records-whole own T in
+          omega (
+            arith,
+            ap length all,
+            ap length read.1,
+            length-append (records own (take floor T)) read.0,
+            ap (λ (l : List ℕ). length (records own l)) same,
+            there,
+          )
+    ]
+
+-- so it stays committed where the floors within these are kept
+pub trim_commits : (sum own : List ℕ → ℕ) (P : ℕ) (T : List ℕ) (old mid new : Life) → IsImage old.present old.present.readable → text sum P old.present.readable ≡ T
+    → KeepsAllFloors sum P old mid → KeepsFloorsWithin (length (whole_frames T)) sum P mid new → KeepsCommitted sum own P old new
+trim_commits sum own P T old mid new is_image is keeps within = λ content n commits.
+    let m = length (whole_frames T) in
+    let floor = min commits.floor m in
+    let less : floor ≤ commits.floor = omega arith in
+    let most : floor ≤ m = omega arith in
+    let enough : floor ≤ length content = omega (arith, less, commits.within) in
+    let same : take commits.floor T ≡ take commits.floor content = ap (λ (l : List ℕ). take commits.floor l) (sym is) ∙ commits.kept old.present.readable is_image in
+    let first : Through (AllKeep sum P content floor) old mid = keeps content floor enough (less_kept sum P content commits.floor floor old.present less commits.kept) in
+    through_then (AllKeep sum P content floor) (Commits sum own P content n) old new
+    (λ d kept. record { floor = floor; within = enough; kept = kept; there = whole_commits sum own P T content commits.floor n commits.within same commits.there })
+    (through_joins (AllKeep sum P content floor) old mid new first (within_kept sum P m content floor mid new most enough within (through_end (AllKeep sum P content floor) old mid first)))
+
+-- where all of a text T is kept, its records are committed through the trim
+pub recovered_keeps : (sum own : List ℕ → ℕ) (P : ℕ) (T : List ℕ) (old mid new : Life) → Through (AllKeep sum P T (length T)) old mid → KeepsFloorsWithin (length (whole_frames T)) sum P mid new → Through (CommitsAll sum own P T) old new
+recovered_keeps sum own P T old mid new first keeps =
+    let m = length (whole_frames T) in
+    let shorter = length-whole T in
+    let all : length (records own (take m T)) ≡ length (records own T) = ap (λ (l : List ℕ). length (records own l)) (whole_first T) ∙ ap length (records-whole own T) in
+    let begun : Through (AllKeep sum P T m) old mid = through_then (AllKeep sum P T (length T)) (AllKeep sum P T m) old mid (λ d kept. less_kept sum P T (length T) m d shorter kept) first in
+    through_then (AllKeep sum P T m) (CommitsAll sum own P T) old new (λ d kept. record { floor = m; within = shorter; kept = kept; there = omega (arith, all) })
+    (through_joins (AllKeep sum P T m) old mid new begun (within_kept sum P m T m mid new (omega arith) shorter keeps (through_end (AllKeep sum P T m) old mid begun)))
+
+-- what a recovery leaves of a text T, once the blob's recovered writer stands for it and is trimmed
 pub recovered_leaves : (sum own : List ℕ → ℕ) (P : ℕ) (T : List ℕ) (old mid new : Life) (w : WriterState) → w.page_size ≡ P → content w mid.present.readable ≡ T
-    → LeavesOnly sum P T T old mid → LeavesOnly sum w.page_size (content w mid.present.readable) (filled (content w mid.present.readable)) mid new → LeavesRecords sum own P (records own T) old new
+    → LeavesOnly sum P T T old mid → LeavesOnly sum w.page_size (content w mid.present.readable) (whole_frames (content w mid.present.readable)) mid new → LeavesRecords sum own P (records own T) old new
 recovered_leaves sum own P T old mid new w size holds first leaves =
-    let then : LeavesOnly sum P T (filled T) mid new =
-    subst (λ (n : ℕ). LeavesOnly sum n T (filled T) mid new) size (subst (λ (l : List ℕ). LeavesOnly sum w.page_size l (filled l) mid new) holds leaves) in
+    let then_leaves : LeavesOnly sum P T (whole_frames T) mid new =
+    subst (λ (n : ℕ). LeavesOnly sum n T (whole_frames T) mid new) size (subst (λ (l : List ℕ). LeavesOnly sum w.page_size l (whole_frames l) mid new) holds leaves) in
     let all = records own T in
     let itself = prefix_of_itself all in
     through_joins (OnlyRecords sum own P all) old mid new (leaves_records sum own P T T all old mid itself itself first)
-    (leaves_records sum own P T (filled T) all mid new itself ([], sym (append-nil (records own (filled T)) ∙ records-filled own T)) then)
+    (leaves_records sum own P T (whole_frames T) all mid new itself ([], sym (append-nil (records own (whole_frames T)) ∙ records-whole own T)) then_leaves)
 
 pub commits_through : (sum own : List ℕ → ℕ) (P : ℕ) (T : List ℕ) (old new : Life) → Through (AllKeep sum P T (length T)) old new → Through (CommitsAll sum own P T) old new
 commits_through sum own P T old new through = through_then (AllKeep sum P T (length T)) (CommitsAll sum own P T) old new (λ d keeps. commits_all sum own P T d keeps) through
 
 -- a read of all records, by the answer of the parse of what was read
 pub all_read : (sum own : List ℕ → ℕ) (w : WriterState) (bytes : List ℕ) (old new : Life) (result : Result (Vec (List ℕ) Global × ℕ) Error) → bytes ≡ content w old.present.readable
-    → IfOk result (λ r. r.0.items ≡ records own bytes) → IfOk result (λ r. r.1 ≡ missing bytes) → IsOkUnless result OutOfMemory → ReadsAll sum own w old new result
-all_read sum own w bytes old new (Ok r) is found lacks err = (found ∙ ap (λ (l : List ℕ). records own l) is, lacks ∙ ap missing is)
-all_read sum own w bytes old new (Err e) is found lacks err = inl err
+    → IfOk result (λ r. r.0.items ≡ records own bytes) → IfOk result (λ r. r.1 ≡ length (whole_frames bytes)) → IsOkUnless result OutOfMemory → ReadsAll sum own w old new result
+all_read sum own w bytes old new (Ok r) is found whole err = (found ∙ ap (λ (l : List ℕ). records own l) is, whole ∙ ap (λ (l : List ℕ). length (whole_frames l)) is)
+all_read sum own w bytes old new (Err e) is found whole err = inl err
 
 -- a recovery, from that of the blob and the rest
-pub recovery_goes : (sum own : List ℕ → ℕ) (cache : CacheState) (capacity : ℕ) (old mid new : Life) (w : WriterState) (result : Result (WriterState × Vec (List ℕ) Global) Error)
+pub recovery_goes : (sum own : List ℕ → ℕ) (cache : CacheState) (capacity : ℕ) (old mid new : Life) (w now : WriterState) (found : List (List ℕ))
     → Recovers sum cache capacity old mid (Ok w) → KeepsAll sum cache.page_size (text sum cache.page_size old.present.readable) mid
-    → KeepsAllFloors sum cache.page_size mid new → FillsUp sum own w mid new result → RecoversJournal sum own cache capacity old new result
-recovery_goes sum own cache capacity old mid new w (Ok r) recovers all keeps fills =
+    → KeepsFloorsWithin (length (whole_frames (text sum cache.page_size old.present.readable))) sum cache.page_size mid new → IsTrimmed sum own w mid new now found → HasRecovered sum own cache.page_size old new now found
+recovery_goes sum own cache capacity old mid new w now found recovers all keeps trims =
     let P = cache.page_size in
     let T = text sum P old.present.readable in
-    let kept : AllKeep sum P T (length T) new.present = through_end (AllKeep sum P T (length T)) mid new (keeps T (length T) (omega arith) all) in
-    let holds : content r.0 new.present.readable ≡ filled T = fills.holds ∙ ap filled recovers.content in
-    let given : r.1.items ≡ records own T = fills.given ∙ ap (λ (l : List ℕ). records own l) recovers.content in
-    let commits : Commits sum own P (filled T) (length (records own T)) new.present = commits_longer sum own P T (replicate (missing T) 0) (length (records own T)) new.present (commits_all sum own P T new.present kept) in
+    let whole = whole_frames T in
+    let m = length whole in
+    let shorter = length-whole T in
+    let first : AllKeep sum P T m new.present =
+    through_end (AllKeep sum P T m) mid new (within_kept sum P m T m mid new (omega arith) shorter keeps (less_kept sum P T (length T) m mid.present shorter all)) in
+    let kept : AllKeep sum P whole m new.present = subst (λ (l : List ℕ). AllKeep sum P l m new.present) (whole_first T) (first_kept sum P m T m new.present (omega arith) first) in
+    let holds : content now new.present.readable ≡ whole = trims.holds ∙ ap whole_frames recovers.content in
+    let given : found ≡ records own T = trims.given ∙ ap (λ (l : List ℕ). records own l) recovers.content in
     record {
-      page_size = fills.same.page_size ∙ recovers.page_size;
-      journal = fills.journal;
+      page_size = trims.page_size ∙ recovers.page_size;
+      journal = record { ready = trims.ready; whole = subst (λ (l : List ℕ). IsWhole l) (sym holds) (whole_is_whole T) };
       holds = holds;
       given = given;
-      same = given ∙ sym (ap (λ (l : List ℕ). records own l) holds ∙ records-filled own T);
-      all = subst (λ (l : List ℕ). CommitsAll sum own P l new.present) (sym holds)
-          (subst (λ (n : ℕ). Commits sum own P (filled T) n new.present) (ap length (sym (records-filled own T))) commits);
+      same = given ∙ sym (ap (λ (l : List ℕ). records own l) holds ∙ records-whole own T);
+      all = subst (λ (l : List ℕ). CommitsAll sum own P l new.present) (sym holds) (commits_all sum own P whole new.present kept);
     }
-recovery_goes sum own cache capacity old mid new w (Err e) recovers all keeps fills = inr (mid, w, recovers, fills)
+
+-- one whose content wasn't trimmed
+pub recovery_refused : (sum own : List ℕ → ℕ) (cache : CacheState) (capacity : ℕ) (old mid new : Life) (w : WriterState) (e : Error) (result : Result (WriterState × Vec (List ℕ) Global) Error) → IsErrAnd result (λ x. x ≡ e)
+    → Recovers sum cache capacity old mid (Ok w) → Trims sum own w mid new (Err e) → RecoversJournal sum own cache capacity old new result
+recovery_refused sum own cache capacity old mid new w e (Ok r) is recovers trims = absurd is
+recovery_refused sum own cache capacity old mid new w e (Err x) is recovers trims =
+    inr (mid, w, recovers, subst (λ (y : Error). Trims sum own w mid new (Err y)) (sym is) trims)
 
 -- a recovery of what a crash left
 pub brought_back : (sum own : List ℕ → ℕ) (cache : CacheState) (capacity : ℕ) (d : Disk) (image : List ℕ) (old new : Life) (result : Result (WriterState × Vec (List ℕ) Global) Error) → IsImage d image
@@ -375,8 +485,8 @@ commits_left sum own P content n d e less commits = record {
   there = commits.there;
 }
 
--- the content wasn't read, and so the last frame wasn't filled up
-pub fill_unread : (sum own : List ℕ → ℕ) (w : WriterState) (old new : Life) (e : Error) (result : Result (WriterState × Vec (List ℕ) Global) Error) → IsErrAnd result (λ x. x ≡ e)
-    → ReadRefused sum w old new e → FillsUp sum own w old new result
-fill_unread sum own w old new e (Ok r) is refused = absurd is
-fill_unread sum own w old new e (Err x) is refused = inl (old, inl refl, subst (λ (y : Error). ReadRefused sum w old new y) (sym is) refused)
+-- the content wasn't read, and so the last frame wasn't cut off
+pub trim_unread : (sum own : List ℕ → ℕ) (w : WriterState) (old new : Life) (e : Error) (result : Result (WriterState × Vec (List ℕ) Global) Error) → IsErrAnd result (λ x. x ≡ e)
+    → ReadRefused sum w old new e → Trims sum own w old new result
+trim_unread sum own w old new e (Ok r) is refused = absurd is
+trim_unread sum own w old new e (Err x) is refused = inl (old, inl refl, subst (λ (y : Error). ReadRefused sum w old new y) (sym is) refused)

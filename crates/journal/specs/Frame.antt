@@ -1,7 +1,7 @@
 -- A journal's bytes: frames one behind another, of which some are records. A byte that a frame
 -- lacks counts as 0.
-use Rattle.std.specs.Prelude.{◌≡◌, ◌&&◌, ◌==◌, ℕ, zero, suc, ◌+◌, ◌-◌, List, [], ◌∷◌, ◌++◌, length}
-use Rattle.std.specs.Prelude.{take, drop, replicate, Bool, Option, Some, None, if◌then◌else◌}
+use Rattle.std.specs.Prelude.{◌≡◌, ◌&&◌, ◌==◌, ℕ, zero, suc, ◌+◌, List, [], ◌∷◌, ◌++◌, length}
+use Rattle.std.specs.Prelude.{take, drop, nat_lt, Bool, Option, Some, None, if◌then◌else◌}
 use Rattle.std.specs.Prelude.{slice_index}
 use Rattle.std.specs.List.{flat_map}
 use Rattle.std.specs.Int.{w16, w32, to_be_bytes, from_be_bytes}
@@ -50,22 +50,17 @@ listed (Some bytes) = bytes ∷ []
 unfoldable pub records : (List ℕ → ℕ) → List ℕ → List (List ℕ)
 records sum bytes = flat_map (λ f. listed (record_of sum f)) (frames bytes)
 
--- how many bytes these frames lack
-abbrev pub lacking : List (List ℕ) → ℕ
-lacking [] = 0
-lacking (f ∷ fs) = (frame_len f - length f) + lacking fs
+-- a frame, unless it is cut short
+abbrev pub if_whole : List ℕ → List ℕ
+if_whole f = if nat_lt (length f) (frame_len f) then [] else f
 
--- how many the last frame of some bytes lacks
-unfoldable pub missing : List ℕ → ℕ
-missing bytes = lacking (frames bytes)
+-- the whole frames of some bytes: all of the bytes, but for a last frame that is cut short
+unfoldable pub whole_frames : List ℕ → List ℕ
+whole_frames bytes = flat_map if_whole (frames bytes)
 
 -- no frame is cut short
 abbrev pub IsWhole : List ℕ → Type 0
-IsWhole bytes = missing bytes ≡ 0
-
--- the bytes with the last frame filled up: where it was cut short its mark is 0 then
-abbrev pub filled : List ℕ → List ℕ
-filled bytes = bytes ++ replicate (missing bytes) 0
+IsWhole bytes = whole_frames bytes ≡ bytes
 
 -- these are the first of those
 abbrev pub IsPrefix : List (List ℕ) → List (List ℕ) → Type 0

@@ -1,7 +1,7 @@
 -- What a journal's calls do, and what a crash keeps of its records. Pages have the checksum
 -- function sum, records their own.
 use Rattle.std.specs.Prelude.{◌≡◌, ◌⊎◌, ◌<◌, ◌≤◌, ◌+◌, ◌-◌, ◌^◌, ◌++◌, ℕ, List, [], ◌∷◌, length}
-use Rattle.std.specs.Prelude.{take, drop, replicate, min, Option, Some, None, Result, Ok, Err, Vec}
+use Rattle.std.specs.Prelude.{take, drop, min, Option, Some, None, Result, Ok, Err, Vec}
 use Rattle.std.specs.declared.alloc.Global.{Global}
 use Rattle.disk.specs.Disk.{Disk, Life, IsImage}
 use Rattle.disk.specs.declared.error.Error.{Error}
@@ -14,13 +14,15 @@ use Rattle.crash.specs.Looks.{Looked}
 use Rattle.crash.specs.Sound.{IsSound, LeavesItsContent, content}
 use Rattle.crash.specs.Stays.{KeepsAllFloors, LeavesOnly}
 use Rattle.crash.specs.WriterState.{WriterState}
-use Rattle.paged.specs.Calls.{IsSameWriter, Appends, HasCause}
+use Rattle.paged.specs.Calls.{IsSameWriter, HasCause}
 use Rattle.paged.specs.Reads.{HasPages, Reads, size_of}
-use Rattle.paged.specs.Recovery.{IsDurable, Recovers}
+use Rattle.paged.specs.Recovery.{IsDurable}
+use Rattle.paged.specs.Recovers.{Recovers}
+use Rattle.paged.specs.Truncate.{Truncates}
 use Rattle.paged.specs.Writer.{physical_size}
 use Rattle.journal.specs.declared.frame.Found.{Found}
-use Rattle.journal.specs.Frame.{frame, frame_len, record_of, records, listed, missing, IsWhole}
-use Rattle.journal.specs.Frame.{filled, IsPrefix}
+use Rattle.journal.specs.Frame.{frame, frame_len, record_of, records, listed, whole_frames}
+use Rattle.journal.specs.Frame.{IsWhole, IsPrefix}
 
 -- a writer between two calls, as the last of them left it: it is sound, its pages are in the blob,
 -- its size is that of its content, and chance aside a crash leaves only that
@@ -167,42 +169,44 @@ ReadsRecord sum own w place old new (Ok (Some f)) =
     IsFound own (content w old.present.readable) place f.bytes f.end
 ReadsRecord sum own w place old new (Err e) = ReadRefusedLater sum w old new e
 
--- a read of all records, and of how many bytes the last frame lacks
+-- a read of all records, and of how many bytes the whole frames have
 abbrev pub ReadsAll : (sum own : List ℕ → ℕ) → WriterState → Life → Life
     → Result (Vec (List ℕ) Global × ℕ) Error → Type 0
 ReadsAll sum own w old new (Ok r) =
     (r.0.items ≡ records own (content w old.present.readable))
-    × (r.1 ≡ missing (content w old.present.readable))
+    × (r.1 ≡ length (whole_frames (content w old.present.readable)))
 ReadsAll sum own w old new (Err e) = ReadRefused sum w old new e
 
--- the last frame was filled up; these are the records
-pub record IsFilled (sum own : List ℕ → ℕ) (w : WriterState) (old new : Life) (now : WriterState)
+-- the whole frames are left of a content; these are the records
+pub record IsTrimmed (sum own : List ℕ → ℕ) (w : WriterState) (old new : Life) (now : WriterState)
     (found : List (List ℕ)) : Type 0 where
-  pub journal : IsJournal sum now new
-  pub holds : content now new.present.readable ≡ filled (content w old.present.readable)
+  pub ready : IsReady sum now new
+  pub holds : content now new.present.readable ≡ whole_frames (content w old.present.readable)
   pub given : found ≡ records own (content w old.present.readable)
-  pub same : IsSameWriter w now
+  pub page_size : now.page_size ≡ w.page_size
 
--- it wasn't: a read of the content was refused, or an append of the zeros behind it
-abbrev pub FillsUp : (sum own : List ℕ → ℕ) → WriterState → Life → Life
+-- they aren't: a read of the content was refused, or the cut behind them, where there is more
+abbrev pub Trims : (sum own : List ℕ → ℕ) → WriterState → Life → Life
     → Result (WriterState × Vec (List ℕ) Global) Error → Type 0
-FillsUp sum own w old new (Ok r) = IsFilled sum own w old new r.0 r.1.items
-FillsUp sum own w old new (Err e) =
+Trims sum own w old new (Ok r) = IsTrimmed sum own w old new r.0 r.1.items
+Trims sum own w old new (Err e) =
+    let whole = whole_frames (content w old.present.readable) in
     ReadRefusedLater sum w old new e
-    ⊎ ((mid : Life) × (n : ℕ) × Looked old mid × Appends sum w (replicate n 0) mid new (Err e))
+    ⊎ ((mid : Life) × Looked old mid × (length whole < size_of w)
+    × Truncates sum (length whole) w mid new (Err e))
 
--- a journal was recovered: its content is the text that was readable, of which the last frame was
--- filled up; these are its records, and all of them are committed
+-- a journal was recovered: its content is the whole frames of the text that was readable; these are
+-- its records, and all of them are committed
 pub record HasRecovered (sum own : List ℕ → ℕ) (P : ℕ) (old new : Life) (w : WriterState)
     (found : List (List ℕ)) : Type 0 where
   pub page_size : w.page_size ≡ P
   pub journal : IsJournal sum w new
-  pub holds : content w new.present.readable ≡ filled (text sum P old.present.readable)
+  pub holds : content w new.present.readable ≡ whole_frames (text sum P old.present.readable)
   pub given : found ≡ records own (text sum P old.present.readable)
   pub same : found ≡ records own (content w new.present.readable)
   pub all : CommitsAll sum own P (content w new.present.readable) new.present
 
--- a recovery: that of the blob was refused, or it ended well and the last frame wasn't filled up
+-- a recovery: that of the blob was refused, or it ended well and the content wasn't trimmed
 abbrev pub RecoversJournal : (sum own : List ℕ → ℕ) → CacheState → ℕ → Life → Life
     → Result (WriterState × Vec (List ℕ) Global) Error → Type 0
 RecoversJournal sum own cache capacity old new (Ok r) =
@@ -210,7 +214,7 @@ RecoversJournal sum own cache capacity old new (Ok r) =
 RecoversJournal sum own cache capacity old new (Err e) =
     Recovers sum cache capacity old new (Err e)
     ⊎ ((mid : Life) × (w : WriterState) × Recovers sum cache capacity old mid (Ok w)
-    × FillsUp sum own w mid new (Err e))
+    × Trims sum own w mid new (Err e))
 
 -- what was committed at one moment still is at a later one
 abbrev pub StaysCommitted : (sum own : List ℕ → ℕ) → ℕ → Disk → Disk → Type 0

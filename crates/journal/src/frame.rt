@@ -1,8 +1,8 @@
 // Frames: records as bytes, and back.
 ghost use Rattle.std.specs.Prelude.{◌≡◌, true, slice_index, ◌+◌, ◌-◌, ◌<◌, ◌≤◌, ◌^◌, ◌++◌, length};
 ghost use Rattle.std.specs.Prelude.{drop, IfOk, OnOk, IsOkUnless};
-ghost use Rattle.journal.specs.Frame.{frame, record_len, is_record, record_of, records, missing};
-ghost use Rattle.journal.specs.Frame.{listed};
+ghost use Rattle.journal.specs.Frame.{frame, record_len, is_record, record_of, records, listed};
+ghost use Rattle.journal.specs.Frame.{whole_frames};
 
 use disk::{Error, IoBuf};
 use page::Sum;
@@ -100,18 +100,22 @@ fn push_record(found: &mut Vec<IoBuf>, more: Option<IoBuf>) -> Result<(), Error>
     Ok(())
 }
 
-/// The records of some bytes, in order, and how many bytes the last frame lacks. It answers
+/// The records of some bytes, in order, and the place behind their last whole frame. It answers
 /// `OutOfMemory` alone.
 pub fn records_of<R: Sum>(alloc: Global, bytes: &IoBuf) -> Result<(Vec<IoBuf>, usize), Error>
     ensures records { IfOk result (λ r. r.0.items ≡ records R.sum_of bytes.now) }
-    ensures missing { IfOk result (λ r. r.1 ≡ missing bytes.now) }
+    ensures whole { IfOk result (λ r. r.1 ≡ length (whole_frames bytes.now)) }
     ensures err { IsOkUnless result Error.OutOfMemory }
 {
     let mut found = Vec::new(alloc);
     let mut place = 0;
     while place < bytes.len() {
+        let len = record_len_of(&bytes.as_ref()[place..]) + OVERHEAD;
+        if len > bytes.len() - place {
+            break;
+        }
         push_record(&mut found, record_at::<R>(bytes, place)?)?;
-        place += record_len_of(&bytes.as_ref()[place..]) + OVERHEAD;
+        place += len;
     }
-    Ok((found, place - bytes.len()))
+    Ok((found, place))
 }

@@ -1,15 +1,15 @@
 // Journals: records over a paged blob.
-ghost use Rattle.std.specs.Prelude.{◌≡◌, ◌+◌, ◌*◌, ◌≤◌, ◌++◌, ◌∷◌, [], length, replicate, IfOk};
-ghost use Rattle.std.specs.Prelude.{OnOk, IsOkUnless};
+ghost use Rattle.std.specs.Prelude.{◌≡◌, ◌+◌, ◌*◌, ◌≤◌, ◌++◌, ◌∷◌, [], length, IfOk, OnOk};
 ghost use Rattle.crash.specs.Looks.{Looked};
 ghost use Rattle.crash.specs.Sound.{IsSound, content};
 ghost use Rattle.crash.specs.Stays.{KeepsAll, KeepsAllFloors, LeavesOnly};
 ghost use Rattle.page.specs.Page.{text};
 ghost use Rattle.paged.specs.Calls.{Appends, Syncs};
 ghost use Rattle.paged.specs.Reads.{HasPages, size_of};
-ghost use Rattle.journal.specs.Frame.{filled};
+ghost use Rattle.paged.specs.Truncate.{KeepsFloorsWithin};
+ghost use Rattle.journal.specs.Frame.{whole_frames};
 ghost use Rattle.journal.specs.Journal.{IsJournal, AppendsRecord, CommitGoes, ReadsBytes};
-ghost use Rattle.journal.specs.Journal.{ReadsFrame, ReadsRecord, ReadsAll, FillsUp};
+ghost use Rattle.journal.specs.Journal.{ReadsFrame, ReadsRecord, ReadsAll, Trims};
 ghost use Rattle.journal.specs.Journal.{RecoversJournal, IsReady, OnlyReads, KeepsCommitted};
 ghost use Rattle.journal.specs.Journal.{LeavesItsRecords, LeavesOneMore, KeepsAllRecords};
 ghost use Rattle.journal.specs.Journal.{LeavesAllRecords, BringsBack};
@@ -18,7 +18,7 @@ use crate::frame::{Found, frame_of, record_at, record_len_of, records_of};
 use cache::CacheRef;
 use disk::{Blob, Error, IoBuf};
 use page::Sum;
-use paged::Writer;
+use paged::{Recovery, Writer};
 use std::alloc::Global;
 use std::marker::{Model, PhantomData};
 use std::num::NonZeroUsize;
@@ -43,14 +43,69 @@ impl<B, H, R> Model for Journal<B, H, R> {
     ghost view = { λ j. j.writer };
 }
 
-// So many zeros. It answers `OutOfMemory` alone.
-fn zeros(alloc: Global, count: usize) -> Result<Vec<u8>, Error>
-    ensures zeros { IfOk result (λ zeros. zeros.items ≡ replicate count 0) }
-    ensures err { IsOkUnless result Error.OutOfMemory }
+// Reads bytes of a writer's content, in one buffer.
+fn read_bytes<B: Blob, H: Sum, Phase>(
+    writer: &Writer<B, H, Phase>,
+    blob: &mut B,
+    cache: &mut CacheRef,
+    place: u64,
+    len: usize,
+) -> Result<IoBuf, Error>
+    requires ready { IsReady H.sum_of writer.now (B.life blob.old) }
+    requires within { place + len ≤ size_of writer.now }
+    ensures reads { let old = B.life blob.old in let new = B.life blob.new in
+        ReadsBytes H.sum_of writer.now place len old new result }
+    ensures leaves { OnlyReads H.sum_of writer.now (B.life blob.old) (B.life blob.new) }
 {
-    let mut zeros = Vec::new(alloc);
-    zeros.resize(count, 0)?;
-    Ok(zeros)
+    match writer.read_at(blob, cache, place, len) {
+        Ok(bufs) => bufs.coalesce(),
+        Err(error) => Err(error),
+    }
+}
+
+// The records of a recovered content, and how many bytes its whole frames have.
+fn read_all<B: Blob, H: Sum, R: Sum>(
+    alloc: Global,
+    recovery: &Recovery<B, H>,
+    blob: &mut B,
+    cache: &mut CacheRef,
+) -> Result<(Vec<IoBuf>, usize), Error>
+    requires ready { IsReady H.sum_of recovery.now (B.life blob.old) }
+    ensures reads { let old = B.life blob.old in let new = B.life blob.new in
+        ReadsAll H.sum_of R.sum_of recovery.now old new result }
+    ensures leaves { OnlyReads H.sum_of recovery.now (B.life blob.old) (B.life blob.new) }
+{
+    let bytes = read_bytes(recovery, blob, cache, 0, recovery.size() as usize)?;
+    records_of::<R>(alloc, &bytes)
+}
+
+// Cuts the last frame off where it is half-written, and answers the records that there are.
+fn trim<B: Blob, H: Sum, R: Sum>(
+    alloc: Global,
+    recovery: Recovery<B, H>,
+    blob: &mut B,
+    cache: &mut CacheRef,
+) -> Result<(Recovery<B, H>, Vec<IoBuf>), Error>
+    requires ready { IsReady H.sum_of recovery (B.life blob.old) }
+    ensures trims { let old = B.life blob.old in let new = B.life blob.new in
+        Trims H.sum_of R.sum_of recovery old new result }
+    ensures kept { let old = B.life blob.old in
+        let whole = whole_frames (content recovery old.present.readable) in
+        KeepsFloorsWithin (length whole) H.sum_of recovery.page_size old (B.life blob.new) }
+    ensures only { let old = B.life blob.old in
+        let held = content recovery old.present.readable in
+        let P = recovery.page_size in
+        LeavesOnly H.sum_of P held (whole_frames held) old (B.life blob.new) }
+{
+    let (found, whole) = read_all::<B, H, R>(alloc, &recovery, blob, cache)?;
+    let end = whole as u64;
+    if end == recovery.size() {
+        return Ok((recovery, found));
+    }
+    match recovery.truncate(blob, cache, end) {
+        Ok(recovery) => Ok((recovery, found)),
+        Err(error) => Err(error),
+    }
 }
 
 impl<B, H, R> Journal<B, H, R> {
@@ -168,46 +223,16 @@ impl<B: Blob, H: Sum, R: Sum> Journal<B, H, R> {
             ReadsBytes H.sum_of self.now place len old new result }
         ensures leaves { OnlyReads H.sum_of self.now (B.life blob.old) (B.life blob.new) }
     {
-        match self.writer.read_at(blob, cache, place, len) {
-            Ok(bufs) => bufs.coalesce(),
-            Err(error) => Err(error),
-        }
-    }
-
-    // The records of the content, and how many bytes its last frame lacks.
-    fn read_all(&self, blob: &mut B, cache: &mut CacheRef) -> Result<(Vec<IoBuf>, usize), Error>
-        requires ready { IsReady H.sum_of self.now (B.life blob.old) }
-        ensures reads { let old = B.life blob.old in let new = B.life blob.new in
-            ReadsAll H.sum_of R.sum_of self.now old new result }
-        ensures leaves { OnlyReads H.sum_of self.now (B.life blob.old) (B.life blob.new) }
-    {
-        let bytes = self.read(blob, cache, 0, self.size() as usize)?;
-        records_of::<R>(self.alloc, &bytes)
-    }
-
-    // Fills the last frame up, where it was cut short, and answers the records that there are.
-    fn fill(self, blob: &mut B, cache: &mut CacheRef) -> Result<(Self, Vec<IoBuf>), Error>
-        requires ready { IsReady H.sum_of self (B.life blob.old) }
-        ensures fills { FillsUp H.sum_of R.sum_of self (B.life blob.old) (B.life blob.new) result }
-        ensures kept { KeepsAllFloors H.sum_of self.page_size (B.life blob.old) (B.life blob.new) }
-        ensures only { let old = B.life blob.old in let held = content self old.present.readable in
-            LeavesOnly H.sum_of self.page_size held (filled held) old (B.life blob.new) }
-    {
-        let (found, missing) = self.read_all(blob, cache)?;
-        let zeros = zeros(self.alloc, missing)?;
-        match self.append(blob, cache, &zeros) {
-            Ok((journal, _)) => Ok((journal, found)),
-            Err(error) => Err(error),
-        }
+        read_bytes(&self.writer, blob, cache, place, len)
     }
 
     /// Recovers the journal of a blob of `size` physical bytes, whatever they are, and answers its
     /// records: those of the blob's text, in order, which begin with all that were committed. Where
-    /// the last frame was cut short it is filled up with zeros, so that it is passed over, and what
-    /// is appended behind it is found. The other arguments are those of [`paged::recover`].
+    /// the last frame is half-written it is cut off, so that what is appended stands behind whole
+    /// frames. A whole frame that is no record stays, and is passed over. The other arguments are
+    /// those of [`paged::recover`].
     ///
-    /// The errors are those of [`paged::recover`], and `WriteFailed`. What was committed then still
-    /// is.
+    /// The errors are those of [`paged::recover`]. What was committed then still is.
     pub fn recover(
         alloc: Global,
         blob: &mut B,
@@ -235,8 +260,8 @@ impl<B: Blob, H: Sum, R: Sum> Journal<B, H, R> {
             LeavesAllRecords H.sum_of R.sum_of cache.old.page_size old new }
     {
         let recovery = paged::recover::<B, H>(alloc, blob, size, capacity, cache, buffer_size)?;
-        let journal = Self::new(alloc, Writer::from(recovery));
-        journal.fill(blob, cache)
+        let (recovery, found) = trim::<B, H, R>(alloc, recovery, blob, cache)?;
+        Ok((Self::new(alloc, Writer::from(recovery)), found))
     }
 
     // The bytes of the frame that begins at a place, behind which so many stand in the journal.

@@ -6,8 +6,10 @@ use crate::crashes::crash_and_recover;
 use crate::frame::{Found, frame_of, records_of};
 use crate::journal::Journal;
 use crate::new_cache;
+use cache::CacheRef;
 use disk::{Error, IoBuf, MemBlob};
 use page::{AddSum, ConstSum, Sum};
+use paged::Writer;
 use std::alloc::Global;
 use std::num::NonZeroUsize;
 use std::process::Abort;
@@ -28,7 +30,7 @@ fn a_frame(rt: HostRuntime) -> Result<(), Fail> {
 }
 
 #[test]
-fn frames_that_are_cut_are_passed_over(rt: HostRuntime) -> Result<(), Fail> {
+fn records_up_to_the_last_whole_frame(rt: HostRuntime) -> Result<(), Fail> {
     let bytes = IoBuf::copy_from_slice(
         rt.alloc(),
         &[
@@ -36,17 +38,17 @@ fn frames_that_are_cut_are_passed_over(rt: HostRuntime) -> Result<(), Fail> {
             0,
         ],
     )?;
-    let (records, missing) = records_of::<AddSum>(rt.alloc(), &bytes)?;
+    let (records, whole) = records_of::<AddSum>(rt.alloc(), &bytes)?;
     assert_eq!(rt; records.len(), 2);
     assert_eq!(rt; records[0].as_ref(), b"a".as_slice());
     assert_eq!(rt; records[1].as_ref(), b"c".as_slice());
-    assert_eq!(rt; missing, 6);
+    assert_eq!(rt; whole, 24);
     Ok(())
 }
 
 /// Commits a record, appends another, fails its commit, and crashes so that the first page of that
-/// write is kept whole and nothing behind it; then appends a third behind what came back, and
-/// commits it.
+/// write is kept whole and nothing behind it: what came back of the second record is cut off. Then
+/// appends a third behind the first, and commits it.
 fn cut_short<H: Sum, R: Sum>(rt: &impl Abort, alloc: Global, first: &[u8]) -> Result<MemBlob, Error>
     requires { length first.now ≤ 65535 }
 {
@@ -60,6 +62,7 @@ fn cut_short<H: Sum, R: Sum>(rt: &impl Abort, alloc: Global, first: &[u8]) -> Re
     assert_eq!(rt; found.len(), 0);
     let (journal, place) = journal.append_record(&mut blob, &mut cache, first)?;
     assert_eq!(rt; place, 0);
+    let end = journal.size();
     let journal = journal.commit(&mut blob, &mut cache)?;
     let (journal, _) = journal.append_record(&mut blob, &mut cache, b"second")?;
     blob.fail_at(1);
@@ -74,14 +77,15 @@ fn cut_short<H: Sum, R: Sum>(rt: &impl Abort, alloc: Global, first: &[u8]) -> Re
     )?;
     assert_eq!(rt; found.len(), 1);
     assert_eq!(rt; found[0].as_ref(), first);
-    let (journal, _) = journal.append_record(&mut blob, &mut cache, b"third")?;
+    assert_eq!(rt; journal.size(), end);
+    let (journal, place) = journal.append_record(&mut blob, &mut cache, b"third")?;
+    assert_eq!(rt; place, end);
     let journal = journal.commit(&mut blob, &mut cache)?;
     drop(journal);
     Ok(blob)
 }
 
-/// The first record and the third one come back then, and a walk over the frames finds these and
-/// one that is passed over.
+/// The first record and the third one come back then, and a walk over the frames finds these alone.
 fn comes_back<H: Sum, R: Sum>(
     rt: &impl Abort,
     alloc: Global,
@@ -96,8 +100,6 @@ fn comes_back<H: Sum, R: Sum>(
     assert_eq!(rt; found[1].as_ref(), b"third".as_slice());
     let (is_record, place) = told(journal.read_record(blob, &mut cache, 0)?);
     assert!(rt; is_record);
-    let (is_record, place) = told(journal.read_record(blob, &mut cache, place)?);
-    assert!(rt; !is_record);
     let (is_record, place) = told(journal.read_record(blob, &mut cache, place)?);
     assert!(rt; is_record);
     assert_eq!(rt; place, journal.size());
@@ -133,5 +135,61 @@ fn a_crash_inside_a_length(rt: HostRuntime) -> Result<(), Fail> {
 fn whatever_the_checksums(rt: HostRuntime) -> Result<(), Fail> {
     let mut blob = cut_short::<ConstSum, ConstSum>(&rt, rt.alloc(), b"one")?;
     comes_back::<ConstSum, ConstSum>(&rt, rt.alloc(), b"one", &mut blob)?;
+    Ok(())
+}
+
+/// A blob with these logical bytes, all of them durable.
+fn blob_of(alloc: Global, cache: &mut CacheRef, bytes: &[u8]) -> Result<MemBlob, Error> {
+    let mut blob = MemBlob::new(alloc);
+    let size = blob.len();
+    let recovery = paged::recover::<MemBlob, AddSum>(
+        alloc,
+        &mut blob,
+        size,
+        CAPACITY,
+        cache,
+        NonZeroUsize::MIN,
+    )?;
+    let writer: Writer<MemBlob, AddSum> = Writer::from(recovery);
+    let (writer, _) = writer.append(&mut blob, cache, bytes)?;
+    drop(writer.sync(&mut blob, cache)?);
+    Ok(blob)
+}
+
+// The frame of "b" has another checksum, and its length is right: it ends where the page does. Then
+// three bytes of a frame follow, in the next page.
+#[test]
+fn a_whole_frame_stays(rt: HostRuntime) -> Result<(), Fail> {
+    let alloc = rt.alloc();
+    let mut cache = new_cache(alloc)?;
+    let mut blob = blob_of(
+        alloc,
+        &mut cache,
+        &[
+            0, 1, 0x61, 0, 0, 0, 0x61, 1, 0, 1, 0x62, 0, 0, 0, 0, 1, 0, 2, 0x63,
+        ],
+    )?;
+    let size = blob.len();
+    assert_eq!(rt; size, 56);
+    let (journal, found) = Journal::<MemBlob, AddSum, AddSum>::recover(
+        alloc,
+        &mut blob,
+        size,
+        CAPACITY,
+        &mut cache,
+        NonZeroUsize::MIN,
+    )?;
+    assert_eq!(rt; found.len(), 1);
+    assert_eq!(rt; found[0].as_ref(), b"a".as_slice());
+    assert_eq!(rt; journal.size(), 16);
+    assert_eq!(rt; blob.len(), 28);
+    let (journal, place) = journal.append_record(&mut blob, &mut cache, b"c")?;
+    assert_eq!(rt; place, 16);
+    let (is_record, place) = told(journal.read_record(&mut blob, &mut cache, 8)?);
+    assert!(rt; !is_record);
+    assert_eq!(rt; place, 16);
+    let (is_record, place) = told(journal.read_record(&mut blob, &mut cache, place)?);
+    assert!(rt; is_record);
+    assert_eq!(rt; place, 24);
     Ok(())
 }

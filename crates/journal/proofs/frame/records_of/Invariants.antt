@@ -1,12 +1,12 @@
 use Rattle.std.proofs.Common.{◌≡◌, ◌≤◌, ◌+◌, ◌-◌, ◌++◌, length, drop}
-use Rattle.journal.specs.Frame.{records, missing}
+use Rattle.journal.specs.Frame.{records, whole_frames}
 use Rattle.journal.proofs.frame.records_of.Given as goal
 
 abbrev pub invariant-loop-place : goal.invariant-loop-place
 invariant-loop-place g l = record {
   found : l.found.items ++ records g.R.Sum.sum_of (drop l.place l.bytes) ≡ records g.R.Sum.sum_of l.bytes;
-  lacks : (l.place - length l.bytes) + missing (drop l.place l.bytes) ≡ missing l.bytes;
-  near : l.place ≤ length l.bytes + 65542;
+  whole : l.place + length (whole_frames (drop l.place l.bytes)) ≡ length (whole_frames l.bytes);
+  within : l.place ≤ length l.bytes;
 }
 
 abbrev pub decreases-loop-place : goal.decreases-loop-place

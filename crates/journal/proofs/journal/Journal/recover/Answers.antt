@@ -1,21 +1,13 @@
-use Rattle.std.proofs.Common.{◌≡◌, ◌∙◌, ap, sym, subst, refl, ℕ, Ok}
+use Rattle.std.proofs.Common.{◌≡◌, ◌∙◌, sym, subst, refl, length, ℕ, List}
 use Rattle.page.specs.Page.{text}
-use Rattle.crash.specs.Sound.{content}
-use Rattle.crash.specs.Stays.{KeepsAllFloors}
 use Rattle.crash.specs.WriterState.{WriterState}
-use Rattle.paged.specs.Recovery.{Recovers}
-use Rattle.journal.specs.Frame.{records}
-use Rattle.journal.specs.Journal.{IsReady}
-use Rattle.journal.proofs.Journals.{recovered_ready, recovery_goes, recovered_keeps, recovered_leaves, commits_through, keeps_committed, floors_join, brought_back, leaves_records, prefix_of_itself}
+use Rattle.paged.specs.Truncate.{KeepsFloorsWithin}
+use Rattle.journal.specs.Frame.{records, whole_frames}
+use Rattle.journal.specs.Journal.{HasRecovered, KeepsCommitted, KeepsAllRecords, LeavesAllRecords, BringsBack}
+use Rattle.journal.proofs.Journals.{recovery_goes, recovery_refused, recovered_keeps, recovered_leaves, commits_through, keeps_committed, trim_commits, brings_back, leaves_records, prefix_of_itself}
 use Rattle.journal.proofs.journal.Journal.recover.Given.{Over}
 use Rattle.journal.proofs.journal.Journal.recover.Goals as goal
-use Rattle.journal.proofs.journal.Journal.recover.Goals.{After-fill}
-
-pub fill-requires : goal.fill-requires
-fill-requires g c =
-    let recovery = c.in_ok-recovery.ensures in
-    let ready = recovered_ready g.H.Sum.sum_of c.args.cache.now c.args.capacity (g.B.Blob.life c.args.blob.now) (g.B.Blob.life c.recover.new.blob) c.in_ok-recovery.recovery recovery.recovers recovery.there in
-    record { ready = subst (λ (w : WriterState). IsReady g.H.Sum.sum_of w (g.B.Blob.life c.recover.new.blob)) (sym (c.new-journal.ensures ∙ c.from.ensures)) ready }
+use Rattle.journal.proofs.journal.Journal.recover.Goals.{After-trim}
 
 pub returns-in_err-recovery-clause-kept : goal.returns-in_err-recovery-clause-kept
 returns-in_err-recovery-clause-kept g c = λ durable.
@@ -35,59 +27,91 @@ pub returns-in_err-recovery-clause-floors : goal.returns-in_err-recovery-clause-
 returns-in_err-recovery-clause-floors g c =
     keeps_committed g.H.Sum.sum_of g.R.Sum.sum_of c.args.cache.now.page_size (g.B.Blob.life c.args.blob.now) (g.B.Blob.life c.recover.new.blob) c.recover.ensures.floors
 
--- filling up keeps each floor
-filled-keeps : (g : Over) (c : After-fill g) → KeepsAllFloors g.H.Sum.sum_of c.args.cache.now.page_size (g.B.Blob.life c.recover.new.blob) (g.B.Blob.life c.fill.new.blob)
-filled-keeps g c =
-    let is = ap (λ (w : WriterState). w.page_size) (c.new-journal.ensures ∙ c.from.ensures) ∙ c.in_ok-recovery.ensures.recovers.page_size in
-    subst (λ (P : ℕ). KeepsAllFloors g.H.Sum.sum_of P (g.B.Blob.life c.recover.new.blob) (g.B.Blob.life c.fill.new.blob)) is c.fill.ensures.kept
+-- the trim keeps the floors within the whole frames of the text
+trim-keeps : (g : Over) (c : After-trim g)
+    → KeepsFloorsWithin (length (whole_frames (text g.H.Sum.sum_of c.args.cache.now.page_size (g.B.Blob.life c.args.blob.now).present.readable))) g.H.Sum.sum_of c.args.cache.now.page_size
+    (g.B.Blob.life c.recover.new.blob) (g.B.Blob.life c.trim.new.blob)
+trim-keeps g c =
+    let sum = g.H.Sum.sum_of in
+    let mid = g.B.Blob.life c.recover.new.blob in
+    let new = g.B.Blob.life c.trim.new.blob in
+    let recovered = c.in_ok-recovery.ensures.recovers in
+    let T = text sum c.args.cache.now.page_size (g.B.Blob.life c.args.blob.now).present.readable in
+    subst (λ (P : ℕ). KeepsFloorsWithin (length (whole_frames T)) sum P mid new) recovered.page_size
+    (subst (λ (l : List ℕ). KeepsFloorsWithin (length (whole_frames l)) sum c.in_ok-recovery.recovery.page_size mid new) recovered.content c.trim.ensures.kept)
+
+-- so what was committed stays so
+trim-floors : (g : Over) (c : After-trim g) → KeepsCommitted g.H.Sum.sum_of g.R.Sum.sum_of c.args.cache.now.page_size (g.B.Blob.life c.args.blob.now) (g.B.Blob.life c.trim.new.blob)
+trim-floors g c =
+    let sum = g.H.Sum.sum_of in
+    let old = g.B.Blob.life c.args.blob.now in
+    let P = c.args.cache.now.page_size in
+    trim_commits sum g.R.Sum.sum_of P (text sum P old.present.readable) old (g.B.Blob.life c.recover.new.blob) (g.B.Blob.life c.trim.new.blob) (g.met.B.Blob.readable_is_image c.args.blob.now) refl
+    c.recover.ensures.floors (trim-keeps g c)
+
+-- and all records are committed where all was durable
+trim-kept : (g : Over) (c : After-trim g) → KeepsAllRecords g.H.Sum.sum_of g.R.Sum.sum_of c.args.cache.now.page_size (g.B.Blob.life c.args.blob.now) (g.B.Blob.life c.trim.new.blob)
+trim-kept g c = λ durable.
+    let sum = g.H.Sum.sum_of in
+    let old = g.B.Blob.life c.args.blob.now in
+    let P = c.args.cache.now.page_size in
+    recovered_keeps sum g.R.Sum.sum_of P (text sum P old.present.readable) old (g.B.Blob.life c.recover.new.blob) (g.B.Blob.life c.trim.new.blob) (c.recover.ensures.kept durable) (trim-keeps g c)
+
+-- and these alone are left
+trim-only : (g : Over) (c : After-trim g) → LeavesAllRecords g.H.Sum.sum_of g.R.Sum.sum_of c.args.cache.now.page_size (g.B.Blob.life c.args.blob.now) (g.B.Blob.life c.trim.new.blob)
+trim-only g c = λ durable.
+    let sum = g.H.Sum.sum_of in
+    let old = g.B.Blob.life c.args.blob.now in
+    let P = c.args.cache.now.page_size in
+    let recovered = c.in_ok-recovery.ensures.recovers in
+    recovered_leaves sum g.R.Sum.sum_of P (text sum P old.present.readable) old (g.B.Blob.life c.recover.new.blob) (g.B.Blob.life c.trim.new.blob) c.in_ok-recovery.recovery recovered.page_size recovered.content
+    (c.recover.ensures.only durable) c.trim.ensures.only
+
+pub returns-in_err-recovery-2-clause-recovers : goal.returns-in_err-recovery-2-clause-recovers
+returns-in_err-recovery-2-clause-recovers g c =
+    recovery_refused g.H.Sum.sum_of g.R.Sum.sum_of c.args.cache.now c.args.capacity (g.B.Blob.life c.args.blob.now) (g.B.Blob.life c.recover.new.blob) (g.B.Blob.life c.trim.new.blob) c.in_ok-recovery.recovery
+    c.in_err-recovery-2.field-0.0 c.from_residual-in_err-recovery-2.result c.from_residual-in_err-recovery-2.ensures.1 c.in_ok-recovery.ensures.recovers c.in_err-recovery-2.ensures.trims
+
+pub returns-in_err-recovery-2-clause-floors : goal.returns-in_err-recovery-2-clause-floors
+returns-in_err-recovery-2-clause-floors g c = trim-floors g (goal.at.returns-in_err-recovery-2-clause-floors g c).After-trim
+
+pub returns-in_err-recovery-2-clause-kept : goal.returns-in_err-recovery-2-clause-kept
+returns-in_err-recovery-2-clause-kept g c = trim-kept g (goal.at.returns-in_err-recovery-2-clause-kept g c).After-trim
+
+pub returns-in_err-recovery-2-clause-only : goal.returns-in_err-recovery-2-clause-only
+returns-in_err-recovery-2-clause-only g c = trim-only g (goal.at.returns-in_err-recovery-2-clause-only g c).After-trim
+
+pub returns-clause-floors : goal.returns-clause-floors
+returns-clause-floors g c = trim-floors g (goal.at.returns-clause-floors g c).After-trim
+
+pub returns-clause-kept : goal.returns-clause-kept
+returns-clause-kept g c = trim-kept g (goal.at.returns-clause-kept g c).After-trim
+
+pub returns-clause-only : goal.returns-clause-only
+returns-clause-only g c = trim-only g (goal.at.returns-clause-only g c).After-trim
 
 pub returns-clause-recovers : goal.returns-clause-recovers
 returns-clause-recovers g c =
-    let old = g.B.Blob.life c.args.blob.now in
-    let mid = g.B.Blob.life c.recover.new.blob in
-    let w = c.new-journal.result in
-    let is : w ≡ c.in_ok-recovery.recovery = c.new-journal.ensures ∙ c.from.ensures in
-    let recovers = subst (λ (v : WriterState). Recovers g.H.Sum.sum_of c.args.cache.now c.args.capacity old mid (Ok v)) (sym is) c.in_ok-recovery.ensures.recovers in
-    recovery_goes g.H.Sum.sum_of g.R.Sum.sum_of c.args.cache.now c.args.capacity old mid (g.B.Blob.life c.fill.new.blob) w c.fill.result
-    recovers c.in_ok-recovery.ensures.durable (filled-keeps g (goal.at.returns-clause-recovers g c).After-fill) c.fill.ensures.fills
-
-pub returns-clause-kept : goal.returns-clause-kept
-returns-clause-kept g c = λ durable.
     let sum = g.H.Sum.sum_of in
+    let own = g.R.Sum.sum_of in
     let old = g.B.Blob.life c.args.blob.now in
     let mid = g.B.Blob.life c.recover.new.blob in
-    let new = g.B.Blob.life c.fill.new.blob in
-    let P = c.args.cache.now.page_size in
-    let T = text sum P old.present.readable in
-    commits_through sum g.R.Sum.sum_of P T old new
-    (recovered_keeps sum P T old mid new (c.recover.ensures.kept durable) (filled-keeps g (goal.at.returns-clause-kept g c).After-fill))
+    let new = g.B.Blob.life c.trim.new.blob in
+    let now = c.in_ok-recovery-2.recovery in
+    let found = c.in_ok-recovery-2.found.items in
+    let is : c.new.result ≡ now = c.new.ensures ∙ c.from.ensures in
+    let recovered = c.in_ok-recovery.ensures in
+    subst (λ (w : WriterState). HasRecovered sum own c.args.cache.now.page_size old new w found) (sym is)
+    (recovery_goes sum own c.args.cache.now c.args.capacity old mid new c.in_ok-recovery.recovery now found recovered.recovers recovered.durable
+    (trim-keeps g (goal.at.returns-clause-recovers g c).After-trim) c.in_ok-recovery-2.ensures.trims)
 
-pub returns-clause-only : goal.returns-clause-only
-returns-clause-only g c = λ durable.
-    let sum = g.H.Sum.sum_of in
-    let old = g.B.Blob.life c.args.blob.now in
-    let mid = g.B.Blob.life c.recover.new.blob in
-    let new = g.B.Blob.life c.fill.new.blob in
-    let P = c.args.cache.now.page_size in
-    let T = text sum P old.present.readable in
-    let w = c.new-journal.result in
-    let is : w ≡ c.in_ok-recovery.recovery = c.new-journal.ensures ∙ c.from.ensures in
-    let recovered = c.in_ok-recovery.ensures.recovers in
-    let size : w.page_size ≡ P = ap (λ (v : WriterState). v.page_size) is ∙ recovered.page_size in
-    let holds : content w mid.present.readable ≡ T = ap (λ (v : WriterState). content v mid.present.readable) is ∙ recovered.content in
-    recovered_leaves sum g.R.Sum.sum_of P T old mid new w size holds (c.recover.ensures.only durable) c.fill.ensures.only
-
-pub returns-clause-floors : goal.returns-clause-floors
-returns-clause-floors g c =
-    let sum = g.H.Sum.sum_of in
-    let old = g.B.Blob.life c.args.blob.now in
-    let mid = g.B.Blob.life c.recover.new.blob in
-    let new = g.B.Blob.life c.fill.new.blob in
-    let P = c.args.cache.now.page_size in
-    keeps_committed sum g.R.Sum.sum_of P old new (floors_join sum P old mid new c.recover.ensures.floors (filled-keeps g (goal.at.returns-clause-floors g c).After-fill))
+pub returns-clause-journal : goal.returns-clause-journal
+returns-clause-journal g c = (returns-clause-recovers g c).journal
 
 pub returns-clause-back : goal.returns-clause-back
 returns-clause-back g c =
-    let old = g.B.Blob.life c.args.blob.now in
-    brought_back g.H.Sum.sum_of g.R.Sum.sum_of c.args.cache.now c.args.capacity old.present old.present.readable old (g.B.Blob.life c.fill.new.blob) c.fill.result
-    (g.met.B.Blob.readable_is_image c.args.blob.now) refl (returns-clause-recovers g c)
+    let sum = g.H.Sum.sum_of in
+    let own = g.R.Sum.sum_of in
+    let d = (g.B.Blob.life c.args.blob.now).present in
+    let P = c.args.cache.now.page_size in
+    subst (λ (rs : List (List ℕ)). BringsBack sum own P d rs) (sym (returns-clause-recovers g c).given) (brings_back sum own P d d.readable (g.met.B.Blob.readable_is_image c.args.blob.now))
