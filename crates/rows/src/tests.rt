@@ -1,6 +1,7 @@
 // Pages have 4 bytes of payload here, 16 with their footer, and a buffer has 8.
 mod calls;
 mod crashes;
+mod cuts;
 mod direct;
 mod kit;
 mod layout;

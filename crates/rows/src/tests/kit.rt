@@ -38,7 +38,12 @@ pub fn blob_bytes(alloc: Global, pages: &[Page], stray: &[u8]) -> Result<Vec<u8>
 }
 
 pub fn new_cache(alloc: Global) -> Result<CacheRef, Error> {
-    let page_size = NonZeroU16::new(PAGE_SIZE).unwrap_or(NonZeroU16::MIN);
+    cache_of(alloc, PAGE_SIZE)
+}
+
+/// A cache of one page of this size, 1 at least.
+pub fn cache_of(alloc: Global, page_size: u16) -> Result<CacheRef, Error> {
+    let page_size = NonZeroU16::new(page_size).unwrap_or(NonZeroU16::MIN);
     CacheRef::new(alloc, page_size, NonZeroUsize::MIN)
 }
 
@@ -84,6 +89,18 @@ impl<H: Sum> Store<H> {
         Ok(store)
     }
 
+    /// The same, with pages of this size.
+    pub fn empty_of(alloc: Global, page_size: u16) -> Result<Self, Error> {
+        let mut store = Store {
+            alloc,
+            blob: MemBlob::new(alloc),
+            cache: cache_of(alloc, page_size)?,
+            writer: None,
+        };
+        store.recover(CAPACITY)?;
+        Ok(store)
+    }
+
     /// A store of a blob with these bytes, all durable, without a writer.
     pub fn of_bytes(alloc: Global, bytes: &[u8]) -> Result<Self, Error> {
         Store::new(alloc, MemBlob::from_bytes(alloc, bytes)?)
@@ -102,6 +119,23 @@ impl<H: Sum> Store<H> {
             &mut self.cache,
             buffer_size,
         )?;
+        self.writer = Some(Writer::from(recovery));
+        Ok(())
+    }
+
+    /// Recovers the blob, and cuts it to its first bytes.
+    pub fn recover_and_truncate(&mut self, size: u64) -> Result<(), Error> {
+        self.writer = None;
+        let len = self.blob.len();
+        let recovery = recover::<MemBlob, H>(
+            self.alloc,
+            &mut self.blob,
+            len,
+            CAPACITY,
+            &mut self.cache,
+            NonZeroUsize::MIN,
+        )?;
+        let recovery = recovery.truncate(&mut self.blob, &mut self.cache, size)?;
         self.writer = Some(Writer::from(recovery));
         Ok(())
     }

@@ -1,0 +1,438 @@
+// Cutting what a recovery keeps.
+ghost use Rattle.std.specs.Prelude.{◌≤◌, length};
+
+use super::kit::{ABCD, CAPACITY, Page, Store, blob_bytes, calls_from, error_of, new_cache};
+use disk::{Call, Error, MemBlob};
+use page::{AddSum, ConstSum, Sum};
+use paged::Recovery;
+use std::alloc::Global;
+use std::process::Abort;
+use std::test::Fail;
+
+// "efgh" in the first slot, and "efg" in the second.
+const EFGH: Page = [
+    0x65, 0x66, 0x67, 0x68, 0x00, 0x04, 0x00, 0x00, 0x01, 0x9A, 0x00, 0x03, 0x00, 0x00, 0x01, 0x32,
+];
+
+// Cut to "ef", by the second slot: 65 + 66 is CB.
+const EF_CUT: Page = [
+    0x65, 0x66, 0x67, 0x68, 0x00, 0x00, 0x00, 0x00, 0x00, 0x00, 0x00, 0x02, 0x00, 0x00, 0x00, 0xCB,
+];
+
+// "ab", by the second slot: 61 + 62 is C3.
+const AB_CUT: Page = [
+    0x61, 0x62, 0x63, 0x64, 0x00, 0x00, 0x00, 0x00, 0x00, 0x00, 0x00, 0x02, 0x00, 0x00, 0x00, 0xC3,
+];
+
+// "efgh" with its first byte changed: no slot verifies.
+const TORN: Page = [
+    0x9A, 0x66, 0x67, 0x68, 0x00, 0x04, 0x00, 0x00, 0x01, 0x9A, 0x00, 0x00, 0x00, 0x00, 0x00, 0x00,
+];
+
+const IJ: Page = [
+    0x69, 0x6A, 0x00, 0x00, 0x00, 0x02, 0x00, 0x00, 0x00, 0xD3, 0x00, 0x00, 0x00, 0x00, 0x00, 0x00,
+];
+
+// A blob that is opened and cut to a size: the device calls, the answer, and the pages then.
+struct Row {
+    pages: &'static [Page],
+    size: u64,
+    calls: &'static [Call],
+    answer: Result<u64, Error>,
+    left: &'static [Page],
+}
+
+const ROWS: [Row; 8] = [
+    // Inside the last page: three writes, each durable before the next.
+    Row {
+        pages: &[ABCD, EFGH],
+        size: 6,
+        calls: &[
+            Call::ReadAt(16, 16),
+            Call::Sync,
+            Call::ReadAt(16, 16),
+            Call::WriteAt(26, 6, true),
+            Call::WriteAt(26, 2, true),
+            Call::WriteAt(20, 6, true),
+        ],
+        answer: Ok(6),
+        left: &[ABCD, EF_CUT],
+    },
+    // Inside a page before it: the cut and the first write are durable together.
+    Row {
+        pages: &[ABCD, EFGH],
+        size: 2,
+        calls: &[
+            Call::ReadAt(16, 16),
+            Call::Sync,
+            Call::Resize(16),
+            Call::ReadAt(0, 16),
+            Call::WriteAt(10, 6, false),
+            Call::Sync,
+            Call::WriteAt(10, 2, true),
+            Call::WriteAt(4, 6, true),
+        ],
+        answer: Ok(2),
+        left: &[AB_CUT],
+    },
+    // Where a page ends.
+    Row {
+        pages: &[ABCD, EFGH],
+        size: 4,
+        calls: &[
+            Call::ReadAt(16, 16),
+            Call::Sync,
+            Call::Resize(16),
+            Call::Sync,
+        ],
+        answer: Ok(4),
+        left: &[ABCD],
+    },
+    Row {
+        pages: &[ABCD, EFGH],
+        size: 0,
+        calls: &[
+            Call::ReadAt(16, 16),
+            Call::Sync,
+            Call::Resize(0),
+            Call::Sync,
+        ],
+        answer: Ok(0),
+        left: &[],
+    },
+    // At the size, and above it.
+    Row {
+        pages: &[ABCD, EFGH],
+        size: 8,
+        calls: &[Call::ReadAt(16, 16), Call::Sync],
+        answer: Ok(8),
+        left: &[ABCD, EFGH],
+    },
+    Row {
+        pages: &[ABCD, EF_CUT],
+        size: u64::MAX,
+        calls: &[Call::ReadAt(16, 16), Call::Sync],
+        answer: Ok(6),
+        left: &[ABCD, EF_CUT],
+    },
+    // A page that was torn: below it a cut goes, inside it none.
+    Row {
+        pages: &[ABCD, TORN, IJ],
+        size: 4,
+        calls: &[
+            Call::ReadAt(32, 16),
+            Call::Sync,
+            Call::Resize(16),
+            Call::Sync,
+        ],
+        answer: Ok(4),
+        left: &[ABCD],
+    },
+    Row {
+        pages: &[ABCD, TORN, IJ],
+        size: 6,
+        calls: &[
+            Call::ReadAt(32, 16),
+            Call::Sync,
+            Call::Resize(32),
+            Call::ReadAt(16, 16),
+        ],
+        answer: Err(Error::InvalidChecksum),
+        left: &[ABCD, TORN],
+    },
+];
+
+fn open_and_truncate(blob: &mut MemBlob, alloc: Global, size: u64) -> Result<u64, Error> {
+    let mut cache = new_cache(alloc)?;
+    let len = blob.len();
+    let recovery = Recovery::<MemBlob, AddSum>::open(alloc, blob, len, CAPACITY, &mut cache)?;
+    Ok(recovery.truncate(blob, &mut cache, size)?.size())
+}
+
+fn blob_of(alloc: Global, pages: &[Page]) -> Result<MemBlob, Error> {
+    let bytes = blob_bytes(alloc, pages, &[])?;
+    MemBlob::from_bytes(alloc, &bytes)
+}
+
+fn is_made_of(alloc: Global, blob: &MemBlob, pages: &[Page]) -> Result<bool, Error> {
+    let want = blob_bytes(alloc, pages, &[])?;
+    Ok(blob.bytes() == want.as_slice())
+}
+
+#[test]
+fn a_cut_asks_this_of_the_device(rt: HostRuntime) -> Result<(), Fail> {
+    let alloc = rt.alloc();
+    for (number, row) in ROWS.iter().enumerate() {
+        let mut blob = blob_of(alloc, row.pages)?;
+        let answer = open_and_truncate(&mut blob, alloc, row.size);
+        assert_eq!(rt; answer, row.answer, "row {number}");
+        assert_eq!(rt; calls_from(&blob, 0), row.calls, "row {number}");
+        assert!(rt; is_made_of(alloc, &blob, row.left)?, "row {number}");
+    }
+    Ok(())
+}
+
+// The call with this number, from 0 on, fails.
+fn fail_a_cut(rt: &impl Abort, alloc: Global, row: &Row, done: usize) -> Result<(), Error> {
+    let mut blob = blob_of(alloc, row.pages)?;
+    blob.fail_at((done as u64).saturating_add(1));
+    let answer = open_and_truncate(&mut blob, alloc, row.size);
+    let call = row.calls.get(done).copied().unwrap_or(Call::Sync);
+    assert_eq!(rt; answer, Err(error_of(call)), "at call {done}");
+    assert_eq!(rt; blob.calls().len(), done.saturating_add(1));
+    Ok(())
+}
+
+#[test]
+fn a_failed_call_of_a_cut_is_told(rt: HostRuntime) -> Result<(), Fail> {
+    for row in &ROWS {
+        for done in 0..row.calls.len() {
+            fail_a_cut(&rt, rt.alloc(), row, done)?;
+        }
+    }
+    Ok(())
+}
+
+/// A store of "abcdefgh" that was synced three times.
+fn abcdefgh<H: Sum>(alloc: Global) -> Result<Store<H>, Error> {
+    let mut store = Store::<H>::empty(alloc)?;
+    for bytes in [b"abcdef".as_slice(), b"g", b"h"] {
+        store.append(bytes)?;
+        store.sync()?;
+    }
+    Ok(store)
+}
+
+/// The blob of a cut to six bytes, whose device call with this number fails, after a crash that
+/// keeps these of its bytes: recovered again, it begins with the six.
+fn cut_torn<H: Sum>(rt: &impl Abort, alloc: Global, call: u64, keep: &[bool]) -> Result<(), Error> {
+    let mut store = abcdefgh::<H>(alloc)?;
+    store.fail_at(call);
+    let answer = store.recover_and_truncate(6);
+    assert_eq!(rt; answer, Err(Error::WriteFailed), "at call {call}");
+    store.crash(keep)?;
+    store.recover(CAPACITY)?;
+    let content = store.content()?;
+    assert!(rt; content.as_ref().starts_with(b"abcdef"), "at call {call}");
+    assert!(rt; b"abcdefgh".starts_with(content.as_ref()), "at call {call}");
+    Ok(())
+}
+
+// The recovery makes four device calls, and the cut reads before it writes: six bytes, two, and
+// six.
+const WRITES: [(u64, usize); 3] = [(6, 6), (7, 2), (8, 6)];
+
+fn flags(bits: usize) -> [bool; 6] {
+    let mut rest = bits;
+    let mut flags = [false; 6];
+    for flag in flags.iter_mut() {
+        *flag = rest % 2 == 1;
+        rest /= 2;
+    }
+    flags
+}
+
+fn every_choice_of_bytes<H: Sum>(rt: &impl Abort, alloc: Global) -> Result<(), Error> {
+    for (call, len) in WRITES {
+        for bits in 0..64 {
+            cut_torn::<H>(rt, alloc, call, &flags(bits)[..len])?;
+        }
+    }
+    Ok(())
+}
+
+#[test]
+fn a_torn_cut_keeps_what_was_to_stay(rt: HostRuntime) -> Result<(), Fail> {
+    every_choice_of_bytes::<AddSum>(&rt, rt.alloc())?;
+    every_choice_of_bytes::<ConstSum>(&rt, rt.alloc())?;
+    Ok(())
+}
+
+// Both slots verify then, and the longer counts.
+#[test]
+fn a_cut_that_stops_at_its_last_write(rt: HostRuntime) -> Result<(), Fail> {
+    let both: Page = [
+        0x65, 0x66, 0x67, 0x68, 0x00, 0x04, 0x00, 0x00, 0x01, 0x9A, 0x00, 0x02, 0x00, 0x00, 0x00,
+        0xCB,
+    ];
+    let mut store = abcdefgh::<AddSum>(rt.alloc())?;
+    store.fail_at(8);
+    assert_eq!(rt; store.recover_and_truncate(6), Err(Error::WriteFailed));
+    store.crash(&[])?;
+    assert!(rt; store.is_made_of(&[ABCD, both])?);
+    assert!(rt; store.holds(b"abcdefgh")?);
+    Ok(())
+}
+
+// A page that was torn stands below the tip: a read tells it, and a cut below it goes.
+#[test]
+fn a_damaged_blob_is_cut(rt: HostRuntime) -> Result<(), Fail> {
+    let alloc = rt.alloc();
+    let mut blob = blob_of(alloc, &[ABCD, TORN, IJ])?;
+    let mut cache = new_cache(alloc)?;
+    let len = blob.len();
+    let recovery = Recovery::<MemBlob, AddSum>::open(alloc, &mut blob, len, CAPACITY, &mut cache)?;
+    assert_eq!(rt; recovery.size(), 10);
+    let read = recovery.read_at(&mut blob, &mut cache, 4, 4);
+    assert_eq!(rt; read.err(), Some(Error::InvalidChecksum));
+    let recovery = recovery.truncate(&mut blob, &mut cache, 4)?;
+    assert_eq!(rt; recovery.size(), 4);
+    assert!(rt; is_made_of(alloc, &blob, &[ABCD])?);
+    Ok(())
+}
+
+// Three pages of any of these sizes.
+const PAGE_SIZES: [u16; 4] = [1, 2, 4, 7];
+
+const LETTERS: &[u8] = b"abcdefghijklmnopqrstu";
+
+/// A store of these letters, synced, in pages of this size.
+fn store_of(alloc: Global, page_size: u16, letters: &[u8]) -> Result<Store<AddSum>, Error> {
+    let mut store = Store::empty_of(alloc, page_size)?;
+    store.append(letters)?;
+    store.sync()?;
+    Ok(store)
+}
+
+/// How many device calls it takes to recover these letters and to cut them to a size.
+fn calls_of(
+    rt: &impl Abort,
+    alloc: Global,
+    page_size: u16,
+    letters: &[u8],
+    size: usize,
+) -> Result<usize, Error>
+    requires { size ≤ length letters.now }
+{
+    let mut store = store_of(alloc, page_size, letters)?;
+    let before = store.blob().calls().len();
+    store.recover_and_truncate(size as u64)?;
+    let calls = store.blob().calls().len().saturating_sub(before);
+    assert!(rt; store.has(&letters[..size])?, "to {size}");
+    assert!(rt; store.holds(&letters[..size])?, "to {size}");
+    Ok(calls)
+}
+
+/// The same, with one of these calls failing, and a crash that keeps nothing that isn't durable, or
+/// all: what was to stay is there.
+fn cut_stopped(
+    rt: &impl Abort,
+    alloc: Global,
+    page_size: u16,
+    letters: &[u8],
+    size: usize,
+    done: usize,
+    keep: bool,
+) -> Result<(), Error>
+    requires { size ≤ length letters.now }
+{
+    let mut store = store_of(alloc, page_size, letters)?;
+    store.fail_at((done as u64).saturating_add(1));
+    assert!(rt; store.recover_and_truncate(size as u64).is_err());
+    store.crash(&[keep; 8])?;
+    store.recover(CAPACITY)?;
+    let content = store.content()?;
+    assert!(rt;
+        content.as_ref().starts_with(&letters[..size]),
+        "to {size} at call {done}"
+    );
+    assert!(rt;
+        letters.starts_with(content.as_ref()),
+        "to {size} at call {done}"
+    );
+    Ok(())
+}
+
+fn cut_at_each_call(
+    rt: &impl Abort,
+    alloc: Global,
+    page_size: u16,
+    letters: &[u8],
+    size: usize,
+) -> Result<(), Error>
+    requires { size ≤ length letters.now }
+{
+    for done in 0..calls_of(rt, alloc, page_size, letters, size)? {
+        cut_stopped(rt, alloc, page_size, letters, size, done, false)?;
+        cut_stopped(rt, alloc, page_size, letters, size, done, true)?;
+    }
+    Ok(())
+}
+
+#[test]
+fn a_cut_to_any_size_may_be_stopped(rt: HostRuntime) -> Result<(), Fail> {
+    for page_size in PAGE_SIZES {
+        let letters = &LETTERS[..usize::from(page_size) * 3];
+        for size in 0..=letters.len() {
+            cut_at_each_call(&rt, rt.alloc(), page_size, letters, size)?;
+        }
+    }
+    Ok(())
+}
+
+// "ab" in a page that isn't full, and a page behind it.
+const AB: Page = [
+    0x61, 0x62, 0x00, 0x00, 0x00, 0x02, 0x00, 0x00, 0x00, 0xC3, 0x00, 0x00, 0x00, 0x00, 0x00, 0x00,
+];
+
+const BEHIND: Page = [
+    0x65, 0x66, 0x67, 0x68, 0x00, 0x04, 0x00, 0x00, 0x01, 0x9A, 0x00, 0x00, 0x00, 0x00, 0x00, 0x00,
+];
+
+// What a recovery makes of them, and its device calls with a buffer of 64 bytes.
+const AB_KEPT: Page = [
+    0x61, 0x62, 0x00, 0x00, 0x00, 0x00, 0x00, 0x00, 0x00, 0x00, 0x00, 0x02, 0x00, 0x00, 0x00, 0xC3,
+];
+
+const RECOVERY: [Call; 9] = [
+    Call::ReadAt(16, 16),
+    Call::ReadAt(0, 32),
+    Call::Sync,
+    Call::Resize(16),
+    Call::ReadAt(0, 16),
+    Call::WriteAt(10, 6, false),
+    Call::Sync,
+    Call::WriteAt(10, 2, true),
+    Call::WriteAt(4, 6, true),
+];
+
+fn store_of_ab(alloc: Global) -> Result<Store<AddSum>, Error> {
+    let bytes = blob_bytes(alloc, &[AB, BEHIND], &[])?;
+    Store::of_bytes(alloc, &bytes)
+}
+
+#[test]
+fn a_recovery_cuts_where_the_text_ends(rt: HostRuntime) -> Result<(), Fail> {
+    let mut store = store_of_ab(rt.alloc())?;
+    store.recover(64)?;
+    assert_eq!(rt; store.calls_from(0), RECOVERY.as_slice());
+    assert!(rt; store.is_made_of(&[AB_KEPT])?);
+    assert!(rt; store.has(b"ab")?);
+    Ok(())
+}
+
+// That recovery is stopped at a call, and a crash keeps nothing that isn't durable, or all.
+fn ab_stopped(
+    rt: &impl Abort,
+    alloc: Global,
+    done: usize,
+    call: Call,
+    keep: bool,
+) -> Result<(), Error> {
+    let mut store = store_of_ab(alloc)?;
+    store.fail_at((done as u64).saturating_add(1));
+    assert_eq!(rt; store.recover(64), Err(error_of(call)), "at call {done}");
+    store.crash(&[keep; 8])?;
+    assert!(rt; store.holds(b"ab")?, "at call {done}");
+    assert_eq!(rt; store.size(), 2, "at call {done}");
+    Ok(())
+}
+
+#[test]
+fn a_recovery_that_cuts_may_be_stopped(rt: HostRuntime) -> Result<(), Fail> {
+    for (done, call) in RECOVERY.iter().enumerate() {
+        ab_stopped(&rt, rt.alloc(), done, *call, false)?;
+        ab_stopped(&rt, rt.alloc(), done, *call, true)?;
+    }
+    Ok(())
+}
