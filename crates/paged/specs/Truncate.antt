@@ -1,7 +1,7 @@
 -- What a truncate does, by cases on its answer.
 use Rattle.std.specs.Prelude.{◌≡◌, ◌≢◌, ◌⊎◌, ◌<◌, ◌≤◌, ◌+◌, ◌*◌, ◌/◌, ◌%◌, ◌==◌, ◌++◌, ℕ, List}
-use Rattle.std.specs.Prelude.{length, take, drop, min, nat_lt, if◌then◌else◌, Option, Some, None, Result, Ok, Err}
-use Rattle.std.specs.Prelude.{Bool, true, false, get_or}
+use Rattle.std.specs.Prelude.{length, take, drop, min, nat_lt, if◌then◌else◌, Option, Some}
+use Rattle.std.specs.Prelude.{None, Result, Ok, Err, Bool, true, false, get_or}
 use Rattle.std.specs.Int.{div_ceil, w16, to_be_bytes}
 use Rattle.disk.specs.Disk.{Disk, Life, LogGrows, HasFailed, AskedOnce, ReadAt}
 use Rattle.disk.specs.Disk.{WriteGoes, ResizeGoes, SyncGoes}

@@ -1,7 +1,7 @@
 // Cutting what a recovery keeps.
 ghost use Rattle.std.specs.Prelude.{◌≡◌, ◌⊎◌, ◌<◌, ◌≤◌, ◌+◌, ◌*◌, ◌/◌, ◌%◌, ◌^◌, IfOk, OnOk};
-ghost use Rattle.std.specs.Prelude.{IsOkUnless, MatchOption, Some, Ok, true, false, [], length, min};
-ghost use Rattle.std.specs.Prelude.{ℕ, ◌-◌, slice_index, take};
+ghost use Rattle.std.specs.Prelude.{IsOkUnless, MatchOption, Some, Ok, true, false, [], length};
+ghost use Rattle.std.specs.Prelude.{ℕ, ◌-◌, slice_index, take, min};
 ghost use Rattle.std.specs.Int.{w16, to_be_bytes};
 ghost use Rattle.page.specs.Slot.{other};
 ghost use Rattle.page.specs.Page.{active, slot_bytes, value_len};
