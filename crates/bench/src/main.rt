@@ -8,6 +8,7 @@
 
 mod done;
 mod play;
+mod reads;
 mod stage;
 mod work;
 mod workload;

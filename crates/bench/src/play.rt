@@ -1,13 +1,15 @@
 // Playing a workload.
 ghost use Rattle.std.specs.Prelude.{IfOk};
+ghost use Rattle.cache.specs.Pages.{IsFresh};
 ghost use Rattle.disk.specs.History.{life_of};
 ghost use Rattle.bench.specs.Ready.{IsReady};
 
 use crate::done::{Done, Start};
-use crate::stage::{Device, PAGE_SIZE, Stage};
+use crate::reads::Reads;
+use crate::stage::{Device, Stage};
 use crate::work::{
     append_all, append_owned_all, append_started, append_synced, checksum_all, read_all,
-    try_append_all,
+    read_into_all, read_many_all, try_append_all,
 };
 use crate::workload::{Work, Workload};
 use anyhow::Result;
@@ -16,9 +18,6 @@ use page::Sum;
 use paged::Writer;
 use std::alloc::Global;
 use std::num::NonZeroUsize;
-
-/// How far apart reads below the tip begin, in bytes: about two to a page, and some in two pages.
-const STRIDE: u64 = 2000;
 
 /// Plays so many rounds of a workload.
 pub fn play<H: Sum>(rt: &HostRuntime, workload: &Workload, rounds: u64) -> Result<Done> {
@@ -31,8 +30,11 @@ pub fn play<H: Sum>(rt: &HostRuntime, workload: &Workload, rounds: u64) -> Resul
         | Work::AppendStarted(..) => {
             play_appends::<H>(rt, workload, rounds, &mut done)?;
         }
-        Work::ReadTip(len) => play_reads::<H>(rt, workload, len as u64, rounds, &mut done)?,
-        Work::ReadBelow(_) => play_reads::<H>(rt, workload, STRIDE, rounds, &mut done)?,
+        Work::ReadTip(_)
+        | Work::ReadBelow(_)
+        | Work::ReadRandom(..)
+        | Work::ReadMany(..)
+        | Work::ReadThrough(_) => play_reads::<H>(rt, workload, rounds, &mut done)?,
         Work::Recover(_, buffer) => play_recoveries::<H>(rt, workload, buffer, rounds, &mut done)?,
         Work::Checksum => play_checksums::<H>(rt, workload, rounds, &mut done)?,
     }
@@ -57,25 +59,40 @@ fn play_appends<H: Sum>(
     let count = workload.count;
     let record = record(rt.alloc(), workload.bytes())?;
     let owned = IoBuf::copy_from_slice(rt.alloc(), &record)?;
-    let mut stage = Stage::new(rt.alloc(), count.saturating_mul(record.len() as u64))?;
+    let mut stage = Stage::new(rt.alloc(), count.saturating_mul(record.len() as u64), false)?;
     for _ in 0..rounds {
         let writer = stage.restart::<H>()?;
         let start = Start::now(rt, &stage.blob)?;
-        let (blob, cache) = (&mut stage.blob, &mut stage.cache);
-        match workload.work {
-            Work::TryAppend(_) => try_append_all(writer, blob, cache, &record, count)?,
-            Work::AppendOwned(_) => append_owned_all(writer, blob, cache, &owned, count)?,
-            Work::AppendSynced(_, each) => {
-                append_synced(writer, blob, cache, &record, count / each.max(1), each)?
-            }
-            Work::AppendStarted(_, each) => {
-                append_started(writer, blob, cache, &record, count / each.max(1), each)?
-            }
-            _ => append_all(writer, blob, cache, &record, count)?,
-        };
+        append_round(writer, &mut stage, workload, &record, &owned)?;
         start.end(rt, &stage.blob, done)?;
     }
     Ok(())
+}
+
+fn append_round<H: Sum>(
+    writer: Writer<Device, H>,
+    stage: &mut Stage,
+    workload: &Workload,
+    record: &[u8],
+    owned: &IoBuf,
+) -> Result<Writer<Device, H>, Error>
+    requires { IsReady H.sum_of writer stage.old.cache (life_of stage.old.blob.inner) }
+    ensures { IfOk result (λ writer.
+        IsReady H.sum_of writer stage.new.cache (life_of stage.new.blob.inner)) }
+{
+    let count = workload.count;
+    let (blob, cache) = (&mut stage.blob, &mut stage.cache);
+    match workload.work {
+        Work::TryAppend(_) => try_append_all(writer, blob, cache, record, count),
+        Work::AppendOwned(_) => append_owned_all(writer, blob, cache, owned, count),
+        Work::AppendSynced(_, each) => {
+            append_synced(writer, blob, cache, record, count / each.max(1), each)
+        }
+        Work::AppendStarted(_, each) => {
+            append_started(writer, blob, cache, record, count / each.max(1), each)
+        }
+        _ => append_all(writer, blob, cache, record, count),
+    }
 }
 
 /// A writer of the stage's blob, emptied, behind so many appends of a record, and a sync where
@@ -86,8 +103,9 @@ fn filled<H: Sum>(
     appends: u64,
     synced: bool,
 ) -> Result<Writer<Device, H>, Error>
+    requires { IsFresh stage.old.cache }
     ensures { IfOk result (λ writer.
-        IsReady H.sum_of writer (life_of stage.new.blob.inner)) }
+        IsReady H.sum_of writer stage.new.cache (life_of stage.new.blob.inner)) }
 {
     let writer = stage.restart::<H>()?;
     let (blob, cache) = (&mut stage.blob, &mut stage.cache);
@@ -99,47 +117,69 @@ fn filled<H: Sum>(
     }
 }
 
-/// Reads that begin `stride` bytes apart, of a blob that is filled so far by appends of the same
-/// length. Where there are bytes between them it is synced, so that they read what is written.
+/// Reads of a blob that was filled by appends as long as a read, and synced where what is written
+/// is to be read.
 fn play_reads<H: Sum>(
     rt: &HostRuntime,
     workload: &Workload,
-    stride: u64,
     rounds: u64,
     done: &mut Done,
 ) -> Result<()> {
-    let alloc = rt.alloc();
-    let len = workload.bytes();
-    let record = record(alloc, len)?;
-    let bytes = workload.count.saturating_mul(stride);
-    let mut stage = Stage::new(alloc, bytes)?;
-    let is_below = stride != len as u64;
-    let spare = if is_below { u64::from(PAGE_SIZE) } else { 0 };
-    let appends = bytes.saturating_add(spare).div_ceil(len.max(1) as u64);
-    let writer = filled::<H>(&mut stage, &record, appends, is_below)?;
-    let places: Vec<u64> = (0..workload.count)
-        .map(|i| i.saturating_mul(stride))
-        .collect(alloc)?;
-    read_rounds(rt, &mut stage, &writer, &places, len, rounds, done)
+    let reads = Reads::of(rt.alloc(), workload)?;
+    let record = record(rt.alloc(), workload.bytes())?;
+    let mut stage = Stage::new(rt.alloc(), reads.size, reads.cached)?;
+    let appends = reads.size.div_ceil(record.len().max(1) as u64);
+    let writer = filled::<H>(&mut stage, &record, appends, reads.synced)?;
+    read_rounds(
+        rt,
+        &mut stage,
+        &writer,
+        workload,
+        &reads.places,
+        rounds,
+        done,
+    )
 }
 
 fn read_rounds<H: Sum>(
     rt: &HostRuntime,
     stage: &mut Stage,
     writer: &Writer<Device, H>,
+    workload: &Workload,
     places: &[u64],
-    len: usize,
     rounds: u64,
     done: &mut Done,
 ) -> Result<()>
-    requires { IsReady H.sum_of writer.now (life_of stage.old.blob.inner) }
+    requires { IsReady H.sum_of writer.now stage.old.cache (life_of stage.old.blob.inner) }
 {
+    let mut buf = record(rt.alloc(), workload.bytes())?;
     for _ in 0..rounds {
         let start = Start::now(rt, &stage.blob)?;
-        read_all(writer, &mut stage.blob, &mut stage.cache, places, len)?;
+        read_round(writer, stage, workload, &mut buf, places)?;
         start.end(rt, &stage.blob, done)?;
     }
     Ok(())
+}
+
+fn read_round<H: Sum>(
+    writer: &Writer<Device, H>,
+    stage: &mut Stage,
+    workload: &Workload,
+    buf: &mut [u8],
+    places: &[u64],
+) -> Result<(), Error>
+    requires { IsReady H.sum_of writer.now stage.old.cache (life_of stage.old.blob.inner) }
+    ensures { IsReady H.sum_of writer.now stage.new.cache (life_of stage.new.blob.inner) }
+{
+    let (blob, cache) = (&mut stage.blob, &mut stage.cache);
+    match workload.work {
+        Work::ReadTip(len) | Work::ReadBelow(len) => read_all(writer, blob, cache, places, len),
+        Work::ReadMany(len, _) => {
+            let len = NonZeroUsize::new(len).unwrap_or(NonZeroUsize::MIN);
+            read_many_all(writer, blob, cache, buf, places, len, workload.count)
+        }
+        _ => read_into_all(writer, blob, cache, buf, places),
+    }
 }
 
 fn play_recoveries<H: Sum>(
@@ -149,7 +189,7 @@ fn play_recoveries<H: Sum>(
     rounds: u64,
     done: &mut Done,
 ) -> Result<()> {
-    let mut stage = Stage::new(rt.alloc(), workload.bytes() as u64)?;
+    let mut stage = Stage::new(rt.alloc(), workload.bytes() as u64, false)?;
     let record = record(rt.alloc(), workload.bytes())?;
     filled::<H>(&mut stage, &record, 1, true)?;
     let buffer_size = NonZeroUsize::new(buffer).unwrap_or(NonZeroUsize::MIN);
@@ -167,7 +207,7 @@ fn play_checksums<H: Sum>(
     rounds: u64,
     done: &mut Done,
 ) -> Result<()> {
-    let stage = Stage::new(rt.alloc(), 0)?;
+    let stage = Stage::new(rt.alloc(), 0, false)?;
     let mut page = record(rt.alloc(), workload.bytes())?;
     for _ in 0..rounds {
         let start = Start::now(rt, &stage.blob)?;

@@ -1,5 +1,6 @@
 // The blob that workloads are played on.
 ghost use Rattle.std.specs.Prelude.{◌≡◌, IfOk};
+ghost use Rattle.cache.specs.Pages.{IsFresh};
 ghost use Rattle.disk.specs.History.{life_of};
 ghost use Rattle.bench.specs.Ready.{IsReady};
 
@@ -33,25 +34,30 @@ pub struct Stage {
 
 impl Stage {
     /// An empty blob, with memory for the pages of so many logical bytes that was written to
-    /// before.
-    pub fn new(alloc: Global, bytes: u64) -> Result<Self> {
+    /// before. The cache may hold one page, or all of them.
+    pub fn new(alloc: Global, bytes: u64, cached: bool) -> Result<Self>
+        ensures { IfOk result (λ stage. IsFresh stage.cache) }
+    {
         let page_size = NonZeroU16::new(PAGE_SIZE).unwrap_or(NonZeroU16::MIN);
         let pages = (bytes / u64::from(PAGE_SIZE)).saturating_add(2);
         let room = pages.saturating_mul(PHYSICAL_PAGE) as usize;
+        let held = if cached { pages as usize } else { 1 };
+        let held = NonZeroUsize::new(held).unwrap_or(NonZeroUsize::MIN);
         let mut memory = Vec::with_capacity(alloc, room)?;
         memory.resize(room, 0)?;
         memory.clear();
         Ok(Stage {
             alloc,
             blob: Counted::new(VecBlob::from_vec(memory)),
-            cache: CacheRef::new(alloc, page_size, NonZeroUsize::MIN)?,
+            cache: CacheRef::new(alloc, page_size, held)?,
         })
     }
 
     /// The writer of the blob, emptied.
     pub fn restart<H: Sum>(&mut self) -> Result<Writer<Device, H>, Error>
+        requires { IsFresh self.old.cache }
         ensures { IfOk result (λ writer.
-            IsReady H.sum_of writer (life_of self.new.blob.inner)) }
+            IsReady H.sum_of writer self.new.cache (life_of self.new.blob.inner)) }
     {
         self.blob.resize(0)?;
         self.recover::<H>(NonZeroUsize::MIN)
@@ -59,8 +65,9 @@ impl Stage {
 
     /// The writer of the blob, recovered with a buffer of so many bytes.
     pub fn recover<H: Sum>(&mut self, buffer_size: NonZeroUsize) -> Result<Writer<Device, H>, Error>
+        requires { IsFresh self.old.cache }
         ensures { IfOk result (λ writer.
-            IsReady H.sum_of writer (life_of self.new.blob.inner)) }
+            IsReady H.sum_of writer self.new.cache (life_of self.new.blob.inner)) }
     {
         let size = self.blob.inner.len();
         let recovery = recover::<Device, H>(

@@ -2,10 +2,12 @@
 ghost use Rattle.std.specs.Prelude.{IfOk};
 ghost use Rattle.bench.specs.Ready.{IsReady};
 
+use crate::reads::are_in_order;
 use cache::CacheRef;
 use disk::{Blob, Error, IoBuf};
 use page::Sum;
 use paged::Writer;
+use std::num::NonZeroUsize;
 
 /// So many appends of a record.
 pub fn append_all<B: Blob, H: Sum>(
@@ -15,8 +17,8 @@ pub fn append_all<B: Blob, H: Sum>(
     record: &[u8],
     count: u64,
 ) -> Result<Writer<B, H>, Error>
-    requires { IsReady H.sum_of writer (B.life blob.old) }
-    ensures { IfOk result (λ writer. IsReady H.sum_of writer (B.life blob.new)) }
+    requires { IsReady H.sum_of writer cache.old (B.life blob.old) }
+    ensures { IfOk result (λ writer. IsReady H.sum_of writer cache.new (B.life blob.new)) }
 {
     for _ in 0..count {
         let (next, _) = writer.append(blob, cache, record)?;
@@ -33,8 +35,8 @@ pub fn try_append_all<B: Blob, H: Sum>(
     record: &[u8],
     count: u64,
 ) -> Result<Writer<B, H>, Error>
-    requires { IsReady H.sum_of writer (B.life blob.old) }
-    ensures { IfOk result (λ writer. IsReady H.sum_of writer (B.life blob.new)) }
+    requires { IsReady H.sum_of writer cache.old (B.life blob.old) }
+    ensures { IfOk result (λ writer. IsReady H.sum_of writer cache.new (B.life blob.new)) }
 {
     for _ in 0..count {
         if writer.try_append(record)?.is_none() {
@@ -54,8 +56,8 @@ pub fn append_synced<B: Blob, H: Sum>(
     syncs: u64,
     each: u64,
 ) -> Result<Writer<B, H>, Error>
-    requires { IsReady H.sum_of writer (B.life blob.old) }
-    ensures { IfOk result (λ writer. IsReady H.sum_of writer (B.life blob.new)) }
+    requires { IsReady H.sum_of writer cache.old (B.life blob.old) }
+    ensures { IfOk result (λ writer. IsReady H.sum_of writer cache.new (B.life blob.new)) }
 {
     for _ in 0..syncs {
         writer = append_all(writer, blob, cache, record, each)?;
@@ -72,8 +74,8 @@ pub fn append_owned_all<B: Blob, H: Sum>(
     record: &IoBuf,
     count: u64,
 ) -> Result<Writer<B, H>, Error>
-    requires { IsReady H.sum_of writer (B.life blob.old) }
-    ensures { IfOk result (λ writer. IsReady H.sum_of writer (B.life blob.new)) }
+    requires { IsReady H.sum_of writer cache.old (B.life blob.old) }
+    ensures { IfOk result (λ writer. IsReady H.sum_of writer cache.new (B.life blob.new)) }
 {
     for _ in 0..count {
         let (next, _) = writer.append_owned(blob, cache, record.slice(0, record.len())?)?;
@@ -91,8 +93,8 @@ pub fn append_started<B: Blob, H: Sum>(
     syncs: u64,
     each: u64,
 ) -> Result<Writer<B, H>, Error>
-    requires { IsReady H.sum_of writer (B.life blob.old) }
-    ensures { IfOk result (λ writer. IsReady H.sum_of writer (B.life blob.new)) }
+    requires { IsReady H.sum_of writer cache.old (B.life blob.old) }
+    ensures { IfOk result (λ writer. IsReady H.sum_of writer cache.new (B.life blob.new)) }
 {
     for _ in 0..syncs {
         writer = append_all(writer, blob, cache, record, each)?;
@@ -110,11 +112,55 @@ pub fn read_all<B: Blob, H: Sum>(
     places: &[u64],
     len: usize,
 ) -> Result<(), Error>
-    requires { IsReady H.sum_of writer.now (B.life blob.old) }
-    ensures { IsReady H.sum_of writer.now (B.life blob.new) }
+    requires { IsReady H.sum_of writer.now cache.old (B.life blob.old) }
+    ensures { IsReady H.sum_of writer.now cache.new (B.life blob.new) }
 {
     for &place in places {
         writer.read_at(blob, cache, place, len)?;
+    }
+    Ok(())
+}
+
+/// A read into a buffer at each of these places.
+pub fn read_into_all<B: Blob, H: Sum>(
+    writer: &Writer<B, H>,
+    blob: &mut B,
+    cache: &mut CacheRef,
+    buf: &mut [u8],
+    places: &[u64],
+) -> Result<(), Error>
+    requires { IsReady H.sum_of writer.now cache.old (B.life blob.old) }
+    ensures { IsReady H.sum_of writer.now cache.new (B.life blob.new) }
+{
+    for &place in places {
+        writer.read_into(blob, cache, buf, place)?;
+    }
+    Ok(())
+}
+
+/// So many reads into a buffer, each of `len` bytes at each of these places. `OffsetOverflow` where
+/// these overlap or aren't in order, or don't fill the buffer.
+pub fn read_many_all<B: Blob, H: Sum>(
+    writer: &Writer<B, H>,
+    blob: &mut B,
+    cache: &mut CacheRef,
+    buf: &mut [u8],
+    places: &[u64],
+    len: NonZeroUsize,
+    count: u64,
+) -> Result<(), Error>
+    requires { IsReady H.sum_of writer.now cache.old (B.life blob.old) }
+    ensures { IsReady H.sum_of writer.now cache.new (B.life blob.new) }
+{
+    let room = places
+        .len()
+        .checked_mul(len.get())
+        .ok_or(Error::OffsetOverflow)?;
+    if room != buf.len() || !are_in_order(places, len.get()) {
+        return Err(Error::OffsetOverflow);
+    }
+    for _ in 0..count {
+        writer.read_many_into(blob, cache, buf, places, len)?;
     }
     Ok(())
 }

@@ -1,6 +1,9 @@
 // What is played.
 use crate::stage::PAGE_SIZE;
 
+/// How many places one call reads, where it reads many.
+pub const MANY: usize = 64;
+
 /// What an operation of a workload does. Bytes are logical.
 #[derive(Clone, Copy)]
 pub enum Work {
@@ -18,6 +21,12 @@ pub enum Work {
     ReadTip(usize),
     /// Reads so many bytes of the pages below.
     ReadBelow(usize),
+    /// Reads so many bytes of them at random, where the cache holds all pages, or else one.
+    ReadRandom(usize, bool),
+    /// Reads so many bytes at each of `MANY` places in one call, where it holds all, or else one.
+    ReadMany(usize, bool),
+    /// Reads so many bytes of them, each time the next.
+    ReadThrough(usize),
     /// Recovers a blob of so many bytes, with a buffer of so many.
     Recover(usize, usize),
     /// The checksum of a page.
@@ -48,7 +57,10 @@ impl Workload {
             | Work::AppendStarted(len, _)
             | Work::ReadTip(len)
             | Work::ReadBelow(len)
+            | Work::ReadRandom(len, _)
+            | Work::ReadThrough(len)
             | Work::Recover(len, _) => len,
+            Work::ReadMany(len, _) => MANY.saturating_mul(len),
             Work::Checksum => usize::from(PAGE_SIZE),
         }
     }
@@ -59,7 +71,7 @@ const KIB: usize = 1 << 10;
 const MIB: usize = 1 << 20;
 
 /// All of them, in the order in which they are played.
-pub fn workloads() -> [Workload; 15] {
+pub fn workloads() -> [Workload; 20] {
     [
         Workload::new("append 16 B", Work::Append(16), 16384),
         Workload::new("append 100 B", Work::Append(100), 8192),
@@ -85,6 +97,11 @@ pub fn workloads() -> [Workload; 15] {
         ),
         Workload::new("read 100 B in the tip", Work::ReadTip(100), 512),
         Workload::new("read 100 B below the tip", Work::ReadBelow(100), 512),
+        Workload::new("read 100 B, cached", Work::ReadRandom(100, true), 4096),
+        Workload::new("read 100 B, cold", Work::ReadRandom(100, false), 4096),
+        Workload::new("read 64 x 100 B, cached", Work::ReadMany(100, true), 256),
+        Workload::new("read 64 x 100 B, cold", Work::ReadMany(100, false), 256),
+        Workload::new("read 64 MiB by 4 KiB", Work::ReadThrough(4 * KIB), 16384),
         Workload::new(
             "recover 64 MiB by 64 KiB",
             Work::Recover(64 * MIB, 64 * KIB),

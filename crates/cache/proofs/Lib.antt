@@ -1,0 +1,5 @@
+pub mod CacheLaws
+pub mod Keeping
+pub mod LruLaws
+pub mod Reading
+pub mod Seen

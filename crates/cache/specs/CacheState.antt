@@ -1,12 +1,32 @@
--- What contracts see of a cache.
-use Rattle.std.specs.Prelude.{ℕ, ◌+◌, ◌^◌, Option, Some, None, Result, Ok, Err}
+-- What contracts see of a cache: the pages that it holds, each under a blob's id and a page's
+-- number.
+use Rattle.std.specs.Prelude.{◌≡◌, ◌≢◌, ◌⊎◌, ◌+◌, ◌-◌, ◌*◌, ◌/◌, ◌%◌, ◌^◌, ◌<◌, ◌≤◌, ◌++◌, ◌&&◌}
+use Rattle.std.specs.Prelude.{ℕ, zero, suc, Bool, true, nat_eq, not, is_some, min, max, slice_get}
+use Rattle.std.specs.Prelude.{List, [], ◌∷◌, length, take, drop, Option, Some, None}
+use Rattle.std.specs.Prelude.{Result, Ok, Err, Vec}
+use Rattle.std.specs.declared.alloc.Global.{Global}
+use Rattle.std.specs.List.{filter}
+use Rattle.std.specs.Map.{lookup}
 use Rattle.disk.specs.declared.error.Error.{Error}
+use Rattle.disk.specs.declared.error.Error.TheVariants.{OutOfMemory}
+use Rattle.cache.specs.declared.piece.Piece.{Piece}
 
--- its logical page size in bytes, the pages that it may hold, and how many ids it has given
+-- its logical page size in bytes, the pages that it may hold, how many ids it has given, the pages
+-- that it holds, and how many it left out for want of memory. The order of the pages says nothing.
 pub record CacheState : Type 0 where
   pub page_size : ℕ
   pub capacity : ℕ
   pub ids_given : ℕ
+  pub pages : List ((ℕ × ℕ) × List ℕ)
+  pub skipped : ℕ
+
+-- whether two keys are the same
+abbrev pub same_key : ℕ × ℕ → ℕ × ℕ → Bool
+same_key a b = nat_eq a.0 b.0 && nat_eq a.1 b.1
+
+-- the page that is held under a key
+abbrev pub held : CacheState → ℕ × ℕ → Option (List ℕ)
+held cache key = lookup (same_key key) cache.pages
 
 -- the ids given before this one is next
 abbrev pub ids_given : Option ℕ → ℕ
@@ -17,3 +37,127 @@ ids_given (Some next) = next
 abbrev pub after_next_id : Result ℕ Error → CacheState → CacheState
 after_next_id (Ok id) cache = record cache { ids_given = cache.ids_given + 1 }
 after_next_id (Err e) cache = cache
+
+-- a new cache
+abbrev pub empty_cache : (page_size capacity : ℕ) → CacheState
+empty_cache page_size capacity = record {
+  page_size = page_size;
+  capacity = capacity;
+  ids_given = 0;
+  pages = [];
+  skipped = 0;
+}
+
+-- ---- a page is put
+
+-- one cache's settings are the other's
+pub record SameSettings (old new : CacheState) : Type 0 where
+  pub page_size : new.page_size ≡ old.page_size
+  pub capacity : new.capacity ≡ old.capacity
+  pub ids_given : new.ids_given ≡ old.ids_given
+
+-- what is held under every key but these two stays as it is
+abbrev pub OthersStay : ℕ × ℕ → ℕ × ℕ → CacheState → CacheState → Type 0
+OthersStay key gone old new =
+    (other : ℕ × ℕ) → other ≢ key → other ≢ gone → held new other ≡ held old other
+
+-- the page is held now, one key alone may be gone for it, and so many are held
+pub record IsHeld (key gone : ℕ × ℕ) (bytes : List ℕ) (many : ℕ) (old new : CacheState)
+    : Type 0 where
+  pub settings : SameSettings old new
+  pub here : held new key ≡ Some bytes
+  pub others : OthersStay key gone old new
+  pub count : length new.pages ≡ many
+  pub skipped : new.skipped ≡ old.skipped
+
+-- in a full cache one held key goes, and no second one
+abbrev pub Evicts : ℕ × ℕ → List ℕ → CacheState → CacheState → Type 0
+Evicts key bytes old new =
+    (gone : ℕ × ℕ) × (is_some (held old gone) ≡ true) × (held new gone ≡ None)
+    × IsHeld key gone bytes old.capacity old new
+
+-- one more page was left out; the count stops at its greatest
+abbrev pub one_skipped : ℕ → ℕ
+one_skipped n = min (n + 1) (2 ^ 64 - 1)
+
+-- a page is put, by what was held under its key: a present key is written over. A new one is added;
+-- where the cache is full one other key goes for it; and where there is no memory nothing changes,
+-- and the page is counted as left out.
+abbrev pub PutGoes : Option (List ℕ) → ℕ × ℕ → List ℕ → CacheState → CacheState → Type 0
+PutGoes (Some page) key bytes old new = IsHeld key key bytes (length old.pages) old new
+PutGoes None key bytes old new =
+    ((length old.pages < old.capacity) × IsHeld key key bytes (length old.pages + 1) old new)
+    ⊎ ((length old.pages ≡ old.capacity) × Evicts key bytes old new)
+    ⊎ ((old.skipped < 2 ^ 64) × (new ≡ record old { skipped = one_skipped old.skipped }))
+
+abbrev pub Puts : ℕ × ℕ → List ℕ → CacheState → CacheState → Type 0
+Puts key bytes old new = PutGoes (held old key) key bytes old new
+
+-- so many whole pages that these bytes begin with are put in order, the first under this number
+abbrev pub PutsAll : (id page count : ℕ) → List ℕ → CacheState → CacheState → Type 0
+PutsAll id page zero bytes old new = new ≡ old
+PutsAll id page (suc count) bytes old new =
+    let P = old.page_size in
+    (mid : CacheState) × Puts (id, page) (take P bytes) old mid
+    × PutsAll id (page + 1) count (drop P bytes) mid new
+
+-- how many whole pages of so many bytes are put from this number on: none behind the greatest
+abbrev pub put_count : (P page len : ℕ) → ℕ
+put_count P page len = min (len / P) (2 ^ 64 - page)
+
+-- ---- what is looked up
+
+-- the byte at a logical place of a blob
+abbrev pub HoldsByte : CacheState → (id place byte : ℕ) → Type 0
+HoldsByte cache id place byte =
+    (page : List ℕ) × (held cache (id, place / cache.page_size) ≡ Some page)
+    × (slice_get page (place % cache.page_size) ≡ Some byte)
+
+-- no page holds it, or there is no such place
+abbrev pub IsMissing : CacheState → (id place : ℕ) → Type 0
+IsMissing cache id place =
+    (2 ^ 64 ≤ place) ⊎ (held cache (id, place / cache.page_size) ≡ None)
+
+-- the bytes of a blob from an offset on are copied up to the first that is missing; the rest of the
+-- buffer is as it was
+pub record ReadsCached (cache : CacheState) (id offset : ℕ) (old new : List ℕ) (count : ℕ)
+    : Type 0 where
+  pub size : length new ≡ length old
+  pub within : offset + count ≤ max offset (2 ^ 64)
+  pub copied : (i byte : ℕ) → i < count → slice_get new i ≡ Some byte
+      → HoldsByte cache id (offset + i) byte
+  pub rest : drop count new ≡ drop count old
+  pub ends : (count ≡ length old)
+      ⊎ ((count < length old) × IsMissing cache id (offset + count))
+
+-- bytes of a page for a place of a buffer
+abbrev pub put_at : (place : ℕ) → List ℕ → List ℕ → List ℕ
+put_at place bytes buf = take place buf ++ bytes ++ drop (place + length bytes) buf
+
+-- they are of one page, and there is room for them
+pub record IsPiece (P room : ℕ) (piece : Piece) : Type 0 where
+  pub within : piece.skip + piece.len ≤ P
+  pub fits : piece.place + piece.len ≤ room
+
+-- a piece of a page that is held is copied, any other leaves the buffer
+abbrev pub with_piece : Option (List ℕ) → Piece → List ℕ → List ℕ
+with_piece None piece buf = buf
+with_piece (Some page) piece buf = put_at piece.place (take piece.len (drop piece.skip page)) buf
+
+-- so for each of them, in order
+abbrev pub with_pieces : CacheState → (id : ℕ) → List Piece → List ℕ → List ℕ
+with_pieces cache id [] buf = buf
+with_pieces cache id (piece ∷ pieces) buf =
+    with_pieces cache id pieces (with_piece (held cache (id, piece.page)) piece buf)
+
+-- the pieces whose pages aren't held
+abbrev pub pieces_left : CacheState → (id : ℕ) → List Piece → List Piece
+pieces_left cache id pieces = filter (λ piece. not (is_some (held cache (id, piece.page)))) pieces
+
+-- the pieces whose pages are held are copied, the others are answered in order
+abbrev pub ReadsPieces : CacheState → (id : ℕ) → List Piece → List ℕ → List ℕ
+    → Result (Vec Piece Global) Error → Type 0
+ReadsPieces cache id pieces old new (Ok left) =
+    (left.items ≡ pieces_left cache id pieces) × (new ≡ with_pieces cache id pieces old)
+ReadsPieces cache id pieces old new (Err OutOfMemory) = length new ≡ length old
+ReadsPieces cache id pieces old new (Err _) = ⊥

@@ -1,1 +1,3 @@
 pub mod CacheState
+pub mod Kept
+pub mod Pages

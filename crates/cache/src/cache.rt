@@ -1,55 +1,91 @@
 // The cache.
-ghost use Rattle.std.specs.Prelude.{◌≡◌, ◌+◌, ◌*◌, ◌<◌, ◌^◌, ◌/◌, ◌%◌, IfOk, IsOkUnless};
+ghost use Rattle.std.specs.Prelude.{◌≡◌, ◌+◌, ◌*◌, ◌<◌, ◌≤◌, ◌^◌, ◌/◌, ◌%◌, IfOk, IsOkUnless};
+ghost use Rattle.std.specs.Prelude.{length, is_some};
 ghost use Rattle.std.specs.Result.{OkIff};
 ghost use Rattle.std.specs.Int.NonZero.{non_zero_u16_get, non_zero_usize_get};
-ghost use Rattle.cache.specs.CacheState.{after_next_id};
+ghost use Rattle.cache.specs.CacheState.{after_next_id, empty_cache, held};
 
+use crate::pages::{Pages, page_at};
 use disk::Error;
+use lru::LruCache;
 use std::alloc::Global;
 use std::marker::Model;
 use std::num::{NonZeroU16, NonZeroUsize};
 
-/// The pages of many blobs, by blob id and page number, and the ids of the blobs. It holds no page
-/// yet.
+/// The pages of many blobs, by blob id and page number, and the ids of the blobs. It holds whole
+/// logical pages, without their footers, and at most as many as its capacity: a page goes only
+/// where a new one meets a full cache.
+///
+/// What is put under a blob's id must be that blob's own pages: its writer and its readers see to
+/// that, and what they read is then true. A cache finds no fault with what it is given.
 #[derive(Drop)]
 pub struct CacheRef {
-    alloc: Global,
-    page_size: NonZeroU16,
-    capacity: NonZeroUsize,
+    pub(crate) alloc: Global,
+    pub(crate) page_size: NonZeroU16,
+    pub(crate) pages: Pages,
     /// The next id; `None` once the greatest `u64` was given.
-    next: Option<u64>,
+    pub(crate) next: Option<u64>,
+    /// The pages that were left out for want of memory; it stays at the greatest `u64`.
+    pub(crate) skipped: u64,
 }
 
 impl Model for CacheRef {
     ghost use Rattle.cache.specs.CacheState.{CacheState, ids_given};
-    ghost use Rattle.std.specs.Int.NonZero.{non_zero_u16_get, non_zero_usize_get};
+    ghost use Rattle.cache.specs.Kept.{pages_of, IsKept};
+    ghost use Rattle.std.specs.Int.NonZero.{non_zero_u16_get};
 
     ghost Value = { CacheState };
 
     ghost view = { λ c. record {
       page_size = non_zero_u16_get c.page_size;
-      capacity = non_zero_usize_get c.capacity;
+      capacity = c.pages.cap;
       ids_given = ids_given c.next;
+      pages = pages_of c.pages.entries;
+      skipped = c.skipped;
     } };
+
+    ghost invariant = { λ c. IsKept (non_zero_u16_get c.page_size) c.pages.cap
+        (pages_of c.pages.entries) };
 }
 
 impl CacheRef {
-    /// A cache of at most `capacity` pages of `page_size` logical bytes, which has given no id. It
-    /// answers `OutOfMemory` alone.
+    /// A cache of at most `capacity` pages of `page_size` logical bytes, which holds none and has
+    /// given no id. It takes the memory for that many keys, and answers `OutOfMemory` alone.
     pub fn new(alloc: Global, page_size: NonZeroU16, capacity: NonZeroUsize) -> Result<Self, Error>
-        ensures made { IfOk result (λ c. c ≡ record {
-          page_size = non_zero_u16_get page_size;
-          capacity = non_zero_usize_get capacity;
-          ids_given = 0;
-        }) }
+        ensures made { let most = non_zero_usize_get capacity in
+            IfOk result (λ c. c ≡ empty_cache (non_zero_u16_get page_size) most) }
         ensures err { IsOkUnless result Error.OutOfMemory }
     {
+        let pages = LruCache::new(alloc, capacity)?;
         Ok(CacheRef {
             alloc,
             page_size,
-            capacity,
+            pages,
             next: Some(0),
+            skipped: 0,
         })
+    }
+
+    /// How many pages it holds, of all blobs.
+    pub fn len(&self) -> usize
+        ensures len { result ≡ length self.now.pages }
+        ensures within { result ≤ self.now.capacity }
+    {
+        self.pages.len()
+    }
+
+    /// Whether it holds a page of a blob.
+    pub fn holds(&self, id: u64, page: u64) -> bool
+        ensures { result ≡ is_some (held self.now (id, page)) }
+    {
+        page_at(&self.pages, (id, page)).is_some()
+    }
+
+    /// How many pages it left out for want of memory. The count stays at the greatest `u64`.
+    pub fn skipped(&self) -> u64
+        ensures { result ≡ self.now.skipped }
+    {
+        self.skipped
     }
 
     /// The logical bytes of a page.
@@ -63,6 +99,7 @@ impl CacheRef {
     pub fn offset_to_page(&self, offset: u64) -> (u64, u64)
         ensures page { result.0 ≡ offset / self.now.page_size }
         ensures skip { result.1 ≡ offset % self.now.page_size }
+        ensures within { result.1 < self.now.page_size }
     {
         let size = u64::from(self.page_size.get());
         (offset / size, offset % size)
@@ -78,40 +115,5 @@ impl CacheRef {
         let id = self.next.ok_or(Error::IdsExhausted)?;
         self.next = id.checked_add(1);
         Ok(id)
-    }
-}
-
-#[cfg(test)]
-mod tests {
-    use super::*;
-
-    fn cache_of(rt: &HostRuntime, page_size: u16) -> Result<CacheRef, Error> {
-        let page_size = NonZeroU16::new(page_size).unwrap_or(NonZeroU16::MIN);
-        let capacity = NonZeroUsize::new(4).unwrap_or(NonZeroUsize::MIN);
-        CacheRef::new(rt.alloc(), page_size, capacity)
-    }
-
-    #[test]
-    fn places_are_told_by_page(rt: HostRuntime) -> Result<(), Error> {
-        let cache = cache_of(&rt, 103)?;
-        assert_eq!(rt; cache.page_size().get(), 103);
-        for (offset, want) in [(0, (0, 0)), (102, (0, 102)), (103, (1, 0)), (318, (3, 9))] {
-            assert_eq!(rt; cache.offset_to_page(offset), want, "at {offset}");
-        }
-        assert_eq!(rt; cache.offset_to_page(u64::MAX), (179094602657374287, 54));
-        Ok(())
-    }
-
-    #[test]
-    fn ids_rise_to_the_greatest(rt: HostRuntime) -> Result<(), Error> {
-        let mut cache = cache_of(&rt, 4)?;
-        for want in 0..3u64 {
-            assert_eq!(rt; cache.next_id(), Ok(want));
-        }
-        cache.next = Some(u64::MAX);
-        assert_eq!(rt; cache.next_id(), Ok(u64::MAX));
-        assert_eq!(rt; cache.next_id(), Err(Error::IdsExhausted));
-        assert_eq!(rt; cache.next_id(), Err(Error::IdsExhausted));
-        Ok(())
     }
 }

@@ -2,5 +2,13 @@
 #![tactic(auto)]
 
 mod cache;
+mod keep;
+mod pages;
+mod piece;
+mod read;
 
 pub use cache::CacheRef;
+pub use piece::Piece;
+
+#[cfg(test)]
+mod tests;

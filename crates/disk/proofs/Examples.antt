@@ -1,10 +1,13 @@
 -- The words of the blobs in memory, at a few bytes.
-use Rattle.std.proofs.Common.{◌≡◌, [], ◌∷◌, length, map, true, false, refl}
-use Rattle.disk.specs.Disk.{Write, Resize, settle, logged, SyncAll, next, coverings}
+use Rattle.std.proofs.Common.{◌≡◌, ℕ, List, [], ◌∷◌, length, map, nat_eq, true, false, refl, true≢false, arith}
+use Rattle.std.proofs.lemmas.List.Sorted.{IsPermutation-reverse}
+use Rattle.std.proofs.lemmas.Map.Keys.{IsDistinct-head}
+use Rattle.disk.specs.Disk.{Write, Resize, settle, logged, ReadMany, SyncAll, next, coverings, Delivers}
 use Rattle.disk.specs.declared.action.Action.TheVariants as actions
 use Rattle.disk.specs.History.{History, begun, life_of, told}
 use Rattle.disk.specs.Past.{went}
 use Rattle.disk.specs.Torn.{torn}
+use Rattle.disk.proofs.Deliveries.{rising, delivers_rising, delivers_moved}
 
 -- of a write of 7, 8 and 9 over 1, 2 and 3 a crash keeps the bytes with a true flag
 pub flagged_bytes : torn (true ∷ false ∷ true ∷ []) (Write 0 (7 ∷ 8 ∷ 9 ∷ []) ∷ []) (1 ∷ 2 ∷ 3 ∷ []) ≡ 7 ∷ 2 ∷ 9 ∷ []
@@ -82,3 +85,29 @@ a_failed_start = refl
 -- names go on in the next life, and an earlier sync covers nothing there
 pub names_go_on : map (λ s. s.covers) (life_of (went actions.StartSync false (record { first = 1 ∷ []; earlier = (life_of started).present.log; events = []; failing = 0 }))).present.started ≡ 0 ∷ 0 ∷ []
 names_go_on = refl
+
+-- two ranges of four bytes, and an empty one behind the last byte
+abbrev pub three : List (ℕ × ℕ)
+three = (0, 2) ∷ (3, 1) ∷ (4, 0) ∷ []
+
+abbrev pub four_bytes : List ℕ
+four_bytes = 5 ∷ 6 ∷ 7 ∷ 8 ∷ []
+
+-- are delivered in order, or the last one first
+pub three_in_order : Delivers three four_bytes ((0, 5 ∷ 6 ∷ []) ∷ (1, 8 ∷ []) ∷ (2, []) ∷ [])
+three_in_order = delivers_rising three four_bytes
+
+pub last_one_first : Delivers three four_bytes ((2, []) ∷ (1, 8 ∷ []) ∷ (0, 5 ∷ 6 ∷ []) ∷ [])
+last_one_first = delivers_moved three four_bytes (rising three four_bytes) ((2, []) ∷ (1, 8 ∷ []) ∷ (0, 5 ∷ 6 ∷ []) ∷ []) (IsPermutation-reverse (rising three four_bytes)) three_in_order
+
+-- no range is delivered under the number of another
+pub no_other_number : Delivers ((0, 1) ∷ (1, 1) ∷ []) (5 ∷ 6 ∷ []) ((1, 5 ∷ []) ∷ (0, 6 ∷ []) ∷ []) → ⊥
+no_other_number given = let wrong = given.each 0 (0, []) (omega arith) in cc
+
+-- nor twice, where two have the same bytes
+pub not_twice : Delivers ((0, 1) ∷ (1, 1) ∷ []) (5 ∷ 5 ∷ []) ((0, 5 ∷ []) ∷ (0, 5 ∷ []) ∷ []) → ⊥
+not_twice given = true≢false (IsDistinct-head nat_eq 0 (0 ∷ []) given.once).0
+
+-- a read of ranges stands in the log, and changes nothing else
+pub a_read_of_ranges : life_of (went (actions.ReadMany three) false at_first) ≡ next (life_of at_first) (logged (ReadMany three) false (life_of at_first).present)
+a_read_of_ranges = refl

@@ -54,7 +54,9 @@ waited_started name d = (same_of d (slice_get d.started name)).2
 -- what a step leaves readable
 lives_readable : (a : Action) (failed : Bool) (life : Life) → (lives a failed life).present.readable ≡ redone (event a failed) life.present.readable
 lives_readable (actions.Read place len) true life = refl
+lives_readable (actions.ReadMany ranges) true life = refl
 lives_readable (actions.Read place len) false life = refl
+lives_readable (actions.ReadMany ranges) false life = refl
 lives_readable (actions.Write place bytes false) failed life = refl
 lives_readable (actions.Write place bytes true) true life = refl
 lives_readable (actions.Write place bytes true) false life = refl
@@ -69,6 +71,7 @@ lives_readable (actions.WaitSync name) false life = waited_readable name life.pr
 -- what a step adds to the log
 lives_log : (a : Action) (failed : Bool) (life : Life) → (lives a failed life).present.log ≡ life.present.log ++ entry (asked a) failed ∷ []
 lives_log (actions.Read place len) failed life = refl
+lives_log (actions.ReadMany ranges) failed life = refl
 lives_log (actions.Write place bytes false) failed life = refl
 lives_log (actions.Write place bytes true) true life = refl
 lives_log (actions.Write place bytes true) false life = refl
@@ -191,6 +194,7 @@ replayed-append (x ∷ xs) ys bytes = replayed-append xs ys (redone x bytes)
 idle_redone : (a : Action) (failed : Bool) (bytes : List ℕ) → length (operation_of a) ≡ 0 → redone (event a failed) bytes ≡ bytes
 idle_redone a true bytes none = refl
 idle_redone (actions.Read place len) false bytes none = refl
+idle_redone (actions.ReadMany ranges) false bytes none = refl
 idle_redone (actions.Write place new sync) false bytes none = absurd (omega (arith, none))
 idle_redone (actions.Resize len) false bytes none = absurd (omega (arith, none))
 idle_redone actions.Sync false bytes none = refl
@@ -335,7 +339,9 @@ module _ (h : History) (starts : List Start) (m : ℕ) (at : DurableTo h m (life
 
   durable_more : (a : Action) (failed : Bool) → DurableTo (with_event h (event a failed)) (settled_after a failed starts m (length h.events)) (next_disk a failed)
   durable_more (actions.Read place len) true = kept_to h (event (actions.Read place len) true) m now (next_disk (actions.Read place len) true) at refl (sym (append-nil now.since)) refl
+  durable_more (actions.ReadMany ranges) true = kept_to h (event (actions.ReadMany ranges) true) m now (next_disk (actions.ReadMany ranges) true) at refl (sym (append-nil now.since)) refl
   durable_more (actions.Read place len) false = kept_to h (event (actions.Read place len) false) m now (next_disk (actions.Read place len) false) at refl (sym (append-nil now.since)) refl
+  durable_more (actions.ReadMany ranges) false = kept_to h (event (actions.ReadMany ranges) false) m now (next_disk (actions.ReadMany ranges) false) at refl (sym (append-nil now.since)) refl
   durable_more (actions.Write place bytes false) true = kept_to h (event (actions.Write place bytes false) true) m now (next_disk (actions.Write place bytes false) true) at refl refl refl
   durable_more (actions.Write place bytes false) false = kept_to h (event (actions.Write place bytes false) false) m now (next_disk (actions.Write place bytes false) false) at refl refl refl
   durable_more (actions.Write place bytes true) true = kept_to h (event (actions.Write place bytes true) true) m now (next_disk (actions.Write place bytes true) true) at refl refl refl
@@ -389,6 +395,7 @@ within_more actions.StartSync failed n starts are = push_within n starts failed 
 within_more (actions.WaitSync name) true n starts are = later_within n (failing_at name starts) (failing_within n name starts are)
 within_more (actions.WaitSync name) false n starts are = later_within n starts are
 within_more (actions.Read place len) failed n starts are = later_within n starts are
+within_more (actions.ReadMany ranges) failed n starts are = later_within n starts are
 within_more (actions.Write place bytes sync) failed n starts are = later_within n starts are
 within_more (actions.Resize len) failed n starts are = later_within n starts are
 within_more actions.Sync failed n starts are = later_within n starts are
@@ -401,6 +408,7 @@ map_push h (t ∷ ss) s = ap (λ (l : List Started). started_by h t ∷ l) (map_
 module _ (h : History) (starts : List Start) (m : ℕ) (at : DurableTo h m (life_of h).present) (is : (life_of h).present.started ≡ map (started_by h) starts) (are : AreWithin (length h.events) starts) where
   started_more : (a : Action) (failed : Bool) → (lives a failed (life_of h)).present.started ≡ map (started_by (with_event h (event a failed))) (starts_after a failed starts (length h.events))
   started_more (actions.Read place len) failed = is ∙ sym (same_starts h (event (actions.Read place len) failed) starts are)
+  started_more (actions.ReadMany ranges) failed = is ∙ sym (same_starts h (event (actions.ReadMany ranges) failed) starts are)
   started_more (actions.Write place bytes false) failed = is ∙ sym (same_starts h (event (actions.Write place bytes false) failed) starts are)
   started_more (actions.Write place bytes true) true = is ∙ sym (same_starts h (event (actions.Write place bytes true) true) starts are)
   started_more (actions.Write place bytes true) false = is ∙ sym (same_starts h (event (actions.Write place bytes true) false) starts are)
@@ -429,6 +437,7 @@ names_more actions.StartSync failed starts n log is = omega (arith, is, names_ap
 names_more (actions.WaitSync name) true starts n log is = omega (arith, is, failing_length name starts, names_append log (entry (WaitSync name) true))
 names_more (actions.WaitSync name) false starts n log is = omega (arith, is, names_append log (entry (WaitSync name) false))
 names_more (actions.Read place len) failed starts n log is = omega (arith, is, names_append log (entry (asked (actions.Read place len)) failed))
+names_more (actions.ReadMany ranges) failed starts n log is = omega (arith, is, names_append log (entry (asked (actions.ReadMany ranges)) failed))
 names_more (actions.Write place bytes sync) failed starts n log is = omega (arith, is, names_append log (entry (asked (actions.Write place bytes sync)) failed))
 names_more (actions.Resize len) failed starts n log is = omega (arith, is, names_append log (entry (asked (actions.Resize len)) failed))
 names_more actions.Sync failed starts n log is = omega (arith, is, names_append log (entry (asked actions.Sync) failed))

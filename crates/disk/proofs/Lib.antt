@@ -6,3 +6,4 @@ pub mod Device
 pub mod Logs
 pub mod Examples
 pub mod Starts
+pub mod Deliveries

@@ -3,7 +3,7 @@ use Rattle.std.specs.Prelude.{◌≡◌, ℕ, ◌-◌, ◌==◌, List, [], ◌�
 use Rattle.std.specs.Prelude.{if◌then◌else◌, replicate, ◌+◌}
 use Rattle.disk.specs.Disk.{Operation, Write, Resize, applied, Disk, Life, Entry, Request, ReadAt}
 use Rattle.disk.specs.Disk.{WriteAt, ResizeTo, SyncAll, StartSync, WaitSync, next, logged, settle}
-use Rattle.disk.specs.Disk.{Started, starts, waited}
+use Rattle.disk.specs.Disk.{ReadMany, Started, starts, waited}
 use Rattle.disk.specs.Torn.{torn}
 use Rattle.disk.specs.declared.action.Action.{Action}
 use Rattle.disk.specs.declared.action.Action.TheVariants as actions
@@ -14,6 +14,7 @@ use Rattle.disk.specs.declared.action.Call.TheVariants as calls
 -- what stands in the log for a call
 abbrev pub request_of : Call → Request
 request_of (calls.ReadAt place len) = ReadAt place len
+request_of (calls.ReadMany ranges) = ReadMany ranges.items
 request_of (calls.WriteAt place len sync) = WriteAt place len sync
 request_of (calls.Resize len) = ResizeTo len
 request_of calls.Sync = SyncAll
@@ -23,6 +24,7 @@ request_of (calls.WaitSync name) = WaitSync name
 -- what stands in the log for an action
 abbrev pub asked : Action → Request
 asked (actions.Read place len) = ReadAt place len
+asked (actions.ReadMany ranges) = ReadMany ranges
 asked (actions.Write place bytes sync) = WriteAt place (length bytes) sync
 asked (actions.Resize len) = ResizeTo len
 asked actions.Sync = SyncAll
@@ -32,6 +34,7 @@ asked (actions.WaitSync name) = WaitSync name
 -- the bytes after an action that is done
 abbrev pub done : Action → List ℕ → List ℕ
 done (actions.Read place len) bytes = bytes
+done (actions.ReadMany ranges) bytes = bytes
 done (actions.Write place new sync) bytes = applied (Write place new) bytes
 done (actions.Resize len) bytes = applied (Resize len) bytes
 done actions.Sync bytes = bytes
@@ -41,6 +44,7 @@ done (actions.WaitSync name) bytes = bytes
 -- the write or resize of an action
 abbrev pub operation_of : Action → List Operation
 operation_of (actions.Read place len) = []
+operation_of (actions.ReadMany ranges) = []
 operation_of (actions.Write place bytes sync) = Write place bytes ∷ []
 operation_of (actions.Resize len) = Resize len ∷ []
 operation_of actions.Sync = []
@@ -76,6 +80,8 @@ operations_of (e ∷ es) = operation_of e.action ++ operations_of es
 abbrev pub lives : Action → Bool → Life → Life
 lives (actions.Read place len) failed life =
     next life (logged (ReadAt place len) failed life.present)
+lives (actions.ReadMany ranges) failed life =
+    next life (logged (ReadMany ranges) failed life.present)
 lives (actions.Write place bytes false) failed life =
     let request = WriteAt place (length bytes) false in
     next life (operated (Write place bytes) request failed life.present)

@@ -2,7 +2,7 @@
 use Rattle.std.specs.Prelude.{◌≡◌, ◌≤◌, ◌<◌, ◌≢◌, ℕ, ◌+◌, ◌-◌, List, [], ◌∷◌, length, take, drop}
 use Rattle.std.specs.Prelude.{Bool, true, false, Result, Ok, Err, if◌then◌else◌, ◌++◌, suc, zero}
 use Rattle.std.specs.Prelude.{Option, Some, None, slice_get, max, map}
-use Rattle.disk.specs.Disk.{Entry, Disk, Started, failures}
+use Rattle.disk.specs.Disk.{Entry, Disk, Started, Delivers, IsWithin, failures}
 use Rattle.disk.specs.declared.action.Event.{Event}
 use Rattle.disk.specs.declared.action.Call.{Call}
 use Rattle.disk.specs.declared.error.Error.{Error}
@@ -85,6 +85,7 @@ settled_for (Some s) settled = if s.failed then settled else max settled s.event
 abbrev pub settled_after : Action → (failed : Bool) → List Start → (settled events : ℕ) → ℕ
 settled_after action true starts settled events = settled
 settled_after (actions.Read place len) false starts settled events = settled
+settled_after (actions.ReadMany ranges) false starts settled events = settled
 settled_after (actions.Write place bytes sync) false starts settled events =
     if sync then events + 1 else settled
 settled_after (actions.Resize len) false starts settled events = settled
@@ -106,6 +107,7 @@ starts_after actions.StartSync failed starts events =
 starts_after (actions.WaitSync name) true starts events = failing_at name starts
 starts_after (actions.WaitSync name) false starts events = starts
 starts_after (actions.Read place len) failed starts events = starts
+starts_after (actions.ReadMany ranges) failed starts events = starts
 starts_after (actions.Write place bytes sync) failed starts events = starts
 starts_after (actions.Resize len) failed starts events = starts
 starts_after actions.Sync failed starts events = starts
@@ -139,3 +141,10 @@ IsRange place len readable (Ok bytes) =
 IsRange place len readable (Err BlobInsufficientLength) = length readable < place + len
 IsRange place len readable (Err OutOfMemory) = place + len ≤ length readable
 IsRange place len readable (Err _) = ⊥
+
+-- the bytes of several ranges, or none where one passes the end, or no memory
+abbrev pub AreRanges : List (ℕ × ℕ) → List ℕ → List (ℕ × List ℕ) → Result (Unit {0}) Error → Type 0
+AreRanges ranges readable out (Ok _) = IsWithin ranges readable × Delivers ranges readable out
+AreRanges ranges readable out (Err BlobInsufficientLength) = IsWithin ranges readable → ⊥
+AreRanges ranges readable out (Err OutOfMemory) = IsWithin ranges readable
+AreRanges ranges readable out (Err _) = ⊥

@@ -9,13 +9,16 @@ ghost use Rattle.disk.specs.Memory.{settled_after, starts_after, failing_at};
 ghost use Rattle.disk.specs.Torn.{torn, torn_write};
 
 use crate::IoBuf;
+use crate::ranges::Ranges;
 use std::alloc::{AllocError, Global};
 
 /// A device call, as it stands in the log.
-#[derive(Clone, Copy, Debug, PartialEq, Eq)]
+#[derive(Debug, Drop, PartialEq, Eq)]
 pub enum Call {
     /// A read: the place and the number of bytes.
     ReadAt(u64, usize),
+    /// A read of several ranges: of each the place and the number of bytes.
+    ReadMany(Vec<(u64, usize)>),
     /// A write: the place, the number of bytes, and whether it was to be durable.
     WriteAt(u64, usize, bool),
     /// A resize: the new length in bytes.
@@ -32,6 +35,7 @@ pub enum Call {
 #[derive(Drop)]
 pub enum Action {
     Read(u64, usize),
+    ReadMany(Ranges),
     Write(u64, IoBuf, bool),
     Resize(u64),
     Sync,
@@ -55,18 +59,19 @@ pub struct Start {
 }
 
 impl Action {
-    /// The call as it stands in the log.
-    pub fn call(&self) -> Call
-        ensures { request_of result ≡ asked self.now }
+    /// The call as it stands in the log, with a copy of its ranges.
+    pub fn call(&self, alloc: Global) -> Result<Call, AllocError>
+        ensures { IfOk result (λ call. request_of call ≡ asked self.now) }
     {
-        match self {
+        Ok(match self {
             Action::Read(place, len) => Call::ReadAt(*place, *len),
+            Action::ReadMany(ranges) => Call::ReadMany(ranges.to_vec(alloc)?),
             Action::Write(place, bytes, sync) => Call::WriteAt(*place, bytes.len(), *sync),
             Action::Resize(len) => Call::Resize(*len),
             Action::Sync => Call::Sync,
             Action::StartSync => Call::StartSync,
             Action::WaitSync(name) => Call::WaitSync(*name),
-        }
+        })
     }
 
     /// The bytes that a crash leaves where these flags say which bytes of a write, or whether a

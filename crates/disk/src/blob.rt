@@ -2,7 +2,7 @@
 ghost use Rattle.std.specs.Prelude.{◌≡◌, [], true};
 ghost use Rattle.std.specs.List.{concat};
 ghost use Rattle.disk.specs.Disk.{Life, IsImage, AreCovered, Write, Resize, ReadGoes, WriteGoes};
-ghost use Rattle.disk.specs.Disk.{ResizeGoes, SyncGoes, StartGoes, WaitsFor};
+ghost use Rattle.disk.specs.Disk.{ReadManyGoes, ResizeGoes, SyncGoes, StartGoes, WaitsFor};
 
 use crate::{Error, IoBuf, IoBufs, StartedSync};
 use std::alloc::Global;
@@ -50,6 +50,20 @@ pub trait Blob {
         options: ReadOptions,
     ) -> Result<IoBuf, Error>
         ensures goes { ReadGoes offset len (life self.old) (life self.new) result };
+
+    /// The bytes of each of the ranges, a place and a length, in one device call. At `Ok` `out`
+    /// holds the number of each range once, with its bytes, in any order; what stood in it is gone.
+    /// `BlobInsufficientLength` where a range passes the end, `OutOfMemory` only where none does,
+    /// `ReadFailed` where the device failed; then `out` says nothing.
+    fn read_many(
+        &mut self,
+        alloc: Global,
+        ranges: &[(u64, usize)],
+        options: ReadOptions,
+        out: &mut Vec<(usize, IoBuf)>,
+    ) -> Result<(), Error>
+        ensures goes { ReadManyGoes ranges.now (life self.old) (life self.new) out.new.items
+            result };
 
     /// Sets the bytes at `offset`; a gap behind the end is filled with zeros. With `sync` they are
     /// durable at `Ok`, and nothing may be unsynced before. `OffsetOverflow` where the range passes

@@ -1,7 +1,7 @@
 // A blob that counts what it is asked for.
-ghost use Rattle.std.specs.Prelude.{◌≡◌, ◌+◌, ◌-◌, ◌^◌, [], min, length, true};
+ghost use Rattle.std.specs.Prelude.{◌≡◌, ◌+◌, ◌-◌, ◌^◌, [], min, length, sum_by, true};
 ghost use Rattle.std.specs.List.{concat};
-ghost use Rattle.disk.specs.Disk.{ReadGoes, WriteGoes, ResizeGoes, SyncGoes};
+ghost use Rattle.disk.specs.Disk.{ReadGoes, ReadManyGoes, WriteGoes, ResizeGoes, SyncGoes};
 ghost use Rattle.disk.specs.Disk.{StartGoes, WaitsFor, calls_after_wait};
 
 use crate::{Blob, Error, IoBuf, IoBufs, ReadOptions, StartedSync, WriteOptions};
@@ -56,6 +56,25 @@ impl<B: Blob> Blob for Counted<B> {
         self.calls = self.calls.saturating_add(1);
         self.read = self.read.saturating_add(len as u64);
         self.inner.read_at(alloc, offset, len, options)
+    }
+
+    fn read_many(
+        &mut self,
+        alloc: Global,
+        ranges: &[(u64, usize)],
+        options: ReadOptions,
+        out: &mut Vec<(usize, IoBuf)>,
+    ) -> Result<(), Error>
+        ensures goes { let old = B.life self.old.inner in let new = B.life self.new.inner in
+            ReadManyGoes ranges.now old new out.new.items result }
+        ensures calls { self.new.calls ≡ min (self.old.calls + 1) (2 ^ 64 - 1) }
+        ensures read { let bytes = sum_by (λ r. r.1) ranges.now in
+            self.new.read ≡ min (self.old.read + bytes) (2 ^ 64 - 1) }
+        ensures written { self.new.written ≡ self.old.written }
+    {
+        self.calls = self.calls.saturating_add(1);
+        self.read = with_lengths(self.read, ranges);
+        self.inner.read_many(alloc, ranges, options, out)
     }
 
     fn write_at(&mut self, offset: u64, bufs: &IoBufs, options: WriteOptions) -> Result<(), Error>
@@ -120,4 +139,15 @@ impl<B: Blob> Blob for Counted<B> {
     ghost readable_is_image = { λ b. B.readable_is_image b.inner };
 
     ghost starts_are_covered = { λ b. B.starts_are_covered b.inner };
+}
+
+// A count with the lengths of these ranges added, which stays at the greatest `u64`.
+fn with_lengths(count: u64, ranges: &[(u64, usize)]) -> u64
+    ensures { result ≡ min (count + sum_by (λ r. r.1) ranges.now) (2 ^ 64 - 1) }
+{
+    let mut sum = count;
+    for &(_, len) in ranges {
+        sum = sum.saturating_add(len as u64);
+    }
+    sum
 }

@@ -11,6 +11,7 @@ mod counted;
 mod error;
 mod memory;
 mod past;
+mod ranges;
 mod started_sync;
 mod vec_blob;
 

@@ -4,13 +4,15 @@ ghost use Rattle.std.specs.Prelude.{length, map, replicate, true};
 ghost use Rattle.std.specs.Prelude.{vec_len, vec_capacity, if◌then◌else◌, IfOk, OnOk, OnErr};
 ghost use Rattle.std.specs.Prelude.{IsOkUnless};
 ghost use Rattle.std.specs.List.{concat};
-ghost use Rattle.disk.specs.Disk.{IsImage, LeavesNoMore, Life, Write, Resize, failures, ReadGoes};
-ghost use Rattle.disk.specs.Disk.{WriteGoes, ResizeGoes, SyncGoes, StartGoes, WaitsFor, had_failed};
+ghost use Rattle.disk.specs.Disk.{IsImage, LeavesNoMore, Life, Write, Resize, failures, had_failed};
+ghost use Rattle.disk.specs.Disk.{ReadGoes, ReadManyGoes, WriteGoes, ResizeGoes, SyncGoes};
+ghost use Rattle.disk.specs.Disk.{StartGoes, WaitsFor};
 ghost use Rattle.disk.specs.History.{life_of, begun, told, request_of};
-ghost use Rattle.disk.specs.Memory.{CountsDown, CountsStart, CountsWait, IsRange};
+ghost use Rattle.disk.specs.Memory.{CountsDown, CountsStart, CountsWait, IsRange, AreRanges};
 ghost use Rattle.disk.specs.Torn.{torn};
 
 use crate::action::{Action, Call, Event, Start, replay, tear};
+use crate::ranges::{Ranges, copy_ranges};
 use crate::{Blob, Error, IoBuf, IoBufs, ReadOptions, StartedSync, WriteOptions};
 use std::alloc::{AllocError, Global};
 use std::marker::Model;
@@ -39,6 +41,8 @@ pub struct MemBlob {
     readable: Vec<u8>,
     // Which device call from now on is to fail; 0 for none.
     failing: u64,
+    // Whether a read of several ranges delivers the last one first.
+    backwards: bool,
 }
 
 impl Model for MemBlob {
@@ -94,6 +98,7 @@ impl MemBlob {
             starts: Vec::new(alloc),
             readable,
             failing: 0,
+            backwards: false,
         }
     }
 
@@ -133,6 +138,14 @@ impl MemBlob {
         ensures failing { self.new.failing ≡ n }
     {
         self.failing = n;
+    }
+
+    /// Whether each later [`Blob::read_many`] delivers the last range first. Until it is said they
+    /// come in rising order.
+    pub fn deliver_backwards(&mut self, backwards: bool)
+        ensures { self.new ≡ self.old }
+    {
+        self.backwards = backwards;
     }
 
     /// Crashes, and begins a new life with what is left: the durable bytes, and of the operations
@@ -182,6 +195,23 @@ impl MemBlob {
         IoBuf::copy_range(alloc, self.bytes(), place, len)
     }
 
+    // The bytes of several ranges, copied, in the order in which they are to be delivered.
+    fn ranges(
+        &self,
+        alloc: Global,
+        ranges: &[(u64, usize)],
+        out: &mut Vec<(usize, IoBuf)>,
+    ) -> Result<(), Error>
+        ensures { let readable = (life_of self.now).present.readable in
+            AreRanges ranges.now readable out.new.items result }
+    {
+        copy_ranges(alloc, self.bytes(), ranges, out)?;
+        if self.backwards {
+            out.reverse();
+        }
+        Ok(())
+    }
+
     // Whether a wait for this sync can only fail.
     fn has_failed(&self, name: u64) -> bool
         ensures { result ≡ had_failed (life_of self.now).present.started name }
@@ -199,6 +229,7 @@ impl MemBlob {
         ensures same { OnErr result (self.new ≡ self.old) }
     {
         // What may fail comes before the first change, also where the device is to fail.
+        let call = action.call(self.alloc)?;
         make_room(&mut self.calls, &mut self.failed, &mut self.events)?;
         self.starts.try_reserve(1)?;
         action.reserve(&mut self.readable)?;
@@ -209,7 +240,7 @@ impl MemBlob {
         event.redo(&mut self.readable)?;
         self.settled = event.settled_after(&self.starts, self.settled, self.events.len());
         event.record_start(&mut self.starts, self.events.len());
-        self.calls.push_reserved(event.action.call());
+        self.calls.push_reserved(call);
         self.failed.push_reserved(event.failed);
         self.failures += event.faults();
         self.failing = self.failing.saturating_sub(1);
@@ -239,6 +270,25 @@ impl Blob for MemBlob {
             return Err(Error::ReadFailed);
         }
         Ok(bytes)
+    }
+
+    fn read_many(
+        &mut self,
+        alloc: Global,
+        ranges: &[(u64, usize)],
+        _options: ReadOptions,
+        out: &mut Vec<(usize, IoBuf)>,
+    ) -> Result<(), Error>
+        ensures goes { let old = life_of self.old in let new = life_of self.new in
+            ReadManyGoes ranges.now old new out.new.items result }
+        ensures counts { CountsDown self.old.failing self.new.failing result }
+    {
+        self.ranges(alloc, ranges, out)?;
+        let asked = Ranges::from_slice(alloc, ranges)?;
+        if self.ask(Action::ReadMany(asked))? {
+            return Err(Error::ReadFailed);
+        }
+        Ok(())
     }
 
     // What is unsynced before a durable write is made durable with it.

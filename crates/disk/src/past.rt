@@ -6,6 +6,7 @@ ghost use Rattle.disk.specs.History.{life_of, begun};
 ghost use Rattle.disk.specs.Past.{went};
 
 use crate::IoBufs;
+use crate::ranges::Listed;
 use std::marker::Model;
 use std::snapshot::Snapshot;
 
@@ -22,6 +23,7 @@ pub struct Past {
 enum Asked {
     Nothing(Snapshot<Vec<u8>>),
     Read(Snapshot<Snapshot<Past>>, u64, usize, bool),
+    ReadMany(Snapshot<Snapshot<Past>>, Snapshot<Listed>, bool),
     Write(Snapshot<Snapshot<Past>>, u64, Snapshot<IoBufs>, bool, bool),
     Resize(Snapshot<Snapshot<Past>>, u64, bool),
     Sync(Snapshot<Snapshot<Past>>, bool),
@@ -63,6 +65,20 @@ impl Past {
     {
         let past = Past {
             last: Asked::Read(Snapshot::of(before), place, len, failed),
+        };
+        Snapshot::of(&past)
+    }
+
+    /// A read of several ranges more.
+    pub fn read_many(
+        before: &Snapshot<Self>,
+        ranges: &[(u64, usize)],
+        failed: bool,
+    ) -> Snapshot<Self>
+        ensures { result.value ≡ went (actions.ReadMany ranges.now) failed before.now.value }
+    {
+        let past = Past {
+            last: Asked::ReadMany(Snapshot::of(before), Listed::of(ranges), failed),
         };
         Snapshot::of(&past)
     }

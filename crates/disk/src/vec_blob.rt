@@ -2,12 +2,13 @@
 ghost use Rattle.std.specs.Prelude.{◌≡◌, ◌≤◌, ◌<◌, ◌+◌, ◌^◌, ◌++◌, [], length, take, drop, OnOk};
 ghost use Rattle.std.specs.Prelude.{OnErr, IsOk, IsOkUnless, vec_capacity};
 ghost use Rattle.std.specs.List.{concat};
-ghost use Rattle.disk.specs.Disk.{ReadGoes, WriteGoes, ResizeGoes, SyncGoes};
+ghost use Rattle.disk.specs.Disk.{ReadGoes, ReadManyGoes, WriteGoes, ResizeGoes, SyncGoes};
 ghost use Rattle.disk.specs.Disk.{StartGoes, WaitsFor};
 ghost use Rattle.disk.specs.History.{life_of, begun};
 
 use crate::action::{grow, put};
 use crate::past::Past;
+use crate::ranges::copy_ranges;
 use crate::{Blob, Error, IoBuf, IoBufs, ReadOptions, StartedSync, WriteOptions};
 use std::alloc::{AllocError, Global};
 use std::marker::Model;
@@ -119,6 +120,21 @@ impl Blob for VecBlob {
         let bytes = IoBuf::copy_range(alloc, &self.bytes, offset, len)?;
         self.past = Past::read(&self.past, offset, len, false);
         Ok(bytes)
+    }
+
+    fn read_many(
+        &mut self,
+        alloc: Global,
+        ranges: &[(u64, usize)],
+        _options: ReadOptions,
+        out: &mut Vec<(usize, IoBuf)>,
+    ) -> Result<(), Error>
+        ensures goes { let old = life_of self.old in let new = life_of self.new in
+            ReadManyGoes ranges.now old new out.new.items result }
+    {
+        copy_ranges(alloc, &self.bytes, ranges, out)?;
+        self.past = Past::read_many(&self.past, ranges, false);
+        Ok(())
     }
 
     fn write_at(&mut self, offset: u64, bufs: &IoBufs, options: WriteOptions) -> Result<(), Error>

@@ -1,6 +1,6 @@
 -- What a journal's calls do, from what the writer's do.
-use Rattle.std.proofs.Common.{◌≡◌, inl, inr, ℕ, ◌+◌, ◌-◌, ◌*◌, ◌^◌, ◌<◌, ◌≤◌, List, [], ◌∷◌, ◌++◌, length, take, drop, refl, sym, ap, ap₂, ◌∙◌, subst, arith, append-nil, length-append, length-take, length-drop, min, Ok, Err, Result}
-use Rattle.std.specs.Prelude.{Option, IfOk, OnOk, IsOkUnless, Vec}
+use Rattle.std.proofs.Common.{◌≡◌, ◌≢◌, cond, inl, inr, ℕ, ◌+◌, ◌-◌, ◌*◌, ◌^◌, ◌<◌, ◌≤◌, List, [], ◌∷◌, ◌++◌, length, take, drop, refl, sym, ap, ap₂, ◌∙◌, subst, arith, append-nil, length-append, length-take, length-drop, min, Ok, Err, Result}
+use Rattle.std.specs.Prelude.{Option, IfOk, OnOk, IsOkUnless, Vec, Bool, true, false, nat_lt}
 use Rattle.std.specs.Result.{IsErrAnd}
 use Rattle.std.specs.declared.alloc.Global.{Global}
 use Rattle.std.proofs.lemmas.List.{append_assoc, take-append-le, take-take, take_all, drop_at}
@@ -10,21 +10,30 @@ use Rattle.disk.specs.Disk.{Disk, Life, IsImage, LeavesNoMore}
 use Rattle.disk.specs.declared.error.Error.{Error}
 use Rattle.disk.specs.declared.error.Error.TheVariants.{ReadFailed, WriteFailed, ResizeFailed, SyncFailed, InvalidChecksum, BlobInsufficientLength, OffsetOverflow, OutOfMemory, IdsExhausted}
 use Rattle.page.specs.Page.{text}
+use Rattle.disk.proofs.Logs.{failed_later}
 use Rattle.cache.specs.CacheState.{CacheState}
+use Rattle.cache.specs.Pages.{CachesOnly, IsFresh}
+use Rattle.cache.proofs.CacheLaws.{caches_true, fresh_stays, fresh_given}
 use Rattle.crash.specs.Kept.{AllKeep, AllOnly, Through}
 use Rattle.crash.specs.Stays.{KeepsAllFloors, LeavesOnly, KeepsAll}
 use Rattle.crash.specs.Looks.{Looked, looked_start, looked_joins}
 use Rattle.crash.specs.Sound.{IsSound, LeavesItsContent, content}
 use Rattle.crash.specs.WriterState.{WriterState}
+use Rattle.crash.specs.WriterState.SyncState.{Clean}
 use Rattle.crash.specs.Moments.{through_start, through_then, through_joins, through_end}
+use Rattle.paged_read.specs.Tail.{Tail, CanRead, told}
+use Rattle.paged_read.specs.Ranges.{Reads, LeavesAll}
+use Rattle.paged.specs.Caches.{tail_of}
 use Rattle.paged.specs.Calls.{GoesOn, Appends, Syncs}
-use Rattle.paged.specs.Reads.{HasPages, size_of}
-use Rattle.paged.specs.Recovers.{Recovers}
-use Rattle.paged.specs.Truncate.{Truncates, KeepsFloorsWithin}
+use Rattle.paged.specs.Flush.{synced}
+use Rattle.paged.specs.Reads.{size_of}
+use Rattle.paged.specs.Recovers.{Recovers, GivesId, opened_bytes}
+use Rattle.paged.specs.Recovery.{opened_writer}
+use Rattle.paged.specs.Truncate.{Truncates, KeepsFloorsWithin, cut_writer, shortened_writer}
 use Rattle.paged.specs.Writer.{physical_size}
 use Rattle.journal.specs.declared.frame.Found.{Found}
 use Rattle.journal.specs.Frame.{frame, record_len, frame_len, listed, record_of, records, whole_frames, IsWhole, IsPrefix}
-use Rattle.journal.specs.Journal.{IsReady, IsJournal, OnlyReads, LeavesContent, Commits, OnlyRecords, KeepsCommitted, LeavesRecords, CommitsAll, IsAppended, AppendsRecord, IsCommitted, CommitGoes, BringsBack, BringsOnly, ReadRefused, ReadRefusedLater, ReadsBytes, ReadsFrame, ReadsRecord, IsFound, IsTrimmed, Trims, ReadsAll, HasRecovered, RecoversJournal}
+use Rattle.journal.specs.Journal.{IsReady, IsJournal, OthersStay, AllStay, OnlyReads, LeavesContent, Commits, OnlyRecords, KeepsCommitted, LeavesRecords, CommitsAll, IsAppended, AppendsRecord, IsCommitted, CommitGoes, BringsBack, BringsOnly, ReadRefused, ReadsBytes, ReadsFrame, ReadsRecord, IsFound, IsTrimmed, Trims, ReadsAll, HasRecovered, RecoversJournal}
 use Rattle.journal.proofs.Frames.{records-append, records-take, whole_more, whole_is_whole, records-whole, whole_first, length-whole, frame_is_whole, records-frame, record_of-frame, length-frame, record_len-front, record_of-front, records-from}
 
 -- the first of the first are the first
@@ -93,14 +102,86 @@ commits_all sum own P content d keeps = record {
   there = (let e : length (records own (take (length content) content)) ≡ length (records own content) = ap (λ (l : List ℕ). length (records own l)) (take-length content) in omega arith);
 }
 
+-- ---- the cache
+
+-- a call of another blob leaves a journal one
+pub others_stay : (id from : ℕ) (content : List ℕ) (cache behind : CacheState) → id < cache.ids_given → CachesOnly id from content cache behind → OthersStay id cache behind
+others_stay id from content cache behind given caches = λ sum w life apart journal.
+    let can = journal.ready.can in
+    record {
+      ready = record {
+        sound = journal.ready.sound;
+        can = record {
+          there = can.there;
+          page_size = caches.settings.page_size ∙ can.page_size;
+          given = omega (arith, can.given, caches.settings.ids_given);
+          cached = λ page bytes below there. caches_true id from content w.id (told (tail_of w) life.present.readable) w.full_pages cache behind caches (inl apart) can.cached page bytes below there;
+        };
+        fresh = fresh_stays id from content cache behind given caches journal.ready.fresh;
+        size = journal.ready.size;
+        only = journal.ready.only;
+      };
+      whole = journal.whole;
+    }
+
+-- so does one call after another
+pub others_join : (id : ℕ) (cache mid behind : CacheState) → OthersStay id cache mid → OthersStay id mid behind → OthersStay id cache behind
+others_join id cache mid behind first second = λ sum w life apart journal. second sum w life apart (first sum w life apart journal)
+
+-- and so does giving an id
+given_stays : (cache : CacheState) → AllStay cache (record cache { ids_given = cache.ids_given + 1 })
+given_stays cache = λ sum w life journal.
+    let can = journal.ready.can in
+    record {
+      ready = record {
+        sound = journal.ready.sound;
+        can = record { there = can.there; page_size = can.page_size; given = omega (arith, can.given); cached = can.cached };
+        fresh = fresh_given cache journal.ready.fresh;
+        size = journal.ready.size;
+        only = journal.ready.only;
+      };
+      whole = journal.whole;
+    }
+
+same_stays : (cache behind : CacheState) → behind ≡ cache → AllStay cache behind
+same_stays cache behind is = subst (λ (c : CacheState). AllStay cache c) (sym is) (λ sum w life journal. journal)
+
+-- a recovery of a blob
+pub recovery_stays : (result : Result WriterState Error) (cache behind : CacheState) → GivesId result cache behind → AllStay cache behind
+recovery_stays (Ok w) cache behind is = subst (λ (c : CacheState). AllStay cache c) (sym is) (given_stays cache)
+recovery_stays (Err e) cache behind (inl is) = same_stays cache behind is
+recovery_stays (Err e) cache behind (inr is) = subst (λ (c : CacheState). AllStay cache c) (sym is) (given_stays cache)
+
+-- and what follows it: no journal has its id
+pub all_stay : (id : ℕ) (cache mid behind : CacheState) → id ≡ cache.ids_given → AllStay cache mid → OthersStay id mid behind → AllStay cache behind
+all_stay id cache mid behind is first second = λ sum w life journal.
+    second sum w life (λ same. omega (arith, is, same, journal.ready.can.given)) (first sum w life journal)
+
+-- a cut keeps the id
+cut_id : (sum : List ℕ → ℕ) (w : WriterState) (n : ℕ) (bytes : List ℕ) (is_less : Bool) → (cond is_less (shortened_writer sum w n bytes) (synced w)).id ≡ w.id
+cut_id sum w n bytes true = refl
+cut_id sum w n bytes false = refl
+
+-- so a recovered writer has the cache's next one
+pub recovered_id : (sum : List ℕ → ℕ) (cache : CacheState) (capacity : ℕ) (old new : Life) (w : WriterState) → Recovers sum cache capacity old new (Ok w) → w.id ≡ cache.ids_given
+recovered_id sum cache capacity old new w recovers =
+    let P = cache.page_size in
+    let bytes = old.present.readable in
+    let opened = opened_writer sum cache capacity bytes Clean in
+    let n = length (text sum P bytes) in
+    ap (λ (x : WriterState). x.id) recovers.state ∙ cut_id sum opened n (opened_bytes sum P bytes) (nat_lt n (size_of opened))
+
+-- ---- the calls
+
 -- a writer that went on is ready
-gone_on : (sum : List ℕ → ℕ) (w : WriterState) (old : Life) (more : List ℕ) (now : WriterState) (new : Life) → GoesOn sum w old more now new → HasPages now new → IsReady sum now new
-gone_on sum w old more now new goes there = record { sound = goes.sound; there = there; size = goes.size; only = goes.only }
+gone_on : (sum : List ℕ → ℕ) (w : WriterState) (old : Life) (more : List ℕ) (now : WriterState) (behind : CacheState) (new : Life) → GoesOn sum w old more now new → CanRead (tail_of now) behind new.present → IsFresh behind
+    → IsReady sum now behind new
+gone_on sum w old more now behind new goes can fresh = record { sound = goes.sound; can = can; fresh = fresh; size = goes.size; only = goes.only }
 
 -- a record that was appended
-pub appended : (sum own : List ℕ → ℕ) (w : WriterState) (bytes : List ℕ) (old new : Life) (now : WriterState) (place : ℕ) → length bytes ≤ 65535 → own bytes < 2 ^ 32
-    → IsWhole (content w old.present.readable) → HasPages now new → Appends sum w (frame own bytes) old new (Ok (now, place)) → IsAppended sum own w bytes old new now place
-appended sum own w bytes old new now place short small whole there (at, goes) =
+pub appended : (sum own : List ℕ → ℕ) (w : WriterState) (bytes : List ℕ) (behind : CacheState) (old new : Life) (now : WriterState) (place : ℕ) → length bytes ≤ 65535 → own bytes < 2 ^ 32
+    → IsWhole (content w old.present.readable) → CanRead (tail_of now) behind new.present → IsFresh behind → Appends sum w (frame own bytes) old new (Ok (now, place)) → IsAppended sum own w bytes behind old new now place
+appended sum own w bytes behind old new now place short small whole can fresh (at, goes) =
     let before = content w old.present.readable in
     let framed = frame own bytes in
     let fits : length bytes < 2 ^ 16 = omega arith in
@@ -108,7 +189,7 @@ appended sum own w bytes old new now place short small whole there (at, goes) =
     record {
       at = at;
       journal = record {
-        ready = gone_on sum w old framed now new goes there;
+        ready = gone_on sum w old framed now behind new goes can fresh;
         whole = subst (λ (l : List ℕ). IsWhole l) (sym goes.content) (whole_more before framed whole (frame_is_whole own bytes fits));
       };
       holds = goes.content;
@@ -121,17 +202,17 @@ appended sum own w bytes old new now place short small whole there (at, goes) =
     }
 
 -- an append that was refused
-pub not_appended : (sum own : List ℕ → ℕ) (w : WriterState) (bytes : List ℕ) (old new : Life) (e : Error) → Appends sum w (frame own bytes) old new (Err e) → AppendsRecord sum own w bytes old new (Err e)
-not_appended sum own w bytes old new OffsetOverflow (same, passes) =
+pub not_appended : (sum own : List ℕ → ℕ) (w : WriterState) (bytes : List ℕ) (behind : CacheState) (old new : Life) (e : Error) → Appends sum w (frame own bytes) old new (Err e) → AppendsRecord sum own w bytes behind old new (Err e)
+not_appended sum own w bytes behind old new OffsetOverflow (same, passes) =
     (same, subst (λ (n : ℕ). 2 ^ 64 ≤ physical_size w.page_size w.full_pages (length w.tip + n)) (length-frame own bytes) passes)
-not_appended sum own w bytes old new ReadFailed refused = refused.cause
-not_appended sum own w bytes old new WriteFailed refused = refused.cause
-not_appended sum own w bytes old new ResizeFailed refused = refused.cause
-not_appended sum own w bytes old new SyncFailed refused = refused.cause
-not_appended sum own w bytes old new InvalidChecksum refused = refused.cause
-not_appended sum own w bytes old new BlobInsufficientLength refused = refused.cause
-not_appended sum own w bytes old new OutOfMemory refused = refused.cause
-not_appended sum own w bytes old new IdsExhausted refused = refused.cause
+not_appended sum own w bytes behind old new ReadFailed refused = refused.cause
+not_appended sum own w bytes behind old new WriteFailed refused = refused.cause
+not_appended sum own w bytes behind old new ResizeFailed refused = refused.cause
+not_appended sum own w bytes behind old new SyncFailed refused = refused.cause
+not_appended sum own w bytes behind old new InvalidChecksum refused = refused.cause
+not_appended sum own w bytes behind old new BlobInsufficientLength refused = refused.cause
+not_appended sum own w bytes behind old new OutOfMemory refused = refused.cause
+not_appended sum own w bytes behind old new IdsExhausted refused = refused.cause
 
 -- the records before an append are the first of those behind it, and those behind it are all
 pub before_append : (own : List ℕ → ℕ) (before bytes : List ℕ) → IsPrefix (records own before) (records own before ++ bytes ∷ [])
@@ -142,20 +223,20 @@ behind_append own before bytes short small whole =
     ([], sym (append-nil (records own (before ++ frame own bytes)) ∙ records-append own before (frame own bytes) whole ∙ ap (λ rs. records own before ++ rs) (records-frame own bytes (omega arith) small)))
 
 -- a commit
-pub committed : (sum own : List ℕ → ℕ) (w : WriterState) (old new : Life) (now : WriterState) → IsWhole (content w old.present.readable) → HasPages now new
-    → Syncs sum w old new (Ok now) → KeepsAll sum w.page_size (content w old.present.readable) new → IsCommitted sum own w old new now
-committed sum own w old new now whole there (goes, settled) keeps =
+pub committed : (sum own : List ℕ → ℕ) (w : WriterState) (behind : CacheState) (old new : Life) (now : WriterState) → IsWhole (content w old.present.readable) → CanRead (tail_of now) behind new.present → IsFresh behind
+    → Syncs sum w old new (Ok now) → KeepsAll sum w.page_size (content w old.present.readable) new → IsCommitted sum own w behind old new now
+committed sum own w behind old new now whole can fresh (goes, settled) keeps =
     let same : content now new.present.readable ≡ content w old.present.readable = goes.content ∙ append-nil (content w old.present.readable) in
     record {
-      journal = record { ready = gone_on sum w old [] now new goes there; whole = subst (λ (l : List ℕ). IsWhole l) (sym same) whole };
+      journal = record { ready = gone_on sum w old [] now behind new goes can fresh; whole = subst (λ (l : List ℕ). IsWhole l) (sym same) whole };
       holds = same;
       same = goes.same;
       all = subst (λ (P : ℕ). CommitsAll sum own P (content now new.present.readable) new.present) (sym goes.same.page_size)
           (subst (λ (l : List ℕ). CommitsAll sum own w.page_size l new.present) (sym same) (commits_all sum own w.page_size (content w old.present.readable) new.present keeps));
     }
 
-pub not_committed : (sum own : List ℕ → ℕ) (w : WriterState) (old new : Life) (e : Error) → Syncs sum w old new (Err e) → CommitGoes sum own w old new (Err e)
-not_committed sum own w old new e refused = refused.cause
+pub not_committed : (sum own : List ℕ → ℕ) (w : WriterState) (behind : CacheState) (old new : Life) (e : Error) → Syncs sum w old new (Err e) → CommitGoes sum own w behind old new (Err e)
+not_committed sum own w behind old new e refused = refused.cause
 
 take_first : (n : ℕ) (xs ys : List (List ℕ)) → n ≤ length xs → take n (xs ++ ys) ≡ take n xs
 take_first n xs ys le = take-append-le n xs ys le
@@ -175,34 +256,62 @@ brings_back sum own P d image is_image = λ content n commits.
     )
 
 -- an append of a record's frame, by its answer
-pub append_goes : (sum own : List ℕ → ℕ) (w : WriterState) (bytes : List ℕ) (old new : Life) (result : Result (WriterState × ℕ) Error) → length bytes ≤ 65535 → own bytes < 2 ^ 32
-    → IsWhole (content w old.present.readable) → Appends sum w (frame own bytes) old new result → IfOk result (λ r. HasPages r.0 new) → AppendsRecord sum own w bytes old new result
-append_goes sum own w bytes old new (Ok r) short small whole appends there = appended sum own w bytes old new r.0 r.1 short small whole there appends
-append_goes sum own w bytes old new (Err e) short small whole appends there = not_appended sum own w bytes old new e appends
+pub append_goes : (sum own : List ℕ → ℕ) (w : WriterState) (bytes : List ℕ) (behind : CacheState) (old new : Life) (result : Result (WriterState × ℕ) Error) → length bytes ≤ 65535 → own bytes < 2 ^ 32
+    → IsWhole (content w old.present.readable) → Appends sum w (frame own bytes) old new result → IfOk result (λ r. CanRead (tail_of r.0) behind new.present) → IsFresh behind → AppendsRecord sum own w bytes behind old new result
+append_goes sum own w bytes behind old new (Ok r) short small whole appends can fresh = appended sum own w bytes behind old new r.0 r.1 short small whole can fresh appends
+append_goes sum own w bytes behind old new (Err e) short small whole appends can fresh = not_appended sum own w bytes behind old new e appends
 
-pub append_gives : (sum own : List ℕ → ℕ) (w : WriterState) (bytes : List ℕ) (old new : Life) (result : Result (WriterState × ℕ) Error) → AppendsRecord sum own w bytes old new result → IfOk result (λ r. IsJournal sum r.0 new)
-append_gives sum own w bytes old new (Ok r) is = is.journal
-append_gives sum own w bytes old new (Err e) is = tt
+pub append_gives : (sum own : List ℕ → ℕ) (w : WriterState) (bytes : List ℕ) (behind : CacheState) (old new : Life) (result : Result (WriterState × ℕ) Error) → AppendsRecord sum own w bytes behind old new result
+    → IfOk result (λ r. IsJournal sum r.0 behind new)
+append_gives sum own w bytes behind old new (Ok r) is = is.journal
+append_gives sum own w bytes behind old new (Err e) is = tt
 
 -- a commit, by its answer
-pub commit_goes : (sum own : List ℕ → ℕ) (w : WriterState) (old new : Life) (result : Result WriterState Error) → IsWhole (content w old.present.readable)
-    → Syncs sum w old new result → IfOk result (λ now. HasPages now new) → OnOk result (KeepsAll sum w.page_size (content w old.present.readable) new) → CommitGoes sum own w old new result
-commit_goes sum own w old new (Ok now) whole syncs there keeps = committed sum own w old new now whole there syncs keeps
-commit_goes sum own w old new (Err e) whole syncs there keeps = not_committed sum own w old new e syncs
+pub commit_goes : (sum own : List ℕ → ℕ) (w : WriterState) (behind : CacheState) (old new : Life) (result : Result WriterState Error) → IsWhole (content w old.present.readable)
+    → Syncs sum w old new result → IfOk result (λ now. CanRead (tail_of now) behind new.present) → IsFresh behind → OnOk result (KeepsAll sum w.page_size (content w old.present.readable) new)
+    → CommitGoes sum own w behind old new result
+commit_goes sum own w behind old new (Ok now) whole syncs can fresh keeps = committed sum own w behind old new now whole can fresh syncs keeps
+commit_goes sum own w behind old new (Err e) whole syncs can fresh keeps = not_committed sum own w behind old new e syncs
 
-pub commit_gives : (sum own : List ℕ → ℕ) (w : WriterState) (old new : Life) (result : Result WriterState Error) → CommitGoes sum own w old new result → IfOk result (λ now. IsJournal sum now new)
-commit_gives sum own w old new (Ok now) is = is.journal
-commit_gives sum own w old new (Err e) is = tt
+pub commit_gives : (sum own : List ℕ → ℕ) (w : WriterState) (behind : CacheState) (old new : Life) (result : Result WriterState Error) → CommitGoes sum own w behind old new result → IfOk result (λ now. IsJournal sum now behind new)
+commit_gives sum own w behind old new (Ok now) is = is.journal
+commit_gives sum own w behind old new (Err e) is = tt
+
+-- a read within the content is refused only where the device failed, or memory was refused
+pub read_refused : {A : Type 0} (sum : List ℕ → ℕ) (w : WriterState) (cache : CacheState) (place len : ℕ) (bytes : A → List ℕ) (old new : Life) (e : Error) → place + len ≤ size_of w → place + len < 2 ^ 64
+    → Reads sum (tail_of w) cache (place, len) bytes old new (Err e) → (e ≡ InvalidChecksum → ⊥) → ReadRefused old new e
+read_refused sum w cache place len bytes old new ReadFailed within fits reads never = reads
+read_refused sum w cache place len bytes old new OutOfMemory within fits reads never = tt
+read_refused sum w cache place len bytes old new InvalidChecksum within fits reads never = never refl
+read_refused sum w cache place len bytes old new OffsetOverflow within fits reads never = omega (arith, fits, reads.1)
+read_refused sum w cache place len bytes old new BlobInsufficientLength within fits reads never = omega (arith, within, reads.2)
+read_refused sum w cache place len bytes old new WriteFailed within fits reads never = reads
+read_refused sum w cache place len bytes old new ResizeFailed within fits reads never = reads
+read_refused sum w cache place len bytes old new SyncFailed within fits reads never = reads
+read_refused sum w cache place len bytes old new IdsExhausted within fits reads never = reads
+
+-- so is one behind another
+pub refused_later : (old mid new : Life) (e : Error) → Looked old mid → ReadRefused mid new e → ReadRefused old new e
+refused_later old mid new ReadFailed looked refused = failed_later ReadFailed old.present mid.present new.present looked.log refused
+refused_later old mid new OutOfMemory looked refused = tt
+refused_later old mid new InvalidChecksum looked refused = refused
+refused_later old mid new OffsetOverflow looked refused = refused
+refused_later old mid new BlobInsufficientLength looked refused = refused
+refused_later old mid new WriteFailed looked refused = refused
+refused_later old mid new ResizeFailed looked refused = refused
+refused_later old mid new SyncFailed looked refused = refused
+refused_later old mid new IdsExhausted looked refused = refused
 
 -- a frame is read in two reads: how long it is, and all of it
-pub frame_read : (sum : List ℕ → ℕ) (w : WriterState) (place rest len : ℕ) (head : List ℕ) (old mid new : Life) (result : Result (List ℕ) Error) → OnlyReads sum w old mid → length (drop place (content w old.present.readable)) ≡ rest
-    → ReadsBytes sum w place (min rest 2) old mid (Ok head) → len ≡ min rest (record_len head + 7) → ReadsBytes sum w place len mid new result → ReadsFrame sum w place rest old new result
-frame_read sum w place rest len head old mid new (Ok bytes) left long first is second =
+pub frame_read : (sum : List ℕ → ℕ) (w : WriterState) (cache between : CacheState) (place rest len : ℕ) (head : List ℕ) (old mid new : Life) (result : Result (List ℕ) Error) → OnlyReads sum w cache between old mid
+    → length (drop place (content w old.present.readable)) ≡ rest → ReadsBytes w place (min rest 2) old mid (Ok head) → len ≡ min rest (record_len head + 7) → ReadsBytes w place len mid new result
+    → ReadsFrame w place rest old new result
+frame_read sum w cache between place rest len head old mid new (Ok bytes) left long first is second =
     let behind = drop place (content w old.present.readable) in
     let said : record_len head ≡ record_len behind = ap record_len first ∙ record_len-front (min rest 2) behind (omega (arith, long)) in
     let n : len ≡ min (frame_len behind) rest = omega arith in
     second ∙ ap₂ (λ k (l : List ℕ). take k (drop place l)) n left.holds
-frame_read sum w place rest len head old mid new (Err e) left long first is second = (mid, inr left.looked, second)
+frame_read sum w cache between place rest len head old mid new (Err e) left long first is second = refused_later old mid new e left.looked second
 
 -- the frame at a place
 pub found : (own : List ℕ → ℕ) (content : List ℕ) (place rest : ℕ) (framed : List ℕ) (bytes : Option (List ℕ)) (end : ℕ) → place + rest ≡ length content → 0 < rest
@@ -223,31 +332,34 @@ found own content place rest framed bytes end within some is held behind =
     }
 
 -- a read of the writer's content
-pub read_leaves : (sum : List ℕ → ℕ) (w : WriterState) (old new : Life) → IsReady sum w old → Looked old new → (IsSound sum w old.present → IsSound sum w new.present)
-    → (IsSound sum w old.present → KeepsAllFloors sum w.page_size old new) → (IsSound sum w old.present → LeavesContent sum w.page_size (content w old.present.readable) old new) → OnlyReads sum w old new
-read_leaves sum w old new ready looked sound kept only =
+pub read_leaves : (sum : List ℕ → ℕ) (w : WriterState) (cache behind : CacheState) (old new : Life) → IsReady sum w cache old → LeavesAll (tail_of w) cache behind old new → (IsSound sum w old.present → IsSound sum w new.present)
+    → (IsSound sum w old.present → KeepsAllFloors sum w.page_size old new) → (IsSound sum w old.present → LeavesContent sum w.page_size (content w old.present.readable) old new) → OnlyReads sum w cache behind old new
+read_leaves sum w cache behind old new ready leaves sound kept only =
     let held = content w old.present.readable in
-    let same : new.present.readable ≡ old.present.readable = ap (λ (d : Disk). d.readable) looked.same in
+    let same : new.present.readable ≡ old.present.readable = ap (λ (d : Disk). d.readable) leaves.looked.same in
     let holds : content w new.present.readable ≡ held = ap (λ (l : List ℕ). content w l) same in
     record {
       ready = record {
         sound = sound ready.sound;
-        there = subst (λ (l : List ℕ). w.full_pages * (w.page_size + 12) ≤ length l) (sym same) ready.there;
+        can = leaves.can;
+        fresh = leaves.fresh ready.fresh;
         size = ready.size ∙ ap length (sym holds);
         only = subst (λ (l : List ℕ). AllOnly sum w.page_size l l new.present) (sym holds) (through_end (AllOnly sum w.page_size held held) old new (only ready.sound));
       };
+      others = others_stay w.id 0 held cache behind ready.can.given leaves.cached;
       holds = holds;
-      looked = looked;
+      looked = leaves.looked;
       kept = kept ready.sound;
       only = only ready.sound;
     }
 
 -- no read
-pub reads_start : (sum : List ℕ → ℕ) (w : WriterState) (life : Life) → IsReady sum w life → OnlyReads sum w life life
-reads_start sum w life ready =
+pub reads_start : (sum : List ℕ → ℕ) (w : WriterState) (cache : CacheState) (life : Life) → IsReady sum w cache life → OnlyReads sum w cache cache life life
+reads_start sum w cache life ready =
     let held = content w life.present.readable in
     record {
       ready = ready;
+      others = λ sum w life apart journal. journal;
       holds = refl;
       looked = looked_start life;
       kept = λ content floor enough kept. through_start (AllKeep sum w.page_size content floor) life kept;
@@ -255,11 +367,12 @@ reads_start sum w life ready =
     }
 
 -- one after another
-pub reads_join : (sum : List ℕ → ℕ) (w : WriterState) (old mid new : Life) → OnlyReads sum w old mid → OnlyReads sum w mid new → OnlyReads sum w old new
-reads_join sum w old mid new first second =
+pub reads_join : (sum : List ℕ → ℕ) (w : WriterState) (cache between behind : CacheState) (old mid new : Life) → OnlyReads sum w cache between old mid → OnlyReads sum w between behind mid new → OnlyReads sum w cache behind old new
+reads_join sum w cache between behind old mid new first second =
     let held = content w old.present.readable in
     record {
       ready = second.ready;
+      others = others_join w.id cache between behind first.others second.others;
       holds = second.holds ∙ first.holds;
       looked = looked_joins old mid new first.looked second.looked;
       kept = floors_join sum w.page_size old mid new first.kept second.kept;
@@ -284,10 +397,10 @@ within_join sum n P old mid new first second = λ content floor enough kept.
     through_joins (AllKeep sum P (take n content) floor) old mid new begun (second content floor enough (through_end (AllKeep sum P (take n content) floor) old mid begun))
 
 -- a cut behind the whole frames, after a read
-pub trim_leaves : (sum : List ℕ → ℕ) (w : WriterState) (end : ℕ) (old mid new : Life) → OnlyReads sum w old mid → end ≡ length (whole_frames (content w old.present.readable))
+pub trim_leaves : (sum : List ℕ → ℕ) (w : WriterState) (cache between : CacheState) (end : ℕ) (old mid new : Life) → OnlyReads sum w cache between old mid → end ≡ length (whole_frames (content w old.present.readable))
     → LeavesOnly sum w.page_size (content w mid.present.readable) (take end (content w mid.present.readable)) mid new
     → LeavesOnly sum w.page_size (content w old.present.readable) (whole_frames (content w old.present.readable)) old new
-trim_leaves sum w end old mid new left is leaves =
+trim_leaves sum w cache between end old mid new left is leaves =
     let held = content w old.present.readable in
     let whole = whole_frames held in
     let first : take end (content w mid.present.readable) ≡ whole = ap₂ (λ n (l : List ℕ). take n l) is left.holds ∙ whole_first held in
@@ -296,25 +409,27 @@ trim_leaves sum w end old mid new left is leaves =
     (subst (λ (l : List ℕ). LeavesOnly sum w.page_size (content w mid.present.readable) l mid new) first leaves))
 
 -- so the whole frames are left
-pub trim_goes : (sum own : List ℕ → ℕ) (w : WriterState) (end : ℕ) (found : List (List ℕ)) (old mid new : Life) (now : WriterState) → OnlyReads sum w old mid → found ≡ records own (content w old.present.readable)
-    → end ≡ length (whole_frames (content w old.present.readable)) → Truncates sum end w mid new (Ok now) → IsSound sum now new.present → HasPages now new → LeavesItsContent sum now new.present → IsTrimmed sum own w old new now found
-trim_goes sum own w end found old mid new now left given is cut sound there only =
+pub trim_goes : (sum own : List ℕ → ℕ) (w : WriterState) (cache between behind : CacheState) (end : ℕ) (found : List (List ℕ)) (old mid new : Life) (now : WriterState) → OnlyReads sum w cache between old mid → found ≡ records own (content w old.present.readable)
+    → end ≡ length (whole_frames (content w old.present.readable)) → Truncates sum end w mid new (Ok now) → IsSound sum now new.present → CanRead (tail_of now) behind new.present → IsFresh behind
+    → LeavesItsContent sum now new.present → IsTrimmed sum own w behind old new now found
+trim_goes sum own w cache between behind end found old mid new now left given is cut sound can fresh only =
     let held = content w old.present.readable in
     let whole = whole_frames held in
     let holds : content now new.present.readable ≡ whole = cut.content ∙ ap₂ (λ n (l : List ℕ). take n l) is left.holds ∙ whole_first held in
     let size : size_of now ≡ length (content now new.present.readable) =
     omega (arith, cut.size, is, ap length holds, length-whole held, left.ready.size, ap length left.holds) in
     record {
-      ready = record { sound = sound; there = there; size = size; only = only };
+      ready = record { sound = sound; can = can; fresh = fresh; size = size; only = only };
       holds = holds;
       given = given;
       page_size = cut.same.page_size;
+      id = cut.same.id;
     }
 
 -- where all frames are whole nothing is to be cut
-pub trim_stays : (sum own : List ℕ → ℕ) (w : WriterState) (end : ℕ) (found : List (List ℕ)) (old new : Life) → OnlyReads sum w old new → found ≡ records own (content w old.present.readable)
-    → end ≡ length (whole_frames (content w old.present.readable)) → end ≡ size_of w → IsTrimmed sum own w old new w found
-trim_stays sum own w end found old new left given is all =
+pub trim_stays : (sum own : List ℕ → ℕ) (w : WriterState) (cache behind : CacheState) (end : ℕ) (found : List (List ℕ)) (old new : Life) → OnlyReads sum w cache behind old new → found ≡ records own (content w old.present.readable)
+    → end ≡ length (whole_frames (content w old.present.readable)) → end ≡ size_of w → IsTrimmed sum own w behind old new w found
+trim_stays sum own w cache behind end found old new left given is all =
     let held = content w old.present.readable in
     let long : length held ≤ length (whole_frames held) = omega (arith, is, all, left.ready.size, ap length left.holds) in
     record {
@@ -322,12 +437,13 @@ trim_stays sum own w end found old new left given is all =
       holds = left.holds ∙ sym (take_all (length (whole_frames held)) held long) ∙ whole_first held;
       given = given;
       page_size = refl;
+      id = refl;
     }
 
 -- the cut was refused
-pub trim_refused : (sum own : List ℕ → ℕ) (w : WriterState) (end : ℕ) (old mid new : Life) (e : Error) → OnlyReads sum w old mid → end ≡ length (whole_frames (content w old.present.readable)) → (end ≡ size_of w → ⊥)
-    → Truncates sum end w mid new (Err e) → Trims sum own w old new (Err e)
-trim_refused sum own w end old mid new e left is more refused =
+pub trim_refused : (sum own : List ℕ → ℕ) (w : WriterState) (cache between behind : CacheState) (end : ℕ) (old mid new : Life) (e : Error) → OnlyReads sum w cache between old mid → end ≡ length (whole_frames (content w old.present.readable)) → (end ≡ size_of w → ⊥)
+    → Truncates sum end w mid new (Err e) → Trims sum own w behind old new (Err e)
+trim_refused sum own w cache between behind end old mid new e left is more refused =
     let held = content w old.present.readable in
     let whole = length (whole_frames held) in
     let less : whole < size_of w = (elim (cases_lt whole (size_of w)) [
@@ -337,10 +453,10 @@ trim_refused sum own w end old mid new e left is more refused =
     inr (mid, left.looked, less, subst (λ (n : ℕ). Truncates sum n w mid new (Err e)) is refused)
 
 -- no frame was read
-pub not_found : (sum own : List ℕ → ℕ) (w : WriterState) (place rest : ℕ) (old new : Life) (e : Error) (result : Result (Option Found) Error) → IsErrAnd result (λ x. x ≡ e)
-    → ReadsFrame sum w place rest old new (Err e) → ReadsRecord sum own w place old new result
-not_found sum own w place rest old new e (Ok f) is refused = absurd is
-not_found sum own w place rest old new e (Err x) is refused = subst (λ (y : Error). ReadRefusedLater sum w old new y) (sym is) refused
+pub not_found : (own : List ℕ → ℕ) (w : WriterState) (place rest : ℕ) (old new : Life) (e : Error) (result : Result (Option Found) Error) → IsErrAnd result (λ x. x ≡ e)
+    → ReadsFrame w place rest old new (Err e) → ReadsRecord own w place old new result
+not_found own w place rest old new e (Ok f) is refused = absurd is
+not_found own w place rest old new e (Err x) is refused = subst (λ (y : Error). ReadRefused old new y) (sym is) refused
 
 -- a floor is one of less, too
 less_kept : (sum : List ℕ → ℕ) (P : ℕ) (content : List ℕ) (floor less : ℕ) (d : Disk) → less ≤ floor → AllKeep sum P content floor d → AllKeep sum P content less d
@@ -423,16 +539,16 @@ pub commits_through : (sum own : List ℕ → ℕ) (P : ℕ) (T : List ℕ) (old
 commits_through sum own P T old new through = through_then (AllKeep sum P T (length T)) (CommitsAll sum own P T) old new (λ d keeps. commits_all sum own P T d keeps) through
 
 -- a read of all records, by the answer of the parse of what was read
-pub all_read : (sum own : List ℕ → ℕ) (w : WriterState) (bytes : List ℕ) (old new : Life) (result : Result (Vec (List ℕ) Global × ℕ) Error) → bytes ≡ content w old.present.readable
-    → IfOk result (λ r. r.0.items ≡ records own bytes) → IfOk result (λ r. r.1 ≡ length (whole_frames bytes)) → IsOkUnless result OutOfMemory → ReadsAll sum own w old new result
-all_read sum own w bytes old new (Ok r) is found whole err = (found ∙ ap (λ (l : List ℕ). records own l) is, whole ∙ ap (λ (l : List ℕ). length (whole_frames l)) is)
-all_read sum own w bytes old new (Err e) is found whole err = inl err
+pub all_read : (own : List ℕ → ℕ) (w : WriterState) (bytes : List ℕ) (old new : Life) (result : Result (Vec (List ℕ) Global × ℕ) Error) → bytes ≡ content w old.present.readable
+    → IfOk result (λ r. r.0.items ≡ records own bytes) → IfOk result (λ r. r.1 ≡ length (whole_frames bytes)) → IsOkUnless result OutOfMemory → ReadsAll own w old new result
+all_read own w bytes old new (Ok r) is found whole err = (found ∙ ap (λ (l : List ℕ). records own l) is, whole ∙ ap (λ (l : List ℕ). length (whole_frames l)) is)
+all_read own w bytes old new (Err e) is found whole err = subst (λ (x : Error). ReadRefused old new x) (sym err) tt
 
 -- a recovery, from that of the blob and the rest
-pub recovery_goes : (sum own : List ℕ → ℕ) (cache : CacheState) (capacity : ℕ) (old mid new : Life) (w now : WriterState) (found : List (List ℕ))
+pub recovery_goes : (sum own : List ℕ → ℕ) (cache behind : CacheState) (capacity : ℕ) (old mid new : Life) (w now : WriterState) (found : List (List ℕ))
     → Recovers sum cache capacity old mid (Ok w) → KeepsAll sum cache.page_size (text sum cache.page_size old.present.readable) mid
-    → KeepsFloorsWithin (length (whole_frames (text sum cache.page_size old.present.readable))) sum cache.page_size mid new → IsTrimmed sum own w mid new now found → HasRecovered sum own cache.page_size old new now found
-recovery_goes sum own cache capacity old mid new w now found recovers all keeps trims =
+    → KeepsFloorsWithin (length (whole_frames (text sum cache.page_size old.present.readable))) sum cache.page_size mid new → IsTrimmed sum own w behind mid new now found → HasRecovered sum own cache behind old new now found
+recovery_goes sum own cache behind capacity old mid new w now found recovers all keeps trims =
     let P = cache.page_size in
     let T = text sum P old.present.readable in
     let whole = whole_frames T in
@@ -445,6 +561,7 @@ recovery_goes sum own cache capacity old mid new w now found recovers all keeps 
     let given : found ≡ records own T = trims.given ∙ ap (λ (l : List ℕ). records own l) recovers.content in
     record {
       page_size = trims.page_size ∙ recovers.page_size;
+      id = trims.id ∙ recovered_id sum cache capacity old mid w recovers;
       journal = record { ready = trims.ready; whole = subst (λ (l : List ℕ). IsWhole l) (sym holds) (whole_is_whole T) };
       holds = holds;
       given = given;
@@ -453,28 +570,28 @@ recovery_goes sum own cache capacity old mid new w now found recovers all keeps 
     }
 
 -- one whose content wasn't trimmed
-pub recovery_refused : (sum own : List ℕ → ℕ) (cache : CacheState) (capacity : ℕ) (old mid new : Life) (w : WriterState) (e : Error) (result : Result (WriterState × Vec (List ℕ) Global) Error) → IsErrAnd result (λ x. x ≡ e)
-    → Recovers sum cache capacity old mid (Ok w) → Trims sum own w mid new (Err e) → RecoversJournal sum own cache capacity old new result
-recovery_refused sum own cache capacity old mid new w e (Ok r) is recovers trims = absurd is
-recovery_refused sum own cache capacity old mid new w e (Err x) is recovers trims =
-    inr (mid, w, recovers, subst (λ (y : Error). Trims sum own w mid new (Err y)) (sym is) trims)
+pub recovery_refused : (sum own : List ℕ → ℕ) (cache behind : CacheState) (capacity : ℕ) (old mid new : Life) (w : WriterState) (e : Error) (result : Result (WriterState × Vec (List ℕ) Global) Error) → IsErrAnd result (λ x. x ≡ e)
+    → Recovers sum cache capacity old mid (Ok w) → Trims sum own w behind mid new (Err e) → RecoversJournal sum own cache behind capacity old new result
+recovery_refused sum own cache behind capacity old mid new w e (Ok r) is recovers trims = absurd is
+recovery_refused sum own cache behind capacity old mid new w e (Err x) is recovers trims =
+    inr (mid, w, recovers, subst (λ (y : Error). Trims sum own w behind mid new (Err y)) (sym is) trims)
 
 -- a recovery of what a crash left
-pub brought_back : (sum own : List ℕ → ℕ) (cache : CacheState) (capacity : ℕ) (d : Disk) (image : List ℕ) (old new : Life) (result : Result (WriterState × Vec (List ℕ) Global) Error) → IsImage d image
-    → old.present.readable ≡ image → RecoversJournal sum own cache capacity old new result → IfOk result (λ r. BringsBack sum own cache.page_size d r.1.items)
-brought_back sum own cache capacity d image old new (Ok r) is_image is recovered =
+pub brought_back : (sum own : List ℕ → ℕ) (cache behind : CacheState) (capacity : ℕ) (d : Disk) (image : List ℕ) (old new : Life) (result : Result (WriterState × Vec (List ℕ) Global) Error) → IsImage d image
+    → old.present.readable ≡ image → RecoversJournal sum own cache behind capacity old new result → IfOk result (λ r. BringsBack sum own cache.page_size d r.1.items)
+brought_back sum own cache behind capacity d image old new (Ok r) is_image is recovered =
     let P = cache.page_size in
     let found : r.1.items ≡ records own (text sum P image) = recovered.given ∙ ap (λ (l : List ℕ). records own (text sum P l)) is in
     subst (λ (rs : List (List ℕ)). BringsBack sum own P d rs) (sym found) (brings_back sum own P d image is_image)
-brought_back sum own cache capacity d image old new (Err e) is_image is recovered = tt
+brought_back sum own cache behind capacity d image old new (Err e) is_image is recovered = tt
 
-pub brought_only : (sum own : List ℕ → ℕ) (cache : CacheState) (capacity : ℕ) (d : Disk) (image : List ℕ) (old new : Life) (result : Result (WriterState × Vec (List ℕ) Global) Error) → IsImage d image
-    → old.present.readable ≡ image → RecoversJournal sum own cache capacity old new result → IfOk result (λ r. BringsOnly sum own cache.page_size d image r.1.items)
-brought_only sum own cache capacity d image old new (Ok r) is_image is recovered = λ free all only.
+pub brought_only : (sum own : List ℕ → ℕ) (cache behind : CacheState) (capacity : ℕ) (d : Disk) (image : List ℕ) (old new : Life) (result : Result (WriterState × Vec (List ℕ) Global) Error) → IsImage d image
+    → old.present.readable ≡ image → RecoversJournal sum own cache behind capacity old new result → IfOk result (λ r. BringsOnly sum own cache.page_size d image r.1.items)
+brought_only sum own cache behind capacity d image old new (Ok r) is_image is recovered = λ free all only.
     let P = cache.page_size in
     let found : r.1.items ≡ records own (text sum P image) = recovered.given ∙ ap (λ (l : List ℕ). records own (text sum P l)) is in
     subst (λ (rs : List (List ℕ)). IsPrefix rs all) (sym found) (only image is_image free)
-brought_only sum own cache capacity d image old new (Err e) is_image is recovered = tt
+brought_only sum own cache behind capacity d image old new (Err e) is_image is recovered = tt
 
 -- what was committed as a blob crashed still is: a crash of what it left leaves nothing else
 pub commits_left : (sum own : List ℕ → ℕ) (P : ℕ) (content : List ℕ) (n : ℕ) (d e : Disk) → LeavesNoMore d e → Commits sum own P content n d → Commits sum own P content n e
@@ -486,7 +603,7 @@ commits_left sum own P content n d e less commits = record {
 }
 
 -- the content wasn't read, and so the last frame wasn't cut off
-pub trim_unread : (sum own : List ℕ → ℕ) (w : WriterState) (old new : Life) (e : Error) (result : Result (WriterState × Vec (List ℕ) Global) Error) → IsErrAnd result (λ x. x ≡ e)
-    → ReadRefused sum w old new e → Trims sum own w old new result
-trim_unread sum own w old new e (Ok r) is refused = absurd is
-trim_unread sum own w old new e (Err x) is refused = inl (old, inl refl, subst (λ (y : Error). ReadRefused sum w old new y) (sym is) refused)
+pub trim_unread : (sum own : List ℕ → ℕ) (w : WriterState) (behind : CacheState) (old new : Life) (e : Error) (result : Result (WriterState × Vec (List ℕ) Global) Error) → IsErrAnd result (λ x. x ≡ e)
+    → ReadRefused old new e → Trims sum own w behind old new result
+trim_unread sum own w behind old new e (Ok r) is refused = absurd is
+trim_unread sum own w behind old new e (Err x) is refused = inl (subst (λ (y : Error). ReadRefused old new y) (sym is) refused)

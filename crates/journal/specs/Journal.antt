@@ -1,21 +1,24 @@
 -- What a journal's calls do, and what a crash keeps of its records. Pages have the checksum
 -- function sum, records their own.
-use Rattle.std.specs.Prelude.{◌≡◌, ◌⊎◌, ◌<◌, ◌≤◌, ◌+◌, ◌-◌, ◌^◌, ◌++◌, ℕ, List, [], ◌∷◌, length}
-use Rattle.std.specs.Prelude.{take, drop, min, Option, Some, None, Result, Ok, Err, Vec}
+use Rattle.std.specs.Prelude.{◌≡◌, ◌≢◌, ◌⊎◌, ◌<◌, ◌≤◌, ◌+◌, ◌-◌, ◌^◌, ◌++◌, ℕ, List, [], ◌∷◌}
+use Rattle.std.specs.Prelude.{length, take, drop, min, Option, Some, None, Result, Ok, Err, Vec}
 use Rattle.std.specs.declared.alloc.Global.{Global}
-use Rattle.disk.specs.Disk.{Disk, Life, IsImage}
+use Rattle.disk.specs.Disk.{Disk, Life, IsImage, HasFailed}
 use Rattle.disk.specs.declared.error.Error.{Error}
-use Rattle.disk.specs.declared.error.Error.TheVariants.{OffsetOverflow, OutOfMemory}
+use Rattle.disk.specs.declared.error.Error.TheVariants.{ReadFailed, OffsetOverflow, OutOfMemory}
 use Rattle.page.specs.Page.{text}
 use Rattle.cache.specs.CacheState.{CacheState}
+use Rattle.cache.specs.Pages.{IsFresh}
 use Rattle.crash.specs.Guard.{IsChanceFree}
 use Rattle.crash.specs.Kept.{AllKeep, Through}
 use Rattle.crash.specs.Looks.{Looked}
 use Rattle.crash.specs.Sound.{IsSound, LeavesItsContent, content}
 use Rattle.crash.specs.Stays.{KeepsAllFloors, LeavesOnly}
 use Rattle.crash.specs.WriterState.{WriterState}
+use Rattle.paged_read.specs.Tail.{CanRead}
+use Rattle.paged.specs.Caches.{tail_of}
 use Rattle.paged.specs.Calls.{IsSameWriter, HasCause}
-use Rattle.paged.specs.Reads.{HasPages, Reads, size_of}
+use Rattle.paged.specs.Reads.{size_of}
 use Rattle.paged.specs.Recovery.{IsDurable}
 use Rattle.paged.specs.Recovers.{Recovers}
 use Rattle.paged.specs.Truncate.{Truncates}
@@ -24,18 +27,34 @@ use Rattle.journal.specs.declared.frame.Found.{Found}
 use Rattle.journal.specs.Frame.{frame, frame_len, record_of, records, listed, whole_frames}
 use Rattle.journal.specs.Frame.{IsWhole, IsPrefix}
 
--- a writer between two calls, as the last of them left it: it is sound, its pages are in the blob,
--- its size is that of its content, and chance aside a crash leaves only that
-pub record IsReady (sum : List ℕ → ℕ) (w : WriterState) (life : Life) : Type 0 where
+-- a writer between two calls, as the last of them left it: it is sound, it can be read with this
+-- cache, which holds nothing of blobs that are still to come, its size is that of its content, and
+-- chance aside a crash leaves only that
+pub record IsReady (sum : List ℕ → ℕ) (w : WriterState) (cache : CacheState) (life : Life)
+    : Type 0 where
   pub sound : IsSound sum w life.present
-  pub there : HasPages w life
+  pub can : CanRead (tail_of w) cache life.present
+  pub fresh : IsFresh cache
   pub size : size_of w ≡ length (content w life.present.readable)
   pub only : LeavesItsContent sum w life.present
 
 -- a journal between two calls: its writer is ready, and its content is whole frames
-pub record IsJournal (sum : List ℕ → ℕ) (w : WriterState) (life : Life) : Type 0 where
-  pub ready : IsReady sum w life
+pub record IsJournal (sum : List ℕ → ℕ) (w : WriterState) (cache : CacheState) (life : Life)
+    : Type 0 where
+  pub ready : IsReady sum w cache life
   pub whole : IsWhole (content w life.present.readable)
+
+-- a call over the blob with this id: every other journal that has this cache stays one
+abbrev pub OthersStay : ℕ → CacheState → CacheState → Type 0
+OthersStay id cache behind =
+    (sum : List ℕ → ℕ) (w : WriterState) (life : Life) → w.id ≢ id
+    → IsJournal sum w cache life → IsJournal sum w behind life
+
+-- one over a blob that is new to the cache: every journal does
+abbrev pub AllStay : CacheState → CacheState → Type 0
+AllStay cache behind =
+    (sum : List ℕ → ℕ) (w : WriterState) (life : Life)
+    → IsJournal sum w cache life → IsJournal sum w behind life
 
 -- chance aside, a crash at any moment since leaves of this content a beginning
 abbrev pub LeavesContent : (List ℕ → ℕ) → ℕ → List ℕ → Life → Life → Type 0
@@ -43,8 +62,10 @@ LeavesContent sum P content old new = LeavesOnly sum P content content old new
 
 -- reads: the writer is ready again, the content is the same, and a crash at any moment since keeps
 -- and leaves what one before them did
-pub record OnlyReads (sum : List ℕ → ℕ) (w : WriterState) (old new : Life) : Type 0 where
-  pub ready : IsReady sum w new
+pub record OnlyReads (sum : List ℕ → ℕ) (w : WriterState) (cache behind : CacheState)
+    (old new : Life) : Type 0 where
+  pub ready : IsReady sum w behind new
+  pub others : OthersStay w.id cache behind
   pub holds : content w new.present.readable ≡ content w old.present.readable
   pub looked : Looked old new
   pub kept : KeepsAllFloors sum w.page_size old new
@@ -91,10 +112,10 @@ LeavesOneMore sum own w bytes old new =
     LeavesRecords sum own w.page_size (all ++ bytes ∷ []) old new
 
 -- a record was appended: at this place, behind the records that there were
-pub record IsAppended (sum own : List ℕ → ℕ) (w : WriterState) (bytes : List ℕ) (old new : Life)
-    (now : WriterState) (place : ℕ) : Type 0 where
+pub record IsAppended (sum own : List ℕ → ℕ) (w : WriterState) (bytes : List ℕ)
+    (behind : CacheState) (old new : Life) (now : WriterState) (place : ℕ) : Type 0 where
   pub at : place ≡ length (content w old.present.readable)
-  pub journal : IsJournal sum now new
+  pub journal : IsJournal sum now behind new
   pub holds : content now new.present.readable ≡ content w old.present.readable ++ frame own bytes
   pub added : records own (content now new.present.readable)
       ≡ records own (content w old.present.readable) ++ bytes ∷ []
@@ -105,52 +126,49 @@ pub record IsAppended (sum own : List ℕ → ℕ) (w : WriterState) (bytes : Li
       → Commits sum own w.page_size (content w old.present.readable) n d
       → Commits sum own now.page_size (content now new.present.readable) n d
 
-abbrev pub AppendsRecord : (sum own : List ℕ → ℕ) → WriterState → List ℕ → Life → Life
-    → Result (WriterState × ℕ) Error → Type 0
-AppendsRecord sum own w bytes old new (Ok r) = IsAppended sum own w bytes old new r.0 r.1
-AppendsRecord sum own w bytes old new (Err OffsetOverflow) =
+abbrev pub AppendsRecord : (sum own : List ℕ → ℕ) → WriterState → List ℕ → CacheState → Life
+    → Life → Result (WriterState × ℕ) Error → Type 0
+AppendsRecord sum own w bytes behind old new (Ok r) =
+    IsAppended sum own w bytes behind old new r.0 r.1
+AppendsRecord sum own w bytes behind old new (Err OffsetOverflow) =
     (new ≡ old)
     × (2 ^ 64 ≤ physical_size w.page_size w.full_pages (length w.tip + (length bytes + 7)))
-AppendsRecord sum own w bytes old new (Err e) = HasCause w.sync old new e
+AppendsRecord sum own w bytes behind old new (Err e) = HasCause w.sync old new e
 
 -- all records were committed
-pub record IsCommitted (sum own : List ℕ → ℕ) (w : WriterState) (old new : Life)
-    (now : WriterState) : Type 0 where
-  pub journal : IsJournal sum now new
+pub record IsCommitted (sum own : List ℕ → ℕ) (w : WriterState) (behind : CacheState)
+    (old new : Life) (now : WriterState) : Type 0 where
+  pub journal : IsJournal sum now behind new
   pub holds : content now new.present.readable ≡ content w old.present.readable
   pub same : IsSameWriter w now
   pub all : CommitsAll sum own now.page_size (content now new.present.readable) new.present
 
-abbrev pub CommitGoes : (sum own : List ℕ → ℕ) → WriterState → Life → Life
+abbrev pub CommitGoes : (sum own : List ℕ → ℕ) → WriterState → CacheState → Life → Life
     → Result WriterState Error → Type 0
-CommitGoes sum own w old new (Ok now) = IsCommitted sum own w old new now
-CommitGoes sum own w old new (Err e) = HasCause w.sync old new e
+CommitGoes sum own w behind old new (Ok now) = IsCommitted sum own w behind old new now
+CommitGoes sum own w behind old new (Err e) = HasCause w.sync old new e
 
--- a read within the content was refused, or memory was
-abbrev pub ReadRefused : (List ℕ → ℕ) → WriterState → Life → Life → Error → Type 0
-ReadRefused sum w old new e =
-    (e ≡ OutOfMemory)
-    ⊎ ((place len : ℕ) × (place + len ≤ size_of w) × Reads sum w place len old new (Err e))
-
--- so was one behind others
-abbrev pub ReadRefusedLater : (List ℕ → ℕ) → WriterState → Life → Life → Error → Type 0
-ReadRefusedLater sum w old new e =
-    (mid : Life) × ((mid ≡ old) ⊎ Looked old mid) × ReadRefused sum w mid new e
+-- why a read within the content may answer this error: the device failed in the call, or memory was
+-- refused
+abbrev pub ReadRefused : Life → Life → Error → Type 0
+ReadRefused old new ReadFailed = HasFailed ReadFailed old.present new.present
+ReadRefused old new OutOfMemory = Unit {0}
+ReadRefused old new _ = ⊥
 
 -- a read of bytes within the content
-abbrev pub ReadsBytes : (List ℕ → ℕ) → WriterState → (place len : ℕ) → Life → Life
-    → Result (List ℕ) Error → Type 0
-ReadsBytes sum w place len old new (Ok bytes) =
+abbrev pub ReadsBytes : WriterState → (place len : ℕ) → Life → Life → Result (List ℕ) Error
+    → Type 0
+ReadsBytes w place len old new (Ok bytes) =
     bytes ≡ take len (drop place (content w old.present.readable))
-ReadsBytes sum w place len old new (Err e) = ReadRefused sum w old new e
+ReadsBytes w place len old new (Err e) = ReadRefused old new e
 
 -- a read of the frame at a place behind which so many bytes stand, where it may be cut short
-abbrev pub ReadsFrame : (List ℕ → ℕ) → WriterState → (place rest : ℕ) → Life → Life
-    → Result (List ℕ) Error → Type 0
-ReadsFrame sum w place rest old new (Ok bytes) =
+abbrev pub ReadsFrame : WriterState → (place rest : ℕ) → Life → Life → Result (List ℕ) Error
+    → Type 0
+ReadsFrame w place rest old new (Ok bytes) =
     let behind = drop place (content w old.present.readable) in
     bytes ≡ take (min (frame_len behind) rest) behind
-ReadsFrame sum w place rest old new (Err e) = ReadRefusedLater sum w old new e
+ReadsFrame w place rest old new (Err e) = ReadRefused old new e
 
 -- the frame that begins at a place of a content: its record, if it is one, the place behind it, and
 -- the records from there on
@@ -162,59 +180,62 @@ pub record IsFound (own : List ℕ → ℕ) (content : List ℕ) (place : ℕ) (
   pub rest : records own (drop place content) ≡ listed bytes ++ records own (drop end content)
 
 -- a read of the frame at a place: none begins at the end or behind it
-abbrev pub ReadsRecord : (sum own : List ℕ → ℕ) → WriterState → ℕ → Life → Life
+abbrev pub ReadsRecord : (own : List ℕ → ℕ) → WriterState → ℕ → Life → Life
     → Result (Option Found) Error → Type 0
-ReadsRecord sum own w place old new (Ok None) = length (content w old.present.readable) ≤ place
-ReadsRecord sum own w place old new (Ok (Some f)) =
+ReadsRecord own w place old new (Ok None) = length (content w old.present.readable) ≤ place
+ReadsRecord own w place old new (Ok (Some f)) =
     IsFound own (content w old.present.readable) place f.bytes f.end
-ReadsRecord sum own w place old new (Err e) = ReadRefusedLater sum w old new e
+ReadsRecord own w place old new (Err e) = ReadRefused old new e
 
 -- a read of all records, and of how many bytes the whole frames have
-abbrev pub ReadsAll : (sum own : List ℕ → ℕ) → WriterState → Life → Life
+abbrev pub ReadsAll : (own : List ℕ → ℕ) → WriterState → Life → Life
     → Result (Vec (List ℕ) Global × ℕ) Error → Type 0
-ReadsAll sum own w old new (Ok r) =
+ReadsAll own w old new (Ok r) =
     (r.0.items ≡ records own (content w old.present.readable))
     × (r.1 ≡ length (whole_frames (content w old.present.readable)))
-ReadsAll sum own w old new (Err e) = ReadRefused sum w old new e
+ReadsAll own w old new (Err e) = ReadRefused old new e
 
 -- the whole frames are left of a content; these are the records
-pub record IsTrimmed (sum own : List ℕ → ℕ) (w : WriterState) (old new : Life) (now : WriterState)
-    (found : List (List ℕ)) : Type 0 where
-  pub ready : IsReady sum now new
+pub record IsTrimmed (sum own : List ℕ → ℕ) (w : WriterState) (behind : CacheState)
+    (old new : Life) (now : WriterState) (found : List (List ℕ)) : Type 0 where
+  pub ready : IsReady sum now behind new
   pub holds : content now new.present.readable ≡ whole_frames (content w old.present.readable)
   pub given : found ≡ records own (content w old.present.readable)
   pub page_size : now.page_size ≡ w.page_size
+  pub id : now.id ≡ w.id
 
 -- they aren't: a read of the content was refused, or the cut behind them, where there is more
-abbrev pub Trims : (sum own : List ℕ → ℕ) → WriterState → Life → Life
+abbrev pub Trims : (sum own : List ℕ → ℕ) → WriterState → CacheState → Life → Life
     → Result (WriterState × Vec (List ℕ) Global) Error → Type 0
-Trims sum own w old new (Ok r) = IsTrimmed sum own w old new r.0 r.1.items
-Trims sum own w old new (Err e) =
+Trims sum own w behind old new (Ok r) = IsTrimmed sum own w behind old new r.0 r.1.items
+Trims sum own w behind old new (Err e) =
     let whole = whole_frames (content w old.present.readable) in
-    ReadRefusedLater sum w old new e
+    ReadRefused old new e
     ⊎ ((mid : Life) × Looked old mid × (length whole < size_of w)
     × Truncates sum (length whole) w mid new (Err e))
 
--- a journal was recovered: its content is the whole frames of the text that was readable; these are
--- its records, and all of them are committed
-pub record HasRecovered (sum own : List ℕ → ℕ) (P : ℕ) (old new : Life) (w : WriterState)
-    (found : List (List ℕ)) : Type 0 where
-  pub page_size : w.page_size ≡ P
-  pub journal : IsJournal sum w new
-  pub holds : content w new.present.readable ≡ whole_frames (text sum P old.present.readable)
-  pub given : found ≡ records own (text sum P old.present.readable)
+-- a journal was recovered, under the cache's next id: its content is the whole frames of the text
+-- that was readable; these are its records, and all of them are committed
+pub record HasRecovered (sum own : List ℕ → ℕ) (cache behind : CacheState) (old new : Life)
+    (w : WriterState) (found : List (List ℕ)) : Type 0 where
+  pub page_size : w.page_size ≡ cache.page_size
+  pub id : w.id ≡ cache.ids_given
+  pub journal : IsJournal sum w behind new
+  pub holds : content w new.present.readable
+      ≡ whole_frames (text sum cache.page_size old.present.readable)
+  pub given : found ≡ records own (text sum cache.page_size old.present.readable)
   pub same : found ≡ records own (content w new.present.readable)
-  pub all : CommitsAll sum own P (content w new.present.readable) new.present
+  pub all : CommitsAll sum own cache.page_size (content w new.present.readable) new.present
 
 -- a recovery: that of the blob was refused, or it ended well and the content wasn't trimmed
-abbrev pub RecoversJournal : (sum own : List ℕ → ℕ) → CacheState → ℕ → Life → Life
-    → Result (WriterState × Vec (List ℕ) Global) Error → Type 0
-RecoversJournal sum own cache capacity old new (Ok r) =
-    HasRecovered sum own cache.page_size old new r.0 r.1.items
-RecoversJournal sum own cache capacity old new (Err e) =
+abbrev pub RecoversJournal : (sum own : List ℕ → ℕ) → (cache behind : CacheState) → ℕ → Life
+    → Life → Result (WriterState × Vec (List ℕ) Global) Error → Type 0
+RecoversJournal sum own cache behind capacity old new (Ok r) =
+    HasRecovered sum own cache behind old new r.0 r.1.items
+RecoversJournal sum own cache behind capacity old new (Err e) =
     Recovers sum cache capacity old new (Err e)
     ⊎ ((mid : Life) × (w : WriterState) × Recovers sum cache capacity old mid (Ok w)
-    × Trims sum own w mid new (Err e))
+    × Trims sum own w behind mid new (Err e))
 
 -- what was committed at one moment still is at a later one
 abbrev pub StaysCommitted : (sum own : List ℕ → ℕ) → ℕ → Disk → Disk → Type 0

@@ -2,7 +2,9 @@
 ghost use Rattle.std.specs.Prelude.{◌≡◌, IfOk};
 ghost use Rattle.disk.specs.History.{life_of};
 ghost use Rattle.disk.specs.Torn.{torn};
-ghost use Rattle.journal.specs.Journal.{IsJournal, BringsBack, BringsOnly, StaysCommitted};
+ghost use Rattle.cache.specs.Pages.{IsFresh};
+ghost use Rattle.journal.specs.Journal.{IsJournal, AllStay};
+ghost use Rattle.journal.specs.Journal.{BringsBack, BringsOnly, StaysCommitted};
 
 use crate::journal::Journal;
 use cache::CacheRef;
@@ -26,7 +28,10 @@ pub fn crash_and_recover<H: Sum, R: Sum>(
     cache: &mut CacheRef,
     buffer_size: NonZeroUsize,
 ) -> Result<(Journal<MemBlob, H, R>, Vec<IoBuf>), Error>
-    ensures journal { IfOk result (λ r. IsJournal H.sum_of r.0 (life_of blob.new)) }
+    requires fresh { IsFresh cache.old }
+    ensures journal { IfOk result (λ r. IsJournal H.sum_of r.0 cache.new (life_of blob.new)) }
+    ensures fresh { IsFresh cache.new }
+    ensures others { AllStay cache.old cache.new }
     ensures stays { let was = (life_of blob.old).present in let is = (life_of blob.new).present in
         StaysCommitted H.sum_of R.sum_of cache.old.page_size was is }
     ensures kept { let was = (life_of blob.old).present in

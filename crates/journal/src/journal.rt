@@ -1,14 +1,19 @@
 // Journals: records over a paged blob.
-ghost use Rattle.std.specs.Prelude.{◌≡◌, ◌+◌, ◌*◌, ◌≤◌, ◌++◌, ◌∷◌, [], length, IfOk, OnOk};
+ghost use Rattle.std.specs.Prelude.{◌≡◌, ◌+◌, ◌*◌, ◌^◌, ◌<◌, ◌≤◌, ◌++◌, ◌∷◌, [], length};
+ghost use Rattle.std.specs.Prelude.{IfOk, OnOk};
+ghost use Rattle.cache.specs.Pages.{IsFresh};
 ghost use Rattle.crash.specs.Looks.{Looked};
 ghost use Rattle.crash.specs.Sound.{IsSound, content};
 ghost use Rattle.crash.specs.Stays.{KeepsAll, KeepsAllFloors, LeavesOnly};
 ghost use Rattle.page.specs.Page.{text};
 ghost use Rattle.paged.specs.Calls.{Appends, Syncs};
-ghost use Rattle.paged.specs.Reads.{HasPages, size_of};
+ghost use Rattle.paged.specs.Reads.{size_of};
 ghost use Rattle.paged.specs.Truncate.{KeepsFloorsWithin};
 ghost use Rattle.journal.specs.Frame.{whole_frames};
-ghost use Rattle.journal.specs.Journal.{IsJournal, AppendsRecord, CommitGoes, ReadsBytes};
+ghost use Rattle.paged.specs.Caches.{tail_of};
+ghost use Rattle.paged_read.specs.Tail.{CanRead};
+ghost use Rattle.journal.specs.Journal.{IsJournal, OthersStay, AllStay};
+ghost use Rattle.journal.specs.Journal.{AppendsRecord, CommitGoes, ReadsBytes};
 ghost use Rattle.journal.specs.Journal.{ReadsFrame, ReadsRecord, ReadsAll, Trims};
 ghost use Rattle.journal.specs.Journal.{RecoversJournal, IsReady, OnlyReads, KeepsCommitted};
 ghost use Rattle.journal.specs.Journal.{LeavesItsRecords, LeavesOneMore, KeepsAllRecords};
@@ -26,8 +31,9 @@ use std::num::NonZeroUsize;
 /// A journal: records, one behind another, in a blob of the type `B` with pages under the checksum
 /// function `H`. Each record has a checksum of its own, by `R`.
 ///
-/// The blob and the cache are lent to each call, as a writer's are. A call that takes the journal
-/// gives it back only on success; after an error it is to be recovered.
+/// The blob and the cache are lent to each call, as a writer's are: always the same ones, and many
+/// journals may share a cache. A call that takes the journal gives it back only on success; after
+/// an error it is to be recovered, and the cache serves for that.
 #[derive(Drop)]
 pub struct Journal<B, H, R> {
     alloc: Global,
@@ -51,11 +57,13 @@ fn read_bytes<B: Blob, H: Sum, Phase>(
     place: u64,
     len: usize,
 ) -> Result<IoBuf, Error>
-    requires ready { IsReady H.sum_of writer.now (B.life blob.old) }
+    requires ready { IsReady H.sum_of writer.now cache.old (B.life blob.old) }
     requires within { place + len ≤ size_of writer.now }
+    requires fits { place + len < 2 ^ 64 }
     ensures reads { let old = B.life blob.old in let new = B.life blob.new in
-        ReadsBytes H.sum_of writer.now place len old new result }
-    ensures leaves { OnlyReads H.sum_of writer.now (B.life blob.old) (B.life blob.new) }
+        ReadsBytes writer.now place len old new result }
+    ensures leaves { let old = B.life blob.old in let new = B.life blob.new in
+        OnlyReads H.sum_of writer.now cache.old cache.new old new }
 {
     match writer.read_at(blob, cache, place, len) {
         Ok(bufs) => bufs.coalesce(),
@@ -70,10 +78,11 @@ fn read_all<B: Blob, H: Sum, R: Sum>(
     blob: &mut B,
     cache: &mut CacheRef,
 ) -> Result<(Vec<IoBuf>, usize), Error>
-    requires ready { IsReady H.sum_of recovery.now (B.life blob.old) }
+    requires ready { IsReady H.sum_of recovery.now cache.old (B.life blob.old) }
     ensures reads { let old = B.life blob.old in let new = B.life blob.new in
-        ReadsAll H.sum_of R.sum_of recovery.now old new result }
-    ensures leaves { OnlyReads H.sum_of recovery.now (B.life blob.old) (B.life blob.new) }
+        ReadsAll R.sum_of recovery.now old new result }
+    ensures leaves { let old = B.life blob.old in let new = B.life blob.new in
+        OnlyReads H.sum_of recovery.now cache.old cache.new old new }
 {
     let bytes = read_bytes(recovery, blob, cache, 0, recovery.size() as usize)?;
     records_of::<R>(alloc, &bytes)
@@ -86,9 +95,11 @@ fn trim<B: Blob, H: Sum, R: Sum>(
     blob: &mut B,
     cache: &mut CacheRef,
 ) -> Result<(Recovery<B, H>, Vec<IoBuf>), Error>
-    requires ready { IsReady H.sum_of recovery (B.life blob.old) }
+    requires ready { IsReady H.sum_of recovery cache.old (B.life blob.old) }
     ensures trims { let old = B.life blob.old in let new = B.life blob.new in
-        Trims H.sum_of R.sum_of recovery old new result }
+        Trims H.sum_of R.sum_of recovery cache.new old new result }
+    ensures fresh { IsFresh cache.new }
+    ensures others { OthersStay recovery.id cache.old cache.new }
     ensures kept { let old = B.life blob.old in
         let whole = whole_frames (content recovery old.present.readable) in
         KeepsFloorsWithin (length whole) H.sum_of recovery.page_size old (B.life blob.new) }
@@ -139,11 +150,13 @@ impl<B: Blob, H: Sum, R: Sum> Journal<B, H, R> {
         cache: &mut CacheRef,
         bytes: &[u8],
     ) -> Result<(Self, u64), Error>
-        requires journal { IsJournal H.sum_of self (B.life blob.old) }
+        requires journal { IsJournal H.sum_of self cache.old (B.life blob.old) }
         requires short { length bytes.now ≤ 65535 }
         ensures appends { let old = B.life blob.old in let new = B.life blob.new in
-            AppendsRecord H.sum_of R.sum_of self bytes.now old new result }
-        ensures journal { IfOk result (λ r. IsJournal H.sum_of r.0 (B.life blob.new)) }
+            AppendsRecord H.sum_of R.sum_of self bytes.now cache.new old new result }
+        ensures journal { IfOk result (λ r. IsJournal H.sum_of r.0 cache.new (B.life blob.new)) }
+        ensures fresh { IsFresh cache.new }
+        ensures others { OthersStay self.id cache.old cache.new }
 
         // At each moment since the call began, and at every answer.
         ensures kept { let old = B.life blob.old in let new = B.life blob.new in
@@ -157,10 +170,13 @@ impl<B: Blob, H: Sum, R: Sum> Journal<B, H, R> {
 
     // Appends bytes to the content.
     fn append(self, blob: &mut B, cache: &mut CacheRef, bytes: &[u8]) -> Result<(Self, u64), Error>
-        requires sound { IsSound H.sum_of self (B.life blob.old).present }
+        requires ready { IsReady H.sum_of self cache.old (B.life blob.old) }
         ensures appends { let old = B.life blob.old in let new = B.life blob.new in
             Appends H.sum_of self bytes.now old new result }
-        ensures there { IfOk result (λ r. HasPages r.0 (B.life blob.new)) }
+        ensures can { let new = B.life blob.new in
+            IfOk result (λ r. CanRead (tail_of r.0) cache.new new.present) }
+        ensures fresh { IsFresh cache.new }
+        ensures others { OthersStay self.id cache.old cache.new }
         ensures kept { KeepsAllFloors H.sum_of self.page_size (B.life blob.old) (B.life blob.new) }
         ensures only { let old = B.life blob.old in
             let held = content self old.present.readable in
@@ -178,10 +194,12 @@ impl<B: Blob, H: Sum, R: Sum> Journal<B, H, R> {
     /// `WriteFailed` and `SyncFailed` where the device failed, `OutOfMemory`. The journal is gone
     /// then.
     pub fn commit(self, blob: &mut B, cache: &mut CacheRef) -> Result<Self, Error>
-        requires journal { IsJournal H.sum_of self (B.life blob.old) }
+        requires journal { IsJournal H.sum_of self cache.old (B.life blob.old) }
         ensures commits { let old = B.life blob.old in let new = B.life blob.new in
-            CommitGoes H.sum_of R.sum_of self old new result }
-        ensures journal { IfOk result (λ j. IsJournal H.sum_of j (B.life blob.new)) }
+            CommitGoes H.sum_of R.sum_of self cache.new old new result }
+        ensures journal { IfOk result (λ j. IsJournal H.sum_of j cache.new (B.life blob.new)) }
+        ensures fresh { IsFresh cache.new }
+        ensures others { OthersStay self.id cache.old cache.new }
 
         // At each moment since the call began, and at every answer.
         ensures kept { let old = B.life blob.old in let new = B.life blob.new in
@@ -193,9 +211,12 @@ impl<B: Blob, H: Sum, R: Sum> Journal<B, H, R> {
 
     // Makes the content durable.
     fn sync(self, blob: &mut B, cache: &mut CacheRef) -> Result<Self, Error>
-        requires sound { IsSound H.sum_of self (B.life blob.old).present }
+        requires ready { IsReady H.sum_of self cache.old (B.life blob.old) }
         ensures syncs { Syncs H.sum_of self (B.life blob.old) (B.life blob.new) result }
-        ensures there { IfOk result (λ w. HasPages w (B.life blob.new)) }
+        ensures can { let new = B.life blob.new in
+            IfOk result (λ w. CanRead (tail_of w) cache.new new.present) }
+        ensures fresh { IsFresh cache.new }
+        ensures others { OthersStay self.id cache.old cache.new }
         ensures durable { let held = content self (B.life blob.old).present.readable in
             OnOk result (KeepsAll H.sum_of self.page_size held (B.life blob.new)) }
         ensures kept { KeepsAllFloors H.sum_of self.page_size (B.life blob.old) (B.life blob.new) }
@@ -217,11 +238,13 @@ impl<B: Blob, H: Sum, R: Sum> Journal<B, H, R> {
         place: u64,
         len: usize,
     ) -> Result<IoBuf, Error>
-        requires ready { IsReady H.sum_of self.now (B.life blob.old) }
+        requires ready { IsReady H.sum_of self.now cache.old (B.life blob.old) }
         requires within { place + len ≤ size_of self.now }
+        requires fits { place + len < 2 ^ 64 }
         ensures reads { let old = B.life blob.old in let new = B.life blob.new in
-            ReadsBytes H.sum_of self.now place len old new result }
-        ensures leaves { OnlyReads H.sum_of self.now (B.life blob.old) (B.life blob.new) }
+            ReadsBytes self.now place len old new result }
+        ensures leaves { let old = B.life blob.old in let new = B.life blob.new in
+            OnlyReads H.sum_of self.now cache.old cache.new old new }
     {
         read_bytes(&self.writer, blob, cache, place, len)
     }
@@ -230,7 +253,8 @@ impl<B: Blob, H: Sum, R: Sum> Journal<B, H, R> {
     /// records: those of the blob's text, in order, which begin with all that were committed. Where
     /// the last frame is half-written it is cut off, so that what is appended stands behind whole
     /// frames. A whole frame that is no record stays, and is passed over. The other arguments are
-    /// those of [`paged::recover`].
+    /// those of [`paged::recover`]. The cache is a new one, or one that other journals have, or had
+    /// until a call of theirs failed.
     ///
     /// The errors are those of [`paged::recover`]. What was committed then still is.
     pub fn recover(
@@ -242,9 +266,12 @@ impl<B: Blob, H: Sum, R: Sum> Journal<B, H, R> {
         buffer_size: NonZeroUsize,
     ) -> Result<(Self, Vec<IoBuf>), Error>
         requires length { size ≡ length (B.life blob.old).present.readable }
+        requires fresh { IsFresh cache.old }
         ensures recovers { let old = B.life blob.old in let new = B.life blob.new in
-            RecoversJournal H.sum_of R.sum_of cache.old capacity old new result }
-        ensures journal { IfOk result (λ r. IsJournal H.sum_of r.0 (B.life blob.new)) }
+            RecoversJournal H.sum_of R.sum_of cache.old cache.new capacity old new result }
+        ensures journal { IfOk result (λ r. IsJournal H.sum_of r.0 cache.new (B.life blob.new)) }
+        ensures fresh { IsFresh cache.new }
+        ensures others { AllStay cache.old cache.new }
 
         ensures back { let was = (B.life blob.old).present in
             IfOk result (λ r. BringsBack H.sum_of R.sum_of cache.old.page_size was r.1.items) }
@@ -272,11 +299,13 @@ impl<B: Blob, H: Sum, R: Sum> Journal<B, H, R> {
         place: u64,
         rest: u64,
     ) -> Result<IoBuf, Error>
-        requires ready { IsReady H.sum_of self.now (B.life blob.old) }
+        requires ready { IsReady H.sum_of self.now cache.old (B.life blob.old) }
         requires within { place + rest ≡ size_of self.now }
+        requires fits { place + rest < 2 ^ 64 }
         ensures reads { let old = B.life blob.old in let new = B.life blob.new in
-            ReadsFrame H.sum_of self.now place rest old new result }
-        ensures leaves { OnlyReads H.sum_of self.now (B.life blob.old) (B.life blob.new) }
+            ReadsFrame self.now place rest old new result }
+        ensures leaves { let old = B.life blob.old in let new = B.life blob.new in
+            OnlyReads H.sum_of self.now cache.old cache.new old new }
     {
         let head = self.read(blob, cache, place, rest.min(2) as usize)?;
         let len = rest.min(record_len_of(head.as_ref()) as u64 + 7);
@@ -285,10 +314,11 @@ impl<B: Blob, H: Sum, R: Sum> Journal<B, H, R> {
 
     // The frame that begins at a place, or none.
     fn find(&self, blob: &mut B, cache: &mut CacheRef, place: u64) -> Result<Option<Found>, Error>
-        requires ready { IsReady H.sum_of self.now (B.life blob.old) }
+        requires ready { IsReady H.sum_of self.now cache.old (B.life blob.old) }
         ensures reads { let old = B.life blob.old in let new = B.life blob.new in
-            ReadsRecord H.sum_of R.sum_of self.now place old new result }
-        ensures leaves { OnlyReads H.sum_of self.now (B.life blob.old) (B.life blob.new) }
+            ReadsRecord R.sum_of self.now place old new result }
+        ensures leaves { let old = B.life blob.old in let new = B.life blob.new in
+            OnlyReads H.sum_of self.now cache.old cache.new old new }
     {
         let size = self.size();
         if size <= place {
@@ -306,18 +336,20 @@ impl<B: Blob, H: Sum, R: Sum> Journal<B, H, R> {
     /// place behind another frame, the first of which begins at 0. `None` where none begins there:
     /// at the end of the journal and behind it.
     ///
-    /// `ReadFailed` where the device failed, `OutOfMemory`. An error leaves all as it was.
+    /// `ReadFailed` where the device failed, `OutOfMemory`. An error leaves all as it was, but for
+    /// pages that the cache may hold now.
     pub fn read_record(
         &self,
         blob: &mut B,
         cache: &mut CacheRef,
         place: u64,
     ) -> Result<Option<Found>, Error>
-        requires journal { IsJournal H.sum_of self.now (B.life blob.old) }
+        requires journal { IsJournal H.sum_of self.now cache.old (B.life blob.old) }
         ensures reads { let old = B.life blob.old in let new = B.life blob.new in
-            ReadsRecord H.sum_of R.sum_of self.now place old new result }
+            ReadsRecord R.sum_of self.now place old new result }
         ensures looked { Looked (B.life blob.old) (B.life blob.new) }
-        ensures journal { IsJournal H.sum_of self.now (B.life blob.new) }
+        ensures journal { IsJournal H.sum_of self.now cache.new (B.life blob.new) }
+        ensures others { OthersStay self.now.id cache.old cache.new }
 
         // At each moment since the call began, and at every answer.
         ensures kept { let old = B.life blob.old in let new = B.life blob.new in

@@ -5,6 +5,9 @@
 //! journal whose blob crashed inside a record.
 #![tactic(auto)]
 
+ghost use Rattle.std.specs.Prelude.{IfOk};
+ghost use Rattle.cache.specs.Pages.{IsFresh};
+
 mod crashes;
 mod frame;
 mod journal;
@@ -37,7 +40,9 @@ struct Told {
     written: u64,
 }
 
-fn new_cache(alloc: Global) -> Result<CacheRef, Error> {
+fn new_cache(alloc: Global) -> Result<CacheRef, Error>
+    ensures { IfOk result (λ cache. IsFresh cache) }
+{
     let page_size = NonZeroU16::new(PAGE_SIZE).unwrap_or(NonZeroU16::MIN);
     CacheRef::new(alloc, page_size, NonZeroUsize::MIN)
 }

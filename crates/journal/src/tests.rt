@@ -6,7 +6,6 @@ use crate::crashes::crash_and_recover;
 use crate::frame::{Found, frame_of, records_of};
 use crate::journal::Journal;
 use crate::new_cache;
-use cache::CacheRef;
 use disk::{Error, IoBuf, MemBlob};
 use page::{AddSum, ConstSum, Sum};
 use paged::Writer;
@@ -139,7 +138,8 @@ fn whatever_the_checksums(rt: HostRuntime) -> Result<(), Fail> {
 }
 
 /// A blob with these logical bytes, all of them durable.
-fn blob_of(alloc: Global, cache: &mut CacheRef, bytes: &[u8]) -> Result<MemBlob, Error> {
+fn blob_of(alloc: Global, bytes: &[u8]) -> Result<MemBlob, Error> {
+    let mut cache = new_cache(alloc)?;
     let mut blob = MemBlob::new(alloc);
     let size = blob.len();
     let recovery = paged::recover::<MemBlob, AddSum>(
@@ -147,12 +147,12 @@ fn blob_of(alloc: Global, cache: &mut CacheRef, bytes: &[u8]) -> Result<MemBlob,
         &mut blob,
         size,
         CAPACITY,
-        cache,
+        &mut cache,
         NonZeroUsize::MIN,
     )?;
     let writer: Writer<MemBlob, AddSum> = Writer::from(recovery);
-    let (writer, _) = writer.append(&mut blob, cache, bytes)?;
-    drop(writer.sync(&mut blob, cache)?);
+    let (writer, _) = writer.append(&mut blob, &mut cache, bytes)?;
+    drop(writer.sync(&mut blob, &mut cache)?);
     Ok(blob)
 }
 
@@ -164,7 +164,6 @@ fn a_whole_frame_stays(rt: HostRuntime) -> Result<(), Fail> {
     let mut cache = new_cache(alloc)?;
     let mut blob = blob_of(
         alloc,
-        &mut cache,
         &[
             0, 1, 0x61, 0, 0, 0, 0x61, 1, 0, 1, 0x62, 0, 0, 0, 0, 1, 0, 2, 0x63,
         ],

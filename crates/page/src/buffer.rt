@@ -77,6 +77,18 @@ fn append_copy(alloc: Global, bufs: &mut IoBufs, bytes: &[u8]) -> Result<(), Err
     bufs.append(IoBuf::copy_from_slice(alloc, bytes)?)
 }
 
+/// Copies bytes into a buffer, behind the first `done`, and answers how many it has then.
+fn copy_behind(buf: &mut [u8], done: usize, bytes: &[u8]) -> usize
+    requires { done + length bytes.now ≤ length buf.old }
+    ensures done { result ≡ done + length bytes.now }
+    ensures size { length buf.new ≡ length buf.old }
+    ensures bytes { take result buf.new ≡ take done buf.old ++ bytes.now }
+{
+    let end = done + bytes.len();
+    buf[done..end].copy_from_slice(bytes);
+    end
+}
+
 impl Buffer {
     /// A buffer of these bytes at a logical place. As many bytes as `capacity`, in whole pages, are
     /// to be buffered; no memory is taken for them yet.
@@ -187,6 +199,26 @@ impl Buffer {
         }
         let bytes = &self.tail.bytes[start.saturating_sub(at)..end.saturating_sub(at)];
         append_copy(self.alloc, bufs, bytes)
+    }
+
+    /// Copies the bytes from byte `offset` on into `buf`, as many as it has places for. It takes no
+    /// memory.
+    pub fn copy_to(&self, offset: usize, buf: &mut [u8])
+        requires { offset + length buf.old ≤ length self.now.bytes }
+        ensures { buf.new ≡ take (length buf.old) (drop offset self.now.bytes) }
+    {
+        let chunks = self.chunks.as_slice();
+        let end = offset + buf.len();
+        let mut at = 0;
+        let mut done = 0;
+        for chunk in chunks {
+            let from = offset.saturating_sub(at).min(chunk.len());
+            let to = end.saturating_sub(at).min(chunk.len());
+            done = copy_behind(buf, done, &chunk.as_ref()[from..to]);
+            at += chunk.len();
+        }
+        let bytes = &self.tail.bytes[offset.saturating_sub(at)..end.saturating_sub(at)];
+        copy_behind(buf, done, bytes);
     }
 
     /// Appends bytes, and answers whether the capacity is now passed.

@@ -103,8 +103,12 @@ fn holds(alloc: Global, buffer: &Buffer, offset: u64, bytes: &[u8]) -> Result<bo
     let (chunks, tail) = buffer.parts();
     let mut all = Vec::from_slice(alloc, chunks.coalesce()?.as_ref())?;
     all.extend_from_slice(tail)?;
+    let mut copied = Vec::new(alloc);
+    copied.resize(buffer.len(), 0)?;
+    buffer.copy_to(0, &mut copied);
     Ok(
         all.as_slice() == bytes
+            && copied.as_slice() == bytes
             && buffer.is_empty() == bytes.is_empty()
             && buffer.offset() == offset
             && buffer.size().checked_sub(offset) == Some(bytes.len() as u64),

@@ -5,7 +5,7 @@ use Rattle.disk.specs.Disk.{Life, Entry, LogGrows, SomeFailed, HasFailed, next, 
 use Rattle.disk.specs.Disk.Request.{ReadAt, WaitSync}
 use Rattle.disk.specs.declared.started_sync.StartedSync.TheVariants.{Named}
 use Rattle.page.specs.declared.slot.Slot.TheVariants.{First}
-use Rattle.disk.specs.declared.error.Error.TheVariants.{ReadFailed, SyncFailed, InvalidChecksum}
+use Rattle.disk.specs.declared.error.Error.TheVariants.{ReadFailed, SyncFailed}
 use Rattle.page.specs.Sums.{add_sum}
 use Rattle.page.proofs.Examples.{abcd_page, ef_page, efg_page}
 use Rattle.crash.specs.WriterState.{WriterState}
@@ -19,7 +19,7 @@ use Rattle.paged.specs.Recovery.{RecoveryCause}
 use Rattle.paged.specs.Calls.{IsSettled, TryAppends, HasCause, SettlesBy, sync_calls, start_calls, started_already, waited}
 use Rattle.paged.specs.Direct.{fill_of, is_too_big, IsDirect}
 use Rattle.paged.specs.Prefix.{page_at}
-use Rattle.paged.specs.Reads.{HasPages, Touches, ReadFault, size_of}
+use Rattle.paged.specs.Reads.{HasPages, size_of}
 
 -- one full page and five bytes more take three pages of 16 bytes
 pub a_physical_size : physical_size 4 1 5 ≡ 48
@@ -129,19 +129,6 @@ second_page = refl
 -- the page below the tip is in the blob
 pub has_pages : HasPages with_g old
 has_pages = omega arith
-
--- a read from place 3 on touches it
-pub it_is_touched : Touches with_g 3 5 0
-it_is_touched = (omega arith, omega arith, omega arith, omega arith)
-
--- one from place 4 on doesn't
-pub not_touched : Touches with_g 4 5 0 → ⊥
-not_touched touches = omega (arith, touches.2)
-
--- it is full, so a read can't answer InvalidChecksum
-pub no_read_fault : (from to : ℕ) → ReadFault add_sum with_g from to old old InvalidChecksum → ⊥
-no_read_fault from to (zero, touches, bad) = bad refl
-no_read_fault from to (suc page, touches, bad) = omega (arith, touches.0)
 
 -- "h" fits behind "efg" in a buffer of eight bytes, and stands at place 7
 pub a_buffered_try : TryAppends with_g (104 ∷ []) (record with_g { tip = 101 ∷ 102 ∷ 103 ∷ 104 ∷ [] }) (Ok (Some 7))

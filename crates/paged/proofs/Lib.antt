@@ -1,3 +1,5 @@
+pub mod Reading
+pub mod Examples
 pub mod Sizes
 pub mod Footers
 pub mod Building
@@ -8,7 +10,6 @@ pub mod Flushes
 pub mod Waits
 pub mod Starting
 pub mod Appends
-pub mod Reading
 pub mod Halves
 pub mod Prefixes
 pub mod Looking
@@ -20,7 +21,6 @@ pub mod Searching
 pub mod Recovered
 pub mod Opened
 pub mod Trims
-pub mod Examples
 pub mod RecoveryExamples
 pub mod TruncateExamples
 pub mod There
@@ -32,3 +32,7 @@ pub mod Shortening
 pub mod Shortened
 pub mod Truncated
 pub mod Truncating
+pub mod Caching
+pub mod CachedCuts
+pub mod OpenedReads
+pub mod Serves

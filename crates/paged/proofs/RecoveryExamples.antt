@@ -20,7 +20,7 @@ use Rattle.paged.specs.Prefix.{prefix_of, last_prefix, prefix_pages, at_prefix}
 use Rattle.paged.specs.Calls.{AsksAtMost, IsSettled}
 use Rattle.paged.specs.Recovery.{IsDurable, IsAsOpened, KeepsText, LeavesText, SoundWhereFull, opened_prefix, opened_size, opened_writer}
 use Rattle.paged.specs.Recovers.{recovered_writer, recovered_bytes}
-use Rattle.cache.specs.CacheState.{CacheState}
+use Rattle.cache.specs.CacheState.{CacheState, empty_cache}
 use Rattle.paged.specs.Recovery.IsKept.{whole}
 use Rattle.paged.specs.Searches.{AreWithin, FallFrom, ReadsWithin, ReadsBack, scan_bytes}
 use Rattle.paged.proofs.Opened.{opened_sound}
@@ -36,7 +36,7 @@ no_page = 0 ∷ 0 ∷ 0 ∷ 0 ∷ 0 ∷ 0 ∷ 0 ∷ 0 ∷ 0 ∷ 0 ∷ 0 ∷ 0 �
 
 -- a cache of pages of 4 bytes that has given no id
 abbrev a_cache : CacheState
-a_cache = record { page_size = 4; capacity = 4; ids_given = 0 }
+a_cache = empty_cache 4 10
 
 -- forward: one full page, and "ef" behind it; the page behind that doesn't count
 pub a_prefix : prefix_of add_sum 4 (pages 4 (abcd_page ++ ef_page ++ abcd_page)) ≡ record { full_pages = 1; partial = Some (101 ∷ 102 ∷ [], slot_of_ef) }

@@ -8,3 +8,4 @@ pub mod Searches
 pub mod Direct
 pub mod Truncate
 pub mod Recovers
+pub mod Caches

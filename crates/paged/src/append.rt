@@ -12,6 +12,8 @@ ghost use Rattle.paged.specs.Calls.{Completed, wait_calls};
 ghost use Rattle.paged.specs.Calls.{TryAppends, BuffersOver, KeepsSound, KeepsPages};
 ghost use Rattle.paged.specs.Reads.{HasPages, size_of};
 ghost use Rattle.paged.specs.Flush.{answered};
+ghost use Rattle.paged.specs.Caches.{CachesTo, Caches, ReadsOn, KeepsReads};
+ghost use Rattle.cache.specs.Pages.{CachesOnly, IsFresh};
 
 use crate::Writer;
 use cache::CacheRef;
@@ -68,9 +70,10 @@ impl<B: Blob, H: Sum, Phase> Writer<B, H, Phase> {
     pub fn append(
         mut self,
         blob: &mut B,
-        _cache: &mut CacheRef,
+        cache: &mut CacheRef,
         bytes: &[u8],
     ) -> Result<(Self, u64), Error>
+        requires cached { cache.old.page_size ≡ self.page_size }
         requires sound { IsSound H.sum_of self (B.life blob.old).present }
         ensures appends { let old = B.life blob.old in let new = B.life blob.new in
             Appends H.sum_of self bytes.now old new result }
@@ -93,6 +96,16 @@ impl<B: Blob, H: Sum, Phase> Writer<B, H, Phase> {
             let held = content self old.present.readable in
             IfOk result (λ r. Completed H.sum_of self.page_size held self.sync r.0.sync old new) }
 
+        // The full pages that are written are put in the cache, which stays true: reads go on.
+        ensures puts { Caches (λ r. r.0) self (self.tip ++ bytes.now) cache.old cache.new result }
+        ensures can_read { let old = B.life blob.old in let new = B.life blob.new in
+            IfOk result (λ r. ReadsOn self r.0 cache.old cache.new old new) }
+        ensures caches { let held = content self (B.life blob.old).present.readable in
+            CachesOnly self.id self.full_pages (held ++ bytes.now) cache.old cache.new }
+        ensures fresh_ids { self.id < cache.old.ids_given → IsFresh cache.old → IsFresh cache.new }
+        ensures idle_cache { length self.tip + length bytes.now ≤ self.capacity
+            → cache.new ≡ cache.old }
+
         // At each moment since the call began, and at every answer.
         ensures kept { KeepsAllFloors H.sum_of self.page_size (B.life blob.old) (B.life blob.new) }
         ensures only { let old = B.life blob.old in let new = B.life blob.new in
@@ -106,12 +119,18 @@ impl<B: Blob, H: Sum, Phase> Writer<B, H, Phase> {
         ensures starts { StartsStand (B.life blob.new).present }
     {
         let at = self.size();
-        self.append_bytes(blob, bytes)?;
+        self.append_bytes(blob, cache, bytes)?;
         Ok((self, at))
     }
 
     /// The same. After an error the writer is of no use.
-    fn append_bytes(&mut self, blob: &mut B, bytes: &[u8]) -> Result<(), Error>
+    fn append_bytes(
+        &mut self,
+        blob: &mut B,
+        cache: &mut CacheRef,
+        bytes: &[u8],
+    ) -> Result<(), Error>
+        requires cached { cache.old.page_size ≡ self.old.page_size }
         requires sound { IsSound H.sum_of self.old (B.life blob.old).present }
         ensures appends { let old = B.life blob.old in let new = B.life blob.new in
             let at = size_of self.old in
@@ -135,20 +154,30 @@ impl<B: Blob, H: Sum, Phase> Writer<B, H, Phase> {
         ensures calls { let old = B.life blob.old in let new = B.life blob.new in
             AsksAtMost (wait_calls self.old.sync + 2) old new }
         ensures starts { StartsStand (B.life blob.new).present }
+        ensures puts { CachesTo self.old self.new (self.old.tip ++ bytes.now) cache.old cache.new
+            result }
+        ensures idle_cache { length self.old.tip + length bytes.now ≤ self.old.capacity
+            → cache.new ≡ cache.old }
     {
         let Some(fill) = self.too_big_for_buffer(bytes.len()) else {
-            return self.append_buffered(blob, bytes);
+            return self.append_buffered(blob, cache, bytes);
         };
         if !self.fits(bytes.len()) {
             return Err(Error::OffsetOverflow);
         }
         let bytes = IoBuf::copy_from_slice(self.alloc, bytes)?;
-        self.append_direct(blob, fill, &bytes)
+        self.append_direct(blob, cache, fill, &bytes)
     }
 
     /// Adds bytes to the tip, and writes its full pages out where it then holds more than its
     /// capacity. After an error the writer is of no use.
-    pub(crate) fn append_buffered(&mut self, blob: &mut B, bytes: &[u8]) -> Result<(), Error>
+    pub(crate) fn append_buffered(
+        &mut self,
+        blob: &mut B,
+        cache: &mut CacheRef,
+        bytes: &[u8],
+    ) -> Result<(), Error>
+        requires cached { cache.old.page_size ≡ self.old.page_size }
         requires sound { IsSound H.sum_of self.old (B.life blob.old).present }
         ensures appends { let old = B.life blob.old in let new = B.life blob.new in
             let at = size_of self.old in
@@ -172,9 +201,13 @@ impl<B: Blob, H: Sum, Phase> Writer<B, H, Phase> {
         ensures calls { let old = B.life blob.old in let new = B.life blob.new in
             AsksAtMost (wait_calls self.old.sync + 1) old new }
         ensures starts { StartsStand (B.life blob.new).present }
+        ensures puts { CachesTo self.old self.new (self.old.tip ++ bytes.now) cache.old cache.new
+            result }
+        ensures idle_cache { length self.old.tip + length bytes.now ≤ self.old.capacity
+            → cache.new ≡ cache.old }
     {
         if self.buffer(bytes)? {
-            self.flush(blob, false)
+            self.flush(blob, cache, false)
         } else {
             Ok(())
         }
@@ -192,6 +225,7 @@ impl<B: Blob, H: Sum, Phase> Writer<B, H, Phase> {
         ensures appends { BuffersOver H.sum_of self.old bytes.now self.new result }
         ensures sound { KeepsSound H.sum_of self.old self.new }
         ensures pages { KeepsPages self.old self.new }
+        ensures can_read { KeepsReads self.old self.new }
     {
         if !self.fits(bytes.len()) {
             return Err(Error::OffsetOverflow);
@@ -212,6 +246,7 @@ impl<B: Blob, H: Sum, Phase> Writer<B, H, Phase> {
         ensures appends { BuffersOver H.sum_of self.old (T.encoded value.now) self.new result }
         ensures sound { KeepsSound H.sum_of self.old self.new }
         ensures pages { KeepsPages self.old self.new }
+        ensures can_read { KeepsReads self.old self.new }
     {
         if !self.fits(value.encode_size()) {
             return Err(Error::OffsetOverflow);

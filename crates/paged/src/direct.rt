@@ -16,6 +16,8 @@ ghost use Rattle.paged.specs.Calls.{Completed, wait_calls};
 ghost use Rattle.paged.specs.Direct.{fill_of, is_too_big, buffering, IsDirect, AsksWithWait};
 ghost use Rattle.paged.specs.Flush.{advanced, answered, flush_bytes, place_of, written};
 ghost use Rattle.paged.specs.Reads.{HasPages, size_of};
+ghost use Rattle.paged.specs.Caches.{CachesTo, Caches, ReadsOn};
+ghost use Rattle.cache.specs.Pages.{CachesOnly, IsFresh};
 
 use crate::Writer;
 use crate::build::physical_pages;
@@ -83,17 +85,26 @@ impl<B, H, Phase> Writer<B, H, Phase> {
 
 impl<B, H: Sum, Phase> Writer<B, H, Phase> {
     /// The physical pages of whole pages that begin where the tip does, which is empty: the writer
-    /// stands then as once they are written, with the rest in its tip. `OutOfMemory` alone.
-    fn take_direct(&mut self, whole: IoBuf, rest: &[u8]) -> Result<IoBufs, Error>
+    /// stands then as once they are written, with the rest in its tip. The pages are put in the
+    /// cache. `OutOfMemory` alone.
+    fn take_direct(
+        &mut self,
+        cache: &mut CacheRef,
+        whole: IoBuf,
+        rest: &[u8],
+    ) -> Result<IoBufs, Error>
+        requires cached { cache.old.page_size ≡ self.old.page_size }
         requires direct { IsDirect self.old whole rest.now }
         ensures bytes { let direct = buffering self.old (whole ++ rest.now) in
             IfOk result (λ bufs. concat bufs ≡ flush_bytes H.sum_of direct false) }
         ensures state { let direct = buffering self.old (whole ++ rest.now) in
             OnOk result (self.new ≡ advanced direct None self.old.sync) }
+        ensures puts { CachesTo self.old self.new (whole ++ rest.now) cache.old cache.new result }
         ensures err { IsOkUnless result Error.OutOfMemory }
     {
         let durable = self.durable;
         let page_size = usize::from(self.page_size.get());
+        cache.cache(self.id, whole.as_ref(), self.tip.offset());
         self.pass(&whole, rest)?;
         cut_pages::<H>(self.alloc, page_size, durable, whole)
     }
@@ -113,9 +124,10 @@ impl<B: Blob, H: Sum, Phase> Writer<B, H, Phase> {
     pub fn append_owned(
         mut self,
         blob: &mut B,
-        _cache: &mut CacheRef,
+        cache: &mut CacheRef,
         bytes: IoBuf,
     ) -> Result<(Self, u64), Error>
+        requires cached { cache.old.page_size ≡ self.page_size }
         requires sound { IsSound H.sum_of self (B.life blob.old).present }
         ensures appends { let old = B.life blob.old in let new = B.life blob.new in
             Appends H.sum_of self bytes old new result }
@@ -138,6 +150,16 @@ impl<B: Blob, H: Sum, Phase> Writer<B, H, Phase> {
             let held = content self old.present.readable in
             IfOk result (λ r. Completed H.sum_of self.page_size held self.sync r.0.sync old new) }
 
+        // The full pages that are written are put in the cache, which stays true: reads go on.
+        ensures puts { Caches (λ r. r.0) self (self.tip ++ bytes) cache.old cache.new result }
+        ensures can_read { let old = B.life blob.old in let new = B.life blob.new in
+            IfOk result (λ r. ReadsOn self r.0 cache.old cache.new old new) }
+        ensures caches { let held = content self (B.life blob.old).present.readable in
+            CachesOnly self.id self.full_pages (held ++ bytes) cache.old cache.new }
+        ensures fresh_ids { self.id < cache.old.ids_given → IsFresh cache.old → IsFresh cache.new }
+        ensures idle_cache { length self.tip + length bytes ≤ self.capacity
+            → cache.new ≡ cache.old }
+
         // At each moment since the call began, and at every answer.
         ensures kept { KeepsAllFloors H.sum_of self.page_size (B.life blob.old) (B.life blob.new) }
         ensures only { let old = B.life blob.old in let new = B.life blob.new in
@@ -151,12 +173,13 @@ impl<B: Blob, H: Sum, Phase> Writer<B, H, Phase> {
         ensures starts { StartsStand (B.life blob.new).present }
     {
         let at = self.size();
-        self.append_buf(blob, &bytes)?;
+        self.append_buf(blob, cache, &bytes)?;
         Ok((self, at))
     }
 
     /// The same. After an error the writer is of no use.
-    fn append_buf(&mut self, blob: &mut B, bytes: &IoBuf) -> Result<(), Error>
+    fn append_buf(&mut self, blob: &mut B, cache: &mut CacheRef, bytes: &IoBuf) -> Result<(), Error>
+        requires cached { cache.old.page_size ≡ self.old.page_size }
         requires sound { IsSound H.sum_of self.old (B.life blob.old).present }
         ensures appends { let old = B.life blob.old in let new = B.life blob.new in
             let at = size_of self.old in
@@ -180,14 +203,18 @@ impl<B: Blob, H: Sum, Phase> Writer<B, H, Phase> {
         ensures calls { let old = B.life blob.old in let new = B.life blob.new in
             AsksAtMost (wait_calls self.old.sync + 2) old new }
         ensures starts { StartsStand (B.life blob.new).present }
+        ensures puts { CachesTo self.old self.new (self.old.tip ++ bytes.now) cache.old cache.new
+            result }
+        ensures idle_cache { length self.old.tip + length bytes.now ≤ self.old.capacity
+            → cache.new ≡ cache.old }
     {
         let Some(fill) = self.too_big_for_buffer(bytes.len()) else {
-            return self.append_buffered(blob, bytes.as_ref());
+            return self.append_buffered(blob, cache, bytes.as_ref());
         };
         if !self.fits(bytes.len()) {
             return Err(Error::OffsetOverflow);
         }
-        self.append_direct(blob, fill, bytes)
+        self.append_direct(blob, cache, fill, bytes)
     }
 
     /// Appends what is too big for the buffer: fills the tip to a page boundary, which takes `fill`
@@ -196,9 +223,11 @@ impl<B: Blob, H: Sum, Phase> Writer<B, H, Phase> {
     pub(crate) fn append_direct(
         &mut self,
         blob: &mut B,
+        cache: &mut CacheRef,
         fill: usize,
         bytes: &IoBuf,
     ) -> Result<(), Error>
+        requires cached { cache.old.page_size ≡ self.old.page_size }
         requires sound { IsSound H.sum_of self.old (B.life blob.old).present }
         requires big { is_too_big self.old (length bytes.now) ≡ true }
         requires fill { fill ≡ fill_of self.old }
@@ -218,17 +247,20 @@ impl<B: Blob, H: Sum, Phase> Writer<B, H, Phase> {
         ensures calls { let old = B.life blob.old in let new = B.life blob.new in
             AsksAtMost (wait_calls self.old.sync + 2) old new }
         ensures starts { StartsStand (B.life blob.new).present }
+        ensures puts { CachesTo self.old self.new (self.old.tip ++ bytes.now) cache.old cache.new
+            result }
     {
         let page_size = usize::from(self.page_size.get());
         let end = bytes.len() - (bytes.len() - fill) % page_size;
-        self.fill_tip(blob, &bytes.as_ref()[..fill])?;
+        self.fill_tip(blob, cache, &bytes.as_ref()[..fill])?;
         let whole = bytes.slice(fill, end)?;
-        self.write_direct(blob, whole, &bytes.as_ref()[end..])
+        self.write_direct(blob, cache, whole, &bytes.as_ref()[end..])
     }
 
     /// Adds the bytes that fill the tip to a page boundary, and writes it out where it isn't empty.
     /// After an error the writer is of no use.
-    fn fill_tip(&mut self, blob: &mut B, bytes: &[u8]) -> Result<(), Error>
+    fn fill_tip(&mut self, blob: &mut B, cache: &mut CacheRef, bytes: &[u8]) -> Result<(), Error>
+        requires cached { cache.old.page_size ≡ self.old.page_size }
         requires sound { IsSound H.sum_of self.old (B.life blob.old).present }
         requires fill { length bytes.now ≡ fill_of self.old }
         ensures appends { let old = B.life blob.old in let new = B.life blob.new in
@@ -245,14 +277,23 @@ impl<B: Blob, H: Sum, Phase> Writer<B, H, Phase> {
         ensures waited { let old = B.life blob.old in let new = B.life blob.new in
             OnOk result (AsksWithWait self.old.sync self.new.sync old new) }
         ensures starts { StartsStand (B.life blob.new).present }
+        ensures puts { CachesTo self.old self.new (self.old.tip ++ bytes.now) cache.old cache.new
+            result }
     {
         self.buffer(bytes)?;
-        self.flush(blob, false)
+        self.flush(blob, cache, false)
     }
 
     /// Writes whole pages that begin where the tip does, which is empty, and buffers the rest; it
     /// waits for a pending sync before. After an error the writer is of no use.
-    fn write_direct(&mut self, blob: &mut B, whole: IoBuf, rest: &[u8]) -> Result<(), Error>
+    fn write_direct(
+        &mut self,
+        blob: &mut B,
+        cache: &mut CacheRef,
+        whole: IoBuf,
+        rest: &[u8],
+    ) -> Result<(), Error>
+        requires cached { cache.old.page_size ≡ self.old.page_size }
         requires sound { IsSound H.sum_of self.old (B.life blob.old).present }
         requires direct { IsDirect self.old whole rest.now }
         ensures appends { let old = B.life blob.old in let new = B.life blob.new in
@@ -268,13 +309,21 @@ impl<B: Blob, H: Sum, Phase> Writer<B, H, Phase> {
         ensures calls { let old = B.life blob.old in let new = B.life blob.new in
             AsksAtMost (wait_calls self.old.sync + 1) old new }
         ensures starts { StartsStand (B.life blob.new).present }
+        ensures puts { CachesTo self.old self.new (whole ++ rest.now) cache.old cache.new result }
     {
         self.wait(blob)?;
-        self.flush_direct(blob, whole, rest)
+        self.flush_direct(blob, cache, whole, rest)
     }
 
     /// The same, where no sync is pending.
-    fn flush_direct(&mut self, blob: &mut B, whole: IoBuf, rest: &[u8]) -> Result<(), Error>
+    fn flush_direct(
+        &mut self,
+        blob: &mut B,
+        cache: &mut CacheRef,
+        whole: IoBuf,
+        rest: &[u8],
+    ) -> Result<(), Error>
+        requires cached { cache.old.page_size ≡ self.old.page_size }
         requires sound { IsSound H.sum_of self.old (B.life blob.old).present }
         requires waited { WaitsForNone self.old.sync }
         requires direct { IsDirect self.old whole rest.now }
@@ -290,13 +339,21 @@ impl<B: Blob, H: Sum, Phase> Writer<B, H, Phase> {
         ensures dirty { OnOk result (self.new.sync ≡ Dirty) }
         ensures calls { AsksAtMost 1 (B.life blob.old) (B.life blob.new) }
         ensures starts { StartsStand (B.life blob.new).present }
+        ensures puts { CachesTo self.old self.new (whole ++ rest.now) cache.old cache.new result }
     {
         self.carry();
-        self.write_taken(blob, whole, rest)
+        self.write_taken(blob, cache, whole, rest)
     }
 
     /// The same, where the durable slot is up to date.
-    fn write_taken(&mut self, blob: &mut B, whole: IoBuf, rest: &[u8]) -> Result<(), Error>
+    fn write_taken(
+        &mut self,
+        blob: &mut B,
+        cache: &mut CacheRef,
+        whole: IoBuf,
+        rest: &[u8],
+    ) -> Result<(), Error>
+        requires cached { cache.old.page_size ≡ self.old.page_size }
         requires direct { IsDirect self.old whole rest.now }
         ensures fits { IsErrOf result Error.OffsetOverflow → ⊥ }
         ensures goes { let old = B.life blob.old in let new = B.life blob.new in
@@ -305,9 +362,10 @@ impl<B: Blob, H: Sum, Phase> Writer<B, H, Phase> {
             WriteGoes (place_of direct) bytes false old new result }
         ensures state { let direct = buffering self.old (whole ++ rest.now) in
             OnOk result (self.new ≡ written H.sum_of direct false false) }
+        ensures puts { CachesTo self.old self.new (whole ++ rest.now) cache.old cache.new result }
     {
         let place = self.place();
-        let bufs = self.take_direct(whole, rest)?;
+        let bufs = self.take_direct(cache, whole, rest)?;
         let options = WriteOptions {
             sync: false,
             dont_cache: true,

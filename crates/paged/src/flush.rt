@@ -16,6 +16,9 @@ ghost use Rattle.paged.specs.Calls.{WaitsForSync, wait_calls};
 ghost use Rattle.paged.specs.Reads.{HasPages};
 ghost use Rattle.page.specs.Tip.{ArePages};
 ghost use Rattle.paged.specs.Writer.{FitsBlob};
+ghost use Rattle.paged.specs.Caches.{CachesTo, Caches, ReadsOn};
+ghost use Rattle.cache.specs.CacheState.{PutsAll};
+ghost use Rattle.cache.specs.Pages.{CachesOnly, IsFresh};
 ghost use Rattle.paged.specs.Flush.{full_in, rest_of, rest_bytes, has_work, carried, advanced};
 ghost use Rattle.paged.specs.Flush.{place_of, flush_bytes, synced, written, outcome, answered};
 
@@ -26,6 +29,17 @@ use bytes::Bytes;
 use cache::CacheRef;
 use disk::{Blob, Error, IoBuf, IoBufs, StartedSync, WriteOptions};
 use page::{ActiveChecksum, CHECKSUM_SIZE, Sum, split_pages};
+
+/// Puts these whole pages of a blob in the cache, the first under this number.
+fn cache_pages(cache: &mut CacheRef, id: u64, first: u64, pages: &[IoBuf])
+    requires size { ArePages cache.old.page_size pages.now }
+    requires fits { first + length pages.now < 2 ^ 64 }
+    ensures { PutsAll id first (length pages.now) (concat pages.now) cache.old cache.new }
+{
+    for (index, page) in pages.iter().enumerate() {
+        cache.keep(id, first + index as u64, page.as_ref());
+    }
+}
 
 impl<B, H, Phase> Writer<B, H, Phase> {
     /// The bytes of a physical page.
@@ -127,16 +141,21 @@ impl<B, H: Sum, Phase> Writer<B, H, Phase> {
     }
 
     /// Takes the tip's full pages out of it, and answers the physical pages of these and of the
-    /// rest where asked: the writer stands then as once they are written. `OutOfMemory` alone.
-    fn take_pages(&mut self, rest: bool) -> Result<IoBufs, Error>
+    /// rest where asked: the writer stands then as once they are written. The full pages are put in
+    /// the cache. `OutOfMemory` alone.
+    fn take_pages(&mut self, cache: &mut CacheRef, rest: bool) -> Result<IoBufs, Error>
+        requires cached { cache.old.page_size ≡ self.old.page_size }
         ensures bytes { IfOk result (λ bufs. concat bufs ≡ flush_bytes H.sum_of self.old rest) }
         ensures state { let durable = durable_after self.old.durable (full_in self.old) in
             let flushed = rest_written H.sum_of durable (rest_of self.old) rest in
             OnOk result (self.new ≡ advanced self.old flushed self.old.sync) }
+        ensures puts { CachesTo self.old self.new self.old.tip cache.old cache.new result }
         ensures err { IsOkUnless result Error.OutOfMemory }
     {
         let durable = self.durable;
+        let (id, first) = (self.id, self.full_pages());
         let pages = self.drain()?;
+        cache_pages(cache, id, first, &pages);
         let mut bufs = physical_pages::<H>(self.alloc, durable, pages)?;
         self.flushed = self.push_rest(&mut bufs, rest)?;
         Ok(bufs)
@@ -146,7 +165,14 @@ impl<B, H: Sum, Phase> Writer<B, H, Phase> {
 impl<B: Blob, H: Sum, Phase> Writer<B, H, Phase> {
     /// Writes the tip's full pages, and the rest where asked, in one write. With `sync` it is
     /// durable at once, and nothing is unsynced before it. After an error the writer is of no use.
-    fn write_pages(&mut self, blob: &mut B, rest: bool, sync: bool) -> Result<(), Error>
+    fn write_pages(
+        &mut self,
+        blob: &mut B,
+        cache: &mut CacheRef,
+        rest: bool,
+        sync: bool,
+    ) -> Result<(), Error>
+        requires cached { cache.old.page_size ≡ self.old.page_size }
         requires can { CanWrite self.old.page_size self.old.tip (full_in self.old) rest }
         requires settled { sync ≡ true → (B.life blob.old).present.since ≡ [] }
         ensures fits { IsErrOf result Error.OffsetOverflow → ⊥ }
@@ -154,9 +180,10 @@ impl<B: Blob, H: Sum, Phase> Writer<B, H, Phase> {
             let bytes = flush_bytes H.sum_of self.old rest in
             WriteGoes (place_of self.old) bytes sync old new result }
         ensures state { OnOk result (self.new ≡ written H.sum_of self.old rest sync) }
+        ensures puts { CachesTo self.old self.new self.old.tip cache.old cache.new result }
     {
         let place = self.place();
-        let bufs = self.take_pages(rest)?;
+        let bufs = self.take_pages(cache, rest)?;
         let options = WriteOptions {
             sync,
             dont_cache: true,
@@ -218,7 +245,13 @@ impl<B: Blob, H: Sum, Phase> Writer<B, H, Phase> {
     /// Writes the tip's full pages out, and with `rest` the bytes behind them, without a sync; it
     /// waits for a pending sync before. It makes no device call where there is nothing to write.
     /// After an error the writer is of no use.
-    pub(crate) fn flush(&mut self, blob: &mut B, rest: bool) -> Result<(), Error>
+    pub(crate) fn flush(
+        &mut self,
+        blob: &mut B,
+        cache: &mut CacheRef,
+        rest: bool,
+    ) -> Result<(), Error>
+        requires cached { cache.old.page_size ≡ self.old.page_size }
         requires sound { IsSound H.sum_of self.old (B.life blob.old).present }
         ensures flushes { let old = B.life blob.old in let new = B.life blob.new in
             Flushes H.sum_of self.old old new (answered self.new result) }
@@ -238,16 +271,19 @@ impl<B: Blob, H: Sum, Phase> Writer<B, H, Phase> {
         ensures idle { has_work self.old rest ≡ false
             → (result ≡ Ok tt) × (self.new ≡ self.old) × (B.life blob.new ≡ B.life blob.old) }
         ensures room { self.old.page_size ≤ self.old.capacity }
+        ensures puts { CachesTo self.old self.new self.old.tip cache.old cache.new result }
+        ensures idle_cache { has_work self.old rest ≡ false → cache.new ≡ cache.old }
     {
         if self.has_flush_work(rest) {
             self.wait(blob)?;
-            return self.flush_pages(blob, rest);
+            return self.flush_pages(blob, cache, rest);
         }
         Ok(())
     }
 
     /// The same, where no sync is pending and there is something to write.
-    fn flush_pages(&mut self, blob: &mut B, rest: bool) -> Result<(), Error>
+    fn flush_pages(&mut self, blob: &mut B, cache: &mut CacheRef, rest: bool) -> Result<(), Error>
+        requires cached { cache.old.page_size ≡ self.old.page_size }
         requires sound { IsSound H.sum_of self.old (B.life blob.old).present }
         requires waited { WaitsForNone self.old.sync }
         requires work { has_work self.old rest ≡ true }
@@ -265,10 +301,11 @@ impl<B: Blob, H: Sum, Phase> Writer<B, H, Phase> {
         ensures dirty { OnOk result (self.new.sync ≡ Dirty) }
         ensures names { OnOk result
             ((B.life blob.new).present.started ≡ (B.life blob.old).present.started) }
+        ensures puts { CachesTo self.old self.new self.old.tip cache.old cache.new result }
     {
         let behind = self.writes_rest(rest);
         self.carry();
-        self.write_pages(blob, behind, false)
+        self.write_pages(blob, cache, behind, false)
     }
 
     /// Makes all that was appended durable. It makes two device calls at most: a write and a sync
@@ -277,7 +314,8 @@ impl<B: Blob, H: Sum, Phase> Writer<B, H, Phase> {
     ///
     /// `WriteFailed` and `SyncFailed` where the device failed, and `SyncFailed` where the started
     /// sync had failed; `OutOfMemory`. The writer is gone then.
-    pub fn sync(mut self, blob: &mut B, _cache: &mut CacheRef) -> Result<Self, Error>
+    pub fn sync(mut self, blob: &mut B, cache: &mut CacheRef) -> Result<Self, Error>
+        requires cached { cache.old.page_size ≡ self.page_size }
         requires sound { IsSound H.sum_of self (B.life blob.old).present }
         ensures syncs { Syncs H.sum_of self (B.life blob.old) (B.life blob.new) result }
         ensures sound { IfOk result (λ w. IsSound H.sum_of w (B.life blob.new).present) }
@@ -288,6 +326,16 @@ impl<B: Blob, H: Sum, Phase> Writer<B, H, Phase> {
             → (result ≡ Ok self) × (B.life blob.new ≡ B.life blob.old) }
         ensures unwritten { let old = B.life blob.old in let new = B.life blob.new in
             has_work self true ≡ false → SettlesBy self.sync old new (outcome result) }
+
+        // The full pages that are written are put in the cache, which stays true: reads go on.
+        ensures puts { Caches (λ w. w) self self.tip cache.old cache.new result }
+        ensures can_read { let old = B.life blob.old in let new = B.life blob.new in
+            IfOk result (λ w. ReadsOn self w cache.old cache.new old new) }
+        ensures caches { let old = B.life blob.old in
+            CachesOnly self.id self.full_pages (content self old.present.readable) cache.old
+            cache.new }
+        ensures fresh_ids { self.id < cache.old.ids_given → IsFresh cache.old → IsFresh cache.new }
+        ensures idle_cache { has_work self true ≡ false → cache.new ≡ cache.old }
 
         // From then on every image keeps the whole content.
         ensures durable { let old = B.life blob.old in let new = B.life blob.new in
@@ -305,12 +353,13 @@ impl<B: Blob, H: Sum, Phase> Writer<B, H, Phase> {
             CoversThrough H.sum_of self.page_size held old new }
         ensures starts { StartsStand (B.life blob.new).present }
     {
-        self.sync_all(blob)?;
+        self.sync_all(blob, cache)?;
         Ok(self)
     }
 
     /// The same. After an error the writer is of no use.
-    fn sync_all(&mut self, blob: &mut B) -> Result<(), Error>
+    fn sync_all(&mut self, blob: &mut B, cache: &mut CacheRef) -> Result<(), Error>
+        requires cached { cache.old.page_size ≡ self.old.page_size }
         requires sound { IsSound H.sum_of self.old (B.life blob.old).present }
         ensures syncs { let old = B.life blob.old in let new = B.life blob.new in
             Syncs H.sum_of self.old old new (answered self.new result) }
@@ -326,16 +375,19 @@ impl<B: Blob, H: Sum, Phase> Writer<B, H, Phase> {
         ensures unwritten { has_work self.old true ≡ false
             → SettlesBy self.old.sync (B.life blob.old) (B.life blob.new) result }
         ensures starts { StartsStand (B.life blob.new).present }
+        ensures puts { CachesTo self.old self.new self.old.tip cache.old cache.new result }
+        ensures idle_cache { has_work self.old true ≡ false → cache.new ≡ cache.old }
     {
         if self.has_flush_work(true) {
-            self.sync_pages(blob)
+            self.sync_pages(blob, cache)
         } else {
             self.settle(blob)
         }
     }
 
     /// Writes the tip out and makes it durable. After an error the writer is of no use.
-    pub(crate) fn sync_pages(&mut self, blob: &mut B) -> Result<(), Error>
+    pub(crate) fn sync_pages(&mut self, blob: &mut B, cache: &mut CacheRef) -> Result<(), Error>
+        requires cached { cache.old.page_size ≡ self.old.page_size }
         requires sound { IsSound H.sum_of self.old (B.life blob.old).present }
         requires work { has_work self.old true ≡ true }
         ensures syncs { let old = B.life blob.old in let new = B.life blob.new in
@@ -347,14 +399,16 @@ impl<B: Blob, H: Sum, Phase> Writer<B, H, Phase> {
             CoversThrough H.sum_of self.old.page_size held old new }
         ensures starts { StartsStand (B.life blob.new).present }
         ensures calls { AsksAtMost (sync_calls self.old) (B.life blob.old) (B.life blob.new) }
+        ensures puts { CachesTo self.old self.new self.old.tip cache.old cache.new result }
     {
         self.wait(blob)?;
-        self.write_durably(blob)
+        self.write_durably(blob, cache)
     }
 
     /// The same, where no sync is pending: at once where nothing was unsynced, else by a write and
     /// a sync.
-    fn write_durably(&mut self, blob: &mut B) -> Result<(), Error>
+    fn write_durably(&mut self, blob: &mut B, cache: &mut CacheRef) -> Result<(), Error>
+        requires cached { cache.old.page_size ≡ self.old.page_size }
         requires sound { IsSound H.sum_of self.old (B.life blob.old).present }
         requires waited { WaitsForNone self.old.sync }
         requires work { has_work self.old true ≡ true }
@@ -367,15 +421,16 @@ impl<B: Blob, H: Sum, Phase> Writer<B, H, Phase> {
             CoversThrough H.sum_of self.old.page_size held old new }
         ensures starts { StartsStand (B.life blob.new).present }
         ensures calls { AsksAtMost (sync_calls self.old) (B.life blob.old) (B.life blob.new) }
+        ensures puts { CachesTo self.old self.new self.old.tip cache.old cache.new result }
     {
         let rest = self.has_rest();
         match self.sync_state {
             SyncState::Clean => {
                 self.carry();
-                self.write_pages(blob, rest, true)
+                self.write_pages(blob, cache, rest, true)
             }
             SyncState::Dirty | SyncState::Pending(_) => {
-                self.write_pages(blob, rest, false)?;
+                self.write_pages(blob, cache, rest, false)?;
                 self.sync_blob(blob)
             }
         }

@@ -1,142 +1,135 @@
 // Reading.
-ghost use Rattle.std.specs.Prelude.{◌≡◌, ◌+◌, ◌*◌, ◌-◌, ◌<◌, ◌≤◌, ◌^◌, ◌++◌, length, take, drop};
-ghost use Rattle.std.specs.Prelude.{OnOk, Err, IfErr, IsTrue, ◌↔◌, IsOkUnless};
-ghost use Rattle.std.specs.Int.NonZero.{non_zero_u16_get};
-ghost use Rattle.disk.specs.Disk.{ReadGoes};
-ghost use Rattle.page.specs.Page.{value_len};
+ghost use Rattle.std.specs.Prelude.{◌≡◌, ◌≢◌, ◌+◌, ◌*◌, ◌<◌, ◌≤◌, ◌^◌, length, Err, IfOk, OnOk};
+ghost use Rattle.std.specs.Prelude.{IsErrOf, IsOkUnless, sum_by};
+ghost use Rattle.std.specs.Int.NonZero.{non_zero_u16_get, non_zero_usize_get};
 ghost use Rattle.std.specs.List.{concat};
+ghost use Rattle.disk.specs.Disk.{Disk};
+ghost use Rattle.page.specs.Geometry.{AreInOrder, EndWithin};
 ghost use Rattle.crash.specs.Looks.{Looked};
 ghost use Rattle.crash.specs.Sound.{content, IsSound};
 ghost use Rattle.crash.specs.Stays.{KeepsAllFloors, LeavesOnly};
-ghost use Rattle.paged.specs.Reads.{ReadsPage, ReadFault, HasPages, AreTouchedFull, Reads, size_of};
+ghost use Rattle.paged_read.specs.Tail.{CanRead, IsView, tail_at, told};
+ghost use Rattle.paged_read.specs.Ranges.{Reads, ReadsUpTo, ReadsMany, range_up_to, TriesRead};
+ghost use Rattle.paged_read.specs.Ranges.{AsksForMissing, AsksOnce, LeavesAll, Misses, HasServed};
+ghost use Rattle.paged_read.specs.Batch.{ranges_of};
+ghost use Rattle.paged.specs.Caches.{tail_of};
+ghost use Rattle.paged.specs.Reads.{size_of};
 
 use crate::Writer;
 use cache::CacheRef;
-use disk::{Blob, Error, IoBuf, IoBufs, ReadOptions};
-use page::{Checksum, Sum};
-use std::num::NonZeroU16;
-
-/// Whether a physical page is full.
-fn is_full<H: Sum>(page_size: NonZeroU16, page: &[u8]) -> bool
-    requires { length page.now ≡ non_zero_u16_get page_size + 12 }
-    ensures { let P = non_zero_u16_get page_size in
-        IsTrue result ↔ (value_len H.sum_of P page.now ≡ P) }
-{
-    let full = page_size.get();
-    match Checksum::validate_page::<H>(page) {
-        None => false,
-        Some(slot) => slot.len == full,
-    }
-}
+use disk::{Blob, Error, IoBufs};
+use page::Sum;
+use paged_read::View;
+use std::num::NonZeroUsize;
 
 impl<B, H, Phase> Writer<B, H, Phase> {
-    /// Adds the buffered bytes from one logical place to before another, if there are any.
-    /// `OutOfMemory` alone.
-    fn read_tip(&self, bufs: &mut IoBufs, at: u64, end: u64) -> Result<(), Error>
-        requires buffered { at < end → self.now.full_pages * self.now.page_size ≤ at }
-        requires within { at < end → end ≤ size_of self.now }
-        ensures ok { let skip = at - self.now.full_pages * self.now.page_size in
-            let bytes = take (end - at) (drop skip self.now.tip) in
-            OnOk result (concat bufs.new ≡ concat bufs.old ++ bytes) }
+    /// What reads of the blob stand on: it borrows the writer, and can be copied.
+    pub fn view(&self) -> View<'_, B, H>
+        ensures view { IsView (non_zero_u16_get result.page_size) result.tip.now }
+        ensures tail { tail_at result.page_size result.id result.tip.now ≡ tail_of self.now }
+    {
+        View::new(self.alloc, self.page_size, self.id, &self.tip)
+    }
+
+    /// Copies the bytes from `offset` on into `buf`, as many as it has places for, where that needs
+    /// no device: where they are within the size, and the cache holds the pages of those below the
+    /// tip. It answers whether it did; where it didn't, what `buf` holds says nothing. It takes no
+    /// memory.
+    pub fn try_read_sync_into(&self, cache: &CacheRef, buf: &mut [u8], offset: u64) -> bool
+        requires page_size { cache.now.page_size ≡ self.now.page_size }
+        ensures tries { TriesRead (tail_of self.now) (offset, length buf.old) cache.now buf.new
+            result }
+        ensures size { length buf.new ≡ length buf.old }
+    {
+        self.view().try_read_sync_into(cache, buf, offset)
+    }
+
+    /// Copies those of these ranges, each a place and a length, that need no device to their places
+    /// in `buf`, one range behind the other, and answers the numbers of the others, rising: of all
+    /// where one passes the end. The ranges are in order, don't overlap, and fill `buf`. Its only
+    /// error is `OutOfMemory`.
+    pub fn try_read_ranges_sync_into(
+        &self,
+        cache: &CacheRef,
+        buf: &mut [u8],
+        ranges: &[(u64, usize)],
+    ) -> Result<Vec<usize>, Error>
+        requires page_size { cache.now.page_size ≡ self.now.page_size }
+        requires in_order { AreInOrder ranges.now }
+        requires filled { length buf.old ≡ sum_by (λ range. range.1) ranges.now }
+        ensures missed { IfOk result (λ missed.
+            Misses (tail_of self.now) ranges.now cache.now missed.items) }
+        ensures served { let t = tail_of self.now in
+            OnOk result (EndWithin (size_of self.now) ranges.now → (d : Disk)
+            → CanRead t cache.now d
+            → HasServed cache.now t ranges.now (told t d.readable) buf.new) }
+        ensures size { length buf.new ≡ length buf.old }
         ensures err { IsOkUnless result Error.OutOfMemory }
     {
-        if end <= at {
-            return Ok(());
-        }
-        let below = self.tip.offset();
-        self.tip
-            .read_into(bufs, (at - below) as usize, (end - below) as usize)
+        self.view().try_read_ranges_sync_into(cache, buf, ranges)
+    }
+
+    /// The same of ranges of `len` bytes at these places.
+    pub fn try_read_many_sync_into(
+        &self,
+        cache: &CacheRef,
+        buf: &mut [u8],
+        offsets: &[u64],
+        len: NonZeroUsize,
+    ) -> Result<Vec<usize>, Error>
+        requires page_size { cache.now.page_size ≡ self.now.page_size }
+        requires in_order { AreInOrder (ranges_of (non_zero_usize_get len) offsets.now) }
+        requires filled { length buf.old ≡ length offsets.now * non_zero_usize_get len }
+        ensures missed { let ranges = ranges_of (non_zero_usize_get len) offsets.now in
+            IfOk result (λ missed. Misses (tail_of self.now) ranges cache.now missed.items) }
+        ensures served { let t = tail_of self.now in
+            let ranges = ranges_of (non_zero_usize_get len) offsets.now in
+            OnOk result (EndWithin (size_of self.now) ranges → (d : Disk) → CanRead t cache.now d
+            → HasServed cache.now t ranges (told t d.readable) buf.new) }
+        ensures size { length buf.new ≡ length buf.old }
+        ensures err { IsOkUnless result Error.OutOfMemory }
+    {
+        self.view()
+            .try_read_many_sync_into(cache, buf, offsets, len)
     }
 }
 
 impl<B: Blob, H: Sum, Phase> Writer<B, H, Phase> {
-    /// The bytes of a physical page below the tip.
-    fn read_physical(&self, blob: &mut B, page: u64) -> Result<IoBuf, Error>
-        requires { page < self.now.full_pages }
-        ensures { let old = B.life blob.old in let new = B.life blob.new in
-            ReadGoes (page * (self.now.page_size + 12)) (self.now.page_size + 12) old new result }
-    {
-        let size = self.physical_page_size();
-        blob.read_at(
-            self.alloc,
-            page * size,
-            size as usize,
-            ReadOptions::default(),
-        )
-    }
-
-    /// The `len` bytes from byte `skip` on of a page below the tip. `InvalidChecksum` where the
-    /// page isn't full.
-    fn read_page(&self, blob: &mut B, page: u64, skip: usize, len: usize) -> Result<IoBuf, Error>
-        requires below { page < self.now.full_pages }
-        requires within { skip + len ≤ self.now.page_size }
-        requires there { HasPages self.now (B.life blob.old) }
-        ensures reads { let old = B.life blob.old in let new = B.life blob.new in
-            ReadsPage H.sum_of self.now.page_size page skip len old new result }
-        ensures looked { Looked (B.life blob.old) (B.life blob.new) }
-    {
-        let bytes = self.read_physical(blob, page)?;
-        if is_full::<H>(self.page_size, bytes.as_ref()) {
-            bytes.slice(skip, skip + len)
-        } else {
-            Err(Error::InvalidChecksum)
-        }
-    }
-
-    /// Adds the bytes below the tip from one logical place to before another, page by page.
-    fn read_below(
-        &self,
-        blob: &mut B,
-        bufs: &mut IoBufs,
-        mut at: u64,
-        end: u64,
-    ) -> Result<(), Error>
-        requires below { end ≤ self.now.full_pages * self.now.page_size }
-        requires there { HasPages self.now (B.life blob.old) }
-        ensures ok { let old = B.life blob.old in
-            let held = content self.now old.present.readable in
-            OnOk result (concat bufs.new ≡ concat bufs.old ++ take (end - at) (drop at held)) }
-        ensures full { let old = B.life blob.old in
-            OnOk result (AreTouchedFull H.sum_of self.now at end old.present.readable) }
-        ensures err { let old = B.life blob.old in let new = B.life blob.new in
-            IfErr result (ReadFault H.sum_of self.now at end old new) }
-        ensures looked { Looked (B.life blob.old) (B.life blob.new) }
-    {
-        let page_size = u64::from(self.page_size.get());
-        while at < end {
-            let skip = at % page_size;
-            let len = (page_size - skip).min(end - at);
-            let bytes = self.read_page(blob, at / page_size, skip as usize, len as usize)?;
-            bufs.append(bytes)?;
-            at += len;
-        }
-        Ok(())
-    }
-
-    /// The `len` logical bytes at `offset`: those below the tip from the blob, page by page, each
-    /// page in one read, and then those that are buffered.
+    /// Copies the bytes from `offset` on into `buf`, as many as it has places for: those below the
+    /// tip from pages that the cache holds, else from the blob, one read for each page, and the
+    /// others from memory. A read of held pages takes no memory and asks no device. Pages that are
+    /// read are put in the cache, also where the call fails behind them.
     ///
     /// `OffsetOverflow` where the range passes the greatest `u64`, else `BlobInsufficientLength`
     /// where it passes the size: both before anything is asked for. `ReadFailed` where the device
     /// failed, `InvalidChecksum` where a page below the tip isn't full, which it always is in a
-    /// sound blob, `OutOfMemory`. An error leaves all as it was.
-    pub fn read_at(
+    /// sound blob, `OutOfMemory`; then what `buf` holds says nothing.
+    pub fn read_into(
         &self,
         blob: &mut B,
-        _cache: &mut CacheRef,
+        cache: &mut CacheRef,
+        buf: &mut [u8],
         offset: u64,
-        len: usize,
-    ) -> Result<IoBufs, Error>
-        requires there { HasPages self.now (B.life blob.old) }
+    ) -> Result<(), Error>
+        requires can { CanRead (tail_of self.now) cache.old (B.life blob.old).present }
         ensures reads { let old = B.life blob.old in let new = B.life blob.new in
-            Reads H.sum_of self.now offset len old new result }
-        ensures overflow { 2 ^ 64 ≤ offset + len → result ≡ Err Error.OffsetOverflow }
-        ensures end { offset + len < 2 ^ 64 → size_of self.now < offset + len
+            Reads H.sum_of (tail_of self.now) cache.old (offset, length buf.old) (λ _. buf.new) old
+            new result }
+        ensures overflow { 2 ^ 64 ≤ offset + length buf.old → result ≡ Err Error.OffsetOverflow }
+        ensures end { offset + length buf.old < 2 ^ 64
+            → size_of self.now < offset + length buf.old
             → result ≡ Err Error.BlobInsufficientLength }
+        ensures asks { let old = B.life blob.old in let new = B.life blob.new in
+            AsksForMissing cache.old (tail_of self.now) (offset, length buf.old) old new }
+        ensures size { length buf.new ≡ length buf.old }
+        ensures leaves { let old = B.life blob.old in let new = B.life blob.new in
+            LeavesAll (tail_of self.now) cache.old cache.new old new }
         ensures looked { Looked (B.life blob.old) (B.life blob.new) }
 
-        // Of a sound writer: it stays so, and a crash at any moment of the read keeps and leaves
-        // what it did before.
+        // Of a sound writer: each of its pages is full; it stays sound, and a crash at any moment
+        // of the read keeps and leaves what it did before.
+        ensures never { IsSound H.sum_of self.now (B.life blob.old).present
+            → IsErrOf result Error.InvalidChecksum → ⊥ }
         ensures sound { let old = B.life blob.old in let new = B.life blob.new in
             IsSound H.sum_of self.now old.present → IsSound H.sum_of self.now new.present }
         ensures kept { let old = B.life blob.old in let new = B.life blob.new in
@@ -147,14 +140,170 @@ impl<B: Blob, H: Sum, Phase> Writer<B, H, Phase> {
             IsSound H.sum_of self.now old.present
             → LeavesOnly H.sum_of self.now.page_size held held old new }
     {
-        let end = offset.checked_add(len as u64).ok_or(Error::OffsetOverflow)?;
-        if end > self.size() {
-            return Err(Error::BlobInsufficientLength);
-        }
-        let below = self.tip.offset();
-        let mut bufs = IoBufs::new(self.alloc);
-        self.read_below(blob, &mut bufs, offset, end.min(below))?;
-        self.read_tip(&mut bufs, offset.max(below), end)?;
-        Ok(bufs)
+        self.view().read_into(blob, cache, buf, offset)
+    }
+
+    /// The `len` bytes from `offset` on, read as [`Writer::read_into`] reads them, and refused as
+    /// it refuses them.
+    pub fn read_at(
+        &self,
+        blob: &mut B,
+        cache: &mut CacheRef,
+        offset: u64,
+        len: usize,
+    ) -> Result<IoBufs, Error>
+        requires can { CanRead (tail_of self.now) cache.old (B.life blob.old).present }
+        ensures reads { let old = B.life blob.old in let new = B.life blob.new in
+            Reads H.sum_of (tail_of self.now) cache.old (offset, len) concat old new result }
+        ensures overflow { 2 ^ 64 ≤ offset + len → result ≡ Err Error.OffsetOverflow }
+        ensures end { offset + len < 2 ^ 64 → size_of self.now < offset + len
+            → result ≡ Err Error.BlobInsufficientLength }
+        ensures asks { let old = B.life blob.old in let new = B.life blob.new in
+            AsksForMissing cache.old (tail_of self.now) (offset, len) old new }
+        ensures leaves { let old = B.life blob.old in let new = B.life blob.new in
+            LeavesAll (tail_of self.now) cache.old cache.new old new }
+        ensures looked { Looked (B.life blob.old) (B.life blob.new) }
+
+        // Of a sound writer: each of its pages is full; it stays sound, and a crash at any moment
+        // of the read keeps and leaves what it did before.
+        ensures never { IsSound H.sum_of self.now (B.life blob.old).present
+            → IsErrOf result Error.InvalidChecksum → ⊥ }
+        ensures sound { let old = B.life blob.old in let new = B.life blob.new in
+            IsSound H.sum_of self.now old.present → IsSound H.sum_of self.now new.present }
+        ensures kept { let old = B.life blob.old in let new = B.life blob.new in
+            IsSound H.sum_of self.now old.present
+            → KeepsAllFloors H.sum_of self.now.page_size old new }
+        ensures only { let old = B.life blob.old in let new = B.life blob.new in
+            let held = content self.now old.present.readable in
+            IsSound H.sum_of self.now old.present
+            → LeavesOnly H.sum_of self.now.page_size held held old new }
+    {
+        self.view().read_at(blob, cache, offset, len)
+    }
+
+    /// As many bytes from `offset` on as there are, at most `len`, in place of what `bytes` held,
+    /// and how many: at least one, unless none is asked for, which is answered at any place.
+    ///
+    /// `BlobInsufficientLength` at or behind the end, before anything is asked for; `ReadFailed`,
+    /// `InvalidChecksum`, `OutOfMemory`, as [`Writer::read_into`] answers them.
+    pub fn read_up_to(
+        &self,
+        blob: &mut B,
+        cache: &mut CacheRef,
+        offset: u64,
+        len: usize,
+        bytes: Vec<u8>,
+    ) -> Result<(Vec<u8>, usize), Error>
+        requires can { CanRead (tail_of self.now) cache.old (B.life blob.old).present }
+        ensures reads { let old = B.life blob.old in let new = B.life blob.new in
+            ReadsUpTo H.sum_of (tail_of self.now) cache.old offset len old new result }
+        ensures end { len ≢ 0 → size_of self.now ≤ offset
+            → result ≡ Err Error.BlobInsufficientLength }
+        ensures asks { let old = B.life blob.old in let new = B.life blob.new in
+            let range = range_up_to (tail_of self.now) offset len in
+            AsksForMissing cache.old (tail_of self.now) range old new }
+        ensures leaves { let old = B.life blob.old in let new = B.life blob.new in
+            LeavesAll (tail_of self.now) cache.old cache.new old new }
+        ensures looked { Looked (B.life blob.old) (B.life blob.new) }
+
+        // Of a sound writer: each of its pages is full; it stays sound, and a crash at any moment
+        // of the read keeps and leaves what it did before.
+        ensures never { IsSound H.sum_of self.now (B.life blob.old).present
+            → IsErrOf result Error.InvalidChecksum → ⊥ }
+        ensures sound { let old = B.life blob.old in let new = B.life blob.new in
+            IsSound H.sum_of self.now old.present → IsSound H.sum_of self.now new.present }
+        ensures kept { let old = B.life blob.old in let new = B.life blob.new in
+            IsSound H.sum_of self.now old.present
+            → KeepsAllFloors H.sum_of self.now.page_size old new }
+        ensures only { let old = B.life blob.old in let new = B.life blob.new in
+            let held = content self.now old.present.readable in
+            IsSound H.sum_of self.now old.present
+            → LeavesOnly H.sum_of self.now.page_size held held old new }
+    {
+        self.view().read_up_to(blob, cache, offset, len, bytes)
+    }
+
+    /// Reads these ranges, each a place and a length, to their places in `buf`, one behind the
+    /// other, and answers how many of them needed no device: empty ones count. The ranges are in
+    /// order, don't overlap, and fill `buf`. The pages that the cache lacks are read in one call of
+    /// the device, each once, and put in the cache as they are delivered.
+    ///
+    /// The first range that can't be read decides, before memory or the device is asked for:
+    /// `OffsetOverflow` where it passes the greatest `u64`, else `BlobInsufficientLength` where it
+    /// passes the size. `ReadFailed`, `InvalidChecksum`, `OutOfMemory`, as [`Writer::read_into`]
+    /// answers them.
+    pub fn read_ranges_into(
+        &self,
+        blob: &mut B,
+        cache: &mut CacheRef,
+        buf: &mut [u8],
+        ranges: &[(u64, usize)],
+    ) -> Result<usize, Error>
+        requires can { CanRead (tail_of self.now) cache.old (B.life blob.old).present }
+        requires in_order { AreInOrder ranges.now }
+        requires filled { length buf.old ≡ sum_by (λ range. range.1) ranges.now }
+        ensures reads { let old = B.life blob.old in let new = B.life blob.new in
+            ReadsMany H.sum_of (tail_of self.now) cache.old ranges.now buf.new old new result }
+        ensures asks { let old = B.life blob.old in let new = B.life blob.new in
+            AsksOnce cache.old (tail_of self.now) ranges.now old new }
+        ensures size { length buf.new ≡ length buf.old }
+        ensures leaves { let old = B.life blob.old in let new = B.life blob.new in
+            LeavesAll (tail_of self.now) cache.old cache.new old new }
+        ensures looked { Looked (B.life blob.old) (B.life blob.new) }
+
+        // Of a sound writer: each of its pages is full; it stays sound, and a crash at any moment
+        // of the read keeps and leaves what it did before.
+        ensures never { IsSound H.sum_of self.now (B.life blob.old).present
+            → IsErrOf result Error.InvalidChecksum → ⊥ }
+        ensures sound { let old = B.life blob.old in let new = B.life blob.new in
+            IsSound H.sum_of self.now old.present → IsSound H.sum_of self.now new.present }
+        ensures kept { let old = B.life blob.old in let new = B.life blob.new in
+            IsSound H.sum_of self.now old.present
+            → KeepsAllFloors H.sum_of self.now.page_size old new }
+        ensures only { let old = B.life blob.old in let new = B.life blob.new in
+            let held = content self.now old.present.readable in
+            IsSound H.sum_of self.now old.present
+            → LeavesOnly H.sum_of self.now.page_size held held old new }
+    {
+        self.view().read_ranges_into(blob, cache, buf, ranges)
+    }
+
+    /// The same of ranges of `len` bytes at these places.
+    pub fn read_many_into(
+        &self,
+        blob: &mut B,
+        cache: &mut CacheRef,
+        buf: &mut [u8],
+        offsets: &[u64],
+        len: NonZeroUsize,
+    ) -> Result<usize, Error>
+        requires can { CanRead (tail_of self.now) cache.old (B.life blob.old).present }
+        requires in_order { AreInOrder (ranges_of (non_zero_usize_get len) offsets.now) }
+        requires filled { length buf.old ≡ length offsets.now * non_zero_usize_get len }
+        ensures reads { let ranges = ranges_of (non_zero_usize_get len) offsets.now in
+            let old = B.life blob.old in let new = B.life blob.new in
+            ReadsMany H.sum_of (tail_of self.now) cache.old ranges buf.new old new result }
+        ensures asks { let ranges = ranges_of (non_zero_usize_get len) offsets.now in
+            AsksOnce cache.old (tail_of self.now) ranges (B.life blob.old) (B.life blob.new) }
+        ensures size { length buf.new ≡ length buf.old }
+        ensures leaves { let old = B.life blob.old in let new = B.life blob.new in
+            LeavesAll (tail_of self.now) cache.old cache.new old new }
+        ensures looked { Looked (B.life blob.old) (B.life blob.new) }
+
+        // Of a sound writer: each of its pages is full; it stays sound, and a crash at any moment
+        // of the read keeps and leaves what it did before.
+        ensures never { IsSound H.sum_of self.now (B.life blob.old).present
+            → IsErrOf result Error.InvalidChecksum → ⊥ }
+        ensures sound { let old = B.life blob.old in let new = B.life blob.new in
+            IsSound H.sum_of self.now old.present → IsSound H.sum_of self.now new.present }
+        ensures kept { let old = B.life blob.old in let new = B.life blob.new in
+            IsSound H.sum_of self.now old.present
+            → KeepsAllFloors H.sum_of self.now.page_size old new }
+        ensures only { let old = B.life blob.old in let new = B.life blob.new in
+            let held = content self.now old.present.readable in
+            IsSound H.sum_of self.now old.present
+            → LeavesOnly H.sum_of self.now.page_size held held old new }
+    {
+        self.view().read_many_into(blob, cache, buf, offsets, len)
     }
 }

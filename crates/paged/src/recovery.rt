@@ -12,6 +12,9 @@ ghost use Rattle.paged.specs.Recovers.{Recovers, GivesId};
 ghost use Rattle.paged.specs.Searches.{ReadsBack, ReadsWithin, scan_bytes};
 ghost use Rattle.page.specs.Page.{text};
 ghost use Rattle.paged.specs.Reads.{HasPages};
+ghost use Rattle.paged.specs.Caches.{tail_of};
+ghost use Rattle.paged_read.specs.Tail.{CanRead};
+ghost use Rattle.cache.specs.Pages.{IsFresh};
 ghost use Rattle.crash.specs.Sound.{IsSound};
 ghost use Rattle.crash.specs.Stays.{KeepsAll, KeepsAllFloors};
 
@@ -144,6 +147,11 @@ impl<B: Blob, H: Sum> Recovery<B, H> {
         ensures within { IfOk result (λ w. HoldsWithin w) }
         ensures ids { cache.new ≡ cache_after result cache.old }
 
+        // Nothing is held under a new id, so reads may begin.
+        ensures can_read { IsFresh cache.old
+            → IfOk result (λ w. CanRead (tail_of w) cache.new (B.life blob.new).present) }
+        ensures fresh_ids { IsFresh cache.old → IsFresh cache.new }
+
         // What a cut of it asks for.
         ensures as_opened { let new = B.life blob.new in
             IfOk result (λ w. IsAsOpened H.sum_of w new.present) }
@@ -190,6 +198,11 @@ impl<B: Blob, H: Sum> Writer<B, H> {
         ensures within { IfOk result (λ w. HoldsWithin w) }
         ensures ids { cache.new ≡ cache_after result cache.old }
 
+        // Nothing is held under a new id, so reads may begin.
+        ensures can_read { IsFresh cache.old
+            → IfOk result (λ w. CanRead (tail_of w) cache.new (B.life blob.new).present) }
+        ensures fresh_ids { IsFresh cache.old → IsFresh cache.new }
+
         // What a cut of it asks for.
         ensures as_opened { let new = B.life blob.new in
             IfOk result (λ w. IsAsOpened H.sum_of w new.present) }
@@ -235,6 +248,11 @@ pub fn recover<B: Blob, H: Sum>(
     ensures there { IfOk result (λ w. HasPages w (B.life blob.new)) }
     ensures within { IfOk result (λ w. HoldsWithin w) }
     ensures ids { GivesId result cache.old cache.new }
+
+    // Nothing is held under a new id, so reads may begin.
+    ensures can_read { IsFresh cache.old
+        → IfOk result (λ w. CanRead (tail_of w) cache.new (B.life blob.new).present) }
+    ensures fresh_ids { IsFresh cache.old → IsFresh cache.new }
 
     // From then on every image keeps the whole text.
     ensures durable { let old = B.life blob.old in let new = B.life blob.new in

@@ -1,5 +1,5 @@
 // Syncs that are started, and waited for later.
-ghost use Rattle.std.specs.Prelude.{ℕ, ◌≡◌, ◌<◌, ◌≤◌, Ok, IfOk, OnOk, length, nat_lt};
+ghost use Rattle.std.specs.Prelude.{ℕ, ◌≡◌, true, false, ◌<◌, ◌≤◌, Ok, IfOk, OnOk, length, nat_lt};
 ghost use Rattle.disk.specs.declared.started_sync.StartedSync.TheVariants.{Named};
 ghost use Rattle.crash.specs.Sound.{IsSound, content};
 ghost use Rattle.crash.specs.Below.{PagesStay};
@@ -12,6 +12,11 @@ ghost use Rattle.disk.specs.Disk.{StartGoes, WaitsFor};
 ghost use Rattle.paged.specs.Calls.{sync_calls, unstarted_calls, wait_calls, SettlesBy};
 ghost use Rattle.paged.specs.Flush.{answered, outcome, paired};
 ghost use Rattle.paged.specs.Reads.{HasPages};
+ghost use Rattle.paged.specs.Caches.{CachesTo, Caches, ReadsOn};
+ghost use Rattle.paged_read.specs.Tail.{Tail, CanRead};
+ghost use Rattle.paged.specs.Flush.{has_work};
+ghost use Rattle.cache.specs.CacheState.{CacheState};
+ghost use Rattle.cache.specs.Pages.{CachesOnly, IsFresh};
 
 use crate::Writer;
 use crate::writer::SyncState;
@@ -44,8 +49,9 @@ impl<B: Blob, H: Sum, Phase> Writer<B, H, Phase> {
     pub fn start_sync(
         mut self,
         blob: &mut B,
-        _cache: &mut CacheRef,
+        cache: &mut CacheRef,
     ) -> Result<(Self, StartedSync), Error>
+        requires cached { cache.old.page_size ≡ self.page_size }
         requires sound { IsSound H.sum_of self (B.life blob.old).present }
         ensures starts_sync { let old = B.life blob.old in let new = B.life blob.new in
             StartsSync H.sum_of self old new result }
@@ -61,6 +67,16 @@ impl<B: Blob, H: Sum, Phase> Writer<B, H, Phase> {
         ensures fresh { 0 < start_calls self → IfOk result (λ r.
             r.1 ≡ Named (length (B.life blob.old).present.started)) }
 
+        // The full pages that are written are put in the cache, which stays true: reads go on.
+        ensures puts { Caches (λ r. r.0) self self.tip cache.old cache.new result }
+        ensures can_read { let old = B.life blob.old in let new = B.life blob.new in
+            IfOk result (λ r. ReadsOn self r.0 cache.old cache.new old new) }
+        ensures caches { let old = B.life blob.old in
+            CachesOnly self.id self.full_pages (content self old.present.readable) cache.old
+            cache.new }
+        ensures fresh_ids { self.id < cache.old.ids_given → IsFresh cache.old → IsFresh cache.new }
+        ensures idle_cache { has_work self true ≡ false → cache.new ≡ cache.old }
+
         // At each moment since the call began, and at every answer.
         ensures kept { KeepsAllFloors H.sum_of self.page_size (B.life blob.old) (B.life blob.new) }
         ensures only { let old = B.life blob.old in let new = B.life blob.new in
@@ -73,12 +89,13 @@ impl<B: Blob, H: Sum, Phase> Writer<B, H, Phase> {
             CoversThrough H.sum_of self.page_size held old new }
         ensures starts { StartsStand (B.life blob.new).present }
     {
-        let started = self.start_all(blob)?;
+        let started = self.start_all(blob, cache)?;
         Ok((self, started))
     }
 
     /// The same. After an error the writer is of no use.
-    fn start_all(&mut self, blob: &mut B) -> Result<StartedSync, Error>
+    fn start_all(&mut self, blob: &mut B, cache: &mut CacheRef) -> Result<StartedSync, Error>
+        requires cached { cache.old.page_size ≡ self.old.page_size }
         requires sound { IsSound H.sum_of self.old (B.life blob.old).present }
         ensures starts_sync { let old = B.life blob.old in let new = B.life blob.new in
             StartsSync H.sum_of self.old old new (paired self.new result) }
@@ -95,8 +112,10 @@ impl<B: Blob, H: Sum, Phase> Writer<B, H, Phase> {
             × (B.life blob.new ≡ B.life blob.old) }
         ensures fresh { 0 < start_calls self.old → IfOk result (λ started.
             started ≡ Named (length (B.life blob.old).present.started)) }
+        ensures puts { CachesTo self.old self.new self.old.tip cache.old cache.new result }
+        ensures idle_cache { has_work self.old true ≡ false → cache.new ≡ cache.old }
     {
-        self.flush(blob, true)?;
+        self.flush(blob, cache, true)?;
         self.start_written(blob)
     }
 
@@ -119,6 +138,7 @@ impl<B: Blob, H: Sum, Phase> Writer<B, H, Phase> {
             × (B.life blob.new ≡ B.life blob.old) }
         ensures fresh { 0 < unstarted_calls self.old.sync → IfOk result (λ started.
             started ≡ Named (length (B.life blob.old).present.started)) }
+        ensures same_pages { OnOk result (self.new.full_pages ≡ self.old.full_pages) }
     {
         match self.sync_state {
             SyncState::Clean => Ok(StartedSync::Done),
@@ -154,6 +174,8 @@ impl<B: Blob, H: Sum, Phase> Writer<B, H, Phase> {
             → SettlesBy self.sync (B.life blob.old) (B.life blob.new) (outcome result) }
         ensures idle { wait_calls self.sync ≡ 0
             → (result ≡ Ok self) × (B.life blob.new ≡ B.life blob.old) }
+        ensures can_read { let old = B.life blob.old in let new = B.life blob.new in
+            IfOk result (λ w. (cache : CacheState) → ReadsOn self w cache cache old new) }
 
         // From then on every image keeps what the sync covers.
         ensures durable { let old = B.life blob.old in let new = B.life blob.new in
@@ -185,6 +207,8 @@ impl<B: Blob, H: Sum, Phase> Writer<B, H, Phase> {
 pub fn wait_sync<B: Blob, H: Sum>(blob: &mut B, started: StartedSync) -> Result<(), Error>
     ensures waits { WaitsFor started (B.life blob.old) (B.life blob.new) result }
     ensures writers { LeavesWriters H.sum_of (B.life blob.old) (B.life blob.new) }
+    ensures can_read { (t : Tail) (cache : CacheState) → CanRead t cache (B.life blob.old).present
+        → CanRead t cache (B.life blob.new).present }
 
     // From then on every image keeps what the sync covers.
     ensures durable { OnOk result ((page_size : ℕ) →

@@ -20,6 +20,8 @@ ghost use Rattle.paged.specs.Truncate.{truncate_calls, WritesSlot, Stages, Rewri
 ghost use Rattle.paged.specs.Truncate.{ReadsOnce, ReadsValue, Shortens, CutsTo, SparesSlot};
 ghost use Rattle.paged.specs.Truncate.{standing};
 ghost use Rattle.paged.specs.Writer.{FitsBlob};
+ghost use Rattle.paged.specs.Caches.{CachesTo, PutsUpTo, ReadsOn};
+ghost use Rattle.cache.specs.Pages.{CachesOnly, IsFresh};
 
 use crate::Recovery;
 use crate::recovery::cut;
@@ -52,14 +54,14 @@ impl<B: Blob, H: Sum> Recovery<B, H> {
     /// always does in a sound blob. `ReadFailed`, `WriteFailed`, `ResizeFailed` and `SyncFailed`
     /// where the device failed, and `SyncFailed` where a started sync had failed; `OutOfMemory`.
     /// The writer is gone then.
-    pub fn truncate(mut self, blob: &mut B, _cache: &mut CacheRef, size: u64) -> Result<Self, Error>
+    pub fn truncate(mut self, blob: &mut B, cache: &mut CacheRef, size: u64) -> Result<Self, Error>
+        requires cached { cache.old.page_size ≡ self.page_size }
         requires stands { let old = B.life blob.old in
             IsSound H.sum_of self old.present ⊎ IsAsOpened H.sum_of self old.present }
         ensures truncates { let old = B.life blob.old in let new = B.life blob.new in
             Truncates H.sum_of size self old new result }
         ensures there { IfOk result (λ w. HasPages w (B.life blob.new)) }
         ensures within { IfOk result (λ w. HoldsWithin w) }
-        ensures cache { _cache.new ≡ _cache.old }
         ensures calls { AsksAtMost (truncate_calls self size) (B.life blob.old) (B.life blob.new) }
         ensures synced { let old = B.life blob.old in let new = B.life blob.new in
             IsSound H.sum_of self old.present → size_of self ≤ size
@@ -88,6 +90,18 @@ impl<B: Blob, H: Sum> Recovery<B, H> {
         ensures full { let old = B.life blob.old in let new = B.life blob.new in
             has_work self true ≡ false → IfOk result (SoundAndKept H.sum_of size self old new) }
 
+        // The full pages that are written are put in the cache, which stays true: reads go on.
+        ensures puts { (to : ℕ) × PutsUpTo self.id self.full_pages self.page_size self.tip to
+            cache.old cache.new }
+        ensures can_read { let old = B.life blob.old in let new = B.life blob.new in
+            IfOk result (λ w. ReadsOn self w cache.old cache.new old new) }
+        ensures caches { let old = B.life blob.old in
+            IsSound H.sum_of self old.present
+            → CachesOnly self.id self.full_pages (content self old.present.readable) cache.old
+            cache.new }
+        ensures fresh_ids { self.id < cache.old.ids_given → IsFresh cache.old → IsFresh cache.new }
+        ensures idle_cache { has_work self true ≡ false → cache.new ≡ cache.old }
+
         // At each moment since the call began, and at every answer.
         ensures floors { let old = B.life blob.old in let new = B.life blob.new in
             KeepsFloorsWithin size H.sum_of self.page_size old new }
@@ -104,7 +118,7 @@ impl<B: Blob, H: Sum> Recovery<B, H> {
         ensures starts { let old = B.life blob.old in let new = B.life blob.new in
             IsSound H.sum_of self old.present → StartsStand new.present }
     {
-        self.sync_written(blob)?;
+        self.sync_written(blob, cache)?;
         if size < self.size() {
             self.shorten(blob, size)?;
         }
@@ -112,7 +126,8 @@ impl<B: Blob, H: Sum> Recovery<B, H> {
     }
 
     /// Makes all that was appended durable. After an error the writer is of no use.
-    fn sync_written(&mut self, blob: &mut B) -> Result<(), Error>
+    fn sync_written(&mut self, blob: &mut B, cache: &mut CacheRef) -> Result<(), Error>
+        requires cached { cache.old.page_size ≡ self.old.page_size }
         requires stands { let old = B.life blob.old in
             IsSound H.sum_of self.old old.present ⊎ IsAsOpened H.sum_of self.old old.present }
         ensures syncs { let old = B.life blob.old in let new = B.life blob.new in
@@ -134,9 +149,11 @@ impl<B: Blob, H: Sum> Recovery<B, H> {
         ensures some { 0 < self.old.page_size }
         ensures small { self.old.page_size < 2 ^ 16 }
         ensures room { self.old.page_size ≤ self.old.capacity }
+        ensures puts { CachesTo self.old self.new self.old.tip cache.old cache.new result }
+        ensures idle_cache { has_work self.old true ≡ false → cache.new ≡ cache.old }
     {
         if self.has_flush_work(true) {
-            self.sync_pages(blob)
+            self.sync_pages(blob, cache)
         } else {
             self.settle_blob(blob)
         }

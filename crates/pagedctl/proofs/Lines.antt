@@ -8,7 +8,7 @@ use Rattle.std.specs.Int.NonZero.{non_zero_u64_get}
 use Rattle.std.proofs.lemmas.Fmt.{decimal_injective}
 use Rattle.pagedctl.specs.declared.script.Line.{Line}
 use Rattle.pagedctl.specs.declared.script.Line.TheVariants.{Step, Fail, Crash, Recover, Dump}
-use Rattle.session.specs.declared.steps.Step.TheVariants.{Append, Owned, TryAppend, Sync, StartSync, Wait, WaitSync, Needs, Size, Read, Begin, Truncate}
+use Rattle.session.specs.declared.steps.Step.TheVariants.{Append, Owned, TryAppend, Sync, StartSync, Wait, WaitSync, Needs, Size, Read, ReadUpTo, TryRead, Begin, Truncate}
 use Rattle.pagedctl.specs.Script.{IsLine, line_words, parts_of}
 
 -- no line fails the call of number 0
@@ -25,6 +25,8 @@ no_fail_zero word n written zero (Step Begin) is same = cc
 no_fail_zero word n written zero (Step (Truncate size)) is same = cc
 no_fail_zero word n written zero (Step Size) is same = cc
 no_fail_zero word n written zero (Step (Read offset len)) is same = cc
+no_fail_zero word n written zero (Step (ReadUpTo offset len)) is same = cc
+no_fail_zero word n written zero (Step (TryRead offset len)) is same = cc
 no_fail_zero word n written zero (Fail number) is same =
     let e : decimal n ≡ decimal (non_zero_u64_get number) = cc in
     let same_number = decimal_injective n (non_zero_u64_get number) (omega arith) is.1 e in
@@ -52,6 +54,8 @@ no_one_word name a b c d e f g h (Step (Truncate n)) is same = cc
 no_one_word name a b c d e f g h (Fail n) is same = cc
 no_one_word name a b c d e f g h (Crash keep) is same = cc
 no_one_word name a b c d e f g h (Step (Read offset len)) is same = cc
+no_one_word name a b c d e f g h (Step (ReadUpTo offset len)) is same = cc
+no_one_word name a b c d e f g h (Step (TryRead offset len)) is same = cc
 
 -- one of two words begins with one of these
 pub no_two_words : (name word : List ℕ) → name ≢ codes "append" → name ≢ codes "owned" → name ≢ codes "try" → name ≢ codes "wait-sync" → name ≢ codes "truncate" → name ≢ codes "fail" → name ≢ codes "crash"
@@ -72,6 +76,29 @@ no_two_words name word a b c d e f g (Step Begin) is same = cc
 no_two_words name word a b c d e f g Recover is same = cc
 no_two_words name word a b c d e f g Dump is same = cc
 no_two_words name word a b c d e f g (Step (Read offset len)) is same = cc
+no_two_words name word a b c d e f g (Step (ReadUpTo offset len)) is same = cc
+no_two_words name word a b c d e f g (Step (TryRead offset len)) is same = cc
+
+-- one of three words begins with one of these
+pub no_three_words : (name first second : List ℕ) → name ≢ codes "read" → name ≢ codes "upto" → name ≢ codes "cached" → (v : Line) → IsLine v → name ∷ first ∷ second ∷ [] ≢ line_words v
+no_three_words name first second a b c (Step (Read offset len)) is same = a cc
+no_three_words name first second a b c (Step (ReadUpTo offset len)) is same = b cc
+no_three_words name first second a b c (Step (TryRead offset len)) is same = c cc
+no_three_words name first second a b c (Step (Append bytes)) is same = cc
+no_three_words name first second a b c (Step (Owned bytes)) is same = cc
+no_three_words name first second a b c (Step (TryAppend bytes)) is same = cc
+no_three_words name first second a b c (Step (WaitSync n)) is same = cc
+no_three_words name first second a b c (Step (Truncate n)) is same = cc
+no_three_words name first second a b c (Fail n) is same = cc
+no_three_words name first second a b c (Crash keep) is same = cc
+no_three_words name first second a b c (Step Sync) is same = cc
+no_three_words name first second a b c (Step StartSync) is same = cc
+no_three_words name first second a b c (Step Wait) is same = cc
+no_three_words name first second a b c (Step Needs) is same = cc
+no_three_words name first second a b c (Step Size) is same = cc
+no_three_words name first second a b c (Step Begin) is same = cc
+no_three_words name first second a b c Recover is same = cc
+no_three_words name first second a b c Dump is same = cc
 
 -- there is a part, if only an empty one
 pub some_parts : {E : Type 0} (at : ℕ) (bytes : List ℕ) (r : Result (Vec (Bor (List ℕ)) Global) E) → IfOk r (λ parts. map (λ part. part.now) parts.items ≡ parts_of at bytes) → IfOk r (λ parts. 0 < vec_len parts)

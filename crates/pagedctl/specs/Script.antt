@@ -20,7 +20,7 @@ use Rattle.pagedctl.specs.declared.script.SumName.TheVariants.{Add, Const}
 use Rattle.session.specs.declared.steps.Step as step
 use Rattle.session.specs.declared.steps.Step.TheVariants.{Append, Owned, TryAppend, Sync, StartSync}
 use Rattle.session.specs.declared.steps.Step.TheVariants.{Wait, WaitSync, Needs, Size, Read, Begin}
-use Rattle.session.specs.declared.steps.Step.TheVariants.{Truncate}
+use Rattle.session.specs.declared.steps.Step.TheVariants.{ReadUpTo, TryRead, Truncate}
 use Rattle.pagedctl.specs.Text.{hex_of}
 
 -- what reading answers, where each value has a text: the value of which this is the text, or that
@@ -98,6 +98,8 @@ step_words (WaitSync name) = codes "wait-sync" ∷ decimal name ∷ []
 step_words Needs = codes "needs" ∷ []
 step_words Size = codes "size" ∷ []
 step_words (Read offset len) = codes "read" ∷ decimal offset ∷ decimal len ∷ []
+step_words (ReadUpTo offset len) = codes "upto" ∷ decimal offset ∷ decimal len ∷ []
+step_words (TryRead offset len) = codes "cached" ∷ decimal offset ∷ decimal len ∷ []
 step_words Begin = codes "begin" ∷ []
 step_words (Truncate size) = codes "truncate" ∷ decimal size ∷ []
 
@@ -117,6 +119,8 @@ IsLine (Step (TryAppend bytes)) = AreBytes bytes.items
 IsLine (Step (WaitSync name)) = IsU64 name
 IsLine (Step (Truncate size)) = IsU64 size
 IsLine (Step (Read offset len)) = IsU64 offset × IsU64 len
+IsLine (Step (ReadUpTo offset len)) = IsU64 offset × IsU64 len
+IsLine (Step (TryRead offset len)) = IsU64 offset × IsU64 len
 IsLine (Fail number) = (0 < non_zero_u64_get number) × IsU64 (non_zero_u64_get number)
 IsLine _ = Unit {0}
 

@@ -233,6 +233,8 @@ fn parse_three_words(name: &[u8], first: &[u8], second: &[u8]) -> Result<Line, R
 {
     match name {
         b"read" => parse_read(first, second),
+        b"upto" => parse_read_up_to(first, second),
+        b"cached" => parse_try_read(first, second),
         _ => Err(ReadError::Unreadable),
     }
 }
@@ -294,4 +296,20 @@ fn parse_read(offset: &[u8], len: &[u8]) -> Result<Line, ReadError>
     let offset = parse_number(offset)?;
     let len = parse_number(len)? as usize;
     Ok(Line::Step(Step::Read(offset, len)))
+}
+
+fn parse_read_up_to(offset: &[u8], len: &[u8]) -> Result<Line, ReadError>
+    ensures reads { Reads line_words IsLine (codes "upto" ∷ offset.now ∷ len.now ∷ []) result }
+{
+    let offset = parse_number(offset)?;
+    let len = parse_number(len)? as usize;
+    Ok(Line::Step(Step::ReadUpTo(offset, len)))
+}
+
+fn parse_try_read(offset: &[u8], len: &[u8]) -> Result<Line, ReadError>
+    ensures reads { Reads line_words IsLine (codes "cached" ∷ offset.now ∷ len.now ∷ []) result }
+{
+    let offset = parse_number(offset)?;
+    let len = parse_number(len)? as usize;
+    Ok(Line::Step(Step::TryRead(offset, len)))
 }

@@ -35,12 +35,17 @@ impl<H: Sum> Model for Stage<H> {
 
     ghost view = { λ s. record {
       session = s.session;
+      cache = s.cache;
       crashed = s.crashed;
       disk = (life_of s.blob).present;
     } };
 
-    ghost invariant = { λ s. IsSet H.sum_of
-        (record { session = s.session; crashed = s.crashed; disk = (life_of s.blob).present }) };
+    ghost invariant = { λ s. IsSet H.sum_of (record {
+      session = s.session;
+      cache = s.cache;
+      crashed = s.crashed;
+      disk = (life_of s.blob).present;
+    }) };
 }
 
 impl<H: Sum> Stage<H> {

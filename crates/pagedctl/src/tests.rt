@@ -623,3 +623,65 @@ fn a_failed_input_or_output_stops_it(rt: HostRuntime) -> Result<(), Fail> {
     assert_eq!(rt; err.as_slice(), b"pagedctl: stopped\n".as_slice());
     Ok(())
 }
+
+#[test]
+fn pages_that_were_read_are_cached(rt: HostRuntime) -> Result<(), Fail> {
+    let script = "\
+start 4 8 1 add
+append 6162636465666768696a
+cached 0 10
+cached 4 6
+read 0 4
+cached 4 1
+cached 0 4
+cached 0 0
+cached 7 18446744073709551615
+cached 0 18446744073709551615
+";
+    let out = "\
+recovered 0
+at 0
+none
+bytes 65666768696a
+bytes 61626364
+none
+bytes 61626364
+bytes -
+none
+none
+";
+    plays(&rt, rt.alloc(), script, out)
+}
+
+#[test]
+fn as_many_bytes_as_there_are_are_read(rt: HostRuntime) -> Result<(), Fail> {
+    let script = "\
+start 4 8 2 add
+append 616263646566
+upto 0 3
+upto 2 100
+upto 5 18446744073709551615
+upto 6 1
+upto 6 0
+upto 18446744073709551615 0
+upto 18446744073709551615 1
+crash -
+upto 0 1
+cached 0 1
+";
+    let out = "\
+recovered 0
+at 0
+bytes 616263
+bytes 63646566
+bytes 66
+fault E6 BlobInsufficientLength
+bytes -
+bytes -
+fault E6 BlobInsufficientLength
+crashed 0
+closed
+closed
+";
+    plays(&rt, rt.alloc(), script, out)
+}

@@ -1,11 +1,19 @@
 -- What a test's store keeps between two calls.
 use Rattle.std.specs.Prelude.{ℕ, List, Option, Some, None}
 use Rattle.disk.specs.Disk.{Life}
+use Rattle.cache.specs.CacheState.{CacheState}
+use Rattle.cache.specs.Pages.{IsFresh}
 use Rattle.crash.specs.WriterState.{WriterState}
 use Rattle.crash.specs.Sound.{IsSound}
-use Rattle.paged.specs.Reads.{HasPages}
+use Rattle.paged.specs.Caches.{tail_of}
+use Rattle.paged_read.specs.Tail.{CanRead}
 
--- the writer, if there is one, is sound over the blob, and the pages below its tip are there
-abbrev pub IsReady : (List ℕ → ℕ) → Option WriterState → Life → Type 0
-IsReady sum None life = Unit {0}
-IsReady sum (Some w) life = IsSound sum w life.present × HasPages w life
+-- the writer, if there is one, is sound over the blob, and can be read with the cache
+abbrev pub HasReady : (List ℕ → ℕ) → Option WriterState → CacheState → Life → Type 0
+HasReady sum None cache life = Unit {0}
+HasReady sum (Some w) cache life =
+    IsSound sum w life.present × CanRead (tail_of w) cache life.present
+
+-- and the cache holds nothing under an id that is still to be given
+abbrev pub IsReady : (List ℕ → ℕ) → Option WriterState → CacheState → Life → Type 0
+IsReady sum writer cache life = IsFresh cache × HasReady sum writer cache life

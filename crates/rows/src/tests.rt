@@ -7,6 +7,8 @@ mod kit;
 mod layout;
 mod memory;
 mod openings;
+mod ranges;
+mod reads;
 mod sessions;
 mod starts;
 mod stops;

@@ -1,5 +1,5 @@
 -- Examples of what a run says.
-use Rattle.std.proofs.Common.{◌≡◌, ◌+◌, ◌<◌, ℕ, Vec, List, [], ◌∷◌, ◌++◌, length, length-append, take, refl, sym, ap, ◌∙◌, inl, inr, arith, true, false}
+use Rattle.std.proofs.Common.{◌≡◌, ◌⊎◌, ◌+◌, ◌<◌, ℕ, Vec, List, [], ◌∷◌, ◌++◌, length, length-append, take, refl, sym, ap, ◌∙◌, inl, inr, arith, true, false}
 use Rattle.std.specs.Prelude.{Some, None}
 use Rattle.std.specs.List.{Contains}
 use Rattle.std.specs.declared.alloc.Global.{Global}
@@ -17,8 +17,8 @@ use Rattle.crash.proofs.Disks.{base_is_image, base_is_whole}
 use Rattle.crash.proofs.Promise.{whole_is_chance_free}
 use Rattle.crash.proofs.Examples.{durable, six, all_keep}
 use Rattle.session.specs.declared.steps.Step.{Step}
-use Rattle.session.specs.declared.steps.Step.TheVariants.{Append, Owned, TryAppend, Sync, StartSync, Wait, WaitSync, Needs, Size, Read, Begin, Truncate}
-use Rattle.session.specs.declared.steps.Reply.TheVariants.{At, Nothing, Done, Length, Fault, Closed, NotRecovering, NoSuch}
+use Rattle.session.specs.declared.steps.Step.TheVariants.{Append, Owned, TryAppend, Sync, StartSync, Wait, WaitSync, Needs, Size, Read, ReadUpTo, TryRead, Begin, Truncate}
+use Rattle.session.specs.declared.steps.Reply.TheVariants.{At, Nothing, Done, Length, Bytes, Fault, Closed, NotRecovering, NoSuch}
 use Rattle.session.specs.Run.{Standing, buffered_after, awaited_after, appended, synced, starting, truncated, waited, begun, needs_sync, raised, started_by, ended, turned_away, Accepts, faults, HasCause, Allocates, waits_for, Refuses, Takes, Answers, touch, Ran}
 use Rattle.session.specs.Run.Touch.{Leaves, Changes}
 use Rattle.session.specs.Promise.{Crashes, fresh}
@@ -298,9 +298,10 @@ a_try_that_does_not_fit bytes long = let passes : 8 < 2 + length bytes.items = o
 pub no_nothing_that_fits : (bytes : Vec ℕ Global) (behind : Standing) → length bytes.items ≡ 6 → Accepts 4 (TryAppend bytes) Nothing durable durable six_stand behind → ⊥
 no_nothing_that_fits bytes behind long accepts = absurd (false≢true (sym accepts.0 ∙ le-leb (2 + length bytes.items) 8 (omega (arith, long))))
 
--- no other step is answered so
-pub nothing_is_of_a_try : (P : ℕ) (step : Step) (from to : Disk) (before behind : Standing) → Accepts P step Nothing from to before behind → (bytes : Vec ℕ Global) × (step ≡ TryAppend bytes)
-nothing_is_of_a_try P (TryAppend bytes) from to before behind accepts = (bytes, refl)
+-- no other step is answered so, but a read that asks no device
+pub nothing_is_of_a_try : (P : ℕ) (step : Step) (from to : Disk) (before behind : Standing) → Accepts P step Nothing from to before behind → ((bytes : Vec ℕ Global) × (step ≡ TryAppend bytes)) ⊎ ((offset len : ℕ) × (step ≡ TryRead offset len))
+nothing_is_of_a_try P (TryAppend bytes) from to before behind accepts = inl (bytes, refl)
+nothing_is_of_a_try P (TryRead offset len) from to before behind accepts = inr (offset, len, refl)
 nothing_is_of_a_try P (Append bytes) from to before behind accepts = absurd accepts
 nothing_is_of_a_try P (Owned bytes) from to before behind accepts = absurd accepts
 nothing_is_of_a_try P Sync from to before behind accepts = absurd accepts
@@ -310,8 +311,24 @@ nothing_is_of_a_try P (WaitSync name) from to before behind accepts = absurd acc
 nothing_is_of_a_try P Needs from to before behind accepts = absurd accepts
 nothing_is_of_a_try P Size from to before behind accepts = absurd accepts
 nothing_is_of_a_try P (Read offset len) from to before behind accepts = absurd accepts
+nothing_is_of_a_try P (ReadUpTo offset len) from to before behind accepts = absurd accepts
 nothing_is_of_a_try P Begin from to before behind accepts = absurd accepts
 nothing_is_of_a_try P (Truncate n) from to before behind accepts = absurd accepts
+
+-- of ten bytes from the fifth on the two that there are
+pub up_to_the_end : (bytes : Vec ℕ Global) → bytes.items ≡ 101 ∷ 102 ∷ [] → Accepts 4 (ReadUpTo 4 10) (Bytes bytes) durable durable six_stand six_stand
+up_to_the_end bytes is = ((inr (omega arith), is), refl)
+
+-- no bytes are read up to anywhere, and none is asked for at the end in vain
+pub none_up_to_anywhere : HasCause 4 (ReadUpTo 7 0) six_stand durable durable BlobInsufficientLength → ⊥
+none_up_to_anywhere cause = cause.0 refl
+
+pub some_up_to_at_the_end : HasCause 4 (ReadUpTo 6 1) six_stand durable durable BlobInsufficientLength
+some_up_to_at_the_end = (λ is. cc is, omega arith)
+
+-- a read that asks no device leaves it alone, and only memory is refused
+pub a_try_read_asks_nothing : touch (TryRead 0 4) six_stand ≡ Leaves
+a_try_read_asks_nothing = refl
 
 -- a size has no error
 pub no_fault_of_a_size : (e : Error) → Contains (faults Size) e → ⊥

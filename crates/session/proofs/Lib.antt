@@ -1,4 +1,5 @@
 pub mod StepLaws
+pub mod ReadLaws
 pub mod StartLaws
 pub mod TruncateLaws
 pub mod RunLaws

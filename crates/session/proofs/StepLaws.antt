@@ -1,7 +1,7 @@
 -- What one step of a session does, from what the calls of its writer did.
-use Rattle.std.proofs.Common.{◌≡◌, ◌⊎◌, ℕ, zero, suc, ◌+◌, ◌<◌, ◌≤◌, List, [], ◌∷◌, ◌++◌, length, take, drop, map, refl, sym, ap, ◌∙◌, subst, arith, append-nil, length-append, inl, inr, Bool, true, false, Ok, Err, Result, Vec, ◌*◌, ◌/◌, ◌%◌, min, max, lit<, lit≤}
+use Rattle.std.proofs.Common.{◌≡◌, ◌⊎◌, ℕ, zero, suc, ◌+◌, ◌<◌, ◌≤◌, List, [], ◌∷◌, ◌++◌, length, take, drop, map, refl, sym, ap, ◌∙◌, subst, arith, append-nil, length-append, inl, inr, Bool, true, false, Ok, Err, Result, Vec, ◌*◌, ◌^◌, ◌/◌, ◌%◌, min, max, lit<, lit≤}
 use Rattle.std.specs.Prelude.{All, Option, Some, None, nat_le, nat_lt, nat_eq, if◌then◌else◌, is_some, ◌==◌, ◌||◌, ◌&&◌, not}
-use Rattle.std.specs.List.{Contains}
+use Rattle.std.specs.List.{Contains, concat}
 use Rattle.std.specs.declared.alloc.Global.{Global}
 use Rattle.std.proofs.Math.Seq.{take-length}
 use Rattle.std.proofs.lemmas.List.{take-take}
@@ -28,18 +28,21 @@ use Rattle.paged.specs.Flush.{has_work}
 use Rattle.paged.specs.Calls.{HasCause as CallCause, HadFailed as CallHadFailed, BuffersAll, GoesOn, Appends, TryAppends, Syncs, IsSettled, HoldsWithin, settle_calls, sync_calls, start_calls, wait_calls, unstarted_calls}
 use Rattle.paged.proofs.Flushes.{size_is_length}
 use Rattle.paged.proofs.Flushes.{begins}
-use Rattle.paged.specs.Reads.{Reads, size_of}
+use Rattle.cache.specs.CacheState.{CacheState}
+use Rattle.paged_read.specs.Tail.{CanRead}
+use Rattle.paged_read.specs.Ranges.{Reads}
+use Rattle.paged.specs.Caches.{tail_of}
+use Rattle.paged.specs.Reads.{size_of}
 use Rattle.page.specs.Page.{text}
-use Rattle.crash.proofs.Texts.{AreFull_page}
-use Rattle.paged.proofs.There.{sound_has_pages, reads_keep_sound}
+use Rattle.paged.proofs.There.{reads_keep_sound}
 use Rattle.paged.proofs.Halves.{appends_stay, syncs_stay, sync_keeps_all}
 use Rattle.session.specs.declared.steps.Step.{Step}
-use Rattle.session.specs.declared.steps.Step.TheVariants.{Append, Owned, TryAppend, Sync, StartSync, Wait, WaitSync, Needs, Size, Read, Begin, Truncate}
+use Rattle.session.specs.declared.steps.Step.TheVariants.{Append, Owned, TryAppend, Sync, StartSync, Wait, WaitSync, Needs, Size, Read, ReadUpTo, TryRead, Begin, Truncate}
 use Rattle.session.specs.declared.steps.Reply.{Reply}
 use Rattle.session.specs.declared.steps.Reply.TheVariants.{At, Nothing, Done, Started, Answer, Length, Bytes, Fault, Closed, NotRecovering, NoSuch}
-use Rattle.session.specs.Run.{Standing, SessionState, has_room, buffered_after, written_after, awaited_after, appended, synced, ended, needs_sync, is_complete, raise, raised, lowered, begun, turned_away, faults, HasCause, HadFailed, content_after, Takes, Foretells, Answers, Touch, touch, wait_touch, last, Touches, AllCover, pending_in, WriterStandsFor, WriterFits, NamesFit, StandsFor, HasSoundWriter, IsReady}
+use Rattle.session.specs.Run.{Standing, SessionState, has_room, buffered_after, written_after, awaited_after, appended, synced, ended, needs_sync, is_complete, raise, raised, lowered, begun, turned_away, faults, HasCause, HadFailed, content_after, Takes, Foretells, Answers, Touch, touch, wait_touch, last, Touches, AllCover, pending_in, WriterStandsFor, WriterFits, NamesFit, StandsFor, HasSoundWriter, IsReady, CacheFits}
 use Rattle.session.specs.Run.Touch.{Leaves, Looks, Changes}
-use Rattle.session.specs.Calls.{IsClosed, KeepsRest, OwesStarts, AppendSays, Appended, TriedAppend, SyncSays, Synced, Sized, ReadsBytes, ReadSays, DidRead, Stepped, StepsAlways, Steps}
+use Rattle.session.specs.Calls.{IsClosed, KeepsRest, OwesStarts, AppendSays, Appended, TriedAppend, SyncSays, Synced, Sized, IsBytes, ReadsBytes, ReadSays, DidRead, Stepped, StepsAlways, Steps}
 
 -- a session with another writer, or none
 abbrev pub held : SessionState → Option WriterState → SessionState
@@ -196,6 +199,8 @@ begun_either Q (WaitSync name) s same less = same
 begun_either Q Needs s same less = same
 begun_either Q Size s same less = same
 begun_either Q (Read offset len) s same less = same
+begun_either Q (ReadUpTo offset len) s same less = same
+begun_either Q (TryRead offset len) s same less = same
 begun_either Q Begin s same less = same
 
 pub begun_keeps : (sum : List ℕ → ℕ) (P : ℕ) (step : Step) (s : Standing) (d : Disk) → AllKeep sum P s.content s.floor d → AllKeep sum P s.content (begun step s).floor d
@@ -889,7 +894,7 @@ sync_refused_steps sum was w e old new says = λ P before stands.
 -- ---- reads and sizes
 
 -- where only the log changed, started syncs stay as they were
-alike_stays_started : (d e : Disk) → SameButLog d e → StartsStand d → StartsStand e
+pub alike_stays_started : (d e : Disk) → SameButLog d e → StartsStand d → StartsStand e
 alike_stays_started d e alike stand = subst StartsStand (sym alike) stand
 
 -- a step that only reads and leaves the standing
@@ -939,41 +944,68 @@ looked_steps sum was P w step reply old new before same begins here sound looked
     (each_end (AllCover sum P before.content before.covers) old new through.moments h.goes h.covered) h.stays)
 
 -- why a read is refused: a sound writer has no page below its tip that isn't full
-read_cause : (sum : List ℕ → ℕ) (P : ℕ) (w : WriterState) (offset len : ℕ) (before : Standing) (old new : Life) (e : Error) → size_of w ≡ length before.content → IsSound sum w old.present
-    → Reads sum w offset len old new (Err e) → Contains (faults (Read offset len)) e × HasCause P (Read offset len) before old.present new.present e
-unfolding IsSound
-read_cause sum P w offset len before old new ReadFailed size sound goes = ((0, lit< tt, refl), goes)
-read_cause sum P w offset len before old new WriteFailed size sound goes = absurd goes
-read_cause sum P w offset len before old new ResizeFailed size sound goes = absurd goes
-read_cause sum P w offset len before old new SyncFailed size sound goes = absurd goes
-read_cause sum P w offset len before old new InvalidChecksum size sound (page, touched, other) =
-    absurd (other (AreFull_page sum w.page_size w.full_pages page old.present.readable sound.stands.full (sound_has_pages sum w old sound) touched.0))
-read_cause sum P w offset len before old new BlobInsufficientLength size sound goes = ((1, lit< tt, refl), (goes.1, omega (arith, size, goes.2)))
-read_cause sum P w offset len before old new OffsetOverflow size sound goes = ((2, lit< tt, refl), goes.1)
-read_cause sum P w offset len before old new OutOfMemory size sound goes = ((3, lit< tt, refl), tt)
-read_cause sum P w offset len before old new IdsExhausted size sound goes = absurd goes
+read_cause : (sum : List ℕ → ℕ) (P : ℕ) (w : WriterState) (cache : CacheState) (offset len : ℕ) (before : Standing) (old new : Life) (e : Error) → size_of w ≡ length before.content → (e ≡ InvalidChecksum → ⊥)
+    → Reads sum (tail_of w) cache (offset, len) concat old new (Err e) → Contains (faults (Read offset len)) e × HasCause P (Read offset len) before old.present new.present e
+read_cause sum P w cache offset len before old new ReadFailed size full goes = ((0, lit< tt, refl), goes)
+read_cause sum P w cache offset len before old new WriteFailed size full goes = absurd goes
+read_cause sum P w cache offset len before old new ResizeFailed size full goes = absurd goes
+read_cause sum P w cache offset len before old new SyncFailed size full goes = absurd goes
+read_cause sum P w cache offset len before old new InvalidChecksum size full goes = absurd (full refl)
+read_cause sum P w cache offset len before old new BlobInsufficientLength size full goes = ((1, lit< tt, refl), (goes.1, omega (arith, size, goes.2)))
+read_cause sum P w cache offset len before old new OffsetOverflow size full goes = ((2, lit< tt, refl), goes.1)
+read_cause sum P w cache offset len before old new OutOfMemory size full goes = ((3, lit< tt, refl), tt)
+read_cause sum P w cache offset len before old new IdsExhausted size full goes = absurd goes
+
+-- what was read is told, or that there was no memory for it
+pub read_says : (sum : List ℕ → ℕ) (w : WriterState) (cache : CacheState) (offset len : ℕ) (old new : Life) (bufs : List (List ℕ)) (reply : Reply) → Reads sum (tail_of w) cache (offset, len) concat old new (Ok bufs)
+    → (2 ^ 64 ≤ offset + len → Ok bufs ≡ Err OffsetOverflow) → (offset + len < 2 ^ 64 → size_of w < offset + len → Ok bufs ≡ Err BlobInsufficientLength) → Looked old new → IsBytes (concat bufs) reply → ReadSays sum w cache offset len old new reply
+read_says sum w cache offset len old new bufs (Bytes bytes) reads overflow end looked is = record {
+  reads = (bufs, is, reads);
+  full = λ other. cc other;
+  overflow = λ passes. absurd (cc (overflow passes));
+  end = λ within passes. absurd (cc (end within passes));
+  looked = looked;
+}
+read_says sum w cache offset len old new bufs (Fault e) reads overflow end looked is =
+    subst (λ (x : Error). ReadSays sum w cache offset len old new (Fault x)) (sym is)
+    (record {
+      reads = tt;
+      full = λ other. cc other;
+      overflow = λ passes. absurd (cc (overflow passes));
+      end = λ within passes. absurd (cc (end within passes));
+      looked = looked;
+    })
+read_says sum w cache offset len old new bufs (At n) reads overflow end looked is = absurd is
+read_says sum w cache offset len old new bufs Nothing reads overflow end looked is = absurd is
+read_says sum w cache offset len old new bufs Done reads overflow end looked is = absurd is
+read_says sum w cache offset len old new bufs (Started sync) reads overflow end looked is = absurd is
+read_says sum w cache offset len old new bufs (Answer answer) reads overflow end looked is = absurd is
+read_says sum w cache offset len old new bufs (Length n) reads overflow end looked is = absurd is
+read_says sum w cache offset len old new bufs Closed reads overflow end looked is = absurd is
+read_says sum w cache offset len old new bufs NoSuch reads overflow end looked is = absurd is
+read_says sum w cache offset len old new bufs NotRecovering reads overflow end looked is = absurd is
 
 -- a read
-pub read_steps : (sum : List ℕ → ℕ) (was : SessionState) (w : WriterState) (offset len : ℕ) (old new : Life) (reply : Reply) → IsSound sum w old.present → ReadSays sum w offset len old new reply
+pub read_steps : (sum : List ℕ → ℕ) (was : SessionState) (w : WriterState) (cache : CacheState) (offset len : ℕ) (old new : Life) (reply : Reply) → IsSound sum w old.present → ReadSays sum w cache offset len old new reply
     → StepsAlways sum (Read offset len) reply (held was (Some w)) (held was (Some w)) old new
 unfolding Through
-read_steps sum was w offset len old new reply sound says = λ P before stands.
+read_steps sum was w cache offset len old new reply sound says = λ P before stands.
     let size : size_of w ≡ length before.content = size_is_length sum w old sound ∙ ap length (sym stands.fits.content) in
     let foretold : Foretells P (Read offset len) reply before = (says.overflow, λ passes. says.end passes.0 (omega (arith, size, passes.1))) in
-    looked_steps sum was P w (Read offset len) reply old new before refl refl (turned_here before.has_writer stands.fits.has_writer) sound says.looked says.looked.through says.looked.through.each stands (taken reply P before stands size says.reads) foretold
+    looked_steps sum was P w (Read offset len) reply old new before refl refl (turned_here before.has_writer stands.fits.has_writer) sound says.looked says.looked.through says.looked.through.each stands (taken reply P before stands size says.full says.reads) foretold
   where
-    taken : (r : Reply) (P : ℕ) (before : Standing) → StandsFor sum P (held was (Some w)) before old.present → size_of w ≡ length before.content → ReadsBytes sum w offset len old new r → Takes P (Read offset len) r old.present new.present before before
-    taken (Bytes bytes) P before stands size (bufs, is, reads) = ((omega (arith, size, reads.0), is ∙ reads.1 ∙ ap (λ (l : List ℕ). take len (drop offset l)) (sym stands.fits.content)), refl)
-    taken (Fault e) P before stands size reads = let cause = read_cause sum P w offset len before old new e size sound reads in (cause.0, cause.1, refl)
-    taken (At n) P before stands size reads = absurd reads
-    taken Nothing P before stands size reads = absurd reads
-    taken Done P before stands size reads = absurd reads
-    taken (Started sync) P before stands size reads = absurd reads
-    taken (Answer answer) P before stands size reads = absurd reads
-    taken NoSuch P before stands size reads = absurd reads
-    taken NotRecovering P before stands size reads = absurd reads
-    taken (Length n) P before stands size reads = absurd reads
-    taken Closed P before stands size reads = absurd reads
+    taken : (r : Reply) (P : ℕ) (before : Standing) → StandsFor sum P (held was (Some w)) before old.present → size_of w ≡ length before.content → (r ≡ Fault InvalidChecksum → ⊥) → ReadsBytes sum w cache offset len old new r → Takes P (Read offset len) r old.present new.present before before
+    taken (Bytes bytes) P before stands size full (bufs, is, reads) = ((omega (arith, size, reads.0), is ∙ reads.1 ∙ ap (λ (l : List ℕ). take len (drop offset l)) (sym stands.fits.content)), refl)
+    taken (Fault e) P before stands size full reads = let cause = read_cause sum P w cache offset len before old new e size (λ is. full (ap Fault is)) reads in (cause.0, cause.1, refl)
+    taken (At n) P before stands size full reads = absurd reads
+    taken Nothing P before stands size full reads = absurd reads
+    taken Done P before stands size full reads = absurd reads
+    taken (Started sync) P before stands size full reads = absurd reads
+    taken (Answer answer) P before stands size full reads = absurd reads
+    taken NoSuch P before stands size full reads = absurd reads
+    taken NotRecovering P before stands size full reads = absurd reads
+    taken (Length n) P before stands size full reads = absurd reads
+    taken Closed P before stands size full reads = absurd reads
 
 -- the size
 pub size_steps : (sum : List ℕ → ℕ) (was : SessionState) (w : WriterState) (life : Life) → IsSound sum w life.present → StepsAlways sum Size (Length (size_of w)) (held was (Some w)) (held was (Some w)) life life
@@ -1010,6 +1042,10 @@ held_takes sum step reply was now w o old new at rest is sound starts always =
 -- its writer is sound
 pub sound_of : (sum : List ℕ → ℕ) (was : SessionState) (w : WriterState) (d : Disk) → was.writer ≡ Some w → IsReady sum was d → IsSound sum w d
 sound_of sum was w d at ready = subst (λ (o : Option WriterState). HasSoundWriter sum o d) at ready.writer
+
+-- and can be read with the cache that fits it
+pub can_of : (was : SessionState) (w : WriterState) (cache : CacheState) (d : Disk) → was.writer ≡ Some w → CacheFits was.writer cache d → CanRead (tail_of w) cache d
+can_of was w cache d at fits = subst (λ (o : Option WriterState). CacheFits o cache d) at fits
 
 -- an append by a session
 pub appended_takes : (sum : List ℕ → ℕ) (was now : SessionState) (bytes : Vec ℕ Global) (old new : Life) (reply : Reply) → IsReady sum was old.present → KeepsRest was now → Appended sum was.writer now.writer bytes.items old new reply
@@ -1148,13 +1184,13 @@ sized_takes sum was life reply ready goes = by_writer was.writer refl goes
         subst (λ (r : Reply). Steps sum Size r was was life life) (sym is) (held_takes sum Size (Length (size_of w)) was was w (Some w) life life at (same_rest was) at sound ready.starts (size_steps sum was w life sound))
 
 -- a read by a session
-pub read_takes : (sum : List ℕ → ℕ) (was : SessionState) (offset len : ℕ) (old new : Life) (reply : Reply) → IsReady sum was old.present → DidRead sum was.writer offset len old new reply
+pub read_takes : (sum : List ℕ → ℕ) (was : SessionState) (cache : CacheState) (offset len : ℕ) (old new : Life) (reply : Reply) → IsReady sum was old.present → DidRead sum was.writer cache offset len old new reply
     → Steps sum (Read offset len) reply was was old new
-read_takes sum was offset len old new reply ready goes = by_writer was.writer refl goes
+read_takes sum was cache offset len old new reply ready goes = by_writer was.writer refl goes
   where
-    by_writer : (o : Option WriterState) → was.writer ≡ o → DidRead sum o offset len old new reply → Steps sum (Read offset len) reply was was old new
+    by_writer : (o : Option WriterState) → was.writer ≡ o → DidRead sum o cache offset len old new reply → Steps sum (Read offset len) reply was was old new
     by_writer None at goes = closed_takes sum (Read offset len) was was old new reply (λ before none. turned_closed before.has_writer none) at ready goes.0 refl goes.1
     by_writer (Some w) at says =
         let sound = sound_of sum was w old.present at ready in
         let starts : (was.names ≡ []) ⊎ StartsStand new.present = elim ready.starts [ inl none ↦ inl none | inr stand ↦ inr (alike_stays_started old.present new.present says.looked.same stand) ] in
-        held_takes sum (Read offset len) reply was was w (Some w) old new at (same_rest was) at (reads_keep_sound sum w old new says.looked sound) starts (read_steps sum was w offset len old new reply sound says)
+        held_takes sum (Read offset len) reply was was w (Some w) old new at (same_rest was) at (reads_keep_sound sum w old new says.looked sound) starts (read_steps sum was w cache offset len old new reply sound says)

@@ -1,14 +1,15 @@
 -- What one step of a session does, and each call behind it.
-use Rattle.std.specs.Prelude.{◌≡◌, ◌⊎◌, ◌<◌, ◌≤◌, ◌+◌, ◌^◌, ◌++◌, ℕ, List, [], ◌∷◌, length, Bool}
+use Rattle.std.specs.Prelude.{◌≡◌, ◌≢◌, ◌⊎◌, ◌<◌, ◌≤◌, ◌+◌, ◌^◌, ◌++◌, ℕ, List, [], ◌∷◌}
+use Rattle.std.specs.Prelude.{length, Bool}
 use Rattle.std.specs.Prelude.{true, false, nat_eq, nat_lt, Option, Some, None, Result, Ok, Err}
-use Rattle.std.specs.Prelude.{IfOk, OnOk, take}
+use Rattle.std.specs.Prelude.{IfOk, OnOk, take, nat_le, ◌&&◌}
 use Rattle.std.specs.List.{concat, list_any}
 use Rattle.disk.specs.Disk.{Disk, Life, after, WaitGoes}
 use Rattle.disk.specs.declared.started_sync.StartedSync.{StartedSync}
 use Rattle.disk.specs.declared.started_sync.StartedSync.TheVariants.{Done as AllDone, Named}
 use Rattle.disk.specs.declared.error.Error.{Error}
 use Rattle.disk.specs.declared.error.Error.TheVariants.{BlobInsufficientLength, OffsetOverflow}
-use Rattle.disk.specs.declared.error.Error.TheVariants.{OutOfMemory}
+use Rattle.disk.specs.declared.error.Error.TheVariants.{InvalidChecksum, OutOfMemory}
 use Rattle.crash.specs.WriterState.{WriterState}
 use Rattle.crash.specs.WriterState.SyncState.{Dirty}
 use Rattle.crash.specs.Looks.{Looked}
@@ -20,7 +21,10 @@ use Rattle.paged.specs.Calls.{Appends, BuffersAll, TryAppends, BuffersOver, Sync
 use Rattle.paged.specs.Calls.{AsksAtMost, sync_calls, start_calls, wait_calls, StartsSync}
 use Rattle.paged.specs.Calls.{started_already, WaitsForSync, SettlesBy}
 use Rattle.paged.specs.Flush.{outcome}
-use Rattle.paged.specs.Reads.{Reads, size_of}
+use Rattle.cache.specs.CacheState.{CacheState}
+use Rattle.paged_read.specs.Ranges.{Reads, ReadsUpTo, TriesRead, is_served}
+use Rattle.paged.specs.Caches.{tail_of}
+use Rattle.paged.specs.Reads.{size_of}
 use Rattle.paged.specs.Truncate.{Truncates, KeepsFloorsWithin, truncate_calls}
 use Rattle.session.specs.declared.steps.Step.{Step}
 use Rattle.session.specs.declared.steps.Reply.{Reply}
@@ -208,25 +212,68 @@ Sized None reply = reply ≡ Closed
 Sized (Some w) reply = reply ≡ Length (size_of w)
 
 -- a read's bytes, or why it is refused
-abbrev pub ReadsBytes : (List ℕ → ℕ) → WriterState → (offset len : ℕ) → Life → Life → Reply → Type 0
-ReadsBytes sum w offset len old new (Bytes bytes) =
-    (bufs : List (List ℕ)) × (bytes.items ≡ concat bufs) × Reads sum w offset len old new (Ok bufs)
-ReadsBytes sum w offset len old new (Fault e) = Reads sum w offset len old new (Err e)
-ReadsBytes sum w offset len old new _ = ⊥
+abbrev pub ReadsBytes : (List ℕ → ℕ) → WriterState → CacheState → (offset len : ℕ) → Life → Life
+    → Reply → Type 0
+ReadsBytes sum w cache offset len old new (Bytes bytes) =
+    (bufs : List (List ℕ)) × (bytes.items ≡ concat bufs)
+    × Reads sum (tail_of w) cache (offset, len) concat old new (Ok bufs)
+ReadsBytes sum w cache offset len old new (Fault e) =
+    Reads sum (tail_of w) cache (offset, len) concat old new (Err e)
+ReadsBytes sum w cache offset len old new _ = ⊥
 
 -- what a read says of its answer
-pub record ReadSays (sum : List ℕ → ℕ) (w : WriterState) (offset len : ℕ) (old new : Life)
-    (reply : Reply) : Type 0 where
-  pub reads : ReadsBytes sum w offset len old new reply
+pub record ReadSays (sum : List ℕ → ℕ) (w : WriterState) (cache : CacheState) (offset len : ℕ)
+    (old new : Life) (reply : Reply) : Type 0 where
+  pub reads : ReadsBytes sum w cache offset len old new reply
+  pub full : reply ≡ Fault InvalidChecksum → ⊥
   pub overflow : 2 ^ 64 ≤ offset + len → reply ≡ Fault OffsetOverflow
   pub end : offset + len < 2 ^ 64 → size_of w < offset + len → reply ≡ Fault BlobInsufficientLength
   pub looked : Looked old new
 
 -- a read
-abbrev pub DidRead : (List ℕ → ℕ) → Option WriterState → (offset len : ℕ) → Life → Life → Reply
-    → Type 0
-DidRead sum None offset len old new reply = (reply ≡ Closed) × (new ≡ old)
-DidRead sum (Some w) offset len old new reply = ReadSays sum w offset len old new reply
+abbrev pub DidRead : (List ℕ → ℕ) → Option WriterState → CacheState → (offset len : ℕ) → Life → Life
+    → Reply → Type 0
+DidRead sum None cache offset len old new reply = (reply ≡ Closed) × (new ≡ old)
+DidRead sum (Some w) cache offset len old new reply = ReadSays sum w cache offset len old new reply
+
+-- at most so many bytes, or why a read of them is refused
+abbrev pub ReadsBytesUpTo : (List ℕ → ℕ) → WriterState → CacheState → (offset len : ℕ) → Life → Life
+    → Reply → Type 0
+ReadsBytesUpTo sum w cache offset len old new (Bytes bytes) =
+    (count : ℕ) × ReadsUpTo sum (tail_of w) cache offset len old new (Ok (bytes, count))
+ReadsBytesUpTo sum w cache offset len old new (Fault e) =
+    ReadsUpTo sum (tail_of w) cache offset len old new (Err e)
+ReadsBytesUpTo sum w cache offset len old new _ = ⊥
+
+-- what a read of at most so many bytes says of its answer
+pub record ReadUpToSays (sum : List ℕ → ℕ) (w : WriterState) (cache : CacheState)
+    (offset len : ℕ) (old new : Life) (reply : Reply) : Type 0 where
+  pub reads : ReadsBytesUpTo sum w cache offset len old new reply
+  pub full : reply ≡ Fault InvalidChecksum → ⊥
+  pub end : len ≢ 0 → size_of w ≤ offset → reply ≡ Fault BlobInsufficientLength
+  pub looked : Looked old new
+
+-- a read of at most so many bytes
+abbrev pub DidReadUpTo : (List ℕ → ℕ) → Option WriterState → CacheState → (offset len : ℕ) → Life
+    → Life → Reply → Type 0
+DidReadUpTo sum None cache offset len old new reply = (reply ≡ Closed) × (new ≡ old)
+DidReadUpTo sum (Some w) cache offset len old new reply =
+    ReadUpToSays sum w cache offset len old new reply
+
+-- the bytes, where they are within the size and the cache holds the pages of those below the tip;
+-- there is no memory for bytes within the size; or they can't be had without the device
+abbrev pub TriedBytes : WriterState → CacheState → (offset len : ℕ) → Reply → Type 0
+TriedBytes w cache offset len (Bytes bytes) =
+    TriesRead (tail_of w) (offset, len) cache bytes.items true
+TriedBytes w cache offset len Nothing =
+    false ≡ (nat_le (offset + len) (size_of w) && is_served cache (tail_of w) (offset, len))
+TriedBytes w cache offset len (Fault e) = (e ≡ OutOfMemory) × (offset + len ≤ size_of w)
+TriedBytes w cache offset len _ = ⊥
+
+-- a read that asks no device
+abbrev pub DidTryRead : Option WriterState → CacheState → (offset len : ℕ) → Reply → Type 0
+DidTryRead None cache offset len reply = reply ≡ Closed
+DidTryRead (Some w) cache offset len reply = TriedBytes w cache offset len reply
 
 -- the reply of these bytes, or that there is no memory for them
 abbrev pub IsBytes : List ℕ → Reply → Type 0

@@ -1,7 +1,7 @@
 -- What a list of steps did to a session, moment by moment.
-use Rattle.std.specs.Prelude.{◌≡◌, ◌⊎◌, ◌<◌, ◌≤◌, ◌+◌, ◌%◌, ◌^◌, ◌++◌, ℕ, List, [], ◌∷◌, length}
-use Rattle.std.specs.Prelude.{take, drop, min, max, map, All, Bool, true, false, not, nat_le}
-use Rattle.std.specs.Prelude.{nat_lt, nat_eq, ◌||◌, ◌&&◌}
+use Rattle.std.specs.Prelude.{◌≡◌, ◌≢◌, ◌⊎◌, ◌<◌, ◌≤◌, ◌+◌, ◌%◌, ◌^◌, ◌++◌, ℕ, List, [], ◌∷◌}
+use Rattle.std.specs.Prelude.{length, take, drop, min, max, map, All, Bool, true, false, not}
+use Rattle.std.specs.Prelude.{nat_le, nat_lt, nat_eq, ◌||◌, ◌&&◌}
 use Rattle.std.specs.Prelude.{if◌then◌else◌, is_some, slice_get, Option, Some, None}
 use Rattle.std.specs.List.{Contains, list_any}
 use Rattle.disk.specs.Disk.{Disk, Life, after, HasFailed, coverings, had_failed}
@@ -17,12 +17,15 @@ use Rattle.crash.specs.Started.{WouldKeep, StartsStand}
 use Rattle.crash.specs.WriterState.{WriterState, SyncState}
 use Rattle.crash.specs.WriterState.SyncState.{Clean, Dirty, Pending}
 use Rattle.crash.specs.Sound.{IsSound, content as content_of}
+use Rattle.cache.specs.CacheState.{CacheState}
+use Rattle.paged_read.specs.Tail.{CanRead}
+use Rattle.paged.specs.Caches.{tail_of}
 use Rattle.paged.specs.Writer.{physical_size}
 use Rattle.paged.specs.Calls.{start_calls}
 use Rattle.session.specs.declared.steps.Step.{Step}
 use Rattle.session.specs.declared.steps.Step.TheVariants.{Append, Owned, TryAppend, Sync, StartSync}
 use Rattle.session.specs.declared.steps.Step.TheVariants.{Wait, WaitSync, Needs, Size, Read, Begin}
-use Rattle.session.specs.declared.steps.Step.TheVariants.{Truncate}
+use Rattle.session.specs.declared.steps.Step.TheVariants.{ReadUpTo, TryRead, Truncate}
 use Rattle.session.specs.declared.steps.Reply.{Reply}
 use Rattle.session.specs.declared.steps.Reply.TheVariants.{At, Nothing, Done, Started, Answer}
 use Rattle.session.specs.declared.steps.Reply.TheVariants.{Length, Bytes, Fault, Closed, NoSuch}
@@ -168,6 +171,12 @@ abbrev pub Slices : List ℕ → (offset len : ℕ) → List ℕ → Type 0
 Slices content offset len bytes =
     (offset + len ≤ length content) × (bytes ≡ take len (drop offset content))
 
+-- as many bytes as there are from a place on, at most so many; none may be asked for anywhere, and
+-- some only before the end
+abbrev pub SlicesUpTo : List ℕ → (offset len : ℕ) → List ℕ → Type 0
+SlicesUpTo content offset len bytes =
+    ((len ≡ 0) ⊎ (offset < length content)) × (bytes ≡ take len (drop offset content))
+
 -- what starting a sync answers: where all is written, the sync that is awaited, if one is, and else
 -- a new one, whose name is its number
 abbrev pub started_by : Standing → Disk → StartedSync
@@ -202,6 +211,11 @@ Accepts P Needs (Answer answer) from to s behind = (answer ≡ needs_sync s) × 
 Accepts P Size (Length n) from to s behind = (n ≡ length s.content) × (behind ≡ s)
 Accepts P (Read offset len) (Bytes bytes) from to s behind =
     Slices s.content offset len bytes.items × (behind ≡ s)
+Accepts P (ReadUpTo offset len) (Bytes bytes) from to s behind =
+    SlicesUpTo s.content offset len bytes.items × (behind ≡ s)
+Accepts P (TryRead offset len) (Bytes bytes) from to s behind =
+    Slices s.content offset len bytes.items × (behind ≡ s)
+Accepts P (TryRead offset len) Nothing from to s behind = behind ≡ s
 Accepts P Begin Done from to s behind = behind ≡ record s { recovering = false }
 Accepts P (Truncate n) (Length m) from to s behind =
     (m ≡ min n (length s.content)) × (behind ≡ truncated P n s)
@@ -224,6 +238,8 @@ faults Begin = []
 faults (Truncate n) =
     ReadFailed ∷ WriteFailed ∷ ResizeFailed ∷ SyncFailed ∷ OutOfMemory ∷ []
 faults (Read offset len) = ReadFailed ∷ BlobInsufficientLength ∷ OffsetOverflow ∷ OutOfMemory ∷ []
+faults (ReadUpTo offset len) = ReadFailed ∷ BlobInsufficientLength ∷ OutOfMemory ∷ []
+faults (TryRead offset len) = OutOfMemory ∷ []
 
 -- a place, or the blob that the new size needs in pages of P bytes, passes the greatest number
 abbrev pub Overflows : (P : ℕ) → Step → Standing → Type 0
@@ -233,14 +249,16 @@ Overflows P (TryAppend bytes) s = 2 ^ 64 ≤ physical_size P 0 (length s.content
 Overflows P (Read offset len) s = 2 ^ 64 ≤ offset + len
 Overflows P step s = ⊥
 
--- a range passes the end, and no greatest number
+-- a range passes the end, and no greatest number; or some bytes are asked for where there is none
 abbrev pub PassesEnd : Step → Standing → Type 0
 PassesEnd (Read offset len) s = (offset + len < 2 ^ 64) × (length s.content < offset + len)
+PassesEnd (ReadUpTo offset len) s = (len ≢ 0) × (length s.content ≤ offset)
 PassesEnd step s = ⊥
 
 -- a step that may ask for memory
 abbrev pub Allocates : Step → Standing → Type 0
 Allocates (TryAppend bytes) s = has_room s (length bytes.items) ≡ true
+Allocates (TryRead offset len) s = offset + len ≤ length s.content
 Allocates Sync s = needs_sync s ≡ true
 Allocates Wait s = is_some s.awaited ≡ true
 Allocates step s = Unit {0}
@@ -340,6 +358,8 @@ touch (WaitSync name) s = Changes 1
 touch Needs s = Leaves
 touch Size s = Leaves
 touch (Read offset len) s = Looks
+touch (ReadUpTo offset len) s = Looks
+touch (TryRead offset len) s = Leaves
 touch Begin s = Leaves
 touch (Truncate n) s = Changes (if nat_lt n (length s.content) then 8 else 2)
 
@@ -449,6 +469,22 @@ HasSoundWriter sum (Some w) d = IsSound sum w d
 pub record IsReady (sum : List ℕ → ℕ) (session : SessionState) (d : Disk) : Type 0 where
   pub writer : HasSoundWriter sum session.writer d
   pub starts : (session.names ≡ []) ⊎ StartsStand d
+
+-- the cache fits the writer, if there is one: it gave its id, and what it holds of its pages is
+-- theirs
+abbrev pub CacheFits : Option WriterState → CacheState → Disk → Type 0
+CacheFits None cache d = Unit {0}
+CacheFits (Some w) cache d = CanRead (tail_of w) cache d
+
+-- where the cache fitted a writer, or none, it fits another over the same disk
+abbrev pub KeepsCache : Option WriterState → Option WriterState → Type 0
+KeepsCache was now =
+    (cache : CacheState) (d : Disk) → CacheFits was cache d → CacheFits now cache d
+
+-- over another disk
+abbrev pub FitsOn : Option WriterState → Option WriterState → Disk → Disk → Type 0
+FitsOn was now from to =
+    (cache : CacheState) → CacheFits was cache from → CacheFits now cache to
 
 -- ---- a run
 

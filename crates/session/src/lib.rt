@@ -2,6 +2,7 @@
 //! back after a crash.
 #![tactic(auto)]
 
+mod reads;
 mod recoveries;
 mod sessions;
 mod steps;

@@ -7,7 +7,8 @@ ghost use Rattle.disk.specs.Torn.{torn};
 ghost use Rattle.page.specs.Page.{text};
 ghost use Rattle.page.specs.Geometry.{adjusted};
 ghost use Rattle.paged.specs.Searches.{ReadsWithin, scan_bytes};
-ghost use Rattle.session.specs.Run.{StandsFor, IsReady};
+ghost use Rattle.cache.specs.Pages.{IsFresh};
+ghost use Rattle.session.specs.Run.{StandsFor, IsReady, CacheFits};
 ghost use Rattle.session.specs.Promise.{HasCrashed, AttemptsThrough, BeginsBy, GivesId, GivesBack};
 ghost use Rattle.session.specs.Promise.{GivesBackLeft, LeadsOn, fresh, closed};
 
@@ -42,6 +43,9 @@ impl<B: Blob, H: Sum> Session<B, H> {
             BeginsBy H.sum_of cache.old capacity old (B.life blob.new) result }
         ensures ready { let new = B.life blob.new in
             IfOk result (λ session. IsReady H.sum_of session new.present) }
+        ensures cached { let new = B.life blob.new in IsFresh cache.old
+            → IfOk result (λ session. CacheFits session.writer cache.new new.present) }
+        ensures fresh_ids { IsFresh cache.old → IsFresh cache.new }
         ensures overflow { 2 ^ 64 ≤ adjusted capacity cache.old.page_size
             → result ≡ Err Error.OffsetOverflow }
         ensures ids { GivesId result cache.old cache.new }
@@ -100,7 +104,10 @@ impl<H: Sum> Session<MemBlob, H> {
             let s = fresh P (adjusted capacity P) given in
             OnOk result (StandsFor H.sum_of P self.new s (life_of blob.new).present) }
         ensures ready { OnOk result (IsReady H.sum_of self.new (life_of blob.new).present) }
-        ensures refused { let same = (self.new ≡ self.old) × (blob.new ≡ blob.old) in
+        ensures cached { let new = life_of blob.new in IsFresh cache.old
+            → OnOk result (CacheFits self.new.writer cache.new new.present) }
+        ensures fresh_ids { IsFresh cache.old → IsFresh cache.new }
+        ensures refused { let same = (self.new ≡ self.old) × (blob.new ≡ blob.old) × (cache.new ≡ cache.old) in
             OnErr result ((self.new ≡ closed) ⊎ same) }
 
         // What came back begins with the floor that stood as the crash came, and chance aside it is

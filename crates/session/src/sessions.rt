@@ -1,17 +1,19 @@
 // Sessions: lists of steps over one blob.
 ghost use Rattle.std.specs.Prelude.{◌≡◌, option_map, IfOk, IsOkUnless, OnOk, OnErr};
-ghost use Rattle.std.specs.List.{concat};
-ghost use Rattle.session.specs.Run.{IsReady, RunsAlways};
+ghost use Rattle.cache.specs.Pages.{IsFresh};
+ghost use Rattle.paged_read.specs.Tail.{CanRead};
+ghost use Rattle.paged.specs.Caches.{tail_of};
 ghost use Rattle.paged.specs.Reads.{size_of};
+ghost use Rattle.session.specs.Run.{IsReady, CacheFits, KeepsCache, FitsOn, RunsAlways};
 ghost use Rattle.session.specs.Promise.{Promises, StandsWhereSound, closed, session_of};
 ghost use Rattle.session.specs.Calls.{Appended, TriedAppend, Synced, Starts, Waits, WaitsFor};
-ghost use Rattle.session.specs.Calls.{Needs, Sized, DidRead, IsBytes, Begins, KeepsRest, is_given};
+ghost use Rattle.session.specs.Calls.{Needs, Sized, Begins, KeepsRest, is_given};
 ghost use Rattle.session.specs.Calls.{Steps, AppendSays, Truncated};
 ghost use Rattle.crash.specs.Sound.{IsSound};
 
 use crate::steps::{Reply, Step};
 use cache::CacheRef;
-use disk::{Blob, Error, IoBuf, IoBufs, StartedSync};
+use disk::{Blob, Error, IoBuf, StartedSync};
 use page::Sum;
 use paged::Recovery;
 use std::alloc::Global;
@@ -25,7 +27,7 @@ use std::marker::Model;
 pub struct Session<B, H> {
     pub(crate) alloc: Global,
     // A writer that appends stands here as a recovery too, as which it has every call.
-    writer: Option<Recovery<B, H>>,
+    pub(crate) writer: Option<Recovery<B, H>>,
     recovering: bool,
     names: Vec<u64>,
 }
@@ -80,8 +82,11 @@ impl<B: Blob, H: Sum> Session<B, H> {
     /// Takes one step.
     fn step(&mut self, blob: &mut B, cache: &mut CacheRef, step: &Step) -> Reply
         requires ready { IsReady H.sum_of self.old (B.life blob.old).present }
-        ensures { let old = B.life blob.old in let new = B.life blob.new in
+        requires cached { CacheFits self.old.writer cache.old (B.life blob.old).present }
+        ensures goes { let old = B.life blob.old in let new = B.life blob.new in
             Steps H.sum_of step.now result self.old self.new old new }
+        ensures cached { CacheFits self.new.writer cache.new (B.life blob.new).present }
+        ensures fresh_ids { IsFresh cache.old → IsFresh cache.new }
     {
         match step {
             Step::Append(bytes) => self.append(blob, cache, bytes),
@@ -94,6 +99,8 @@ impl<B: Blob, H: Sum> Session<B, H> {
             Step::Needs => self.needs_sync(),
             Step::Size => self.length(),
             Step::Read(offset, len) => self.read(blob, cache, *offset, *len),
+            Step::ReadUpTo(offset, len) => self.read_up_to(blob, cache, *offset, *len),
+            Step::TryRead(offset, len) => self.try_read(cache, *offset, *len),
             Step::Begin => self.begin(),
             Step::Truncate(size) => self.truncate(blob, cache, *size),
         }
@@ -101,9 +108,12 @@ impl<B: Blob, H: Sum> Session<B, H> {
 
     fn append(&mut self, blob: &mut B, cache: &mut CacheRef, bytes: &[u8]) -> Reply
         requires ready { IsReady H.sum_of self.old (B.life blob.old).present }
+        requires cached { CacheFits self.old.writer cache.old (B.life blob.old).present }
         ensures goes { let old = B.life blob.old in let new = B.life blob.new in
             Appended H.sum_of self.old.writer self.new.writer bytes.now old new result }
         ensures rest { KeepsRest self.old self.new }
+        ensures cached { CacheFits self.new.writer cache.new (B.life blob.new).present }
+        ensures fresh_ids { IsFresh cache.old → IsFresh cache.new }
     {
         let Some(writer) = self.writer.take() else {
             return Reply::Closed;
@@ -119,9 +129,12 @@ impl<B: Blob, H: Sum> Session<B, H> {
 
     fn append_owned(&mut self, blob: &mut B, cache: &mut CacheRef, bytes: &[u8]) -> Reply
         requires ready { IsReady H.sum_of self.old (B.life blob.old).present }
+        requires cached { CacheFits self.old.writer cache.old (B.life blob.old).present }
         ensures goes { let old = B.life blob.old in let new = B.life blob.new in
             Appended H.sum_of self.old.writer self.new.writer bytes.now old new result }
         ensures rest { KeepsRest self.old self.new }
+        ensures cached { CacheFits self.new.writer cache.new (B.life blob.new).present }
+        ensures fresh_ids { IsFresh cache.old → IsFresh cache.new }
     {
         let Some(writer) = self.writer.take() else {
             return Reply::Closed;
@@ -138,6 +151,7 @@ impl<B: Blob, H: Sum> Session<B, H> {
     fn try_append(&mut self, bytes: &[u8]) -> Reply
         ensures goes { TriedAppend H.sum_of self.old.writer self.new.writer bytes.now result }
         ensures rest { KeepsRest self.old self.new }
+        ensures cached { KeepsCache self.old.writer self.new.writer }
     {
         let Some(writer) = &mut self.writer else {
             return Reply::Closed;
@@ -151,9 +165,12 @@ impl<B: Blob, H: Sum> Session<B, H> {
 
     fn sync(&mut self, blob: &mut B, cache: &mut CacheRef) -> Reply
         requires ready { IsReady H.sum_of self.old (B.life blob.old).present }
+        requires cached { CacheFits self.old.writer cache.old (B.life blob.old).present }
         ensures goes { let old = B.life blob.old in let new = B.life blob.new in
             Synced H.sum_of self.old.writer self.new.writer old new result }
         ensures rest { KeepsRest self.old self.new }
+        ensures cached { CacheFits self.new.writer cache.new (B.life blob.new).present }
+        ensures fresh_ids { IsFresh cache.old → IsFresh cache.new }
     {
         let Some(writer) = self.writer.take() else {
             return Reply::Closed;
@@ -170,8 +187,11 @@ impl<B: Blob, H: Sum> Session<B, H> {
     // Room for the name is made first: refused there, nothing is started and the writer stays.
     fn start_sync(&mut self, blob: &mut B, cache: &mut CacheRef) -> Reply
         requires ready { IsReady H.sum_of self.old (B.life blob.old).present }
-        ensures { let old = B.life blob.old in let new = B.life blob.new in
+        requires cached { CacheFits self.old.writer cache.old (B.life blob.old).present }
+        ensures goes { let old = B.life blob.old in let new = B.life blob.new in
             Starts H.sum_of self.old.writer self.old self.new old new result }
+        ensures cached { CacheFits self.new.writer cache.new (B.life blob.new).present }
+        ensures fresh_ids { IsFresh cache.old → IsFresh cache.new }
     {
         let Some(writer) = self.writer.take() else {
             return Reply::Closed;
@@ -197,6 +217,8 @@ impl<B: Blob, H: Sum> Session<B, H> {
         ensures goes { let old = B.life blob.old in let new = B.life blob.new in
             Waits H.sum_of self.old.writer self.new.writer old new result }
         ensures rest { KeepsRest self.old self.new }
+        ensures cached { let old = B.life blob.old in let new = B.life blob.new in
+            FitsOn self.old.writer self.new.writer old.present new.present }
     {
         let Some(writer) = self.writer.take() else {
             return Reply::Closed;
@@ -212,8 +234,10 @@ impl<B: Blob, H: Sum> Session<B, H> {
 
     // Behind the back of the writer, which may be gone.
     fn wait_sync(&self, blob: &mut B, name: u64) -> Reply
-        ensures { let given = is_given self.now.names name in
+        ensures goes { let given = is_given self.now.names name in
             WaitsFor given name (B.life blob.old) (B.life blob.new) result }
+        ensures cached { let old = B.life blob.old in let new = B.life blob.new in
+            FitsOn self.now.writer self.now.writer old.present new.present }
     {
         if !self.names.contains(&name) {
             return Reply::NoSuch;
@@ -242,22 +266,9 @@ impl<B: Blob, H: Sum> Session<B, H> {
         }
     }
 
-    fn read(&self, blob: &mut B, cache: &mut CacheRef, offset: u64, len: usize) -> Reply
-        requires ready { IsReady H.sum_of self.now (B.life blob.old).present }
-        ensures { let old = B.life blob.old in let new = B.life blob.new in
-            DidRead H.sum_of self.now.writer offset len old new result }
-    {
-        let Some(writer) = &self.writer else {
-            return Reply::Closed;
-        };
-        match writer.read_at(blob, cache, offset, len) {
-            Ok(bufs) => self.bytes_of(&bufs),
-            Err(error) => Reply::Fault(error),
-        }
-    }
-
     fn begin(&mut self) -> Reply
-        ensures { Begins self.old.writer self.old self.new result }
+        ensures goes { Begins self.old.writer self.old self.new result }
+        ensures cached { KeepsCache self.old.writer self.new.writer }
     {
         if self.writer.is_none() {
             return Reply::Closed;
@@ -268,10 +279,13 @@ impl<B: Blob, H: Sum> Session<B, H> {
 
     fn truncate(&mut self, blob: &mut B, cache: &mut CacheRef, size: u64) -> Reply
         requires ready { IsReady H.sum_of self.old (B.life blob.old).present }
+        requires cached { CacheFits self.old.writer cache.old (B.life blob.old).present }
         ensures goes { let old = B.life blob.old in let new = B.life blob.new in
             Truncated H.sum_of self.old.recovering self.old.writer self.new.writer size old new
             result }
         ensures rest { KeepsRest self.old self.new }
+        ensures cached { CacheFits self.new.writer cache.new (B.life blob.new).present }
+        ensures fresh_ids { IsFresh cache.old → IsFresh cache.new }
     {
         let Some(writer) = self.writer.take() else {
             return Reply::Closed;
@@ -289,23 +303,6 @@ impl<B: Blob, H: Sum> Session<B, H> {
             Err(error) => Reply::Fault(error),
         }
     }
-
-    fn bytes_of(&self, bufs: &IoBufs) -> Reply
-        ensures { IsBytes (concat bufs.now) result }
-    {
-        match self.joined(bufs) {
-            Ok(bytes) => Reply::Bytes(bytes),
-            Err(error) => Reply::Fault(error),
-        }
-    }
-
-    fn joined(&self, bufs: &IoBufs) -> Result<Vec<u8>, Error>
-        ensures ok { IfOk result (λ bytes. bytes.items ≡ concat bufs.now) }
-        ensures err { IsOkUnless result Error.OutOfMemory }
-    {
-        let all = bufs.coalesce()?;
-        Ok(Vec::from_slice(self.alloc, all.as_ref())?)
-    }
 }
 
 /// Appends a buffer of these bytes. Where there is no memory for one the bytes are appended from
@@ -318,8 +315,12 @@ fn append_copy<B: Blob, H: Sum>(
     bytes: &[u8],
 ) -> Result<(Recovery<B, H>, u64), Error>
     requires sound { IsSound H.sum_of writer (B.life blob.old).present }
+    requires can { CanRead (tail_of writer) cache.old (B.life blob.old).present }
     ensures says { let old = B.life blob.old in let new = B.life blob.new in
         AppendSays H.sum_of writer bytes.now old new result }
+    ensures can { let new = B.life blob.new in
+        IfOk result (λ r. CanRead (tail_of r.0) cache.new new.present) }
+    ensures fresh_ids { IsFresh cache.old → IsFresh cache.new }
 {
     match IoBuf::copy_from_slice(alloc, bytes) {
         Ok(bytes) => writer.append_owned(blob, cache, bytes),
@@ -328,7 +329,8 @@ fn append_copy<B: Blob, H: Sum>(
 }
 
 /// Takes the steps in order over the session's blob, and adds one reply a step to `replies`. The
-/// session's writer, if it has one, is sound over the blob, and stays so.
+/// session's writer, if it has one, is sound over the blob, the cache is the one that it was made
+/// with, and both stay so.
 ///
 /// An append, a sync, a start of one, a wait of the writer or a truncate that is refused ends the
 /// writer, and each step after it that needs one replies `Closed`; but a start for whose name there
@@ -345,7 +347,10 @@ pub fn run<B: Blob, H: Sum>(
     replies: &mut Vec<Reply>,
 ) -> Result<(), Error>
     requires ready { IsReady H.sum_of session.old (B.life blob.old).present }
+    requires cached { CacheFits session.old.writer cache.old (B.life blob.old).present }
     ensures ready { IsReady H.sum_of session.new (B.life blob.new).present }
+    ensures cached { CacheFits session.new.writer cache.new (B.life blob.new).present }
+    ensures fresh_ids { IsFresh cache.old → IsFresh cache.new }
 
     // Whatever the session stood for before, at each moment of each step.
     ensures runs { let old = B.life blob.old in let new = B.life blob.new in
@@ -362,6 +367,7 @@ pub fn run<B: Blob, H: Sum>(
     ensures same_session { OnErr result (session.new ≡ session.old) }
     ensures same_life { OnErr result (B.life blob.new ≡ B.life blob.old) }
     ensures same_replies { OnErr result (replies.new.items ≡ replies.old.items) }
+    ensures same_cache { OnErr result (cache.new ≡ cache.old) }
 {
     replies.try_reserve(steps.len())?;
     for step in steps {

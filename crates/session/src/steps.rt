@@ -24,6 +24,10 @@ pub enum Step {
     Size,
     /// Reads from this logical place so many bytes.
     Read(u64, usize),
+    /// Reads from this logical place as many bytes as there are, at most so many.
+    ReadUpTo(u64, usize),
+    /// Reads from this logical place so many bytes where that needs no device.
+    TryRead(u64, usize),
     /// Ends the recovery: from then on the writer appends.
     Begin,
     /// Cuts the blob to its first so many logical bytes, durably, where the recovery hasn't ended.
@@ -35,7 +39,7 @@ pub enum Step {
 pub enum Reply {
     /// The logical place of the first appended byte.
     At(u64),
-    /// The bytes don't fit what is buffered.
+    /// The bytes don't fit what is buffered, or can't be had without the device.
     Nothing,
     /// The step is done.
     Done,

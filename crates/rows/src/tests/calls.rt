@@ -1,6 +1,6 @@
 // What calls answer, and the error of each device call that fails in them.
-use super::kit::{CAPACITY, Store};
-use disk::{Call, Error, IoBuf};
+use super::kit::{CAPACITY, Call, Store};
+use disk::{Error, IoBuf};
 use page::{AddSum, Sum};
 use std::alloc::Global;
 use std::process::Abort;
@@ -44,11 +44,14 @@ fn reads_cross_pages_and_the_buffer(rt: HostRuntime) -> Result<(), Fail> {
     for (place, len, want, pages) in READS {
         let mut store = a_to_k::<AddSum>(rt.alloc())?;
         assert_eq!(rt; store.blob().len(), 32);
+        // Nothing is held of a blob that was just recovered.
+        store.sync()?;
+        store.recover(CAPACITY)?;
         let before = store.blob().calls().len();
         let got = store.read(place, len);
         assert!(rt; answers(&got, want), "{len} bytes at {place}");
         assert_eq!(rt;
-            store.calls_from(before).len(),
+            store.calls_from(before)?.len(),
             pages,
             "{len} bytes at {place}"
         );
@@ -61,6 +64,8 @@ fn a_failed_read_is_told(rt: HostRuntime) -> Result<(), Fail> {
     // Pages 0 and 1 are read in turn.
     for page in 0..2u64 {
         let mut store = a_to_k::<AddSum>(rt.alloc())?;
+        store.sync()?;
+        store.recover(CAPACITY)?;
         store.fail_at(page + 1);
         let got = store.read(3, 7);
         assert!(rt; answers(&got, Err(Error::ReadFailed)), "at page {page}");
@@ -76,7 +81,7 @@ fn an_append_may_pass_the_buffer(rt: HostRuntime) -> Result<(), Fail> {
     assert_eq!(rt; store.append(b"abcdefghijklmnopqrstu"), Ok(0));
     assert_eq!(rt; store.size(), 21);
     assert_eq!(rt;
-        store.calls_from(before),
+        store.calls_from(before)?.as_slice(),
         [Call::WriteAt(0, 80, false)].as_slice()
     );
     assert_eq!(rt; store.append(b""), Ok(21));
@@ -93,7 +98,7 @@ fn an_append_may_pass_the_buffer(rt: HostRuntime) -> Result<(), Fail> {
 struct Row {
     bytes: &'static [u8],
     sync: bool,
-    calls: &'static [Call],
+    calls: &'static [Call<'static>],
     error: Error,
     readable: &'static [u8],
 }
@@ -173,7 +178,7 @@ fn refused(rt: &impl Abort, alloc: Global, row: &Row) -> Result<Store<AddSum>, E
     let mut store = about_to_fail(alloc, row)?;
     let before = store.blob().calls().len();
     assert_eq!(rt; change(&mut store, row), Err(row.error));
-    assert_eq!(rt; store.calls_from(before), row.calls);
+    assert_eq!(rt; store.calls_from(before)?.as_slice(), row.calls);
     assert_eq!(rt; store.blob().failures(), 1);
     Ok(store)
 }

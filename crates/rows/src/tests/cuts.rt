@@ -1,8 +1,8 @@
 // Cutting what a recovery keeps.
 ghost use Rattle.std.specs.Prelude.{◌≤◌, length};
 
-use super::kit::{ABCD, CAPACITY, Page, Store, blob_bytes, calls_from, error_of, new_cache};
-use disk::{Call, Error, MemBlob};
+use super::kit::{ABCD, CAPACITY, Call, Page, Store, blob_bytes, calls_from, error_of, new_cache};
+use disk::{Error, MemBlob};
 use page::{AddSum, ConstSum, Sum};
 use paged::Recovery;
 use std::alloc::Global;
@@ -37,7 +37,7 @@ const IJ: Page = [
 struct Row {
     pages: &'static [Page],
     size: u64,
-    calls: &'static [Call],
+    calls: &'static [Call<'static>],
     answer: Result<u64, Error>,
     left: &'static [Page],
 }
@@ -166,7 +166,11 @@ fn a_cut_asks_this_of_the_device(rt: HostRuntime) -> Result<(), Fail> {
         let mut blob = blob_of(alloc, row.pages)?;
         let answer = open_and_truncate(&mut blob, alloc, row.size);
         assert_eq!(rt; answer, row.answer, "row {number}");
-        assert_eq!(rt; calls_from(&blob, 0), row.calls, "row {number}");
+        assert_eq!(rt;
+            calls_from(alloc, &blob, 0)?.as_slice(),
+            row.calls,
+            "row {number}"
+        );
         assert!(rt; is_made_of(alloc, &blob, row.left)?, "row {number}");
     }
     Ok(())
@@ -384,7 +388,7 @@ const AB_KEPT: Page = [
     0x61, 0x62, 0x00, 0x00, 0x00, 0x00, 0x00, 0x00, 0x00, 0x00, 0x00, 0x02, 0x00, 0x00, 0x00, 0xC3,
 ];
 
-const RECOVERY: [Call; 9] = [
+const RECOVERY: [Call<'static>; 9] = [
     Call::ReadAt(16, 16),
     Call::ReadAt(0, 32),
     Call::Sync,
@@ -405,7 +409,7 @@ fn store_of_ab(alloc: Global) -> Result<Store<AddSum>, Error> {
 fn a_recovery_cuts_where_the_text_ends(rt: HostRuntime) -> Result<(), Fail> {
     let mut store = store_of_ab(rt.alloc())?;
     store.recover(64)?;
-    assert_eq!(rt; store.calls_from(0), RECOVERY.as_slice());
+    assert_eq!(rt; store.calls_from(0)?.as_slice(), RECOVERY.as_slice());
     assert!(rt; store.is_made_of(&[AB_KEPT])?);
     assert!(rt; store.has(b"ab")?);
     Ok(())
@@ -416,7 +420,7 @@ fn ab_stopped(
     rt: &impl Abort,
     alloc: Global,
     done: usize,
-    call: Call,
+    call: Call<'_>,
     keep: bool,
 ) -> Result<(), Error> {
     let mut store = store_of_ab(alloc)?;

@@ -1,6 +1,6 @@
 // Appends that are too big for the buffer.
-use super::kit::{ABCD, Page, Store, error_of};
-use disk::{Call, Error};
+use super::kit::{ABCD, Call, Page, Store, error_of};
+use disk::Error;
 use page::AddSum;
 use std::alloc::Global;
 use std::process::Abort;
@@ -25,7 +25,7 @@ struct Row {
     before: &'static [u8],
     starts: bool,
     bytes: &'static [u8],
-    calls: &'static [Call],
+    calls: &'static [Call<'static>],
     pages: &'static [Page],
 }
 
@@ -139,7 +139,7 @@ fn append(rt: &impl Abort, alloc: Global, row: &Row, way: Way) -> Result<(), Err
         way.append(&mut store, row.bytes),
         Ok(row.before.len() as u64)
     );
-    assert_eq!(rt; store.calls_from(before), row.calls);
+    assert_eq!(rt; store.calls_from(before)?.as_slice(), row.calls);
     assert!(rt; row.pages.is_empty() || store.is_made_of(row.pages)?);
     assert_eq!(rt; store.size(), content.len() as u64);
     assert!(rt; store.has(&content)?);
@@ -175,7 +175,7 @@ fn fail(
     store.fail_at((done as u64).saturating_add(1));
     let error = row.calls.get(done).map(|call| error_of(*call));
     assert_eq!(rt; way.append(&mut store, row.bytes).err(), error);
-    assert_eq!(rt; store.calls_from(before).len(), done.saturating_add(1));
+    assert_eq!(rt; store.calls_from(before)?.len(), done.saturating_add(1));
     store.crash(&[keep; 64])?;
     store.recover(8)?;
     let left = store.content()?;

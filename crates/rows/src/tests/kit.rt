@@ -1,6 +1,9 @@
 // What the tests share: pages as they stand in a blob, and writers over blobs in memory.
+ghost use Rattle.std.specs.Prelude.{IfOk};
+ghost use Rattle.cache.specs.Pages.{IsFresh};
+
 use cache::CacheRef;
-use disk::{Call, Error, IoBuf, MemBlob, StartedSync};
+use disk::{Error, IoBuf, MemBlob, StartedSync};
 use page::{EncodeSize, Sum, Write};
 use paged::{Writer, recover, wait_sync};
 use std::alloc::Global;
@@ -37,14 +40,20 @@ pub fn blob_bytes(alloc: Global, pages: &[Page], stray: &[u8]) -> Result<Vec<u8>
     Ok(bytes)
 }
 
-pub fn new_cache(alloc: Global) -> Result<CacheRef, Error> {
-    cache_of(alloc, PAGE_SIZE)
+/// A cache of one page.
+pub fn new_cache(alloc: Global) -> Result<CacheRef, Error>
+    ensures { IfOk result (λ cache. IsFresh cache) }
+{
+    cache_of(alloc, PAGE_SIZE, 1)
 }
 
-/// A cache of one page of this size, 1 at least.
-pub fn cache_of(alloc: Global, page_size: u16) -> Result<CacheRef, Error> {
+/// A cache of so many pages of this size, each 1 at least.
+pub fn cache_of(alloc: Global, page_size: u16, capacity: usize) -> Result<CacheRef, Error>
+    ensures { IfOk result (λ cache. IsFresh cache) }
+{
     let page_size = NonZeroU16::new(page_size).unwrap_or(NonZeroU16::MIN);
-    CacheRef::new(alloc, page_size, NonZeroUsize::MIN)
+    let capacity = NonZeroUsize::new(capacity).unwrap_or(NonZeroUsize::MIN);
+    CacheRef::new(alloc, page_size, capacity)
 }
 
 /// What a test runs over: a blob, its cache, and the writer on it, if there is one.
@@ -68,7 +77,8 @@ impl<H: Sum> Model for Store<H> {
 
     ghost view = { λ store. tt };
 
-    ghost invariant = { λ store. IsReady H.sum_of store.writer (life_of store.blob) };
+    ghost invariant = { λ store. IsReady H.sum_of store.writer store.cache
+        (life_of store.blob) };
 }
 
 impl<H: Sum> Store<H> {
@@ -94,7 +104,19 @@ impl<H: Sum> Store<H> {
         let mut store = Store {
             alloc,
             blob: MemBlob::new(alloc),
-            cache: cache_of(alloc, page_size)?,
+            cache: cache_of(alloc, page_size, 1)?,
+            writer: None,
+        };
+        store.recover(CAPACITY)?;
+        Ok(store)
+    }
+
+    /// A store of an empty blob, recovered, with so many pages in its cache.
+    pub fn caching(alloc: Global, capacity: usize) -> Result<Self, Error> {
+        let mut store = Store {
+            alloc,
+            blob: MemBlob::new(alloc),
+            cache: cache_of(alloc, PAGE_SIZE, capacity)?,
             writer: None,
         };
         store.recover(CAPACITY)?;
@@ -142,7 +164,9 @@ impl<H: Sum> Store<H> {
 
     /// Appends bytes, and answers their place.
     pub fn append(&mut self, bytes: &[u8]) -> Result<u64, Error> {
-        let writer = self.writer.take().ok_or(NO_WRITER)?;
+        let Some(writer) = self.writer.take() else {
+            return Err(NO_WRITER);
+        };
         let (writer, at) = writer.append(&mut self.blob, &mut self.cache, bytes)?;
         self.writer = Some(writer);
         Ok(at)
@@ -150,8 +174,10 @@ impl<H: Sum> Store<H> {
 
     /// Appends a buffer of these bytes, and answers their place.
     pub fn append_owned(&mut self, bytes: &[u8]) -> Result<u64, Error> {
-        let writer = self.writer.take().ok_or(NO_WRITER)?;
         let bytes = IoBuf::copy_from_slice(self.alloc, bytes)?;
+        let Some(writer) = self.writer.take() else {
+            return Err(NO_WRITER);
+        };
         let (writer, at) = writer.append_owned(&mut self.blob, &mut self.cache, bytes)?;
         self.writer = Some(writer);
         Ok(at)
@@ -159,10 +185,10 @@ impl<H: Sum> Store<H> {
 
     /// Appends bytes where they fit the buffer.
     pub fn try_append(&mut self, bytes: &[u8]) -> Result<Option<u64>, Error> {
-        match &mut self.writer {
-            Some(writer) => writer.try_append(bytes),
-            None => Err(NO_WRITER),
-        }
+        let Some(writer) = &mut self.writer else {
+            return Err(NO_WRITER);
+        };
+        writer.try_append(bytes)
     }
 
     /// Appends a value where it fits the buffer.
@@ -170,22 +196,26 @@ impl<H: Sum> Store<H> {
         &mut self,
         value: &T,
     ) -> Result<Option<u64>, Error> {
-        match &mut self.writer {
-            Some(writer) => writer.try_append_value(value),
-            None => Err(NO_WRITER),
-        }
+        let Some(writer) = &mut self.writer else {
+            return Err(NO_WRITER);
+        };
+        writer.try_append_value(value)
     }
 
     /// Makes all that was appended durable.
     pub fn sync(&mut self) -> Result<(), Error> {
-        let writer = self.writer.take().ok_or(NO_WRITER)?;
+        let Some(writer) = self.writer.take() else {
+            return Err(NO_WRITER);
+        };
         self.writer = Some(writer.sync(&mut self.blob, &mut self.cache)?);
         Ok(())
     }
 
     /// Writes all that was appended, and starts a sync.
     pub fn start_sync(&mut self) -> Result<StartedSync, Error> {
-        let writer = self.writer.take().ok_or(NO_WRITER)?;
+        let Some(writer) = self.writer.take() else {
+            return Err(NO_WRITER);
+        };
         let (writer, started) = writer.start_sync(&mut self.blob, &mut self.cache)?;
         self.writer = Some(writer);
         Ok(started)
@@ -193,7 +223,9 @@ impl<H: Sum> Store<H> {
 
     /// Waits for the sync that the writer started last.
     pub fn wait_for_sync(&mut self) -> Result<(), Error> {
-        let writer = self.writer.take().ok_or(NO_WRITER)?;
+        let Some(writer) = self.writer.take() else {
+            return Err(NO_WRITER);
+        };
         self.writer = Some(writer.wait_for_sync(&mut self.blob)?);
         Ok(())
     }
@@ -216,6 +248,36 @@ impl<H: Sum> Store<H> {
                 .coalesce(),
             None => Err(NO_WRITER),
         }
+    }
+
+    /// The bytes of a range, in a buffer.
+    pub fn read_into(&mut self, buf: &mut [u8], place: u64) -> Result<(), Error> {
+        match &self.writer {
+            Some(writer) => writer.read_into(&mut self.blob, &mut self.cache, buf, place),
+            None => Err(NO_WRITER),
+        }
+    }
+
+    /// As many bytes from a place on as there are, and how many.
+    pub fn read_up_to(&mut self, place: u64, len: usize) -> Result<(Vec<u8>, usize), Error> {
+        let bytes = Vec::new(self.alloc);
+        match &self.writer {
+            Some(writer) => {
+                writer.read_up_to(&mut self.blob, &mut self.cache, place, len, bytes)
+            }
+            None => Err(NO_WRITER),
+        }
+    }
+
+    /// The bytes of a range, where that needs no device: whether it does.
+    pub fn try_read_sync_into(&self, buf: &mut [u8], place: u64) -> Option<bool> {
+        let writer = self.writer.as_ref()?;
+        Some(writer.try_read_sync_into(&self.cache, buf, place))
+    }
+
+    /// Whether the cache holds a page of the blob that was opened first.
+    pub fn holds_page(&self, page: u64) -> bool {
+        self.cache.holds(0, page)
     }
 
     /// All that the writer stands for.
@@ -265,23 +327,49 @@ impl<H: Sum> Store<H> {
     }
 
     /// The device calls from one on.
-    pub fn calls_from(&self, first: usize) -> &[Call] {
-        calls_from(&self.blob, first)
+    pub fn calls_from(&self, first: usize) -> Result<Vec<Call<'_>>, Error> {
+        calls_from(self.alloc, &self.blob, first)
     }
 }
 
-/// The device calls from one on.
-pub fn calls_from(blob: &MemBlob, first: usize) -> &[Call] {
-    match blob.calls().get(first..) {
-        Some(calls) => calls,
-        None => &[],
+/// A device call as a table of a test writes it: a blob's own has a vector of ranges, and isn't
+/// copied.
+#[derive(Clone, Copy, Debug, PartialEq, Eq)]
+pub enum Call<'a> {
+    ReadAt(u64, usize),
+    ReadMany(&'a [(u64, usize)]),
+    WriteAt(u64, usize, bool),
+    Resize(u64),
+    Sync,
+    StartSync,
+    WaitSync(u64),
+}
+
+fn as_written(call: &disk::Call) -> Call<'_> {
+    match call {
+        disk::Call::ReadAt(place, len) => Call::ReadAt(*place, *len),
+        disk::Call::ReadMany(ranges) => Call::ReadMany(ranges),
+        disk::Call::WriteAt(place, len, sync) => Call::WriteAt(*place, *len, *sync),
+        disk::Call::Resize(len) => Call::Resize(*len),
+        disk::Call::Sync => Call::Sync,
+        disk::Call::StartSync => Call::StartSync,
+        disk::Call::WaitSync(name) => Call::WaitSync(*name),
     }
+}
+
+/// The device calls of a blob from one on.
+pub fn calls_from(alloc: Global, blob: &MemBlob, first: usize) -> Result<Vec<Call<'_>>, Error> {
+    let mut calls = Vec::new(alloc);
+    for call in blob.calls().iter().skip(first) {
+        calls.push(as_written(call))?;
+    }
+    Ok(calls)
 }
 
 /// The error with which a call of this kind fails.
-pub fn error_of(call: Call) -> Error {
+pub fn error_of(call: Call<'_>) -> Error {
     match call {
-        Call::ReadAt(_, _) => Error::ReadFailed,
+        Call::ReadAt(_, _) | Call::ReadMany(_) => Error::ReadFailed,
         Call::WriteAt(_, _, _) => Error::WriteFailed,
         Call::Resize(_) => Error::ResizeFailed,
         Call::Sync | Call::StartSync | Call::WaitSync(_) => Error::SyncFailed,

@@ -1,6 +1,6 @@
 // What appends and syncs write.
-use super::kit::{ABCD, EF, Page, Store};
-use disk::{Call, Error};
+use super::kit::{ABCD, Call, EF, Page, Store};
+use disk::Error;
 use page::AddSum;
 use std::process::Abort;
 use std::test::Fail;
@@ -42,7 +42,7 @@ fn each_sync_takes_the_other_slot(rt: HostRuntime) -> Result<(), Fail> {
     append_and_sync(&rt, &mut store, b"abcdef", 0, &[ABCD, EF])?;
     assert_eq!(rt; store.size(), 6);
     assert_eq!(rt;
-        store.calls_from(before),
+        store.calls_from(before)?.as_slice(),
         [Call::WriteAt(0, 32, true)].as_slice()
     );
 
@@ -51,15 +51,18 @@ fn each_sync_takes_the_other_slot(rt: HostRuntime) -> Result<(), Fail> {
     append_and_sync(&rt, &mut store, b"h", 7, &[ABCD, EFGH])?;
     assert_eq!(rt; store.size(), 8);
     let write = Call::WriteAt(16, 16, true);
-    assert_eq!(rt; store.calls_from(before), [write, write].as_slice());
+    assert_eq!(rt;
+        store.calls_from(before)?.as_slice(),
+        [write, write].as_slice()
+    );
     Ok(())
 }
 
 /// Syncs, which makes these device calls; the blob is made of the pages that nine bytes fill then.
-fn sync_nine(rt: &impl Abort, store: &mut Store<AddSum>, calls: &[Call]) -> Result<(), Error> {
+fn sync_nine(rt: &impl Abort, store: &mut Store<AddSum>, calls: &[Call<'_>]) -> Result<(), Error> {
     let before = store.blob().calls().len();
     store.sync()?;
-    assert_eq!(rt; store.calls_from(before), calls);
+    assert_eq!(rt; store.calls_from(before)?.as_slice(), calls);
     assert_eq!(rt; store.size(), 9);
     assert!(rt; store.is_made_of(&[ABCD, EFGH_AT_ONCE, I])?);
     Ok(())
@@ -70,13 +73,13 @@ fn a_full_buffer_is_written_without_a_sync(rt: HostRuntime) -> Result<(), Fail> 
     let mut store = Store::<AddSum>::empty(rt.alloc())?;
     let before = store.blob().calls().len();
     assert_eq!(rt; store.append(b"abcdefgh"), Ok(0));
-    assert_eq!(rt; store.calls_from(before), [].as_slice());
+    assert_eq!(rt; store.calls_from(before)?.as_slice(), [].as_slice());
     assert_eq!(rt; store.blob().len(), 0);
 
     assert_eq!(rt; store.append(b"i"), Ok(8));
     assert_eq!(rt; store.size(), 9);
     assert_eq!(rt;
-        store.calls_from(before),
+        store.calls_from(before)?.as_slice(),
         [Call::WriteAt(0, 32, false)].as_slice()
     );
     assert!(rt; store.is_made_of(&[ABCD, EFGH_AT_ONCE])?);

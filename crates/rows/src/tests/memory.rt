@@ -1,7 +1,6 @@
 // The blob in memory: what each call does and logs, and what a crash leaves.
-use disk::{
-    Blob, Call, Error, IoBuf, IoBufs, MemBlob, ReadOptions, StartedSync, VecBlob, WriteOptions,
-};
+use super::kit::{Call, calls_from};
+use disk::{Blob, Error, IoBuf, IoBufs, MemBlob, ReadOptions, StartedSync, VecBlob, WriteOptions};
 use std::alloc::Global;
 use std::test::Fail;
 
@@ -124,7 +123,10 @@ fn each_call_is_done_and_logged(rt: HostRuntime) -> Result<(), Fail> {
         Call::Sync,
         Call::WriteAt(0, 2, true),
     ];
-    assert_eq!(rt; blob.calls(), calls.as_slice());
+    assert_eq!(rt;
+        calls_from(rt.alloc(), &blob, 0)?.as_slice(),
+        calls.as_slice()
+    );
     assert_eq!(rt; blob.failures(), 0);
     Ok(())
 }
@@ -210,7 +212,10 @@ fn the_planned_call_fails_alone(rt: HostRuntime) -> Result<(), Fail> {
         Call::ReadAt(0, 1),
         Call::ReadAt(0, 3),
     ];
-    assert_eq!(rt; blob.calls(), calls.as_slice());
+    assert_eq!(rt;
+        calls_from(rt.alloc(), &blob, 0)?.as_slice(),
+        calls.as_slice()
+    );
     assert_eq!(rt; blob.failures(), 1);
     Ok(())
 }
@@ -247,7 +252,7 @@ fn a_wait_makes_durable_what_the_sync_covers(rt: HostRuntime) -> Result<(), Fail
         Call::StartSync,
         Call::WaitSync(2),
     ];
-    assert_eq!(rt; blob.calls(), calls.as_slice());
+    assert_eq!(rt; calls_from(alloc, &blob, 0)?.as_slice(), calls.as_slice());
     Ok(())
 }
 

@@ -1,8 +1,8 @@
 // Opening and recovering a blob, whatever it holds.
 use super::kit::{
-    ABCD, CAPACITY, EF, NO_VALUE, Page, Store, blob_bytes, calls_from, error_of, new_cache,
+    ABCD, CAPACITY, Call, EF, NO_VALUE, Page, Store, blob_bytes, calls_from, error_of, new_cache,
 };
-use disk::{Call, Error, MemBlob};
+use disk::{Error, MemBlob};
 use page::AddSum;
 use paged::Recovery;
 use std::alloc::Global;
@@ -13,7 +13,7 @@ use std::test::Fail;
 struct Row {
     pages: &'static [Page],
     stray: &'static [u8],
-    calls: &'static [Call],
+    calls: &'static [Call<'static>],
     size: u64,
 }
 
@@ -66,7 +66,7 @@ fn an_opening_cuts_what_has_no_value(rt: HostRuntime) -> Result<(), Fail> {
     for row in &ROWS {
         let mut blob = blob_of(rt.alloc(), row.pages, row.stray)?;
         assert_eq!(rt; open(&mut blob, rt.alloc(), CAPACITY), Ok(row.size));
-        assert_eq!(rt; calls_from(&blob, 0), row.calls);
+        assert_eq!(rt; calls_from(rt.alloc(), &blob, 0)?.as_slice(), row.calls);
     }
     Ok(())
 }
@@ -77,7 +77,7 @@ fn fail_an_opening(
     alloc: Global,
     row: &Row,
     done: usize,
-    call: Call,
+    call: Call<'_>,
 ) -> Result<(), Error> {
     let mut blob = blob_of(alloc, row.pages, row.stray)?;
     blob.fail_at((done as u64).saturating_add(1));
@@ -102,7 +102,7 @@ fn a_capacity_may_be_too_great(rt: HostRuntime) -> Result<(), Fail> {
     let mut blob = blob_of(rt.alloc(), &[ABCD, EF], &[1])?;
     let answer = open(&mut blob, rt.alloc(), usize::MAX);
     assert_eq!(rt; answer, Err(Error::OffsetOverflow));
-    assert_eq!(rt; calls_from(&blob, 0), [].as_slice());
+    assert_eq!(rt; calls_from(rt.alloc(), &blob, 0)?.as_slice(), [].as_slice());
     Ok(())
 }
 
@@ -121,7 +121,7 @@ fn a_recovery_reads_by_any_number_of_pages(rt: HostRuntime) -> Result<(), Fail> 
 
 // The bytes that a recovery of four pages reads at a time, and its device calls: the opening reads
 // the last page, then the scan reads all of them in order, and then what was there is made durable.
-const SCANS: [(usize, &[Call]); 5] = [
+const SCANS: [(usize, &[Call<'static>]); 5] = [
     (
         1,
         &[
@@ -174,7 +174,7 @@ fn a_scan_reads_no_more_than_asked(rt: HostRuntime) -> Result<(), Fail> {
         let bytes = blob_bytes(rt.alloc(), &[ABCD, ABCD, ABCD, EF], &[])?;
         let mut store = Store::<AddSum>::of_bytes(rt.alloc(), &bytes)?;
         store.recover(buffer_size)?;
-        assert_eq!(rt; store.calls_from(0), calls, "by {buffer_size}");
+        assert_eq!(rt; store.calls_from(0)?.as_slice(), calls, "by {buffer_size}");
         assert_eq!(rt; store.size(), 14);
     }
     Ok(())

@@ -1,11 +1,13 @@
 // Each public call once, where all goes well, and a recovery at once after a refusal.
 ghost use Rattle.std.specs.Prelude.{IfOk};
+ghost use Rattle.cache.specs.Pages.{IsFresh};
 ghost use Rattle.disk.specs.History.{life_of};
 ghost use Rattle.page.specs.Sums.{add_sum};
-ghost use Rattle.session.specs.Run.{IsReady};
+ghost use Rattle.session.specs.Run.{IsReady, CacheFits};
 
+use super::kit::{Call, calls_from};
 use cache::CacheRef;
-use disk::{Call, Error, MemBlob, StartedSync};
+use disk::{Error, MemBlob, StartedSync};
 use page::AddSum;
 use session::{Reply, Session, Step, run};
 use std::alloc::Global;
@@ -15,7 +17,9 @@ use std::test::Fail;
 
 const CAPACITY: usize = 8;
 
-fn new_cache(alloc: Global) -> Result<CacheRef, Error> {
+fn new_cache(alloc: Global) -> Result<CacheRef, Error>
+    ensures { IfOk result (λ cache. IsFresh cache) }
+{
     let page_size = NonZeroU16::new(4).unwrap_or(NonZeroU16::MIN);
     CacheRef::new(alloc, page_size, NonZeroUsize::MIN)
 }
@@ -25,7 +29,11 @@ fn begun(
     blob: &mut MemBlob,
     cache: &mut CacheRef,
 ) -> Result<Session<MemBlob, AddSum>, Error>
-    ensures { IfOk result (λ session. IsReady add_sum session (life_of blob.new).present) }
+    requires fresh { IsFresh cache.old }
+    ensures ready { IfOk result (λ session. IsReady add_sum session (life_of blob.new).present) }
+    ensures cached { IfOk result (λ session.
+        CacheFits session.writer cache.new (life_of blob.new).present) }
+    ensures fresh { IsFresh cache.new }
 {
     let size = blob.len();
     Session::recover(alloc, blob, size, CAPACITY, cache, NonZeroUsize::MIN)
@@ -41,8 +49,12 @@ fn expect(
     steps: &[Step],
     replies: &[Reply],
 ) -> Result<(), Fail>
-    requires { IsReady add_sum session.old (life_of blob.old).present }
-    ensures { IsReady add_sum session.new (life_of blob.new).present }
+    requires ready { IsReady add_sum session.old (life_of blob.old).present }
+    requires cached { CacheFits session.old.writer cache.old (life_of blob.old).present }
+    requires fresh { IsFresh cache.old }
+    ensures ready { IsReady add_sum session.new (life_of blob.new).present }
+    ensures cached { CacheFits session.new.writer cache.new (life_of blob.new).present }
+    ensures fresh { IsFresh cache.new }
 {
     let mut given = Vec::new(alloc);
     run(session, blob, cache, steps, &mut given)?;
@@ -176,15 +188,15 @@ fn a_started_sync_is_waited_for_by_the_next(rt: HostRuntime) -> Result<(), Fail>
         &steps,
         &replies,
     )?;
+    let calls = [
+        Call::WriteAt(0, 16, false),
+        Call::StartSync,
+        Call::WaitSync(0),
+        Call::WriteAt(0, 16, true),
+    ];
     assert_eq!(rt;
-        blob.calls().get(before..),
-        Some([
-            Call::WriteAt(0, 16, false),
-            Call::StartSync,
-            Call::WaitSync(0),
-            Call::WriteAt(0, 16, true),
-        ]
-        .as_slice())
+        calls_from(alloc, &blob, before)?.as_slice(),
+        calls.as_slice()
     );
     Ok(())
 }
@@ -197,8 +209,12 @@ fn start_and_go_on(
     blob: &mut MemBlob,
     cache: &mut CacheRef,
 ) -> Result<(), Fail>
-    requires { IsReady add_sum session.old (life_of blob.old).present }
-    ensures { IsReady add_sum session.new (life_of blob.new).present }
+    requires ready { IsReady add_sum session.old (life_of blob.old).present }
+    requires cached { CacheFits session.old.writer cache.old (life_of blob.old).present }
+    requires fresh { IsFresh cache.old }
+    ensures ready { IsReady add_sum session.new (life_of blob.new).present }
+    ensures cached { CacheFits session.new.writer cache.new (life_of blob.new).present }
+    ensures fresh { IsFresh cache.new }
 {
     let steps = [
         Step::Begin,

@@ -1,6 +1,6 @@
 // Syncs that are started, and waited for later.
-use super::kit::{Page, Store};
-use disk::{Call, Error, StartedSync};
+use super::kit::{Call, Page, Store};
+use disk::{Error, StartedSync};
 use page::AddSum;
 use std::alloc::Global;
 use std::process::Abort;
@@ -29,7 +29,7 @@ enum Step {
 // that keeps nothing of what isn't durable, and after one that keeps all.
 struct Row {
     steps: &'static [Step],
-    calls: &'static [Call],
+    calls: &'static [Call<'static>],
     none: &'static [u8],
     all: &'static [u8],
 }
@@ -230,7 +230,11 @@ fn taken(rt: &impl Abort, alloc: Global, row: &Row, number: usize) -> Result<Sto
     for step in row.steps {
         take(rt, &mut store, step, number);
     }
-    assert_eq!(rt; store.calls_from(before), row.calls, "row {number}");
+    assert_eq!(rt;
+        store.calls_from(before)?.as_slice(),
+        row.calls,
+        "row {number}"
+    );
     Ok(store)
 }
 

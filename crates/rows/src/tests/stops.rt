@@ -1,6 +1,6 @@
 // Recoveries that stop at one of their device calls.
 use super::kit::{ABCD, CAPACITY, EF, NO_VALUE, Page, Store, blob_bytes, error_of};
-use disk::{Call, Error};
+use disk::Error;
 use page::AddSum;
 use std::alloc::Global;
 use std::process::Abort;
@@ -63,30 +63,29 @@ fn store_of(alloc: Global, row: &Row) -> Result<Store<AddSum>, Error> {
     Store::of_bytes(alloc, &bytes)
 }
 
-// The device calls of a recovery that is not stopped.
-fn calls_of(rt: &impl Abort, alloc: Global, row: &Row) -> Result<Vec<Call>, Error> {
+// With which error each device call of a recovery fails.
+fn errors_of(rt: &impl Abort, alloc: Global, row: &Row) -> Result<Vec<Error>, Error> {
     let mut store = store_of(alloc, row)?;
     store.recover(CAPACITY)?;
-    let calls = Vec::from_slice(alloc, store.calls_from(0))?;
+    let mut errors = Vec::new(alloc);
+    for call in &store.calls_from(0)? {
+        errors.push(error_of(*call))?;
+    }
     assert!(rt; store.has(row.content)?);
-    Ok(calls)
+    Ok(errors)
 }
 
-// A store whose recovery was refused at this call, so many of them being done before.
+// A store whose recovery was refused with this error at a call, so many of them being done before.
 fn stopped(
     rt: &impl Abort,
     alloc: Global,
     row: &Row,
     done: usize,
-    call: Call,
+    error: Error,
 ) -> Result<Store<AddSum>, Error> {
     let mut store = store_of(alloc, row)?;
     store.fail_at((done as u64).saturating_add(1));
-    assert_eq!(rt;
-        store.recover(CAPACITY),
-        Err(error_of(call)),
-        "at call {done}"
-    );
+    assert_eq!(rt; store.recover(CAPACITY), Err(error), "at call {done}");
     Ok(store)
 }
 
@@ -95,10 +94,10 @@ fn stop_and_crash(
     alloc: Global,
     row: &Row,
     done: usize,
-    call: Call,
+    error: Error,
     keep: bool,
 ) -> Result<(), Error> {
-    let mut store = stopped(rt, alloc, row, done, call)?;
+    let mut store = stopped(rt, alloc, row, done, error)?;
     store.crash(&[keep; 4])?;
     assert!(rt; store.holds(row.content)?, "at call {done}");
     Ok(())
@@ -109,9 +108,9 @@ fn stop_and_run_again(
     alloc: Global,
     row: &Row,
     done: usize,
-    call: Call,
+    error: Error,
 ) -> Result<(), Error> {
-    let mut store = stopped(rt, alloc, row, done, call)?;
+    let mut store = stopped(rt, alloc, row, done, error)?;
     assert!(rt; store.holds(row.content)?, "at call {done}");
     store.crash(&[])?;
     assert!(rt; store.holds(row.content)?, "at call {done}");
@@ -119,11 +118,11 @@ fn stop_and_run_again(
 }
 
 fn stop_at_each_call(rt: &impl Abort, alloc: Global, row: &Row) -> Result<(), Error> {
-    let calls = calls_of(rt, alloc, row)?;
-    for (done, call) in calls.iter().enumerate() {
-        stop_and_crash(rt, alloc, row, done, *call, false)?;
-        stop_and_crash(rt, alloc, row, done, *call, true)?;
-        stop_and_run_again(rt, alloc, row, done, *call)?;
+    let errors = errors_of(rt, alloc, row)?;
+    for (done, error) in errors.iter().enumerate() {
+        stop_and_crash(rt, alloc, row, done, *error, false)?;
+        stop_and_crash(rt, alloc, row, done, *error, true)?;
+        stop_and_run_again(rt, alloc, row, done, *error)?;
     }
     Ok(())
 }

@@ -1,7 +1,6 @@
 // Appends that are made only where they fit the buffer.
-use super::kit::Store;
+use super::kit::{Call, Store};
 use bytes::BufMut;
-use disk::Call;
 use page::{AddSum, EncodeSize, Write};
 use std::alloc::AllocError;
 use std::test::Fail;
@@ -36,7 +35,7 @@ fn tries_fill_the_buffer(rt: HostRuntime) -> Result<(), Fail> {
     assert_eq!(rt; store.try_append(b"i"), Ok(None));
     assert_eq!(rt; store.try_append_value(&Pair(0, 0)), Ok(None));
     assert_eq!(rt; store.size(), 8);
-    assert!(rt; store.calls_from(before).is_empty());
+    assert!(rt; store.calls_from(before)?.is_empty());
     Ok(())
 }
 
@@ -49,7 +48,7 @@ fn tried_bytes_are_synced(rt: HostRuntime) -> Result<(), Fail> {
     assert_eq!(rt; store.try_append_value(&Pair(0x6768, 0x696A)), Ok(Some(6)));
     store.sync()?;
     assert_eq!(rt;
-        store.calls_from(before),
+        store.calls_from(before)?.as_slice(),
         [Call::WriteAt(0, 32, true), Call::WriteAt(16, 32, true)].as_slice()
     );
     assert!(rt; store.has(b"abcdefghij")?);

@@ -10,13 +10,13 @@ use Rattle.journal.proofs.crashes.crash_and_recover.Goals as goal
 pub returns-clause-kept : goal.returns-clause-kept
 returns-clause-kept g c =
     let d = (life_of c.args.blob.now).present in
-    brought_back g.H.Sum.sum_of g.R.Sum.sum_of c.args.cache.now c.args.capacity d (torn c.args.keep.now d.since d.base) (life_of c.crash.new.self) (life_of c.recover.new.blob) c.recover.result
+    brought_back g.H.Sum.sum_of g.R.Sum.sum_of c.args.cache.now c.recover.new.cache c.args.capacity d (torn c.args.keep.now d.since d.base) (life_of c.crash.new.self) (life_of c.recover.new.blob) c.recover.result
     c.crash.ensures.image (ap (λ (l : Life). l.present.readable) c.in_ok-crash.ensures.life) c.recover.ensures.recovers
 
 pub returns-clause-only : goal.returns-clause-only
 returns-clause-only g c =
     let d = (life_of c.args.blob.now).present in
-    brought_only g.H.Sum.sum_of g.R.Sum.sum_of c.args.cache.now c.args.capacity d (torn c.args.keep.now d.since d.base) (life_of c.crash.new.self) (life_of c.recover.new.blob) c.recover.result
+    brought_only g.H.Sum.sum_of g.R.Sum.sum_of c.args.cache.now c.recover.new.cache c.args.capacity d (torn c.args.keep.now d.since d.base) (life_of c.crash.new.self) (life_of c.recover.new.blob) c.recover.result
     c.crash.ensures.image (ap (λ (l : Life). l.present.readable) c.in_ok-crash.ensures.life) c.recover.ensures.recovers
 
 pub returns-in_err-crash-clause-stays : goal.returns-in_err-crash-clause-stays

@@ -11,5 +11,5 @@ returns-clause-reads g c =
     let held = content w old.present.readable in
     let enough : length held ≤ c.size.result = omega (arith, c.size.ensures, c.requires.ready.size) in
     let whole : c.in_ok-bytes.bytes ≡ held = ◌∙◌ {b = take c.size.result held} c.in_ok-bytes.ensures.reads (take_all c.size.result held enough) in
-    all_read g.H.Sum.sum_of g.R.Sum.sum_of w c.in_ok-bytes.bytes old (g.B.Blob.life c.read_bytes.new.blob) c.records_of.result whole
+    all_read g.R.Sum.sum_of w c.in_ok-bytes.bytes old (g.B.Blob.life c.read_bytes.new.blob) c.records_of.result whole
     c.records_of.ensures.records c.records_of.ensures.whole c.records_of.ensures.err

@@ -1,3 +1,5 @@
+use Rattle.paged.proofs.OpenedReads.{opened_fits, gives_id, looked_reads, cut_reads}
+use Rattle.paged.specs.Caches.{tail_of}
 use Rattle.std.proofs.Common.{◌≡◌, ◌≤◌, ◌+◌, ◌*◌, ℕ, length, ◌∙◌, ap, arith, refl, subst, inr}
 use Rattle.std.proofs.lemmas.Result.{err_from_is_err_and}
 use Rattle.std.proofs.Math.Nat.{mul-le-mul_left}
@@ -131,6 +133,7 @@ pub truncate-requires : goal.truncate-requires
 truncate-requires g c =
     let life = g.B.Blob.life in
     record {
+      cached = (opened_fits g.H.Sum.sum_of c.args.cache.now c.open.new.cache c.args.capacity (life c.args.blob.now) (life c.open.new.blob) c.in_ok-recovery.recovery c.in_ok-recovery.ensures.opens c.in_ok-recovery.ensures.ids).0;
       stands = inr (scanned_as_opened g.H.Sum.sum_of c.args.cache.now c.args.capacity c.size_of-text_size.result (life c.args.blob.now) (life c.open.new.blob) (life c.scan.new.blob) c.in_ok-recovery.recovery
           (cuts g (goal.at.truncate-requires g c).After-size_of-text_size));
     }
@@ -238,3 +241,25 @@ returns-clause-reads g c =
     let none = no_work sum w scanned.present (scanned_as_opened sum cache c.args.capacity n old mid scanned w all) in
     let last = subst (λ (k : ℕ). ReadsWithin (k + 12) scanned new) (opened_page_size sum cache c.args.capacity old mid w c.in_ok-recovery.ensures.opens) (c.truncate.ensures.reads none) in
     cuts_within (P + 12) (scan_bytes P buffer_size) old scanned new (page_within P buffer_size (P + 12) refl) (reads g (goal.at.returns-clause-reads g c).After-scan) last
+
+pub returns-clause-ids : goal.returns-clause-ids
+returns-clause-ids g c =
+    let life = g.B.Blob.life in
+    let sum = g.H.Sum.sum_of in
+    let w = c.in_ok-recovery.recovery in
+    let all = cuts g (goal.at.returns-clause-ids g c).After-size_of-text_size in
+    let none = no_work sum w (life c.scan.new.blob).present (scanned_as_opened sum c.args.cache.now c.args.capacity c.size_of-text_size.result (life c.args.blob.now) (life c.open.new.blob) (life c.scan.new.blob) w all) in
+    gives_id w c.args.cache.now c.truncate.new.cache c.truncate.result (c.truncate.ensures.idle_cache none ∙ c.in_ok-recovery.ensures.ids)
+
+pub returns-clause-fresh_ids : goal.returns-clause-fresh_ids
+returns-clause-fresh_ids g c = λ fresh.
+    let fits = opened_fits g.H.Sum.sum_of c.args.cache.now c.open.new.cache c.args.capacity (g.B.Blob.life c.args.blob.now) (g.B.Blob.life c.open.new.blob) c.in_ok-recovery.recovery c.in_ok-recovery.ensures.opens c.in_ok-recovery.ensures.ids in
+    c.truncate.ensures.fresh_ids fits.1 (c.in_ok-recovery.ensures.fresh_ids fresh)
+
+pub returns-clause-can_read : goal.returns-clause-can_read
+returns-clause-can_read g c = λ fresh.
+    let life = g.B.Blob.life in
+    let w = c.in_ok-recovery.recovery in
+    cut_reads w c.open.new.cache c.truncate.new.cache (life c.scan.new.blob) (life c.truncate.new.blob) c.truncate.result
+    (looked_reads (tail_of w) c.open.new.cache (life c.open.new.blob) (life c.scan.new.blob) c.in_ok-prefix.ensures.finds.1 (c.in_ok-recovery.ensures.can_read fresh))
+    c.truncate.ensures.can_read

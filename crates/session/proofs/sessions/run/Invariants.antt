@@ -1,10 +1,13 @@
 use Rattle.std.proofs.Common.{◌+◌, ◌-◌, ◌≤◌, length, take, vec_len, vec_capacity}
-use Rattle.session.specs.Run.{IsReady, RunsAlways}
+use Rattle.cache.specs.Pages.{IsFresh}
+use Rattle.session.specs.Run.{IsReady, CacheFits, RunsAlways}
 use Rattle.session.proofs.sessions.run.Given as goal
 
 abbrev pub invariant-loop-step : goal.invariant-loop-step
 invariant-loop-step g l = record {
   room : vec_len l.replies + (length l.steps - l.step-index) ≤ vec_capacity l.replies;
   ready : IsReady g.H.Sum.sum_of l.session (g.B.Blob.life l.blob).present;
+  cached : CacheFits l.session.writer l.cache (g.B.Blob.life l.blob).present;
+  fresh_ids : IsFresh l.initial.cache → IsFresh l.cache;
   runs : RunsAlways g.H.Sum.sum_of (take l.step-index l.steps) l.initial.session l.session (g.B.Blob.life l.initial.blob) (g.B.Blob.life l.blob) l.initial.replies.items l.replies.items;
 }

@@ -19,8 +19,8 @@ invariant_of-self-2 c =
     let room = c.in_ok-make_room.ensures in
     let events = c.make_room.new.events in
     let count : c.len.result ≡ length inside.events.items = c.len.ensures ∙ events.ok.0 ∙ ap length room.events in
-    kept_next inside.first.items inside.readable.items c.redo.new.bytes.items inside.calls.items c.push_reserved.new.self.items inside.failed.items c.push_reserved-2.new.self.items inside.events.items c.push_reserved-3.new.self.items inside.earlier inside.settled c.settled_after-self-inside.result inside.failures (inside.failures + c.faults.result) inside.failing c.saturating_sub-self-inside.result inside.starts.items c.record_start.new.starts.items c.args.action c.call.result c.self.invariant c.call.ensures
-    (c.push_reserved.ensures.items ∙ ap (λ v. v ++ c.call.result ∷ []) room.calls)
+    kept_next inside.first.items inside.readable.items c.redo.new.bytes.items inside.calls.items c.push_reserved.new.self.items inside.failed.items c.push_reserved-2.new.self.items inside.events.items c.push_reserved-3.new.self.items inside.earlier inside.settled c.settled_after-self-inside.result inside.failures (inside.failures + c.faults.result) inside.failing c.saturating_sub-self-inside.result inside.starts.items c.record_start.new.starts.items c.args.action c.in_ok-call.call c.self.invariant c.in_ok-call.ensures
+    (c.push_reserved.ensures.items ∙ ap (λ v. v ++ c.in_ok-call.call ∷ []) room.calls)
     (c.push_reserved-2.ensures.items ∙ ap (λ v. v ++ (inside.failing == 1) ∷ []) room.failed)
     (c.push_reserved-3.ensures.items ∙ ap (λ v. v ++ record { action = c.args.action; failed = inside.failing == 1 } ∷ []) room.events)
     (c.in_ok-redo.ensures.ok ∙ ap (redone (record { action = c.args.action; failed = inside.failing == 1 })) c.reserve.ensures.same)

@@ -21,12 +21,12 @@ returns-clause-appends g c =
     let old = g.B.Blob.life c.args.blob.now in
     let new = g.B.Blob.life c.append.new.blob in
     let framed : c.deref.result.now ≡ frame g.R.Sum.sum_of c.args.bytes.now = c.deref.ensures.value ∙ c.in_ok-framed.ensures.framed in
-    append_goes g.H.Sum.sum_of g.R.Sum.sum_of c.args.self c.args.bytes.now old new c.append.result c.requires.short (g.met.R.Sum.small c.args.bytes.now) c.requires.journal.whole
-    (subst (λ (b : List ℕ). Appends g.H.Sum.sum_of c.args.self b old new c.append.result) framed c.append.ensures.appends) c.append.ensures.there
+    append_goes g.H.Sum.sum_of g.R.Sum.sum_of c.args.self c.args.bytes.now c.append.new.cache old new c.append.result c.requires.short (g.met.R.Sum.small c.args.bytes.now) c.requires.journal.whole
+    (subst (λ (b : List ℕ). Appends g.H.Sum.sum_of c.args.self b old new c.append.result) framed c.append.ensures.appends) c.append.ensures.can c.append.ensures.fresh
 
 pub returns-clause-journal : goal.returns-clause-journal
 returns-clause-journal g c =
-    append_gives g.H.Sum.sum_of g.R.Sum.sum_of c.args.self c.args.bytes.now (g.B.Blob.life c.args.blob.now) (g.B.Blob.life c.append.new.blob) c.append.result (returns-clause-appends g c)
+    append_gives g.H.Sum.sum_of g.R.Sum.sum_of c.args.self c.args.bytes.now c.append.new.cache (g.B.Blob.life c.args.blob.now) (g.B.Blob.life c.append.new.blob) c.append.result (returns-clause-appends g c)
 
 pub returns-clause-kept : goal.returns-clause-kept
 returns-clause-kept g c =

@@ -5,12 +5,12 @@ use Rattle.journal.proofs.journal.Journal.commit.Goals as goal
 
 pub returns-clause-commits : goal.returns-clause-commits
 returns-clause-commits g c =
-    commit_goes g.H.Sum.sum_of g.R.Sum.sum_of c.args.self (g.B.Blob.life c.args.blob.now) (g.B.Blob.life c.sync.new.blob) c.sync.result c.requires.journal.whole
-    c.sync.ensures.syncs c.sync.ensures.there c.sync.ensures.durable
+    commit_goes g.H.Sum.sum_of g.R.Sum.sum_of c.args.self c.sync.new.cache (g.B.Blob.life c.args.blob.now) (g.B.Blob.life c.sync.new.blob) c.sync.result c.requires.journal.whole
+    c.sync.ensures.syncs c.sync.ensures.can c.sync.ensures.fresh c.sync.ensures.durable
 
 pub returns-clause-journal : goal.returns-clause-journal
 returns-clause-journal g c =
-    commit_gives g.H.Sum.sum_of g.R.Sum.sum_of c.args.self (g.B.Blob.life c.args.blob.now) (g.B.Blob.life c.sync.new.blob) c.sync.result (returns-clause-commits g c)
+    commit_gives g.H.Sum.sum_of g.R.Sum.sum_of c.args.self c.sync.new.cache (g.B.Blob.life c.args.blob.now) (g.B.Blob.life c.sync.new.blob) c.sync.result (returns-clause-commits g c)
 
 pub returns-clause-kept : goal.returns-clause-kept
 returns-clause-kept g c =

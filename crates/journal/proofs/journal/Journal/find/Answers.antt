@@ -7,7 +7,7 @@ pub returns-then-size-place-clause-reads : goal.returns-then-size-place-clause-r
 returns-then-size-place-clause-reads g c = omega (arith, c.if-size-place.true, c.size-size.ensures, c.requires.ready.size)
 
 pub returns-then-size-place-clause-leaves : goal.returns-then-size-place-clause-leaves
-returns-then-size-place-clause-leaves g c = reads_start g.H.Sum.sum_of c.args.self.now (g.B.Blob.life c.args.blob.now) c.requires.ready
+returns-then-size-place-clause-leaves g c = reads_start g.H.Sum.sum_of c.args.self.now c.args.cache.now (g.B.Blob.life c.args.blob.now) c.requires.ready
 
 pub returns-clause-reads : goal.returns-clause-reads
 returns-clause-reads g c =
@@ -22,5 +22,5 @@ returns-clause-reads g c =
 
 pub returns-in_err-framed-clause-reads : goal.returns-in_err-framed-clause-reads
 returns-in_err-framed-clause-reads g c =
-    not_found g.H.Sum.sum_of g.R.Sum.sum_of c.args.self.now c.args.place (c.size-size.result - c.args.place) (g.B.Blob.life c.args.blob.now) (g.B.Blob.life c.read_frame.new.blob)
+    not_found g.R.Sum.sum_of c.args.self.now c.args.place (c.size-size.result - c.args.place) (g.B.Blob.life c.args.blob.now) (g.B.Blob.life c.read_frame.new.blob)
     c.in_err-framed.field-0.0 c.from_residual.result c.from_residual.ensures.1 c.in_err-framed.ensures.reads

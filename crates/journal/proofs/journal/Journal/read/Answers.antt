@@ -5,8 +5,8 @@ use Rattle.journal.proofs.journal.Journal.read.Goals as goal
 
 pub returns-clause-reads : goal.returns-clause-reads
 returns-clause-reads g c =
-    subst (λ (w : WriterState). ReadsBytes g.H.Sum.sum_of w c.args.place c.args.len (g.B.Blob.life c.args.blob.now) (g.B.Blob.life c.read_bytes.new.blob) c.read_bytes.result) c.self.view_is c.read_bytes.ensures.reads
+    subst (λ (w : WriterState). ReadsBytes w c.args.place c.args.len (g.B.Blob.life c.args.blob.now) (g.B.Blob.life c.read_bytes.new.blob) c.read_bytes.result) c.self.view_is c.read_bytes.ensures.reads
 
 pub returns-clause-leaves : goal.returns-clause-leaves
 returns-clause-leaves g c =
-    subst (λ (w : WriterState). OnlyReads g.H.Sum.sum_of w (g.B.Blob.life c.args.blob.now) (g.B.Blob.life c.read_bytes.new.blob)) c.self.view_is c.read_bytes.ensures.leaves
+    subst (λ (w : WriterState). OnlyReads g.H.Sum.sum_of w c.args.cache.now c.read_bytes.new.cache (g.B.Blob.life c.args.blob.now) (g.B.Blob.life c.read_bytes.new.blob)) c.self.view_is c.read_bytes.ensures.leaves

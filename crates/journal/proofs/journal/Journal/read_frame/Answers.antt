@@ -14,9 +14,9 @@ returns-clause-reads g c =
     let head = c.in_ok-head.ensures.reads in
     let said : c.min-len.result ≡ min c.args.rest (record_len c.in_ok-head.head + 7) =
     c.min-len.ensures ∙ ap (λ n. min c.args.rest (n + 7)) (c.record_len_of.ensures.len ∙ ap record_len c.as_ref.ensures) in
-    frame_read g.H.Sum.sum_of w c.args.place c.args.rest c.min-len.result c.in_ok-head.head old (g.B.Blob.life c.read.new.blob) (g.B.Blob.life c.read-2.new.blob) c.read-2.result
+    frame_read g.H.Sum.sum_of w c.args.cache.now c.read.new.cache c.args.place c.args.rest c.min-len.result c.in_ok-head.head old (g.B.Blob.life c.read.new.blob) (g.B.Blob.life c.read-2.new.blob) c.read-2.result
     c.read.ensures.leaves long (head ∙ ap (λ n. take n (drop c.args.place held)) c.min.ensures) said c.read-2.ensures.reads
 
 pub returns-clause-leaves : goal.returns-clause-leaves
 returns-clause-leaves g c =
-    reads_join g.H.Sum.sum_of c.args.self.now (g.B.Blob.life c.args.blob.now) (g.B.Blob.life c.read.new.blob) (g.B.Blob.life c.read-2.new.blob) c.read.ensures.leaves c.read-2.ensures.leaves
+    reads_join g.H.Sum.sum_of c.args.self.now c.args.cache.now c.read.new.cache c.read-2.new.cache (g.B.Blob.life c.args.blob.now) (g.B.Blob.life c.read.new.blob) (g.B.Blob.life c.read-2.new.blob) c.read.ensures.leaves c.read-2.ensures.leaves

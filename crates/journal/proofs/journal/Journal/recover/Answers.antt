@@ -3,8 +3,8 @@ use Rattle.page.specs.Page.{text}
 use Rattle.crash.specs.WriterState.{WriterState}
 use Rattle.paged.specs.Truncate.{KeepsFloorsWithin}
 use Rattle.journal.specs.Frame.{records, whole_frames}
-use Rattle.journal.specs.Journal.{HasRecovered, KeepsCommitted, KeepsAllRecords, LeavesAllRecords, BringsBack}
-use Rattle.journal.proofs.Journals.{recovery_goes, recovery_refused, recovered_keeps, recovered_leaves, commits_through, keeps_committed, trim_commits, brings_back, leaves_records, prefix_of_itself}
+use Rattle.journal.specs.Journal.{AllStay, HasRecovered, KeepsCommitted, KeepsAllRecords, LeavesAllRecords, BringsBack}
+use Rattle.journal.proofs.Journals.{recovery_stays, all_stay, recovered_id, recovery_goes, recovery_refused, recovered_keeps, recovered_leaves, commits_through, keeps_committed, trim_commits, brings_back, leaves_records, prefix_of_itself}
 use Rattle.journal.proofs.journal.Journal.recover.Given.{Over}
 use Rattle.journal.proofs.journal.Journal.recover.Goals as goal
 use Rattle.journal.proofs.journal.Journal.recover.Goals.{After-trim}
@@ -69,7 +69,7 @@ trim-only g c = λ durable.
 
 pub returns-in_err-recovery-2-clause-recovers : goal.returns-in_err-recovery-2-clause-recovers
 returns-in_err-recovery-2-clause-recovers g c =
-    recovery_refused g.H.Sum.sum_of g.R.Sum.sum_of c.args.cache.now c.args.capacity (g.B.Blob.life c.args.blob.now) (g.B.Blob.life c.recover.new.blob) (g.B.Blob.life c.trim.new.blob) c.in_ok-recovery.recovery
+    recovery_refused g.H.Sum.sum_of g.R.Sum.sum_of c.args.cache.now c.trim.new.cache c.args.capacity (g.B.Blob.life c.args.blob.now) (g.B.Blob.life c.recover.new.blob) (g.B.Blob.life c.trim.new.blob) c.in_ok-recovery.recovery
     c.in_err-recovery-2.field-0.0 c.from_residual-in_err-recovery-2.result c.from_residual-in_err-recovery-2.ensures.1 c.in_ok-recovery.ensures.recovers c.in_err-recovery-2.ensures.trims
 
 pub returns-in_err-recovery-2-clause-floors : goal.returns-in_err-recovery-2-clause-floors
@@ -101,8 +101,8 @@ returns-clause-recovers g c =
     let found = c.in_ok-recovery-2.found.items in
     let is : c.new.result ≡ now = c.new.ensures ∙ c.from.ensures in
     let recovered = c.in_ok-recovery.ensures in
-    subst (λ (w : WriterState). HasRecovered sum own c.args.cache.now.page_size old new w found) (sym is)
-    (recovery_goes sum own c.args.cache.now c.args.capacity old mid new c.in_ok-recovery.recovery now found recovered.recovers recovered.durable
+    subst (λ (w : WriterState). HasRecovered sum own c.args.cache.now c.trim.new.cache old new w found) (sym is)
+    (recovery_goes sum own c.args.cache.now c.trim.new.cache c.args.capacity old mid new c.in_ok-recovery.recovery now found recovered.recovers recovered.durable
     (trim-keeps g (goal.at.returns-clause-recovers g c).After-trim) c.in_ok-recovery-2.ensures.trims)
 
 pub returns-clause-journal : goal.returns-clause-journal
@@ -115,3 +115,37 @@ returns-clause-back g c =
     let d = (g.B.Blob.life c.args.blob.now).present in
     let P = c.args.cache.now.page_size in
     subst (λ (rs : List (List ℕ)). BringsBack sum own P d rs) (sym (returns-clause-recovers g c).given) (brings_back sum own P d d.readable (g.met.B.Blob.readable_is_image c.args.blob.now))
+
+pub returns-in_err-recovery-clause-others : goal.returns-in_err-recovery-clause-others
+returns-in_err-recovery-clause-others g c =
+    recovery_stays c.recover.result c.args.cache.now c.recover.new.cache c.recover.ensures.ids
+
+-- the recovered writer is ready to be read
+pub trim-requires : goal.trim-requires
+trim-requires g c =
+    let goes = c.in_ok-recovery.ensures in
+    record {
+      ready = record {
+        sound = goes.sound;
+        can = goes.can_read c.requires.fresh;
+        fresh = goes.fresh_ids c.requires.fresh;
+        size = goes.recovers.size;
+        only = goes.recovers.only;
+      };
+    }
+
+-- the other journals stay
+trim-others : (g : Over) (c : After-trim g) → AllStay c.args.cache.now c.trim.new.cache
+trim-others g c =
+    let was = c.args.cache.now in
+    let w = c.in_ok-recovery.recovery in
+    let old = g.B.Blob.life c.args.blob.now in
+    let mid = g.B.Blob.life c.recover.new.blob in
+    let first : AllStay was c.recover.new.cache = recovery_stays c.recover.result was c.recover.new.cache c.recover.ensures.ids in
+    all_stay w.id was c.recover.new.cache c.trim.new.cache (recovered_id g.H.Sum.sum_of was c.args.capacity old mid w c.in_ok-recovery.ensures.recovers) first c.trim.ensures.others
+
+pub returns-in_err-recovery-2-clause-others : goal.returns-in_err-recovery-2-clause-others
+returns-in_err-recovery-2-clause-others g c = trim-others g (goal.at.returns-in_err-recovery-2-clause-others g c).After-trim
+
+pub returns-clause-others : goal.returns-clause-others
+returns-clause-others g c = trim-others g (goal.at.returns-clause-others g c).After-trim

@@ -1,7 +1,9 @@
-use Rattle.std.proofs.Common.{subst}
+use Rattle.std.proofs.Common.{◌<◌, subst, ap, arith}
 use Rattle.crash.specs.Sound.{content}
 use Rattle.crash.specs.Stays.{KeepsAll, KeepsAllFloors}
 use Rattle.crash.specs.WriterState.{WriterState}
+use Rattle.journal.specs.Journal.{OthersStay}
+use Rattle.journal.proofs.Journals.{others_stay}
 use Rattle.journal.proofs.journal.Journal.sync.Goals as goal
 
 pub returns-in-Ok-clause-durable : goal.returns-in-Ok-clause-durable
@@ -18,3 +20,22 @@ pub returns-in-Err-clause-kept : goal.returns-in-Err-clause-kept
 returns-in-Err-clause-kept g c =
     let old = g.B.Blob.life c.args.blob.now in
     subst (λ (w : WriterState). KeepsAllFloors g.H.Sum.sum_of w.page_size old (g.B.Blob.life c.sync.new.blob)) c.self.view_is c.sync.ensures.kept
+
+pub returns-in-Ok-clause-others : goal.returns-in-Ok-clause-others
+returns-in-Ok-clause-others g c =
+    let w = c.self.inside.writer in
+    let held = content w (g.B.Blob.life c.args.blob.now).present.readable in
+    let given : w.id < c.args.cache.now.ids_given = omega (arith, c.requires.ready.can.given, ap (λ (v : WriterState). v.id) c.self.view_is) in
+    subst (λ (v : WriterState). OthersStay v.id c.args.cache.now c.sync.new.cache) c.self.view_is (others_stay w.id w.full_pages held c.args.cache.now c.sync.new.cache given c.sync.ensures.caches)
+
+pub returns-in-Err-clause-fresh : goal.returns-in-Err-clause-fresh
+returns-in-Err-clause-fresh g c =
+    let given : c.self.inside.writer.id < c.args.cache.now.ids_given = omega (arith, c.requires.ready.can.given, ap (λ (v : WriterState). v.id) c.self.view_is) in
+    c.sync.ensures.fresh_ids given c.requires.ready.fresh
+
+pub returns-in-Err-clause-others : goal.returns-in-Err-clause-others
+returns-in-Err-clause-others g c =
+    let w = c.self.inside.writer in
+    let held = content w (g.B.Blob.life c.args.blob.now).present.readable in
+    let given : w.id < c.args.cache.now.ids_given = omega (arith, c.requires.ready.can.given, ap (λ (v : WriterState). v.id) c.self.view_is) in
+    subst (λ (v : WriterState). OthersStay v.id c.args.cache.now c.sync.new.cache) c.self.view_is (others_stay w.id w.full_pages held c.args.cache.now c.sync.new.cache given c.sync.ensures.caches)

@@ -1,3 +1,4 @@
+use Rattle.paged.proofs.OpenedReads.{opened_reads}
 use Rattle.std.proofs.Common.{◌≡◌, ◌+◌, ◌*◌, ◌/◌, ◌%◌, ◌^◌, ◌<◌, ℕ, length, ◌∙◌, ap, arith, inl, refl, subst}
 use Rattle.std.proofs.lemmas.Result.{err_from_is_err_and}
 use Rattle.std.specs.Int.NonZero.{non_zero_u16_get}
@@ -190,3 +191,12 @@ returns-in_err-capacity-clause-floors g c =
 pub returns-clause-as_opened : goal.returns-clause-as_opened
 returns-clause-as_opened g c =
     opens_as_opened g.H.Sum.sum_of c.args.cache.now c.args.capacity (g.B.Blob.life c.args.blob.now) (g.B.Blob.life c.cut_back.new.blob) c.at_prefix.result (omega (arith, c.page_size-page_size.result.ok, c.page_size-page_size.ensures)) (opens g (goal.at.returns-clause-as_opened g c).After-at_prefix)
+
+pub returns-clause-can_read : goal.returns-clause-can_read
+returns-clause-can_read g c = λ fresh.
+    let sum = g.H.Sum.sum_of in
+    let old = g.B.Blob.life c.args.blob.now in
+    let new = g.B.Blob.life c.cut_back.new.blob in
+    let all = opens g (goal.at.returns-clause-can_read g c).After-at_prefix in
+    opened_reads sum c.args.cache.now c.at_prefix.new.cache c.args.capacity old new c.at_prefix.result all
+    (opened_there sum c.args.cache.now c.args.capacity old new c.at_prefix.result all) c.at_prefix.ensures.ids fresh

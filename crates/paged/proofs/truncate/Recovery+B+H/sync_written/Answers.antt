@@ -1,3 +1,4 @@
+use Rattle.paged.proofs.Caching.{puts_before, synced_pages, puts_nothing}
 use Rattle.std.proofs.Common.{sym, ◌∙◌}
 use Rattle.paged.specs.Flush.{answered}
 use Rattle.paged.proofs.Flushes.{sync_settles}
@@ -23,3 +24,10 @@ returns-else-has_flush_work-clause-covers g c = λ sound. (settled_owes g.H.Sum.
 
 pub returns-else-has_flush_work-clause-starts : goal.returns-else-has_flush_work-clause-starts
 returns-else-has_flush_work-clause-starts g c = λ sound. (settled_owes g.H.Sum.sum_of c.args.self.now c.settle_blob.new.self (g.B.Blob.life c.args.blob.now) (g.B.Blob.life c.settle_blob.new.blob) c.settle_blob.result g.met.H.Sum.small sound c.settle_blob.ensures.goes c.settle_blob.ensures.state).starts
+
+pub returns-else-has_flush_work-clause-puts : goal.returns-else-has_flush_work-clause-puts
+returns-else-has_flush_work-clause-puts g c =
+    let w = c.args.self.now in
+    puts_before w w c.settle_blob.new.self w.tip c.args.cache.now c.args.cache.now c.settle_blob.result
+    (synced_pages w c.settle_blob.new.self c.settle_blob.result c.settle_blob.ensures.state)
+    (puts_nothing w.id w.full_pages w.page_size w.tip c.args.cache.now)

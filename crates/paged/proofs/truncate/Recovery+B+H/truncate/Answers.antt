@@ -1,3 +1,9 @@
+use Rattle.std.proofs.Common.{List, ℕ, [], append-nil, sym}
+use Rattle.cache.specs.Pages.{CachesOnly}
+use Rattle.crash.specs.Sound.{content}
+use Rattle.paged.specs.Caches.{ReadsOn}
+use Rattle.paged.proofs.Caching.{only_law}
+use Rattle.paged.proofs.CachedCuts.{fresh_of_puts, written_reads, shortened_reads, fewer_pages}
 use Rattle.std.proofs.Common.{◌≡◌, ◌<◌, ℕ, Ok, Err, Result, subst, arith}
 use Rattle.std.proofs.lemmas.Result.{err_from_is_err_and}
 use Rattle.std.specs.Prelude.{IsErrAnd}
@@ -216,3 +222,75 @@ pub returns-clause-left : goal.returns-clause-left
 returns-clause-left g c = λ sound.
     let at = (goal.at.returns-clause-left g c).After-sync_written in
     sound_leaves g.H.Sum.sum_of c.if-size.self (g.B.Blob.life c.if-size.blob).present ((ended_owes g c (begun g at) (written g at (Ok tt) c.in_ok-sync_written.was)).sound sound)
+
+pub returns-in_err-sync_written-clause-caches : goal.returns-in_err-sync_written-clause-caches
+returns-in_err-sync_written-clause-caches g c = λ sound.
+    let w = c.args.self in
+    let old = g.B.Blob.life c.args.blob.now in
+    subst (λ (l : List ℕ). CachesOnly w.id w.full_pages l c.args.cache.now c.sync_written.new.cache)
+    (append-nil (content w old.present.readable))
+    (only_law g.H.Sum.sum_of w [] w.tip old c.args.cache.now c.sync_written.new.cache c.in_err-sync_written.ensures.puts.0 sound
+    c.requires.cached (sym (append-nil w.tip)) c.in_err-sync_written.ensures.puts.1)
+
+pub returns-in_err-sync_written-clause-fresh_ids : goal.returns-in_err-sync_written-clause-fresh_ids
+returns-in_err-sync_written-clause-fresh_ids g c = λ given fresh.
+    let w = c.args.self in
+    fresh_of_puts w.id w.full_pages w.page_size c.in_err-sync_written.ensures.puts.0 w.tip c.args.cache.now c.sync_written.new.cache
+    c.requires.cached c.in_err-sync_written.ensures.puts.1 given fresh
+
+pub returns-in_err-shorten-clause-caches : goal.returns-in_err-shorten-clause-caches
+returns-in_err-shorten-clause-caches g c = λ sound.
+    let w = c.args.self in
+    let old = g.B.Blob.life c.args.blob.now in
+    subst (λ (l : List ℕ). CachesOnly w.id w.full_pages l c.args.cache.now c.sync_written.new.cache)
+    (append-nil (content w old.present.readable))
+    (only_law g.H.Sum.sum_of w [] w.tip old c.args.cache.now c.sync_written.new.cache c.sync_written.new.self.full_pages sound
+    c.requires.cached (sym (append-nil w.tip)) c.in_ok-sync_written.ensures.puts)
+
+pub returns-in_err-shorten-clause-fresh_ids : goal.returns-in_err-shorten-clause-fresh_ids
+returns-in_err-shorten-clause-fresh_ids g c = λ given fresh.
+    let w = c.args.self in
+    fresh_of_puts w.id w.full_pages w.page_size c.sync_written.new.self.full_pages w.tip c.args.cache.now c.sync_written.new.cache
+    c.requires.cached c.in_ok-sync_written.ensures.puts given fresh
+
+pub returns-clause-caches : goal.returns-clause-caches
+returns-clause-caches g c = λ sound.
+    let w = c.args.self in
+    let old = g.B.Blob.life c.args.blob.now in
+    subst (λ (l : List ℕ). CachesOnly w.id w.full_pages l c.args.cache.now c.sync_written.new.cache)
+    (append-nil (content w old.present.readable))
+    (only_law g.H.Sum.sum_of w [] w.tip old c.args.cache.now c.sync_written.new.cache c.sync_written.new.self.full_pages sound
+    c.requires.cached (sym (append-nil w.tip)) c.in_ok-sync_written.ensures.puts)
+
+pub returns-clause-fresh_ids : goal.returns-clause-fresh_ids
+returns-clause-fresh_ids g c = λ given fresh.
+    let w = c.args.self in
+    fresh_of_puts w.id w.full_pages w.page_size c.sync_written.new.self.full_pages w.tip c.args.cache.now c.sync_written.new.cache
+    c.requires.cached c.in_ok-sync_written.ensures.puts given fresh
+
+-- reads go on
+ended_reads : (g : Over) (c : Joined-size g) → Truncating g.H.Sum.sum_of c.args.self (g.B.Blob.life c.args.blob.now)
+    → SyncsWritten g.H.Sum.sum_of c.args.self c.sync_written.new.self (g.B.Blob.life c.args.blob.now) (g.B.Blob.life c.sync_written.new.blob) (Ok tt)
+    → ReadsOn c.args.self c.if-size.self c.args.cache.now c.sync_written.new.cache (g.B.Blob.life c.args.blob.now) (g.B.Blob.life c.if-size.blob)
+ended_reads g c t syncs can =
+    let sum = g.H.Sum.sum_of in
+    let w = c.args.self in
+    let m = c.sync_written.new.self in
+    let old = g.B.Blob.life c.args.blob.now in
+    let mid = g.B.Blob.life c.sync_written.new.blob in
+    let after = c.sync_written.new.cache in
+    let first = written_reads sum w m old mid c.args.cache.now after t.stands syncs c.requires.cached
+    c.in_ok-sync_written.ensures.idle_cache c.in_ok-sync_written.ensures.puts can in
+    let settled = (behind sum c.args.size w old t m mid syncs).settled in
+    elim c.if-size.branch [
+      | then-size+in_ok-shorten v ↦
+          rw (v.blob-is, v.self-is) (shortened_reads sum c.args.size m v.shorten.new.self mid (g.B.Blob.life v.shorten.new.blob) after
+          (fewer_pages c.args.size m settled.short (omega (arith, v.if-size.true, c.size.ensures)))
+          v.in_ok-shorten.ensures.shortens v.in_ok-shorten.ensures.cuts.pages first)
+      | else-size v ↦ rw (v.blob-is, v.self-is) first
+    ]
+
+pub returns-clause-can_read : goal.returns-clause-can_read
+returns-clause-can_read g c =
+    let at = (goal.at.returns-clause-can_read g c).After-sync_written in
+    ended_reads g c (begun g at) (written g at (Ok tt) c.in_ok-sync_written.was)

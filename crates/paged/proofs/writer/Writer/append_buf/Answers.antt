@@ -1,3 +1,5 @@
+use Rattle.std.proofs.Common.{◌++◌}
+use Rattle.paged.proofs.Caching.{puts_nothing}
 use Rattle.std.proofs.Common.{refl}
 use Rattle.crash.specs.Sound.{IsSound, content}
 use Rattle.crash.proofs.BelowLaws.{pages_none}
@@ -14,3 +16,8 @@ returns-then-not-fits-clause-covers g c = covers_none g.H.Sum.sum_of c.args.self
 pub returns-then-not-fits-clause-starts : goal.returns-then-not-fits-clause-starts
 unfolding IsSound
 returns-then-not-fits-clause-starts g c = sound_stands g.H.Sum.sum_of c.args.self.now (g.B.Blob.life c.args.blob.now).present c.requires.sound
+
+pub returns-then-not-fits-clause-puts : goal.returns-then-not-fits-clause-puts
+returns-then-not-fits-clause-puts g c =
+    let w = c.args.self.now in
+    (w.full_pages, puts_nothing w.id w.full_pages w.page_size (w.tip ++ c.args.bytes.now) c.args.cache.now)

@@ -1,3 +1,7 @@
+use Rattle.std.proofs.Common.{ℕ, ◌++◌, subst}
+use Rattle.paged.specs.Caches.{PutsUpTo}
+use Rattle.paged.proofs.Caching.{refused_before, puts_buffered, puts_alike, puts_nothing}
+use Rattle.std.proofs.Common.{ap, ◌∙◌, sym}
 use Rattle.crash.specs.Sound.{content, IsSound}
 use Rattle.crash.proofs.CoverLaws.{covers_none}
 use Rattle.paged.proofs.Covers.{longer_covers}
@@ -20,6 +24,7 @@ returns-in_err-buffer-clause-appends g c =
 pub flush-requires : goal.flush-requires
 unfolding IsSound
 flush-requires g c = record {
+  cached = c.requires.cached ∙ sym (ap (λ (v : WriterState). v.page_size) c.in_ok-buffer.ensures.1);
   sound = subst (λ (v : WriterState). IsSound g.H.Sum.sum_of v (g.B.Blob.life c.args.blob.now).present) (sym c.in_ok-buffer.ensures.1) (longer_sound g.H.Sum.sum_of c.args.self.now (g.B.Blob.life c.args.blob.now).present c.requires.sound c.args.bytes.now);
 }
 
@@ -67,3 +72,22 @@ pub returns-then-branch-clause-dirty : goal.returns-then-branch-clause-dirty
 returns-then-branch-clause-dirty g c = λ over.
     let tip = ap (λ (v : WriterState). length v.tip) c.in_ok-buffer.ensures.1 ∙ length-append c.args.self.now.tip c.args.bytes.now in
     c.flush.ensures.dirty (over_work c.buffer.new.self c.flush.ensures.room (omega (arith, over, tip, ap (λ (v : WriterState). v.capacity) c.in_ok-buffer.ensures.1)))
+
+pub returns-in_err-buffer-clause-puts : goal.returns-in_err-buffer-clause-puts
+returns-in_err-buffer-clause-puts g c =
+    refused_before _ c.args.self.now c.buffer.new.self (c.args.self.now.tip ++ c.args.bytes.now) c.args.cache.now c.from_residual.result c.from_residual.ensures.1
+
+pub returns-then-branch-clause-puts : goal.returns-then-branch-clause-puts
+returns-then-branch-clause-puts g c =
+    let w = c.args.self.now in
+    let b = c.buffer.new.self in
+    puts_buffered w b c.flush.new.self c.args.bytes.now (w.tip ++ c.args.bytes.now) c.args.cache.now c.flush.new.cache c.flush.result c.in_ok-buffer.ensures.1
+    (puts_alike b c.flush.new.self b.tip (w.tip ++ c.args.bytes.now) c.args.cache.now c.flush.new.cache c.flush.result
+    (ap (λ (v : WriterState). v.tip) c.in_ok-buffer.ensures.1) c.flush.ensures.puts)
+
+pub returns-else-branch-clause-puts : goal.returns-else-branch-clause-puts
+returns-else-branch-clause-puts g c =
+    let w = c.args.self.now in
+    subst (λ (n : ℕ). PutsUpTo w.id w.full_pages w.page_size (w.tip ++ c.args.bytes.now) n c.args.cache.now c.args.cache.now)
+    (sym (ap (λ (v : WriterState). v.full_pages) c.in_ok-buffer.ensures.1))
+    (puts_nothing w.id w.full_pages w.page_size (w.tip ++ c.args.bytes.now) c.args.cache.now)

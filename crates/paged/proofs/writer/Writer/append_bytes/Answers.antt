@@ -1,3 +1,5 @@
+use Rattle.std.proofs.Common.{◌++◌}
+use Rattle.paged.proofs.Caching.{puts_nothing, refused_before}
 use Rattle.std.proofs.Common.{refl, sym, subst, Err}
 use Rattle.std.proofs.lemmas.Result.{err_from_is_err_and}
 use Rattle.disk.specs.declared.error.Error.TheVariants.{OutOfMemory}
@@ -37,3 +39,12 @@ returns-in_err-bytes-clause-covers g c = covers_none g.H.Sum.sum_of c.args.self.
 pub returns-in_err-bytes-clause-starts : goal.returns-in_err-bytes-clause-starts
 unfolding IsSound
 returns-in_err-bytes-clause-starts g c = sound_stands g.H.Sum.sum_of c.args.self.now (g.B.Blob.life c.args.blob.now).present c.requires.sound
+
+pub returns-then-not-fits-clause-puts : goal.returns-then-not-fits-clause-puts
+returns-then-not-fits-clause-puts g c =
+    let w = c.args.self.now in
+    (w.full_pages, puts_nothing w.id w.full_pages w.page_size (w.tip ++ c.args.bytes.now) c.args.cache.now)
+
+pub returns-in_err-bytes-clause-puts : goal.returns-in_err-bytes-clause-puts
+returns-in_err-bytes-clause-puts g c =
+    refused_before _ c.args.self.now c.args.self.now (c.args.self.now.tip ++ c.args.bytes.now) c.args.cache.now c.from_residual.result c.from_residual.ensures.1

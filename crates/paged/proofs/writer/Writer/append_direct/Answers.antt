@@ -1,3 +1,5 @@
+use Rattle.std.proofs.Common.{sym}
+use Rattle.paged.proofs.Caching.{direct_joined, longer_refused, puts_settings}
 use Rattle.std.proofs.Common.{◌≡◌, ◌-◌, ◌%◌, ◌<◌, ◌+◌, ◌++◌, List, ℕ, true, length, take, drop, refl, ap, sym, subst, arith, ◌∙◌, Err, length-drop}
 use Rattle.std.specs.Prelude.{slice_range}
 use Rattle.std.proofs.lemmas.List.{take_all, take-append-drop}
@@ -116,3 +118,44 @@ pub returns-clause-covers : goal.returns-clause-covers
 returns-clause-covers g c =
     covers_join g.H.Sum.sum_of c.args.self.now c.fill_tip.new.self (g.B.Blob.life c.args.blob.now) (g.B.Blob.life c.fill_tip.new.blob) (g.B.Blob.life c.write_direct.new.blob) (take c.args.fill c.as_ref.result.now) (take c.args.fill c.as_ref.result.now)
     c.in_ok-fill_tip.ensures.appends.1 c.in_ok-fill_tip.ensures.covers c.write_direct.ensures.covers
+
+pub returns-in_err-fill_tip-clause-puts : goal.returns-in_err-fill_tip-clause-puts
+returns-in_err-fill_tip-clause-puts g c =
+    let w = c.args.self.now in
+    let one = c.as_ref.result.now in
+    let puts = c.in_err-fill_tip.ensures.puts in
+    longer_refused _ w c.fill_tip.new.self (take c.args.fill one) (drop c.args.fill one) c.args.bytes.now c.args.cache.now c.fill_tip.new.cache puts.0
+    c.from_residual.result c.from_residual.ensures.1 c.requires.cached (halves c.args.fill c.args.bytes.now one c.as_ref.ensures) puts.1
+
+pub returns-in_err-whole-clause-puts : goal.returns-in_err-whole-clause-puts
+returns-in_err-whole-clause-puts g c =
+    let w = c.args.self.now in
+    let one = c.as_ref.result.now in
+    longer_refused _ w c.fill_tip.new.self (take c.args.fill one) (drop c.args.fill one) c.args.bytes.now c.args.cache.now c.fill_tip.new.cache c.fill_tip.new.self.full_pages
+    c.from_residual-in_err-whole.result c.from_residual-in_err-whole.ensures.1 c.requires.cached (halves c.args.fill c.args.bytes.now one c.as_ref.ensures) c.in_ok-fill_tip.ensures.puts
+
+pub write_direct-requires-clause-cached : goal.write_direct-requires-clause-cached
+write_direct-requires-clause-cached g c =
+    let w = c.args.self.now in
+    let puts = c.in_ok-fill_tip.ensures.puts in
+    puts_settings w.id w.full_pages w.page_size c.fill_tip.new.self.full_pages (w.tip ++ take c.args.fill c.as_ref.result.now) c.args.cache.now c.fill_tip.new.cache puts
+    ∙ c.requires.cached ∙ sym c.in_ok-fill_tip.ensures.appends.1.same.page_size
+
+pub returns-clause-puts : goal.returns-clause-puts
+unfolding IsSound
+returns-clause-puts g c =
+    let sum = g.H.Sum.sum_of in
+    let w = c.args.self.now in
+    let m = c.fill_tip.new.self in
+    let bytes = c.args.bytes.now in
+    let end = c.len.result - (c.len-2.result - c.args.fill) % c.from-page_size.result in
+    let one = c.as_ref.result.now in
+    let two = c.as_ref-2.result.now in
+    let whole = c.in_ok-whole.whole in
+    let rest = take (length two - end) (drop end two) in
+    let old = g.B.Blob.life c.args.blob.now in
+    let mid = g.B.Blob.life c.fill_tip.new.blob in
+    let size : c.from-page_size.result ≡ w.page_size = c.from-page_size.ensures ∙ c.get.ensures.value ∙ ap (λ s. s.page_size) c.self.view_is in
+    let is = cut w c.args.fill c.from-page_size.result end c.len.result c.len-2.result bytes one two whole c.requires.sound.stands.some c.requires.fill size c.len.ensures c.len-2.ensures c.requires.big c.as_ref.ensures c.as_ref-2.ensures refl c.in_ok-whole.ensures.ok in
+    direct_joined sum w m c.write_direct.new.self (take c.args.fill one) (whole ++ rest) bytes old mid c.args.cache.now c.fill_tip.new.cache c.write_direct.new.cache c.write_direct.result
+    c.requires.sound c.in_ok-fill_tip.ensures.appends.1 c.in_ok-fill_tip.ensures.empty c.requires.cached is.joined c.in_ok-fill_tip.ensures.puts c.write_direct.ensures.puts

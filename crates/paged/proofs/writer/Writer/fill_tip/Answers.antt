@@ -1,3 +1,7 @@
+use Rattle.std.proofs.Common.{ℕ, ◌++◌, subst}
+use Rattle.paged.specs.Caches.{PutsUpTo}
+use Rattle.paged.proofs.Caching.{refused_before, puts_buffered, puts_alike, puts_nothing}
+use Rattle.std.proofs.Common.{ap, ◌∙◌, sym}
 use Rattle.std.proofs.Common.{refl, sym, subst}
 use Rattle.std.proofs.lemmas.Result.{err_from_is_err_and}
 use Rattle.crash.specs.WriterState.{WriterState}
@@ -29,6 +33,7 @@ returns-in_err-buffer-clause-starts g c = sound_stands g.H.Sum.sum_of c.args.sel
 pub flush-requires : goal.flush-requires
 unfolding IsSound
 flush-requires g c = record {
+  cached = c.requires.cached ∙ sym (ap (λ (v : WriterState). v.page_size) c.in_ok-buffer.ensures.1);
   sound = subst (λ (v : WriterState). IsSound g.H.Sum.sum_of v (g.B.Blob.life c.args.blob.now).present) (sym c.in_ok-buffer.ensures.1) (longer_sound g.H.Sum.sum_of c.args.self.now (g.B.Blob.life c.args.blob.now).present c.requires.sound c.args.bytes.now);
 }
 
@@ -42,3 +47,15 @@ returns-clause-covers g c = longer_covers g.H.Sum.sum_of c.args.self.now c.buffe
 pub returns-clause-empty : goal.returns-clause-empty
 returns-clause-empty g c =
     filled_ok g.H.Sum.sum_of c.args.self.now c.buffer.new.self c.flush.new.self (g.B.Blob.life c.args.blob.now) (g.B.Blob.life c.flush.new.blob) c.args.bytes.now c.flush.result c.requires.sound c.requires.fill c.in_ok-buffer.ensures.1 (returns-clause-appends g c) c.flush.ensures.short
+
+pub returns-in_err-buffer-clause-puts : goal.returns-in_err-buffer-clause-puts
+returns-in_err-buffer-clause-puts g c =
+    refused_before _ c.args.self.now c.buffer.new.self (c.args.self.now.tip ++ c.args.bytes.now) c.args.cache.now c.from_residual.result c.from_residual.ensures.1
+
+pub returns-clause-puts : goal.returns-clause-puts
+returns-clause-puts g c =
+    let w = c.args.self.now in
+    let b = c.buffer.new.self in
+    puts_buffered w b c.flush.new.self c.args.bytes.now (w.tip ++ c.args.bytes.now) c.args.cache.now c.flush.new.cache c.flush.result c.in_ok-buffer.ensures.1
+    (puts_alike b c.flush.new.self b.tip (w.tip ++ c.args.bytes.now) c.args.cache.now c.flush.new.cache c.flush.result
+    (ap (λ (v : WriterState). v.tip) c.in_ok-buffer.ensures.1) c.flush.ensures.puts)

@@ -1,3 +1,5 @@
+use Rattle.std.proofs.Common.{ap}
+use Rattle.paged.proofs.Caching.{puts_nothing, refused_nothing, puts_waited, puts_alike}
 use Rattle.std.proofs.Common.{◌≡◌, ◌<◌, ℕ, length, refl, sym, ◌∙◌, subst, arith, true}
 use Rattle.std.specs.Prelude.{OnOk}
 use Rattle.std.proofs.lemmas.Result.{err_from_is_err_and}
@@ -20,6 +22,8 @@ returns g c =
     let life = g.B.Blob.life c.args.blob.now in
     let idle = sym c.has_flush_work.ensures.work ∙ c.if-has_flush_work.false in
     record {
+      puts = puts_nothing w.id w.full_pages w.page_size w.tip c.args.cache.now;
+      idle_cache = λ _. refl;
       flushes = goes_on_same sum w life c.requires.sound;
       pages = pages_none w.page_size w.full_pages life life refl;
       covers = covers_none sum w.page_size (content w life.present.readable) life life refl;
@@ -38,6 +42,8 @@ returns-in_err-wait g c =
     let p = err_from_is_err_and c.from_residual.result c.from_residual.ensures.1 in
     let work = sym c.has_flush_work.ensures.work ∙ c.if-has_flush_work.true in
     rw (p.1, p.2) (record {
+      puts = (c.args.self.now.full_pages, puts_nothing c.args.self.now.id c.args.self.now.full_pages c.args.self.now.page_size c.args.self.now.tip c.args.cache.now);
+      idle_cache = λ none. absurd (cc (work, none));
       flushes = c.in_err-wait.ensures.waits;
       pages = c.in_err-wait.ensures.pages;
       covers = c.in_err-wait.ensures.covers;
@@ -55,6 +61,7 @@ pub flush_pages-requires : goal.flush_pages-requires
 flush_pages-requires g c =
     let is = c.in_ok-wait.ensures.waits.1 in
     record {
+      cached = c.requires.cached ∙ sym (ap (λ (v : WriterState). v.page_size) is);
       sound = c.in_ok-wait.ensures.waits.0.sound;
       waited = subst (λ (v : WriterState). WaitsForNone v.sync) (sym is) (waits_for_none c.args.self.now);
       work = subst (λ (v : WriterState). has_work v c.args.rest ≡ true) (sym is) (sym c.has_flush_work.ensures.work ∙ c.if-has_flush_work.true);
@@ -74,6 +81,9 @@ returns-then-has_flush_work g c =
     let is = c.in_ok-wait.ensures.waits.1 in
     let work = sym c.has_flush_work.ensures.work ∙ c.if-has_flush_work.true in
     record {
+      puts = puts_waited w m now w.tip c.args.cache.now c.flush_pages.new.cache result is
+          (puts_alike m now m.tip w.tip c.args.cache.now c.flush_pages.new.cache result (ap (λ (v : WriterState). v.tip) is) c.flush_pages.ensures.puts);
+      idle_cache = λ none. absurd (cc (work, none));
       flushes = flushes_behind sum w m old mid new first (answered now result) c.flush_pages.ensures.flushes;
       pages = pages_behind sum w m old mid new first c.in_ok-wait.ensures.pages c.flush_pages.ensures.pages;
       covers = covers_behind sum w m old mid new first c.in_ok-wait.ensures.covers c.flush_pages.ensures.covers;

@@ -1,3 +1,4 @@
+use Rattle.paged.proofs.Caching.{puts_carried, puts_alike}
 use Rattle.crash.specs.Sound.{IsSound, CanWrite}
 use Rattle.crash.specs.WriterState.{WriterState}
 use Rattle.std.proofs.Common.{ap, sym, subst, false}
@@ -32,6 +33,8 @@ returns g c =
     (can_flush_rest w c.args.rest rest c.requires.sound.stands.some c.requires.work c.writes_rest-behind.ensures) in
     let goes = c.write_pages.ensures.goes in
     record {
+      puts = puts_carried w v now w.tip c.args.cache.now c.write_pages.new.cache result c.carry.ensures.is
+          (puts_alike v now v.tip w.tip c.args.cache.now c.write_pages.new.cache result (ap (λ (u : WriterState). u.tip) c.carry.ensures.is) c.write_pages.ensures.puts);
       flushes = flush_call sum w v now rest old new result g.met.H.Sum.small c.requires.sound c.carry.ensures.ready c.carry.ensures.is can goes c.write_pages.ensures.state c.write_pages.ensures.fits;
       pages = flush_pages sum w (place_of v) bytes false old new result c.requires.sound (ap place_of c.carry.ensures.is) goes;
       covers = carried_covers sum w v rest false old new result g.met.H.Sum.small c.requires.sound c.carry.ensures.ready c.carry.ensures.is can goes;

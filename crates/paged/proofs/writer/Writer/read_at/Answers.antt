@@ -1,71 +1,46 @@
-use Rattle.std.proofs.Common.{◌≡◌, ◌+◌, ◌-◌, ◌*◌, ◌≤◌, ◌∙◌, ◌++◌, take, drop, min, max, ap, subst, arith, ◌<◌}
+use Rattle.disk.specs.declared.error.Error.TheVariants.{BlobInsufficientLength}
+use Rattle.std.proofs.Common.{◌≢◌}
+use Rattle.std.proofs.Common.{◌≡◌, ◌≤◌, ◌<◌, ◌+◌, ◌^◌, sym, subst, length, List, ℕ}
+use Rattle.std.specs.Prelude.{Err, IfOk, OnOk}
 use Rattle.std.specs.List.{concat}
-use Rattle.crash.specs.Sound.{content}
-use Rattle.paged.specs.Reads.{size_of, AreTouchedFull}
-use Rattle.paged.proofs.Reading.{range_joins, touched_below}
-use Rattle.crash.specs.Looks.{looked_start}
+use Rattle.std.specs.Int.NonZero.{non_zero_usize_get}
+use Rattle.disk.specs.Disk.{Disk}
+use Rattle.page.specs.Geometry.{EndWithin}
+use Rattle.paged_read.specs.Tail.{Tail, CanRead, told, size_of}
+use Rattle.paged_read.specs.Ranges.{Reads, ReadsUpTo, ReadsMany, range_up_to, TriesRead}
+use Rattle.paged_read.specs.Ranges.{AsksForMissing, AsksOnce, LeavesAll, Misses, HasServed}
+use Rattle.paged_read.specs.Batch.{ranges_of}
+use Rattle.paged.specs.Caches.{tail_of}
 use Rattle.paged.proofs.There.{reads_keep_sound, reads_keep, reads_leave}
+use Rattle.paged.proofs.Serves.{reads_never, reads_up_to_never, reads_many_never}
 use Rattle.paged.proofs.writer.Writer.read_at.Goals as goal
 
+pub read_at-requires-clause-can : goal.read_at-requires-clause-can
+read_at-requires-clause-can g c = subst (λ (t : Tail). CanRead t c.args.cache.now (g.B.Blob.life c.args.blob.now).present) (sym c.view.ensures.tail) c.requires.can
+
 pub returns-clause-reads : goal.returns-clause-reads
-returns-clause-reads g c =
-    let w = c.args.self.now in
-    let readable = (g.B.Blob.life c.args.blob.now).present.readable in
-    let end = c.in_ok-end.end in
-    let below = c.offset-below.result in
-    let is : below ≡ w.full_pages * w.page_size = c.offset-below.ensures ∙ c.self.invariant.whole ∙ ap (λ s. s.full_pages * s.page_size) c.self.view_is in
-    let ends : end ≡ c.args.offset + c.args.len = grind arith in
-    let first : concat c.read_below.new.bufs ≡ take (min end below - c.args.offset) (drop c.args.offset (content w readable)) =
-    c.in_ok-read_below.ensures.ok ∙ ap (λ b. concat b ++ take (c.min.result - c.args.offset) (drop c.args.offset (content w readable))) c.new-bufs.ensures ∙ ap (λ n. take (n - c.args.offset) (drop c.args.offset (content w readable))) c.min.ensures in
-    let second : concat c.read_tip.new.bufs ≡ concat c.read_below.new.bufs ++ take (end - max c.args.offset below) (drop (max c.args.offset below - w.full_pages * w.page_size) w.tip) =
-    c.in_ok-read_tip.ensures.ok ∙ ap (λ n. concat c.read_below.new.bufs ++ take (end - n) (drop (n - w.full_pages * w.page_size) w.tip)) c.max.ensures in
-    let within : c.args.offset + c.args.len ≤ size_of w = omega (arith, ends, c.size.ensures, c.if-end-size.false) in
-    let some : 0 < w.page_size = omega (arith, c.self.invariant.page_size, ap (λ s. s.page_size) c.self.view_is, c.self.inside.page_size) in
-    let touched : AreTouchedFull g.H.Sum.sum_of w c.args.offset (min end below) readable = subst (λ n. AreTouchedFull g.H.Sum.sum_of w c.args.offset n readable) c.min.ensures c.in_ok-read_below.ensures.full in
-    let touches : AreTouchedFull g.H.Sum.sum_of w c.args.offset (c.args.offset + c.args.len) readable = subst (λ n. AreTouchedFull g.H.Sum.sum_of w c.args.offset n readable) ends (touched_below g.H.Sum.sum_of w c.args.offset end below readable some is touched) in
-    (within, range_joins w c.args.offset c.args.len end below readable (concat c.read_below.new.bufs) (concat c.read_tip.new.bufs) c.requires.there is ends first second, touches)
+returns-clause-reads g c = subst (λ (t : Tail). Reads g.H.Sum.sum_of t c.args.cache.now (c.args.offset, c.args.len) concat (g.B.Blob.life c.args.blob.now) (g.B.Blob.life c.read_at.new.blob) c.read_at.result) c.view.ensures.tail c.read_at.ensures.reads
 
-pub returns-in_err-read_below-clause-sound : goal.returns-in_err-read_below-clause-sound
-returns-in_err-read_below-clause-sound g c = reads_keep_sound g.H.Sum.sum_of c.args.self.now (g.B.Blob.life c.args.blob.now) (g.B.Blob.life c.read_below.new.blob) c.read_below.ensures.looked
-
-pub returns-in_err-read_tip-clause-sound : goal.returns-in_err-read_tip-clause-sound
-returns-in_err-read_tip-clause-sound g c = reads_keep_sound g.H.Sum.sum_of c.args.self.now (g.B.Blob.life c.args.blob.now) (g.B.Blob.life c.read_below.new.blob) c.read_below.ensures.looked
+pub returns-clause-leaves : goal.returns-clause-leaves
+returns-clause-leaves g c = subst (λ (t : Tail). LeavesAll t c.args.cache.now c.read_at.new.cache (g.B.Blob.life c.args.blob.now) (g.B.Blob.life c.read_at.new.blob)) c.view.ensures.tail c.read_at.ensures.leaves
 
 pub returns-clause-sound : goal.returns-clause-sound
-returns-clause-sound g c = reads_keep_sound g.H.Sum.sum_of c.args.self.now (g.B.Blob.life c.args.blob.now) (g.B.Blob.life c.read_below.new.blob) c.read_below.ensures.looked
-
-pub returns-in_err-read_below-clause-kept : goal.returns-in_err-read_below-clause-kept
-returns-in_err-read_below-clause-kept g c = reads_keep g.H.Sum.sum_of c.args.self.now (g.B.Blob.life c.args.blob.now) (g.B.Blob.life c.read_below.new.blob) c.read_below.ensures.looked
-
-pub returns-in_err-read_below-clause-only : goal.returns-in_err-read_below-clause-only
-returns-in_err-read_below-clause-only g c = reads_leave g.H.Sum.sum_of c.args.self.now (g.B.Blob.life c.args.blob.now) (g.B.Blob.life c.read_below.new.blob) c.read_below.ensures.looked
-
-pub returns-in_err-read_tip-clause-kept : goal.returns-in_err-read_tip-clause-kept
-returns-in_err-read_tip-clause-kept g c = reads_keep g.H.Sum.sum_of c.args.self.now (g.B.Blob.life c.args.blob.now) (g.B.Blob.life c.read_below.new.blob) c.read_below.ensures.looked
-
-pub returns-in_err-read_tip-clause-only : goal.returns-in_err-read_tip-clause-only
-returns-in_err-read_tip-clause-only g c = reads_leave g.H.Sum.sum_of c.args.self.now (g.B.Blob.life c.args.blob.now) (g.B.Blob.life c.read_below.new.blob) c.read_below.ensures.looked
+returns-clause-sound g c = reads_keep_sound g.H.Sum.sum_of c.args.self.now (g.B.Blob.life c.args.blob.now) (g.B.Blob.life c.read_at.new.blob) c.read_at.ensures.leaves.looked
 
 pub returns-clause-kept : goal.returns-clause-kept
-returns-clause-kept g c = reads_keep g.H.Sum.sum_of c.args.self.now (g.B.Blob.life c.args.blob.now) (g.B.Blob.life c.read_below.new.blob) c.read_below.ensures.looked
+returns-clause-kept g c = reads_keep g.H.Sum.sum_of c.args.self.now (g.B.Blob.life c.args.blob.now) (g.B.Blob.life c.read_at.new.blob) c.read_at.ensures.leaves.looked
 
 pub returns-clause-only : goal.returns-clause-only
-returns-clause-only g c = reads_leave g.H.Sum.sum_of c.args.self.now (g.B.Blob.life c.args.blob.now) (g.B.Blob.life c.read_below.new.blob) c.read_below.ensures.looked
+returns-clause-only g c = reads_leave g.H.Sum.sum_of c.args.self.now (g.B.Blob.life c.args.blob.now) (g.B.Blob.life c.read_at.new.blob) c.read_at.ensures.leaves.looked
 
-pub returns-in_err-end-clause-only : goal.returns-in_err-end-clause-only
-returns-in_err-end-clause-only g c = reads_leave g.H.Sum.sum_of c.args.self.now (g.B.Blob.life c.args.blob.now) (g.B.Blob.life c.args.blob.now) (looked_start (g.B.Blob.life c.args.blob.now))
+pub returns-clause-never : goal.returns-clause-never
+returns-clause-never g c = reads_never g.H.Sum.sum_of c.args.self.now c.args.cache.now (c.args.offset, c.args.len) concat (g.B.Blob.life c.args.blob.now) (g.B.Blob.life c.read_at.new.blob) c.read_at.result (subst (λ (t : Tail). Reads g.H.Sum.sum_of t c.args.cache.now (c.args.offset, c.args.len) concat (g.B.Blob.life c.args.blob.now) (g.B.Blob.life c.read_at.new.blob) c.read_at.result) c.view.ensures.tail c.read_at.ensures.reads)
 
-pub returns-then-end-size-clause-only : goal.returns-then-end-size-clause-only
-returns-then-end-size-clause-only g c = reads_leave g.H.Sum.sum_of c.args.self.now (g.B.Blob.life c.args.blob.now) (g.B.Blob.life c.args.blob.now) (looked_start (g.B.Blob.life c.args.blob.now))
+pub returns-clause-end : goal.returns-clause-end
+returns-clause-end g c = subst (λ (t : Tail). c.args.offset + c.args.len < 2 ^ 64 → size_of t < c.args.offset + c.args.len → c.read_at.result ≡ Err BlobInsufficientLength) c.view.ensures.tail c.read_at.ensures.end
 
-pub returns-in_err-end-clause-looked : goal.returns-in_err-end-clause-looked
-returns-in_err-end-clause-looked g c = looked_start (g.B.Blob.life c.args.blob.now)
+pub returns-clause-asks : goal.returns-clause-asks
+returns-clause-asks g c = subst (λ (t : Tail). AsksForMissing c.args.cache.now t (c.args.offset, c.args.len) (g.B.Blob.life c.args.blob.now) (g.B.Blob.life c.read_at.new.blob)) c.view.ensures.tail c.read_at.ensures.asks
 
-pub returns-in_err-end-clause-kept : goal.returns-in_err-end-clause-kept
-returns-in_err-end-clause-kept g c = reads_keep g.H.Sum.sum_of c.args.self.now (g.B.Blob.life c.args.blob.now) (g.B.Blob.life c.args.blob.now) (looked_start (g.B.Blob.life c.args.blob.now))
-
-pub returns-then-end-size-clause-looked : goal.returns-then-end-size-clause-looked
-returns-then-end-size-clause-looked g c = looked_start (g.B.Blob.life c.args.blob.now)
-
-pub returns-then-end-size-clause-kept : goal.returns-then-end-size-clause-kept
-returns-then-end-size-clause-kept g c = reads_keep g.H.Sum.sum_of c.args.self.now (g.B.Blob.life c.args.blob.now) (g.B.Blob.life c.args.blob.now) (looked_start (g.B.Blob.life c.args.blob.now))
+pub returns-clause-looked : goal.returns-clause-looked
+returns-clause-looked g c = c.read_at.ensures.leaves.looked

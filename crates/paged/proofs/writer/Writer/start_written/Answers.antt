@@ -1,3 +1,6 @@
+use Rattle.paged.specs.Calls.{started_state}
+use Rattle.paged.proofs.Caching.{started_pages}
+use Rattle.std.proofs.Common.{refl}
 use Rattle.std.proofs.Common.{◌∙◌, sym, ap, refl, arith}
 use Rattle.crash.specs.Sound.{IsSound, content}
 use Rattle.crash.proofs.BelowLaws.{pages_none}
@@ -16,6 +19,7 @@ returns-in-Clean g c =
     let life = g.B.Blob.life c.args.blob.now in
     let clean = sym (ap (λ s. s.sync) c.self.view_is) ∙ ap state_of c.in-Clean.is in
     record {
+      same_pages = refl;
       starts_sync = clean_starts g.H.Sum.sum_of w life c.requires.sound clean c.requires.written;
       pages = pages_none w.page_size w.full_pages life life refl;
       covers = covers_none g.H.Sum.sum_of w.page_size (content w life.present.readable) life life refl;
@@ -32,6 +36,7 @@ returns-in-Pending g c =
     let life = g.B.Blob.life c.args.blob.now in
     let pending = sym (ap (λ s. s.sync) c.self.view_is) ∙ ap state_of c.in-Pending.is in
     record {
+      same_pages = refl;
       starts_sync = pending_starts g.H.Sum.sum_of w c.in-Pending.name life g.met.H.Sum.small c.requires.sound pending c.requires.written;
       pages = pages_none w.page_size w.full_pages life life refl;
       covers = covers_none g.H.Sum.sum_of w.page_size (content w life.present.readable) life life refl;
@@ -49,6 +54,7 @@ returns-in-Dirty g c =
     let dirty = sym (ap (λ s. s.sync) c.self.view_is) ∙ ap state_of c.in-Dirty.is in
     let done = dirty_starts g.H.Sum.sum_of w c.start_blob.new.self old new c.start_blob.result g.met.H.Sum.small c.requires.sound dirty c.requires.written c.start_blob.ensures.goes c.start_blob.ensures.state in
     record {
+      same_pages = started_pages started_state c.args.self.now c.start_blob.new.self c.start_blob.result c.start_blob.ensures.state;
       starts_sync = done.starts_sync;
       pages = done.pages;
       covers = done.covers;

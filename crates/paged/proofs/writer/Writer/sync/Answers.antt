@@ -1,3 +1,9 @@
+use Rattle.crash.specs.Sound.{content}
+use Rattle.disk.specs.declared.error.Error.{Error}
+use Rattle.std.specs.Prelude.{Ok, Err, Result}
+use Rattle.std.proofs.Common.{List, ℕ, [], append-nil, sym, refl, ◌++◌}
+use Rattle.crash.specs.WriterState.{WriterState}
+use Rattle.paged.proofs.Caching.{caches_law, caches_law_same, fresh_law, reads_behind}
 use Rattle.std.proofs.Common.{Ok, Err}
 use Rattle.paged.proofs.Flushes.{sync_within}
 use Rattle.paged.proofs.Halves.{sync_keeps_all, sync_keeps, sync_leaves}
@@ -24,3 +30,41 @@ returns-in_err-sync_all-clause-kept g c = sync_keeps g.H.Sum.sum_of c.args.self 
 
 pub returns-in_err-sync_all-clause-only : goal.returns-in_err-sync_all-clause-only
 returns-in_err-sync_all-clause-only g c = sync_leaves g.H.Sum.sum_of c.args.self (g.B.Blob.life c.args.blob.now) (g.B.Blob.life c.sync_all.new.blob) (Err c.in_err-sync_all.field-0.0) c.in_err-sync_all.ensures.syncs
+
+pub returns-in_err-sync_all-clause-caches : goal.returns-in_err-sync_all-clause-caches
+returns-in_err-sync_all-clause-caches g c =
+    let w = c.args.self in
+    let old = g.B.Blob.life c.args.blob.now in
+    let behind = c.sync_all.new.cache in
+    caches_law_same {A = WriterState} g.H.Sum.sum_of (λ v. v) w old c.args.cache.now behind (Err c.in_err-sync_all.field-0.0) c.requires.sound c.requires.cached c.in_err-sync_all.ensures.puts
+
+pub returns-in_err-sync_all-clause-fresh_ids : goal.returns-in_err-sync_all-clause-fresh_ids
+returns-in_err-sync_all-clause-fresh_ids g c =
+    let w = c.args.self in
+    let old = g.B.Blob.life c.args.blob.now in
+    let behind = c.sync_all.new.cache in
+    λ given fresh. fresh_law w.id w.full_pages (content w old.present.readable) c.args.cache.now behind
+    (caches_law_same {A = WriterState} g.H.Sum.sum_of (λ v. v) w old c.args.cache.now behind (Err c.in_err-sync_all.field-0.0) c.requires.sound c.requires.cached c.in_err-sync_all.ensures.puts) given fresh
+
+pub returns-clause-caches : goal.returns-clause-caches
+returns-clause-caches g c =
+    let w = c.args.self in
+    let old = g.B.Blob.life c.args.blob.now in
+    let behind = c.sync_all.new.cache in
+    caches_law_same {A = WriterState} g.H.Sum.sum_of (λ v. v) w old c.args.cache.now behind (Ok c.sync_all.new.self) c.requires.sound c.requires.cached c.in_ok-sync_all.ensures.puts
+
+pub returns-clause-fresh_ids : goal.returns-clause-fresh_ids
+returns-clause-fresh_ids g c =
+    let w = c.args.self in
+    let old = g.B.Blob.life c.args.blob.now in
+    let behind = c.sync_all.new.cache in
+    λ given fresh. fresh_law w.id w.full_pages (content w old.present.readable) c.args.cache.now behind
+    (caches_law_same {A = WriterState} g.H.Sum.sum_of (λ v. v) w old c.args.cache.now behind (Ok c.sync_all.new.self) c.requires.sound c.requires.cached c.in_ok-sync_all.ensures.puts) given fresh
+
+pub returns-clause-can_read : goal.returns-clause-can_read
+returns-clause-can_read g c =
+    let w = c.args.self in
+    let old = g.B.Blob.life c.args.blob.now in
+    let behind = c.sync_all.new.cache in
+    let new = g.B.Blob.life c.sync_all.new.blob in
+    reads_behind {A = WriterState} g.H.Sum.sum_of (λ v. v) w [] w.tip old new c.args.cache.now behind c.sync_all.new.self c.requires.cached (sym (append-nil w.tip)) c.in_ok-sync_all.ensures.syncs.0 c.in_ok-sync_all.ensures.puts

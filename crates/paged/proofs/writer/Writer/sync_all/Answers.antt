@@ -1,3 +1,5 @@
+use Rattle.std.proofs.Common.{refl}
+use Rattle.paged.proofs.Caching.{settled_nothing}
 use Rattle.std.proofs.Common.{sym, ◌∙◌, arith}
 use Rattle.paged.specs.Flush.{answered}
 use Rattle.paged.proofs.Flushes.{sync_settles, settle_none, sync_due}
@@ -7,6 +9,8 @@ pub returns-then-has_flush_work : goal.returns-then-has_flush_work
 returns-then-has_flush_work g c =
     let work = sym c.has_flush_work.ensures.work ∙ c.if-has_flush_work.true in
     record {
+      puts = c.sync_pages.ensures.puts;
+      idle_cache = λ none. absurd (cc (work, none));
       syncs = c.sync_pages.ensures.syncs;
       room = c.has_flush_work.ensures.room;
       pages = c.sync_pages.ensures.pages;
@@ -23,6 +27,8 @@ returns-else-has_flush_work g c =
     let new = g.B.Blob.life c.settle.new.blob in
     let none_due = sym c.has_flush_work.ensures.work ∙ c.if-has_flush_work.false in
     record {
+      puts = settled_nothing g.H.Sum.sum_of c.args.self.now c.settle.new.self c.args.self.now.tip c.args.cache.now old new c.settle.result c.settle.ensures.settles;
+      idle_cache = λ _. refl;
       syncs = sync_settles g.H.Sum.sum_of c.args.self.now old new (answered c.settle.new.self c.settle.result) c.requires.sound none_due c.settle.ensures.settles;
       room = c.has_flush_work.ensures.room;
       pages = c.settle.ensures.pages;

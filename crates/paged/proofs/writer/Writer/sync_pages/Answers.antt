@@ -1,3 +1,5 @@
+use Rattle.std.proofs.Common.{ap, ◌∙◌}
+use Rattle.paged.proofs.Caching.{puts_nothing, puts_waited, puts_alike}
 use Rattle.std.proofs.Common.{◌≡◌, sym, subst, true}
 use Rattle.std.proofs.lemmas.Result.{err_from_is_err_and}
 use Rattle.crash.specs.WriterState.{WriterState}
@@ -10,6 +12,7 @@ pub returns-in_err-wait : goal.returns-in_err-wait
 returns-in_err-wait g c =
     let p = err_from_is_err_and c.from_residual.result c.from_residual.ensures.1 in
     rw (p.1, p.2) (record {
+      puts = (c.args.self.now.full_pages, puts_nothing c.args.self.now.id c.args.self.now.full_pages c.args.self.now.page_size c.args.self.now.tip c.args.cache.now);
       syncs = c.in_err-wait.ensures.waits;
       pages = c.in_err-wait.ensures.pages;
       covers = c.in_err-wait.ensures.covers;
@@ -21,6 +24,7 @@ pub write_durably-requires : goal.write_durably-requires
 write_durably-requires g c =
     let is = c.in_ok-wait.ensures.waits.1 in
     record {
+      cached = c.requires.cached ∙ sym (ap (λ (v : WriterState). v.page_size) is);
       sound = c.in_ok-wait.ensures.waits.0.sound;
       waited = subst (λ (v : WriterState). WaitsForNone v.sync) (sym is) (waits_for_none c.args.self.now);
       work = subst (λ (v : WriterState). has_work v true ≡ true) (sym is) c.requires.work;
@@ -39,6 +43,8 @@ returns g c =
     let first = c.in_ok-wait.ensures.waits.0 in
     let is = c.in_ok-wait.ensures.waits.1 in
     record {
+      puts = puts_waited w m now w.tip c.args.cache.now c.write_durably.new.cache result is
+          (puts_alike m now m.tip w.tip c.args.cache.now c.write_durably.new.cache result (ap (λ (v : WriterState). v.tip) is) c.write_durably.ensures.puts);
       syncs = syncs_behind sum w m old mid new first (answered now result) c.write_durably.ensures.syncs;
       pages = pages_behind sum w m old mid new first c.in_ok-wait.ensures.pages c.write_durably.ensures.pages;
       covers = covers_behind sum w m old mid new first c.in_ok-wait.ensures.covers c.write_durably.ensures.covers;

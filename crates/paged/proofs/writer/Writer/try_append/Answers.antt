@@ -1,3 +1,4 @@
+use Rattle.paged.proofs.Caching.{tried_reads}
 use Rattle.std.proofs.Common.{◌<◌, rules}
 use Rattle.std.specs.Int.NonZero.{non_zero_u16_get}
 use Rattle.paged.specs.Writer.{state_of}
@@ -26,4 +27,12 @@ returns-clause-pages g c =
     let P = non_zero_u16_get inside.page_size in
     let some : 0 < P = inside.page_size.ok in
     keeps_pages c.args.self.now _ c.args.bytes.now c.try_append.result
+    (tries P inside.id inside.flushed inside.durable (state_of inside.sync_state) some inside.tip c.try_append.new.self c.args.bytes.now c.self.invariant c.args.self.now c.try_append.result c.self.view_is (c.fits.ensures.0 (search rules)) c.try_append.ensures)
+
+pub returns-clause-can_read : goal.returns-clause-can_read
+returns-clause-can_read g c =
+    let inside = c.self.inside in
+    let P = non_zero_u16_get inside.page_size in
+    let some : 0 < P = inside.page_size.ok in
+    tried_reads c.args.self.now _ c.args.bytes.now c.try_append.result
     (tries P inside.id inside.flushed inside.durable (state_of inside.sync_state) some inside.tip c.try_append.new.self c.args.bytes.now c.self.invariant c.args.self.now c.try_append.result c.self.view_is (c.fits.ensures.0 (search rules)) c.try_append.ensures)

@@ -1,3 +1,4 @@
+use Rattle.paged.proofs.Caching.{tried_reads}
 use Rattle.std.proofs.Common.{◌+◌, ◌<◌, length, subst, rules}
 use Rattle.std.specs.Int.NonZero.{non_zero_u16_get}
 use Rattle.paged.specs.Writer.{state_of, FitsBlob}
@@ -32,4 +33,14 @@ returns-clause-pages g c =
     let w = c.args.self.now in
     let fits : FitsBlob w.page_size w.full_pages (length w.tip + length (g.T.EncodeSize.encoded c.args.value.now)) = subst (λ n. FitsBlob w.page_size w.full_pages (length w.tip + n)) c.encode_size.ensures (c.fits.ensures.0 (search rules)) in
     keeps_pages c.args.self.now _ (g.T.EncodeSize.encoded c.args.value.now) c.try_append_value.result
+    (tries P inside.id inside.flushed inside.durable (state_of inside.sync_state) some inside.tip c.try_append_value.new.self (g.T.EncodeSize.encoded c.args.value.now) c.self.invariant c.args.self.now c.try_append_value.result c.self.view_is fits c.try_append_value.ensures)
+
+pub returns-clause-can_read : goal.returns-clause-can_read
+returns-clause-can_read g c =
+    let inside = c.self.inside in
+    let P = non_zero_u16_get inside.page_size in
+    let some : 0 < P = inside.page_size.ok in
+    let w = c.args.self.now in
+    let fits : FitsBlob w.page_size w.full_pages (length w.tip + length (g.T.EncodeSize.encoded c.args.value.now)) = subst (λ n. FitsBlob w.page_size w.full_pages (length w.tip + n)) c.encode_size.ensures (c.fits.ensures.0 (search rules)) in
+    tried_reads c.args.self.now _ (g.T.EncodeSize.encoded c.args.value.now) c.try_append_value.result
     (tries P inside.id inside.flushed inside.durable (state_of inside.sync_state) some inside.tip c.try_append_value.new.self (g.T.EncodeSize.encoded c.args.value.now) c.self.invariant c.args.self.now c.try_append_value.result c.self.view_is fits c.try_append_value.ensures)

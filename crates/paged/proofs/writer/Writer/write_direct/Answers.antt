@@ -1,3 +1,5 @@
+use Rattle.std.proofs.Common.{ap, ◌∙◌, sym}
+use Rattle.paged.proofs.Caching.{puts_nothing, puts_waited}
 use Rattle.std.proofs.Common.{◌++◌, [], sym, subst, arith}
 use Rattle.std.proofs.lemmas.Result.{err_from_is_err_and}
 use Rattle.crash.specs.WriterState.{WriterState}
@@ -21,6 +23,7 @@ returns-in_err-wait g c =
     let e = c.in_err-wait.field-0.0 in
     let p = err_from_is_err_and c.from_residual.result c.from_residual.ensures.1 in
     rw (p.1, p.2) (record {
+      puts = (w.full_pages, puts_nothing w.id w.full_pages w.page_size more c.args.cache.now);
       appends = append_fails sum w more old new e (refuses_longer sum w (content w old.present.readable) more old new e c.in_err-wait.ensures.waits);
       pages = c.in_err-wait.ensures.pages;
       covers = c.in_err-wait.ensures.covers;
@@ -34,6 +37,7 @@ pub flush_direct-requires : goal.flush_direct-requires
 flush_direct-requires g c =
     let is = c.in_ok-wait.ensures.waits.1 in
     record {
+      cached = c.requires.cached ∙ sym (ap (λ (v : WriterState). v.page_size) is);
       sound = c.in_ok-wait.ensures.waits.0.sound;
       waited = subst (λ (v : WriterState). WaitsForNone v.sync) (sym is) (waits_for_none c.args.self.now);
       direct = direct_waited c.args.self.now c.wait.new.self c.args.whole c.args.rest.now is c.requires.direct;
@@ -54,6 +58,7 @@ returns g c =
     let is = c.in_ok-wait.ensures.waits.1 in
     let direct = direct_waited w m c.args.whole c.args.rest.now is c.requires.direct in
     record {
+      puts = puts_waited w m now more c.args.cache.now c.flush_direct.new.cache result is c.flush_direct.ensures.puts;
       appends = appends_join sum w m old mid new [] more first now result c.requires.sound (direct_places m c.args.whole c.args.rest.now direct) c.flush_direct.ensures.appends;
       pages = pages_join w.page_size w.full_pages w.full_pages old mid new (omega arith) c.in_ok-wait.ensures.pages
           (subst (λ (v : WriterState). PagesStay v.page_size v.full_pages mid new) is c.flush_direct.ensures.pages);

@@ -1,3 +1,4 @@
+use Rattle.paged.proofs.Caching.{puts_carried, puts_alike, puts_before, synced_pages}
 use Rattle.std.proofs.Common.{◌≡◌, ◌∙◌, refl, sym, subst, ap, arith, true, false}
 use Rattle.crash.proofs.BelowLaws.{pages_join, sync_pages_stay}
 use Rattle.crash.proofs.StandLaws.{write_stands, sync_stands}
@@ -40,6 +41,7 @@ returns-in_err-write_pages-in-Dirty g c =
     let can = can_sync w rest c.requires.sound.stands.some c.requires.work c.has_rest-rest.ensures in
     let p = err_from_is_err_and c.from_residual.result c.from_residual.ensures.1 in
     rw (p.1, p.2) (record {
+      puts = c.in_err-write_pages-in-Dirty.ensures.puts;
       syncs = flush_goes sum w c.write_pages-in-Dirty.new.self rest old mid (Err e) g.met.H.Sum.small c.requires.sound (dirty_carried w dirty) can
           c.in_err-write_pages-in-Dirty.ensures.goes c.in_err-write_pages-in-Dirty.ensures.state c.in_err-write_pages-in-Dirty.ensures.fits;
       pages = flush_pages sum w (place_of w) (flush_bytes sum w rest) false old mid (Err e) c.requires.sound refl c.in_err-write_pages-in-Dirty.ensures.goes;
@@ -59,6 +61,8 @@ returns-in-Clean g c =
     let new = g.B.Blob.life c.write_pages.new.blob in
     let can = can_sync w rest c.requires.sound.stands.some c.requires.work c.has_rest-rest.ensures in
     record {
+      puts = puts_carried w v c.write_pages.new.self w.tip c.args.cache.now c.write_pages.new.cache c.write_pages.result c.carry.ensures.is
+          (puts_alike v c.write_pages.new.self v.tip w.tip c.args.cache.now c.write_pages.new.cache c.write_pages.result (ap (λ (u : WriterState). u.tip) c.carry.ensures.is) c.write_pages.ensures.puts);
       syncs = sync_write sum w v c.write_pages.new.self rest old new c.write_pages.result
           g.met.H.Sum.small c.requires.sound c.carry.ensures.ready c.carry.ensures.is c.has_rest-rest.ensures (subst (λ (v : WriterState). CanWrite v.page_size v.tip (full_in v) rest) (sym c.carry.ensures.is) can)
           c.write_pages.ensures.goes c.write_pages.ensures.state c.write_pages.ensures.fits;
@@ -82,6 +86,8 @@ returns-in_ok-write_pages-in-Dirty g c =
     let dirty = dirty_state w c.self.inside.sync_state (ap (λ s. s.sync) c.self.view_is) c.requires.waited c.in-Dirty.is in
     let can = can_sync w rest c.requires.sound.stands.some c.requires.work c.has_rest-rest.ensures in
     record {
+      puts = puts_before w m c.sync_blob.new.self w.tip c.args.cache.now c.write_pages-in-Dirty.new.cache c.sync_blob.result
+          (synced_pages m c.sync_blob.new.self c.sync_blob.result c.sync_blob.ensures.state) c.in_ok-write_pages-in-Dirty.ensures.puts;
       syncs = sync_second sum w m c.sync_blob.new.self rest old mid new c.sync_blob.result g.met.H.Sum.small c.requires.sound dirty c.has_rest-rest.ensures can
           c.in_ok-write_pages-in-Dirty.ensures.goes c.in_ok-write_pages-in-Dirty.ensures.state c.sync_blob.ensures.goes c.sync_blob.ensures.state;
       pages = pages_join w.page_size w.full_pages w.full_pages old mid new (omega arith)

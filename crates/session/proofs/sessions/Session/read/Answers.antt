@@ -1,12 +1,17 @@
-use Rattle.std.proofs.Common.{ap, sym, ◌∙◌}
-use Rattle.paged.proofs.There.{sound_has_pages}
+use Rattle.std.proofs.Common.{ap, sym, ◌∙◌, subst}
+use Rattle.std.specs.Prelude.{Option}
+use Rattle.crash.specs.WriterState.{WriterState}
 use Rattle.session.specs.Run.{SessionState}
-use Rattle.session.proofs.StepLaws.{sound_of}
+use Rattle.session.specs.Calls.{DidRead}
+use Rattle.session.proofs.StepLaws.{read_says}
 use Rattle.session.proofs.sessions.Session.read.Goals as goal
 
-pub read_at-requires : goal.read_at-requires
-read_at-requires g c =
+pub returns-in-Ok-clause-goes : goal.returns-in-Ok-clause-goes
+returns-in-Ok-clause-goes g c =
     let sum = g.H.Sum.sum_of in
-    let life = g.B.Blob.life c.args.blob.now in
+    let old = g.B.Blob.life c.args.blob.now in
+    let new = g.B.Blob.life c.read_at.new.blob in
+    let is = c.in-Ok.ensures in
     let at = ap (λ (s : SessionState). s.writer) (sym c.self.view_is) ∙ c.in-Some.is in
-    record { there = sound_has_pages sum c.in-Some.writer life (sound_of sum c.args.self.now c.in-Some.writer life.present at c.requires.ready) }
+    subst (λ (o : Option WriterState). DidRead sum o c.args.cache.now c.args.offset c.args.len old new c.bytes_of.result) (sym at)
+    (read_says sum c.in-Some.writer c.args.cache.now c.args.offset c.args.len old new c.in-Ok.bufs c.bytes_of.result is.reads is.overflow is.end is.leaves.looked c.bytes_of.ensures)

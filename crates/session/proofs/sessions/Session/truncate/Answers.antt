@@ -1,5 +1,5 @@
 use Rattle.std.proofs.Common.{rules, ◌≡◌, true, Some, None, refl}
-use Rattle.session.proofs.StepLaws.{sound_of}
+use Rattle.session.proofs.StepLaws.{sound_of, can_of}
 use Rattle.session.proofs.TruncateLaws.{cuts_here}
 use Rattle.session.proofs.sessions.Session.truncate.Goals as goal
 
@@ -51,3 +51,13 @@ returns-in-Err-clause-goes g c =
         starts = is.starts sound;
       },
     )
+
+pub returns-in-Ok-clause-fresh_ids : goal.returns-in-Ok-clause-fresh_ids
+returns-in-Ok-clause-fresh_ids g c =
+    let at : c.args.self.now.writer ≡ Some c.in-Some.writer = search rules in
+    c.in-Ok.ensures.fresh_ids (can_of c.args.self.now c.in-Some.writer c.args.cache.now (g.B.Blob.life c.args.blob.now).present at c.requires.cached).given
+
+pub returns-in-Err-clause-fresh_ids : goal.returns-in-Err-clause-fresh_ids
+returns-in-Err-clause-fresh_ids g c =
+    let at : c.args.self.now.writer ≡ Some c.in-Some.writer = search rules in
+    c.in-Err.ensures.fresh_ids (can_of c.args.self.now c.in-Some.writer c.args.cache.now (g.B.Blob.life c.args.blob.now).present at c.requires.cached).given

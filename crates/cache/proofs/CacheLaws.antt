@@ -1,0 +1,317 @@
+-- What stays true of the pages that a cache holds.
+use Rattle.std.proofs.Common.{◌≡◌, ◌≢◌, inl, inr, ◌⊎◌, ℕ, zero, suc, ◌+◌, ◌-◌, ◌*◌, ◌^◌, ◌<◌, ◌≤◌, List, [], ◌∷◌, ◌++◌, length, take, drop, refl, sym, ap, ◌∙◌, subst, arith, drop-drop, Bool, true, false}
+use Rattle.std.specs.Prelude.{Option, Some, None, nat_eq, ◌&&◌, is_some, min}
+use Rattle.std.proofs.lemmas.Bool.{cases_lt, cases_order}
+use Rattle.std.proofs.lemmas.Bool.Decides.{nat_tests}
+use Rattle.std.proofs.lemmas.Option.{same_Some}
+use Rattle.std.proofs.Math.Nat.{mul-le-mul_right}
+use Rattle.cache.specs.CacheState.{CacheState, same_key, held, empty_cache, SameSettings}
+use Rattle.cache.specs.CacheState.{OthersStay, IsHeld, one_skipped, PutGoes, Puts, PutsAll}
+use Rattle.cache.specs.Pages.{page_of_content, IsTrueFor, IsFresh, KeyGoes, CachesOnly}
+
+-- two keys are the same or not
+same_keys : (a b : ℕ × ℕ) → (a ≡ b) ⊎ (a ≢ b)
+same_keys (a, p) (b, q) = elim (cases_order a b) [
+  | inl same ↦ elim (cases_order p q) [
+    | inl here ↦ inl (λ i. (same i, here i))
+    | inr (inl less) ↦ inr (λ is. omega (arith, less, ap (λ (k : ℕ × ℕ). k.1) is))
+    | inr (inr more) ↦ inr (λ is. omega (arith, more, ap (λ (k : ℕ × ℕ). k.1) is))
+  ]
+  | inr (inl less) ↦ inr (λ is. omega (arith, less, ap (λ (k : ℕ × ℕ). k.0) is))
+  | inr (inr more) ↦ inr (λ is. omega (arith, more, ap (λ (k : ℕ × ℕ). k.0) is))
+]
+
+-- what one put does to a key: the page is held, or nothing; each other key stays or goes
+abbrev pub PutKey : ℕ × ℕ → List ℕ → ℕ × ℕ → CacheState → CacheState → Type 0
+PutKey key bytes other old new = (held new other ≡ held old other) ⊎ (held new other ≡ None) ⊎ ((other ≡ key) × (held new other ≡ Some bytes))
+
+-- in a relation that forgets which key went, and why
+pub record PutWeakly (key : ℕ × ℕ) (bytes : List ℕ) (old new : CacheState) : Type 0 where
+  pub settings : SameSettings old new
+  pub skipped : old.skipped ≤ new.skipped
+  pub here : (held new key ≡ Some bytes) ⊎ (held new key ≡ None)
+  pub each : (other : ℕ × ℕ) → PutKey key bytes other old new
+
+held_weakly : (key gone : ℕ × ℕ) (bytes : List ℕ) (count : ℕ) (old new : CacheState) → (key ≡ gone) ⊎ (held new gone ≡ None) → IsHeld key gone bytes count old new → PutWeakly key bytes old new
+held_weakly key gone bytes count old new went h = record {
+  settings = h.settings;
+  skipped = omega (arith, h.skipped);
+  here = inl h.here;
+  each = λ other. elim (same_keys other key) [
+    | inl same ↦ inr (inr (same, ap (λ (k : ℕ × ℕ). held new k) same ∙ h.here))
+    | inr apart ↦ elim (same_keys other gone) [
+      | inl lost ↦ elim went [
+        | inl same ↦ absurd (apart (lost ∙ sym same))
+        | inr none ↦ inr (inl (ap (λ (k : ℕ × ℕ). held new k) lost ∙ none))
+      ]
+      | inr kept ↦ inl (h.others other apart kept)
+    ]
+  ];
+}
+
+skipped_more : (n : ℕ) → n < 2 ^ 64 → n ≤ one_skipped n
+skipped_more n small = omega (arith, small)
+
+pub put_weakly : (key : ℕ × ℕ) (bytes : List ℕ) (old new : CacheState) → Puts key bytes old new → PutWeakly key bytes old new
+put_weakly key bytes old new puts = by_held (held old key) refl puts
+  where
+    by_held : (o : Option (List ℕ)) → held old key ≡ o → PutGoes o key bytes old new → PutWeakly key bytes old new
+    by_held (Some page) is goes = held_weakly key key bytes (length old.pages) old new (inl refl) goes
+    by_held None is (inl (room, goes)) = held_weakly key key bytes (length old.pages + 1) old new (inl refl) goes
+    by_held None is (inr (inl (full, (gone, there, none, goes)))) = held_weakly key gone bytes old.capacity old new (inr none) goes
+    by_held None is (inr (inr (small, same))) =
+        let alike : (other : ℕ × ℕ) → held new other ≡ held old other = λ other. ap (λ (c : CacheState). held c other) same in
+        record {
+          settings = record { page_size = ap (λ (c : CacheState). c.page_size) same; capacity = ap (λ (c : CacheState). c.capacity) same; ids_given = ap (λ (c : CacheState). c.ids_given) same };
+          skipped = omega (arith, skipped_more old.skipped small, ap (λ (c : CacheState). c.skipped) same);
+          here = inr (alike key ∙ is);
+          each = λ other. inl (alike other);
+        }
+
+-- where nothing was left out, the page put last is held
+pub put_is_held : (key : ℕ × ℕ) (bytes : List ℕ) (old new : CacheState) → old.skipped < 2 ^ 64 - 1 → new.skipped ≡ old.skipped → Puts key bytes old new → held new key ≡ Some bytes
+put_is_held key bytes old new small same puts = by_held (held old key) puts
+  where
+    by_held : (o : Option (List ℕ)) → PutGoes o key bytes old new → held new key ≡ Some bytes
+    by_held (Some page) goes = goes.here
+    by_held None (inl (room, goes)) = goes.here
+    by_held None (inr (inl (full, (gone, there, none, goes)))) = goes.here
+    by_held None (inr (inr (_, is))) = absurd (omega (arith, small, same, ap (λ (c : CacheState). c.skipped) is))
+
+-- ---- true pages
+
+-- (a) a put of a page of the content keeps the pages true, and makes those below the next one so
+pub put_true : (id page : ℕ) (content bytes : List ℕ) (old new : CacheState) → bytes ≡ page_of_content old.page_size content page → PutWeakly (id, page) bytes old new
+    → IsTrueFor id content page old → IsTrueFor id content (page + 1) new
+put_true id page content bytes old new is puts true_old p held_bytes below there = elim (cases_order p page) [
+  | inl same ↦
+      let here : held new (id, page) ≡ Some held_bytes = ap (λ (q : ℕ). held new (id, q)) (sym same) ∙ there in
+      elim puts.here [
+        | inl now ↦ same_Some held_bytes bytes (sym here ∙ now) ∙ is ∙ ap (λ (q : ℕ). page_of_content old.page_size content q) (sym same) ∙ ap (λ (P : ℕ). page_of_content P content p) (sym puts.settings.page_size)
+        | inr none ↦ absurd (cc (here, none))
+      ]
+  | inr (inl less) ↦ elim (puts.each (id, p)) [
+    | inl stays ↦ true_old p held_bytes less (sym stays ∙ there) ∙ ap (λ (P : ℕ). page_of_content P content p) (sym puts.settings.page_size)
+    | inr (inl goes) ↦ absurd (cc (goes, there))
+    | inr (inr (is_key, now)) ↦ absurd (omega (arith, less, ap (λ (k : ℕ × ℕ). k.1) is_key))
+  ]
+  | inr (inr more) ↦ absurd (omega (arith, below, more))
+]
+
+-- (c), (d) a call of another blob, or one that puts only pages from the tip on, keeps them true
+pub caches_true : (id from : ℕ) (content : List ℕ) (mine : ℕ) (my_content : List ℕ) (tip : ℕ) (old new : CacheState) → CachesOnly id from content old new → (mine ≢ id) ⊎ (tip ≤ from)
+    → IsTrueFor mine my_content tip old → IsTrueFor mine my_content tip new
+caches_true id from content mine my_content tip old new caches apart true_old p bytes below there = elim (caches.each (mine, p)) [
+  | inl stays ↦ true_old p bytes below (sym stays ∙ there) ∙ ap (λ (P : ℕ). page_of_content P my_content p) (sym caches.settings.page_size)
+  | inr (inl goes) ↦ absurd (cc (goes, there))
+  | inr (inr (same, behind, full, now)) ↦ elim apart [
+    | inl other ↦ absurd (other same)
+    | inr low ↦ absurd (omega (arith, below, behind, low))
+  ]
+]
+
+-- a read of this blob keeps them true: it puts pages of the content
+pub read_true : (id : ℕ) (content : List ℕ) (tip from : ℕ) (old new : CacheState) → CachesOnly id from content old new → IsTrueFor id content tip old → IsTrueFor id content tip new
+read_true id content tip from old new caches true_old p bytes below there = elim (caches.each (id, p)) [
+  | inl stays ↦ true_old p bytes below (sym stays ∙ there) ∙ ap (λ (P : ℕ). page_of_content P content p) (sym caches.settings.page_size)
+  | inr (inl goes) ↦ absurd (cc (goes, there))
+  | inr (inr (same, behind, full, now)) ↦ same_Some bytes (page_of_content old.page_size content p) (sym there ∙ now) ∙ ap (λ (P : ℕ). page_of_content P content p) (sym caches.settings.page_size)
+]
+
+-- the content may grow: what is below the tip is the beginning that it was
+pub longer_true : (id : ℕ) (content longer : List ℕ) (tip : ℕ) (cache : CacheState) → ((page : ℕ) → page < tip → page_of_content cache.page_size longer page ≡ page_of_content cache.page_size content page)
+    → IsTrueFor id content tip cache → IsTrueFor id longer tip cache
+longer_true id content longer tip cache same true_old p bytes below there = true_old p bytes below there ∙ sym (same p below)
+
+-- an id that is still to be given holds nothing, so whatever the content
+pub fresh_true : (content : List ℕ) (tip : ℕ) (cache : CacheState) → IsFresh cache → IsTrueFor cache.ids_given content tip cache
+fresh_true content tip cache fresh p bytes below there = absurd (cc (fresh (cache.ids_given, p) (omega arith), there))
+
+-- ---- calls that put pages of the content
+
+-- no call
+pub caches_none : (id from : ℕ) (content : List ℕ) (cache : CacheState) → CachesOnly id from content cache cache
+caches_none id from content cache = record { settings = record { page_size = refl; capacity = refl; ids_given = refl }; skipped = omega arith; each = λ key. inl refl }
+
+-- one put
+pub caches_put : (id from page : ℕ) (content bytes : List ℕ) (old new : CacheState) → from ≤ page → (page + 1) * old.page_size ≤ length content → bytes ≡ page_of_content old.page_size content page → PutWeakly (id, page) bytes old new → CachesOnly id from content old new
+caches_put id from page content bytes old new behind full is puts = record {
+  settings = puts.settings;
+  skipped = puts.skipped;
+  each = λ key. elim (puts.each key) [
+    | inl stays ↦ inl stays
+    | inr (inl goes) ↦ inr (inl goes)
+    | inr (inr (same, now)) ↦
+        inr (inr (ap (λ (k : ℕ × ℕ). k.0) same, omega (arith, behind, ap (λ (k : ℕ × ℕ). k.1) same), subst (λ (p : ℕ). (p + 1) * old.page_size ≤ length content) (sym (ap (λ (k : ℕ × ℕ). k.1) same)) full, now ∙ ap (λ (b : List ℕ). Some b) (is ∙ ap (λ (k : ℕ × ℕ). page_of_content old.page_size content k.1) (sym same))))
+  ];
+}
+
+-- one call after another
+pub caches_join : (id from : ℕ) (content : List ℕ) (old mid new : CacheState) → CachesOnly id from content old mid → CachesOnly id from content mid new → CachesOnly id from content old new
+caches_join id from content old mid new first second = record {
+  settings = record {
+    page_size = second.settings.page_size ∙ first.settings.page_size;
+    capacity = second.settings.capacity ∙ first.settings.capacity;
+    ids_given = second.settings.ids_given ∙ first.settings.ids_given;
+  };
+  skipped = omega (arith, first.skipped, second.skipped);
+  each = λ key. elim (second.each key) [
+    | inl stays ↦ elim (first.each key) [
+      | inl was ↦ inl (stays ∙ was)
+      | inr (inl gone) ↦ inr (inl (stays ∙ gone))
+      | inr (inr (same, behind, full, now)) ↦ inr (inr (same, behind, full, stays ∙ now))
+    ]
+    | inr (inl gone) ↦ inr (inl gone)
+    | inr (inr (same, behind, full, now)) ↦
+        inr (inr (same, behind, subst (λ (P : ℕ). (key.1 + 1) * P ≤ length content) first.settings.page_size full, now ∙ ap (λ (P : ℕ). Some (page_of_content P content key.1)) first.settings.page_size))
+  ];
+}
+
+-- ---- wrong bodies
+
+-- a cache that skips keys that are present
+pub never_skips_present : (key : ℕ × ℕ) (was bytes : List ℕ) (cache : CacheState) → held cache key ≡ Some was → was ≢ bytes → Puts key bytes cache cache → ⊥
+never_skips_present key was bytes cache there other puts = by_held (held cache key) there puts
+  where
+    by_held : (o : Option (List ℕ)) → o ≡ Some was → PutGoes o key bytes cache cache → ⊥
+    by_held (Some page) is goes = other (same_Some was bytes (sym there ∙ goes.here))
+    by_held None is goes = absurd (cc is)
+
+-- a cache that holds nothing and counts nothing
+pub never_drops_silently : (key : ℕ × ℕ) (bytes : List ℕ) (old new : CacheState) → old.skipped < 2 ^ 64 - 1 → new.skipped ≡ old.skipped → held new key ≡ None → Puts key bytes old new → ⊥
+never_drops_silently key bytes old new small same none puts = absurd (cc (none, put_is_held key bytes old new small same puts))
+
+-- a cache that empties itself before each put
+pub never_empties : (key other : ℕ × ℕ) (was bytes : List ℕ) (old new : CacheState) → other ≢ key → held old other ≡ Some was → length old.pages < old.capacity → held new other ≡ None → Puts key bytes old new → ⊥
+never_empties key other was bytes old new apart there room none puts = by_held (held old key) puts
+  where
+    lost : (count : ℕ) → IsHeld key key bytes count old new → ⊥
+    lost count goes = absurd (cc (none, there, goes.others other apart apart))
+
+    by_held : (o : Option (List ℕ)) → PutGoes o key bytes old new → ⊥
+    by_held (Some page) goes = lost (length old.pages) goes
+    by_held None (inl (_, goes)) = lost (length old.pages + 1) goes
+    by_held None (inr (inl (full, rest))) = omega (arith, room, full)
+    by_held None (inr (inr (_, is))) = absurd (cc (none, there, ap (λ (c : CacheState). held c other) is))
+
+-- ---- pages put in a row
+
+-- the first page of what a content has from a page on
+page_here : (P page : ℕ) (content : List ℕ) → take P (drop (page * P) content) ≡ page_of_content P content page
+page_here P page content = refl
+
+page_next : (P page : ℕ) (content : List ℕ) → drop P (drop (page * P) content) ≡ drop ((page + 1) * P) content
+page_next P page content =
+    let place : page * P + P ≡ (page + 1) * P = omega arith in
+    drop-drop P (page * P) content ∙ ap (λ (n : ℕ). drop n content) place
+
+-- the settings stay
+pub put_all_settings : (id page count : ℕ) (bytes : List ℕ) (old new : CacheState) → PutsAll id page count bytes old new → SameSettings old new
+put_all_settings id page zero bytes old new same = record { page_size = ap (λ (c : CacheState). c.page_size) same; capacity = ap (λ (c : CacheState). c.capacity) same; ids_given = ap (λ (c : CacheState). c.ids_given) same }
+put_all_settings id page (suc count) bytes old new (mid, first, more) =
+    let weak = put_weakly (id, page) (take old.page_size bytes) old mid first in
+    let rest = put_all_settings id (page + 1) count (drop old.page_size bytes) mid new more in
+    record {
+      page_size = rest.page_size ∙ weak.settings.page_size;
+      capacity = rest.capacity ∙ weak.settings.capacity;
+      ids_given = rest.ids_given ∙ weak.settings.ids_given;
+    }
+
+-- one page more
+pub puts_one_more : (id page count : ℕ) (bytes : List ℕ) (old mid new : CacheState) → PutsAll id page count bytes old mid
+    → Puts (id, page + count) (take old.page_size (drop (count * old.page_size) bytes)) mid new → PutsAll id page (suc count) bytes old new
+puts_one_more id page zero bytes old mid new same last =
+    let e : page + 0 ≡ page = omega arith in
+    let none : 0 * old.page_size ≡ 0 = omega arith in
+    let here : Puts (id, page) (take old.page_size bytes) mid new =
+    subst (λ (p : ℕ). Puts (id, p) (take old.page_size bytes) mid new) e
+    (subst (λ (n : ℕ). Puts (id, page + 0) (take old.page_size (drop n bytes)) mid new) none last) in
+    (new, subst (λ (c : CacheState). Puts (id, page) (take old.page_size bytes) c new) same here, refl)
+puts_one_more id page (suc count) bytes old mid new (m, first, more) last =
+    let weak = put_weakly (id, page) (take old.page_size bytes) old m first in
+    let P : ℕ = old.page_size in
+    let e : page + suc count ≡ page + 1 + count = omega arith in
+    let place : suc count * P ≡ P + count * P = omega arith in
+    let where_it_is : drop (suc count * P) bytes ≡ drop (count * P) (drop P bytes) = ap (λ (n : ℕ). drop n bytes) place ∙ sym (drop-drop (count * P) P bytes) in
+    let at_next : Puts (id, page + 1 + count) (take P (drop (count * P) (drop P bytes))) mid new =
+    subst (λ (p : ℕ). Puts (id, p) (take P (drop (count * P) (drop P bytes))) mid new) e
+    (subst (λ (b : List ℕ). Puts (id, page + suc count) (take P b) mid new) where_it_is last) in
+    let by_m : Puts (id, page + 1 + count) (take m.page_size (drop (count * m.page_size) (drop P bytes))) mid new =
+    subst (λ (Q : ℕ). Puts (id, page + 1 + count) (take Q (drop (count * Q) (drop P bytes))) mid new) (sym weak.settings.page_size) at_next in
+    (m, first, puts_one_more id (page + 1) count (drop P bytes) m mid new more by_m)
+
+-- (b) an append advances the tip over the pages that it puts
+pub puts_all_true : (id page count : ℕ) (content : List ℕ) (old new : CacheState) → PutsAll id page count (drop (page * old.page_size) content) old new
+    → IsTrueFor id content page old → IsTrueFor id content (page + count) new
+puts_all_true id page zero content old new same true_old =
+    let e : page ≡ page + 0 = omega arith in
+    subst (λ (n : ℕ). IsTrueFor id content n new) e (subst (λ (c : CacheState). IsTrueFor id content page c) (sym same) true_old)
+puts_all_true id page (suc count) content old new (mid, first, more) true_old =
+    let weak = put_weakly (id, page) (take old.page_size (drop (page * old.page_size) content)) old mid first in
+    let e : page + 1 + count ≡ page + suc count = omega arith in
+    let rest : PutsAll id (page + 1) count (drop ((page + 1) * mid.page_size) content) mid new =
+    subst (λ (b : List ℕ). PutsAll id (page + 1) count b mid new) (page_next old.page_size page content ∙ ap (λ (Q : ℕ). drop ((page + 1) * Q) content) (sym weak.settings.page_size)) more in
+    subst (λ (n : ℕ). IsTrueFor id content n new) e
+    (puts_all_true id (page + 1) count content mid new rest
+    (put_true id page content (page_of_content old.page_size content page) old mid refl weak true_old))
+
+-- and all that it does to the cache is that
+pub puts_all_caches : (id from page count : ℕ) (content : List ℕ) (old new : CacheState) → from ≤ page → (page + count) * old.page_size ≤ length content
+    → PutsAll id page count (drop (page * old.page_size) content) old new → CachesOnly id from content old new
+puts_all_caches id from page zero content old new behind within same = subst (λ (c : CacheState). CachesOnly id from content old c) (sym same) (caches_none id from content old)
+puts_all_caches id from page (suc count) content old new behind within (mid, first, more) =
+    let weak = put_weakly (id, page) (take old.page_size (drop (page * old.page_size) content)) old mid first in
+    let P : ℕ = old.page_size in
+    let rest : PutsAll id (page + 1) count (drop ((page + 1) * mid.page_size) content) mid new =
+    subst (λ (b : List ℕ). PutsAll id (page + 1) count b mid new) (page_next P page content ∙ ap (λ (Q : ℕ). drop ((page + 1) * Q) content) (sym weak.settings.page_size)) more in
+    let e : page + 1 + count ≡ page + suc count = omega arith in
+    let later : (page + 1 + count) * mid.page_size ≤ length content =
+    subst (λ (Q : ℕ). (page + 1 + count) * Q ≤ length content) (sym weak.settings.page_size) (subst (λ (n : ℕ). n * P ≤ length content) (sym e) within) in
+    let low : (page + 1) * P ≤ (page + suc count) * P = mul-le-mul_right P (omega arith) in
+    caches_join id from content old mid new (caches_put id from page content (page_of_content P content page) old mid behind (omega (arith, low, within)) refl weak)
+    (puts_all_caches id from (page + 1) count content mid new (omega (arith, behind)) later rest)
+
+-- ---- an example: a cache of two pages of four bytes; "abcd" and "efgh" are put, and "ABCD" over the first
+
+abbrev two_pages : CacheState
+two_pages = record (empty_cache 4 2) { pages = ((0, 1), 101 ∷ 102 ∷ 103 ∷ 104 ∷ []) ∷ ((0, 0), 97 ∷ 98 ∷ 99 ∷ 100 ∷ []) ∷ [] }
+
+abbrev overwritten : CacheState
+overwritten = record (empty_cache 4 2) { pages = ((0, 0), 65 ∷ 66 ∷ 67 ∷ 68 ∷ []) ∷ ((0, 1), 101 ∷ 102 ∷ 103 ∷ 104 ∷ []) ∷ [] }
+
+the_second : held two_pages (0, 1) ≡ Some (101 ∷ 102 ∷ 103 ∷ 104 ∷ [])
+the_second = refl
+
+none_of_another : held two_pages (1, 1) ≡ None
+none_of_another = refl
+
+a_new_page : held overwritten (0, 0) ≡ Some (65 ∷ 66 ∷ 67 ∷ 68 ∷ [])
+a_new_page = refl
+
+the_page_of_a_content : page_of_content 4 (97 ∷ 98 ∷ 99 ∷ 100 ∷ 101 ∷ 102 ∷ 103 ∷ 104 ∷ 105 ∷ []) 1 ≡ 101 ∷ 102 ∷ 103 ∷ 104 ∷ []
+the_page_of_a_content = refl
+
+-- ---- ids
+
+-- a call of a blob whose id was given puts nothing under an id that is still to be given
+pub fresh_stays : (id from : ℕ) (content : List ℕ) (old new : CacheState) → id < old.ids_given → CachesOnly id from content old new → IsFresh old → IsFresh new
+fresh_stays id from content old new given caches fresh key later = elim (caches.each key) [
+  | inl stays ↦ stays ∙ fresh key (omega (arith, later, caches.settings.ids_given))
+  | inr (inl goes) ↦ goes
+  | inr (inr (same, behind, full, now)) ↦ absurd (omega (arith, given, later, same, caches.settings.ids_given))
+]
+
+-- nor does giving one
+pub fresh_given : (cache : CacheState) → IsFresh cache → IsFresh (record cache { ids_given = cache.ids_given + 1 })
+fresh_given cache fresh key later = fresh key (omega (arith, later))
+
+-- ---- a call of the same blob, by another tail of it: true for one content is true for another that agrees below the tip
+pub caches_true_same : (id from : ℕ) (content my_content : List ℕ) (tip : ℕ) (old new : CacheState) → CachesOnly id from content old new
+    → ((page : ℕ) → page < tip → page_of_content old.page_size content page ≡ page_of_content old.page_size my_content page) → IsTrueFor id my_content tip old → IsTrueFor id my_content tip new
+caches_true_same id from content my_content tip old new caches same true_old p bytes below there =
+    elim (caches.each (id, p)) [
+      | inl stays ↦ true_old p bytes below (sym stays ∙ there) ∙ ap (λ (P : ℕ). page_of_content P my_content p) (sym caches.settings.page_size)
+      | inr (inl goes) ↦ absurd (cc (goes, there))
+      | inr (inr (mine, behind, full, now)) ↦
+          same_Some bytes (page_of_content old.page_size content p) (sym there ∙ now) ∙ same p below ∙ ap (λ (P : ℕ). page_of_content P my_content p) (sym caches.settings.page_size)
+    ]

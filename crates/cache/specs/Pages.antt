@@ -1,0 +1,33 @@
+-- Pages of a blob's content that a cache holds.
+use Rattle.std.specs.Prelude.{◌≡◌, ◌⊎◌, ◌+◌, ◌*◌, ◌<◌, ◌≤◌, ℕ, List, length, take, drop}
+use Rattle.std.specs.Prelude.{Option, Some, None}
+use Rattle.cache.specs.CacheState.{CacheState, held, SameSettings}
+
+-- a page of a blob's content
+abbrev pub page_of_content : (P : ℕ) → List ℕ → (page : ℕ) → List ℕ
+page_of_content P content page = take P (drop (page * P) content)
+
+-- each page that is held of this blob, and lies below a tip that begins behind so many pages, is
+-- the content's
+abbrev pub IsTrueFor : (id : ℕ) → List ℕ → (tip : ℕ) → CacheState → Type 0
+IsTrueFor id content tip cache =
+    (page : ℕ) (bytes : List ℕ) → page < tip → held cache (id, page) ≡ Some bytes
+    → bytes ≡ page_of_content cache.page_size content page
+
+-- nothing is held of a blob whose id is still to be given
+abbrev pub IsFresh : CacheState → Type 0
+IsFresh cache = (key : ℕ × ℕ) → cache.ids_given ≤ key.0 → held cache key ≡ None
+
+-- what a call of a blob's writer or reader does to one key: what it held it holds, or nothing; or
+-- it is of this blob, numbered from here on, of a full page, and holds the content's page
+abbrev pub KeyGoes : (id from : ℕ) → List ℕ → ℕ × ℕ → CacheState → CacheState → Type 0
+KeyGoes id from content key old new =
+    (held new key ≡ held old key) ⊎ (held new key ≡ None)
+    ⊎ ((key.0 ≡ id) × (from ≤ key.1) × ((key.1 + 1) * old.page_size ≤ length content)
+    × (held new key ≡ Some (page_of_content old.page_size content key.1)))
+
+-- and to all of them
+pub record CachesOnly (id from : ℕ) (content : List ℕ) (old new : CacheState) : Type 0 where
+  pub settings : SameSettings old new
+  pub skipped : old.skipped ≤ new.skipped
+  pub each : (key : ℕ × ℕ) → KeyGoes id from content key old new

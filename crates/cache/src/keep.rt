@@ -1,0 +1,49 @@
+// Putting pages.
+ghost use Rattle.std.specs.Prelude.{◌≡◌, ◌*◌, ◌-◌, ◌/◌, ◌%◌, length};
+ghost use Rattle.cache.specs.CacheState.{Puts, PutsAll, put_count};
+
+use crate::cache::CacheRef;
+use crate::pages::{add, overwrite};
+
+impl CacheRef {
+    /// Puts a page of a blob, of just the cache's page size. A page that is held is written over
+    /// in its place, which takes no memory. A new one takes a place; in a full cache the page that
+    /// was put longest ago goes for it. Where there is no memory for a new one, it stays out, and
+    /// [`CacheRef::skipped`] rises.
+    pub fn keep(&mut self, id: u64, page: u64, bytes: &[u8])
+        requires { length bytes.now ≡ self.old.page_size }
+        ensures puts { Puts (id, page) bytes.now self.old self.new }
+    {
+        let key = (id, page);
+        if overwrite(&mut self.pages, key, bytes) {
+            return;
+        }
+        if add(&mut self.pages, self.alloc, key, bytes).is_err() {
+            self.skipped = self.skipped.saturating_add(1);
+        }
+    }
+
+    /// Puts the whole pages that `buf` begins with, the first of them the page that begins at
+    /// `offset`, in rising order, and answers how many bytes of `buf` stand behind them. A page
+    /// whose number would pass the greatest `u64` isn't put.
+    pub fn cache(&mut self, id: u64, buf: &[u8], offset: u64) -> usize
+        requires { offset % self.old.page_size ≡ 0 }
+        ensures puts { let page = offset / self.old.page_size in
+            let count = put_count self.old.page_size page (length buf.now) in
+            PutsAll id page count buf.now self.old self.new }
+        ensures left { let page = offset / self.old.page_size in
+            let count = put_count self.old.page_size page (length buf.now) in
+            result ≡ length buf.now - count * self.old.page_size }
+    {
+        let size = usize::from(self.page_size.get());
+        let first = offset / size as u64;
+        // All pages of a buffer are fewer than this where it saturates.
+        let places = (u64::MAX - first).saturating_add(1);
+        let count = ((buf.len() / size) as u64).min(places) as usize;
+        for index in 0..count {
+            let place = index * size;
+            self.keep(id, first + index as u64, &buf[place..place + size]);
+        }
+        buf.len() - count * size
+    }
+}

@@ -1,0 +1,72 @@
+// Looking pages up.
+ghost use Rattle.std.specs.Prelude.{◌≡◌, ◌+◌, ◌≤◌, length, All, IfSome, option_copied};
+ghost use Rattle.cache.specs.CacheState.{ReadsCached, IsPiece, ReadsPieces, held};
+ghost use Rattle.cache.specs.CacheState.{put_at};
+
+use crate::cache::CacheRef;
+use crate::pages::page_at;
+use crate::piece::Piece;
+use disk::Error;
+
+/// Copies some bytes to a place of a buffer.
+fn copy_at(buf: &mut [u8], place: usize, bytes: &[u8])
+    requires { place + length bytes.now ≤ length buf.old }
+    ensures put { buf.new ≡ put_at place bytes.now buf.old }
+    ensures size { length buf.new ≡ length buf.old }
+{
+    buf[place..place + bytes.len()].copy_from_slice(bytes);
+}
+
+impl CacheRef {
+    /// A page that is held.
+    fn page(&self, id: u64, page: u64) -> Option<&[u8]>
+        ensures page { option_copied result ≡ held self.now (id, page) }
+        ensures size { IfSome result (λ bytes. length bytes.now ≡ self.now.page_size) }
+    {
+        page_at(&self.pages, (id, page))
+    }
+
+    /// Copies the bytes of a blob from `offset` on into `buf`, as far as pages that are held have
+    /// them and no further than the greatest place, and answers how many. The rest of `buf` stays
+    /// as it was. It takes no memory.
+    pub fn read_cached(&self, id: u64, buf: &mut [u8], offset: u64) -> usize
+        ensures { ReadsCached self.now id offset buf.old buf.new result }
+    {
+        let places = (u64::MAX - offset).saturating_add(1);
+        let most = (buf.len() as u64).min(places) as usize;
+        let mut done = 0;
+        while done < most {
+            let (page, skip) = self.offset_to_page(offset + done as u64);
+            let Some(bytes) = self.page(id, page) else {
+                break;
+            };
+            let bytes = &bytes[skip as usize..];
+            let len = bytes.len().min(most - done);
+            copy_at(buf, done, &bytes[..len]);
+            done += len;
+        }
+        done
+    }
+
+    /// Copies each piece whose page is held into its place of `buf`, and answers the others in
+    /// their order. Its only error is `OutOfMemory`, and then what `buf` holds says nothing.
+    pub fn read_cached_many(
+        &self,
+        id: u64,
+        buf: &mut [u8],
+        pieces: &[Piece],
+    ) -> Result<Vec<Piece>, Error>
+        requires { All (λ piece. IsPiece self.now.page_size (length buf.old) piece) pieces.now }
+        ensures reads { ReadsPieces self.now id pieces.now buf.old buf.new result }
+        ensures size { length buf.new ≡ length buf.old }
+    {
+        let mut left = Vec::new(self.alloc);
+        for piece in pieces {
+            match self.page(id, piece.page) {
+                Some(page) => copy_at(buf, piece.place, &page[piece.skip..][..piece.len]),
+                None => left.push(*piece)?,
+            }
+        }
+        Ok(left)
+    }
+}

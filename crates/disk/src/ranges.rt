@@ -1,0 +1,142 @@
+// Several ranges of bytes: lists of them, and the bytes that stand there.
+ghost use Rattle.std.specs.Prelude.{◌≡◌, ◌↔◌, ◌++◌, ◌∷◌, [], IfOk, true};
+ghost use Rattle.disk.specs.Disk.{IsWithin};
+ghost use Rattle.disk.specs.Memory.{AreRanges};
+
+use crate::{Error, IoBuf};
+use std::alloc::{AllocError, Global};
+use std::marker::Model;
+use std::snapshot::Snapshot;
+
+/// Ranges of bytes, each a place and a length.
+#[derive(Drop)]
+pub struct Ranges {
+    ranges: Vec<(u64, usize)>,
+}
+
+impl Model for Ranges {
+    ghost use Rattle.std.specs.Prelude.{List, ℕ};
+
+    ghost Value = { List (ℕ × ℕ) };
+
+    ghost view = { λ r. r.ranges.items };
+}
+
+impl Ranges {
+    /// A copy of these.
+    pub fn from_slice(alloc: Global, ranges: &[(u64, usize)]) -> Result<Self, AllocError>
+        ensures { IfOk result (λ copy. copy ≡ ranges.now) }
+    {
+        Ok(Ranges {
+            ranges: Vec::from_slice(alloc, ranges)?,
+        })
+    }
+
+    /// A copy of them as a vector.
+    pub fn to_vec(&self, alloc: Global) -> Result<Vec<(u64, usize)>, AllocError>
+        ensures { IfOk result (λ copy. copy.items ≡ self.now) }
+    {
+        Vec::from_slice(alloc, &self.ranges)
+    }
+}
+
+/// Ranges as ghost data: nothing of them is left at run time.
+#[cycle(listed)]
+#[derive(Drop)]
+pub struct Listed {
+    last: Range,
+}
+
+// The last of them, behind the others.
+#[cycle(listed)]
+#[derive(Drop)]
+enum Range {
+    Nothing,
+    Behind(Snapshot<Snapshot<Listed>>, u64, usize),
+}
+
+impl Model for Listed {
+    ghost use Rattle.std.specs.Prelude.{List, ℕ, length};
+
+    ghost Value = { List (ℕ × ℕ) };
+
+    ghost use Rattle.disk.specs.Past.{listed_of};
+
+    ghost view = { λ l. listed_of l.last };
+
+    ghost size = { λ ranges. length ranges };
+
+    ghost use Rattle.std.proofs.Common.{arith, length-append};
+
+    ghost size_decreases = { λ a h. Prim.grind (arith, length-append) };
+}
+
+impl Listed {
+    /// These ranges.
+    pub fn of(ranges: &[(u64, usize)]) -> Snapshot<Self>
+        ensures { result.value ≡ ranges.now }
+    {
+        let mut listed = Listed::nothing();
+        for &(place, len) in ranges {
+            listed = Listed::behind(&listed, place, len);
+        }
+        listed
+    }
+
+    // None.
+    fn nothing() -> Snapshot<Self>
+        ensures { result.value ≡ [] }
+    {
+        let listed = Listed {
+            last: Range::Nothing,
+        };
+        Snapshot::of(&listed)
+    }
+
+    // One more.
+    fn behind(before: &Snapshot<Self>, place: u64, len: usize) -> Snapshot<Self>
+        ensures { result.value ≡ before.now.value ++ (place, len) ∷ [] }
+    {
+        let listed = Listed {
+            last: Range::Behind(Snapshot::of(before), place, len),
+        };
+        Snapshot::of(&listed)
+    }
+}
+
+/// Puts a copy of each range's bytes into `out`, with the range's number, in rising order; what
+/// stood there is gone. `BlobInsufficientLength` where a range passes the end, and else
+/// `OutOfMemory` alone.
+pub fn copy_ranges(
+    alloc: Global,
+    bytes: &[u8],
+    ranges: &[(u64, usize)],
+    out: &mut Vec<(usize, IoBuf)>,
+) -> Result<(), Error>
+    ensures { AreRanges ranges.now bytes.now out.new.items result }
+{
+    // No memory is asked for before all ranges are known to lie within.
+    if !are_within(ranges, bytes) {
+        return Err(Error::BlobInsufficientLength);
+    }
+    out.clear();
+    out.try_reserve(ranges.len())?;
+    for (index, &(place, len)) in ranges.iter().enumerate() {
+        let start = place as usize;
+        let range = IoBuf::copy_from_slice(alloc, &bytes[start..start + len])?;
+        out.push((index, range))?;
+    }
+    Ok(())
+}
+
+// Whether each of the ranges lies within these bytes.
+fn are_within(ranges: &[(u64, usize)], bytes: &[u8]) -> bool
+    ensures { (result ≡ true) ↔ IsWithin ranges.now bytes.now }
+{
+    for &(place, len) in ranges {
+        if bytes.len() < len || ((bytes.len() - len) as u64) < place {
+            return false;
+        }
+    }
+    true
+}

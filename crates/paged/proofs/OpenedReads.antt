@@ -1,0 +1,75 @@
+-- What a new writer can read: nothing is held under its id.
+use Rattle.std.proofs.Common.{◌≡◌, ◌∙◌, inr, ℕ, ◌+◌, ◌*◌, ◌<◌, ◌≤◌, List, [], ◌++◌, length, sym, ap, subst, arith}
+use Rattle.std.specs.Prelude.{Result, Ok, Err, IfOk}
+use Rattle.disk.specs.Disk.{Disk, Life}
+use Rattle.disk.specs.declared.error.Error.{Error}
+use Rattle.cache.specs.CacheState.{CacheState}
+use Rattle.cache.specs.Pages.{IsTrueFor, IsFresh}
+use Rattle.cache.proofs.CacheLaws.{fresh_true}
+use Rattle.crash.specs.WriterState.{WriterState}
+use Rattle.crash.specs.Looks.{Looked}
+use Rattle.crash.specs.Sound.{stored}
+use Rattle.paged.specs.Reads.{HasPages}
+use Rattle.paged.specs.Recovery.{Opens, cache_after}
+use Rattle.paged.specs.Recovers.{GivesId}
+use Rattle.paged.specs.Caches.{ReadsOn, tail_of}
+use Rattle.paged_read.specs.Tail.{Tail, CanRead, told}
+
+-- a tail whose id a fresh cache gave last
+new_reads : (w : WriterState) (cache : CacheState) (d : Disk) → w.id ≡ cache.ids_given
+    → w.page_size ≡ cache.page_size → w.full_pages * (w.page_size + 12) ≤ length d.readable
+    → IsFresh cache
+    → CanRead (tail_of w) (record cache { ids_given = cache.ids_given + 1 }) d
+new_reads w cache d is_id same there fresh = record {
+  there = there;
+  page_size = sym same;
+  given = omega (arith, is_id);
+  cached = subst (λ (id : ℕ). IsTrueFor id (told (tail_of w) d.readable) w.full_pages
+      (record cache { ids_given = cache.ids_given + 1 })) (sym is_id)
+      (λ page bytes below held. fresh_true (told (tail_of w) d.readable) w.full_pages cache fresh page bytes below held);
+}
+
+-- as a blob is opened
+pub opened_reads : (sum : List ℕ → ℕ) (cache behind : CacheState) (capacity : ℕ) (old new : Life)
+    (result : Result WriterState Error) → Opens sum cache capacity old new result
+    → IfOk result (λ w. HasPages w new) → behind ≡ cache_after result cache → IsFresh cache
+    → IfOk result (λ w. CanRead (tail_of w) behind new.present)
+opened_reads sum cache behind capacity old new (Ok w) opens there is fresh =
+    subst (λ (c : CacheState). CanRead (tail_of w) c new.present) (sym is)
+    (new_reads w cache new.present (ap (λ (v : WriterState). v.id) opens.state)
+    (ap (λ (v : WriterState). v.page_size) opens.state) there fresh)
+opened_reads sum cache behind capacity old new (Err e) opens there is fresh = tt
+
+-- the cache of a writer that was opened has its page size, and gave its id
+pub opened_fits : (sum : List ℕ → ℕ) (cache behind : CacheState) (capacity : ℕ) (old new : Life)
+    (w : WriterState) → Opens sum cache capacity old new (Ok w) → behind ≡ cache_after (Ok w) cache
+    → (behind.page_size ≡ w.page_size) × (w.id < behind.ids_given)
+opened_fits sum cache behind capacity old new w opens is = (
+  ap (λ (c : CacheState). c.page_size) is ∙ sym (ap (λ (v : WriterState). v.page_size) opens.state),
+  omega (arith, ap (λ (c : CacheState). c.ids_given) is, ap (λ (v : WriterState). v.id) opens.state),
+)
+
+-- a blob that was only read can be read on
+pub looked_reads : (t : Tail) (cache : CacheState) (old new : Life) → Looked old new
+    → CanRead t cache old.present → CanRead t cache new.present
+looked_reads t cache old new looked can =
+    subst (λ (d : Disk). CanRead t cache d) (sym looked.same) (record {
+      there = can.there;
+      page_size = can.page_size;
+      given = can.given;
+      cached = can.cached;
+    })
+
+-- a writer that was opened, and cut
+pub cut_reads : (w : WriterState) (cache behind : CacheState) (old new : Life)
+    (result : Result WriterState Error) → CanRead (tail_of w) cache old.present
+    → IfOk result (λ now. ReadsOn w now cache behind old new)
+    → IfOk result (λ now. CanRead (tail_of now) behind new.present)
+cut_reads w cache behind old new (Ok now) can reads = reads can
+cut_reads w cache behind old new (Err e) can reads = tt
+
+-- an id was given, whatever came of it
+pub gives_id : (w : WriterState) (cache behind : CacheState) (result : Result WriterState Error)
+    → behind ≡ cache_after (Ok w) cache → GivesId result cache behind
+gives_id w cache behind (Ok now) is = is
+gives_id w cache behind (Err e) is = inr is

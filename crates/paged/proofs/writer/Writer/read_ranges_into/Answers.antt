@@ -1,0 +1,41 @@
+use Rattle.std.proofs.Common.{◌≡◌, ◌≤◌, ◌<◌, ◌+◌, ◌^◌, sym, subst, length, List, ℕ}
+use Rattle.std.specs.Prelude.{Err, IfOk, OnOk}
+use Rattle.std.specs.List.{concat}
+use Rattle.std.specs.Int.NonZero.{non_zero_usize_get}
+use Rattle.disk.specs.Disk.{Disk}
+use Rattle.page.specs.Geometry.{EndWithin}
+use Rattle.paged_read.specs.Tail.{Tail, CanRead, told, size_of}
+use Rattle.paged_read.specs.Ranges.{Reads, ReadsUpTo, ReadsMany, range_up_to, TriesRead}
+use Rattle.paged_read.specs.Ranges.{AsksForMissing, AsksOnce, LeavesAll, Misses, HasServed}
+use Rattle.paged_read.specs.Batch.{ranges_of}
+use Rattle.paged.specs.Caches.{tail_of}
+use Rattle.paged.proofs.There.{reads_keep_sound, reads_keep, reads_leave}
+use Rattle.paged.proofs.Serves.{reads_never, reads_up_to_never, reads_many_never}
+use Rattle.paged.proofs.writer.Writer.read_ranges_into.Goals as goal
+
+pub read_ranges_into-requires-clause-can : goal.read_ranges_into-requires-clause-can
+read_ranges_into-requires-clause-can g c = subst (λ (t : Tail). CanRead t c.args.cache.now (g.B.Blob.life c.args.blob.now).present) (sym c.view.ensures.tail) c.requires.can
+
+pub returns-clause-reads : goal.returns-clause-reads
+returns-clause-reads g c = subst (λ (t : Tail). ReadsMany g.H.Sum.sum_of t c.args.cache.now c.args.ranges.now c.read_ranges_into.new.buf (g.B.Blob.life c.args.blob.now) (g.B.Blob.life c.read_ranges_into.new.blob) c.read_ranges_into.result) c.view.ensures.tail c.read_ranges_into.ensures.reads
+
+pub returns-clause-leaves : goal.returns-clause-leaves
+returns-clause-leaves g c = subst (λ (t : Tail). LeavesAll t c.args.cache.now c.read_ranges_into.new.cache (g.B.Blob.life c.args.blob.now) (g.B.Blob.life c.read_ranges_into.new.blob)) c.view.ensures.tail c.read_ranges_into.ensures.leaves
+
+pub returns-clause-sound : goal.returns-clause-sound
+returns-clause-sound g c = reads_keep_sound g.H.Sum.sum_of c.args.self.now (g.B.Blob.life c.args.blob.now) (g.B.Blob.life c.read_ranges_into.new.blob) c.read_ranges_into.ensures.leaves.looked
+
+pub returns-clause-kept : goal.returns-clause-kept
+returns-clause-kept g c = reads_keep g.H.Sum.sum_of c.args.self.now (g.B.Blob.life c.args.blob.now) (g.B.Blob.life c.read_ranges_into.new.blob) c.read_ranges_into.ensures.leaves.looked
+
+pub returns-clause-only : goal.returns-clause-only
+returns-clause-only g c = reads_leave g.H.Sum.sum_of c.args.self.now (g.B.Blob.life c.args.blob.now) (g.B.Blob.life c.read_ranges_into.new.blob) c.read_ranges_into.ensures.leaves.looked
+
+pub returns-clause-never : goal.returns-clause-never
+returns-clause-never g c = reads_many_never g.H.Sum.sum_of c.args.self.now c.args.cache.now c.args.ranges.now c.read_ranges_into.new.buf (g.B.Blob.life c.args.blob.now) (g.B.Blob.life c.read_ranges_into.new.blob) c.read_ranges_into.result (subst (λ (t : Tail). ReadsMany g.H.Sum.sum_of t c.args.cache.now c.args.ranges.now c.read_ranges_into.new.buf (g.B.Blob.life c.args.blob.now) (g.B.Blob.life c.read_ranges_into.new.blob) c.read_ranges_into.result) c.view.ensures.tail c.read_ranges_into.ensures.reads)
+
+pub returns-clause-asks : goal.returns-clause-asks
+returns-clause-asks g c = subst (λ (t : Tail). AsksOnce c.args.cache.now t c.args.ranges.now (g.B.Blob.life c.args.blob.now) (g.B.Blob.life c.read_ranges_into.new.blob)) c.view.ensures.tail c.read_ranges_into.ensures.asks
+
+pub returns-clause-looked : goal.returns-clause-looked
+returns-clause-looked g c = c.read_ranges_into.ensures.leaves.looked

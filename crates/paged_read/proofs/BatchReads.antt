@@ -1,0 +1,119 @@
+-- Pages that are read together.
+use Rattle.std.proofs.Common.{◌≡◌, inl, inr, ℕ, suc, ◌+◌, ◌*◌, ◌<◌, ◌≤◌, List, [], ◌∷◌, ◌++◌, length, take, map, get_or, refl, sym, ap, ◌∙◌, subst, arith, Bool, true, false, Ok, Err, Result}
+use Rattle.std.specs.Prelude.{All, nat_eq, ◌==◌}
+use Rattle.std.specs.List.{IsDistinct}
+use Rattle.std.proofs.lemmas.List.{take_more, map-append, take_all}
+use Rattle.std.proofs.lemmas.List.Elements.{All-nil, All-cons}
+use Rattle.std.proofs.Math.Nat.{suc-mul}
+use Rattle.disk.specs.Disk.Request.{ReadMany}
+use Rattle.disk.specs.Disk.{Life, Request, logged, AskedOnce, ReadManyGoes, Delivers, IsWithin}
+use Rattle.disk.specs.declared.error.Error.{Error}
+use Rattle.disk.specs.declared.error.Error.TheVariants.{ReadFailed, WriteFailed, ResizeFailed, SyncFailed, InvalidChecksum, BlobInsufficientLength, OffsetOverflow, OutOfMemory, IdsExhausted}
+use Rattle.disk.proofs.Logs.{grows_once, failed_once}
+use Rattle.crash.specs.Kept.{Through}
+use Rattle.crash.specs.Looks.{Looked, looked_start}
+use Rattle.paged_read.specs.Ranges.{AsksTogether, places}
+use Rattle.paged_read.specs.Batch.{DeliversPages}
+
+-- a call that only reads
+asked_looks : (request : Request) (failed : Bool) (old new : Life) → AskedOnce request failed old new → Looked old new
+unfolding Through
+asked_looks request failed old new is = subst (λ l. Looked old l) (sym is) (record {
+  same = refl;
+  log = grows_once request failed old.present (logged request failed old.present) refl;
+  through = record { moments = logged request failed old.present ∷ []; goes = refl; start = refl; each = (refl, tt) };
+})
+
+none_looks : (old new : Life) → new ≡ old → Looked old new
+none_looks old new is = subst (λ l. Looked old l) (sym is) (looked_start old)
+
+-- a read of many ranges, whatever it answers
+pub looked_many : (ranges : List (ℕ × ℕ)) (old new : Life) (out : List (ℕ × List ℕ)) (result : Result (Unit {0}) Error) → ReadManyGoes ranges old new out result → Looked old new
+looked_many ranges old new out (Ok u) goes = asked_looks (ReadMany ranges) false old new goes.2
+looked_many ranges old new out (Err ReadFailed) goes = asked_looks (ReadMany ranges) true old new goes
+looked_many ranges old new out (Err WriteFailed) goes = absurd goes
+looked_many ranges old new out (Err ResizeFailed) goes = absurd goes
+looked_many ranges old new out (Err SyncFailed) goes = absurd goes
+looked_many ranges old new out (Err InvalidChecksum) goes = absurd goes
+looked_many ranges old new out (Err BlobInsufficientLength) goes = none_looks old new goes.0
+looked_many ranges old new out (Err OffsetOverflow) goes = absurd goes
+looked_many ranges old new out (Err OutOfMemory) goes = none_looks old new goes.0
+looked_many ranges old new out (Err IdsExhausted) goes = absurd goes
+
+asked_together : (ranges : List (ℕ × ℕ)) (failed : Bool) (old new : Life) → 0 < length ranges → AskedOnce (ReadMany ranges) failed old new → AsksTogether ranges old new
+asked_together [] failed old new some asked = absurd (omega arith)
+asked_together (range ∷ ranges) failed old new some asked = inr (failed, asked)
+
+not_asked : (ranges : List (ℕ × ℕ)) (old new : Life) → new ≡ old → AsksTogether ranges old new
+not_asked [] old new is = is
+not_asked (range ∷ ranges) old new is = inl is
+
+pub asks_many : (ranges : List (ℕ × ℕ)) (old new : Life) (out : List (ℕ × List ℕ)) (result : Result (Unit {0}) Error) → 0 < length ranges → ReadManyGoes ranges old new out result → AsksTogether ranges old new
+asks_many ranges old new out (Ok u) some goes = asked_together ranges false old new some goes.2
+asks_many ranges old new out (Err ReadFailed) some goes = asked_together ranges true old new some goes
+asks_many ranges old new out (Err WriteFailed) some goes = absurd goes
+asks_many ranges old new out (Err ResizeFailed) some goes = absurd goes
+asks_many ranges old new out (Err SyncFailed) some goes = absurd goes
+asks_many ranges old new out (Err InvalidChecksum) some goes = absurd goes
+asks_many ranges old new out (Err BlobInsufficientLength) some goes = not_asked ranges old new goes.0
+asks_many ranges old new out (Err OffsetOverflow) some goes = absurd goes
+asks_many ranges old new out (Err OutOfMemory) some goes = not_asked ranges old new goes.0
+asks_many ranges old new out (Err IdsExhausted) some goes = absurd goes
+
+-- the places of pages that are there are within the blob
+pub places_within : (P : ℕ) (pages readable : List ℕ) → All (λ page. (page + 1) * (P + 12) ≤ length readable) pages → IsWithin (places P pages) readable
+places_within P [] readable there = All-nil (λ (r : ℕ × ℕ). r.0 + r.1 ≤ length readable)
+places_within P (page ∷ pages) readable there =
+    All-cons (λ (r : ℕ × ℕ). r.0 + r.1 ≤ length readable) (page * (P + 12), P + 12) (places P pages) (omega (arith, there 0 page (omega arith), suc-mul page (P + 12)))
+    (places_within P pages readable (λ k d less. there (suc k) d (omega arith)))
+
+-- why it answers an error
+pub many_fault : (P : ℕ) (pages : List ℕ) (old new : Life) (out : List (ℕ × List ℕ)) (e : Error) → All (λ page. (page + 1) * (P + 12) ≤ length old.present.readable) pages → ReadManyGoes (places P pages) old new out (Err e) → DeliversPages P pages old new (Err e)
+many_fault P pages old new out ReadFailed there goes = failed_once (ReadMany (places P pages)) old.present new.present (ap (λ l. l.present.log) goes)
+many_fault P pages old new out WriteFailed there goes = goes
+many_fault P pages old new out ResizeFailed there goes = goes
+many_fault P pages old new out SyncFailed there goes = goes
+many_fault P pages old new out InvalidChecksum there goes = goes
+many_fault P pages old new out BlobInsufficientLength there goes = absurd (goes.1 (places_within P pages old.present.readable there))
+many_fault P pages old new out OffsetOverflow there goes = goes
+many_fault P pages old new out OutOfMemory there goes = tt
+many_fault P pages old new out IdsExhausted there goes = goes
+
+distinct_none : IsDistinct nat_eq []
+unfolding IsDistinct
+distinct_none = tt
+
+-- nothing is delivered of no pages
+pub delivers_none : (P : ℕ) (pages : List ℕ) (readable : List ℕ) (out : List (ℕ × List ℕ)) → length pages ≡ 0 → out ≡ [] → Delivers (places P pages) readable out
+delivers_none P [] readable out none no_out =
+    let nothing : Delivers [] readable [] = record {
+      count = refl;
+      each = λ k d less. absurd (omega arith);
+      all = λ index less. absurd (omega arith);
+      once = distinct_none;
+    } in
+    subst (λ (l : List (ℕ × List ℕ)). Delivers [] readable l) (sym no_out) nothing
+delivers_none P (page ∷ pages) readable out none no_out = absurd (omega arith)
+
+-- one place more
+pub places_more : (size : ℕ) (pages : List ℕ) (i : ℕ) (d : ℕ) (ranges : List (ℕ × ℕ)) → i < length pages → ranges ≡ map (λ (page : ℕ). (page * size, size)) (take i pages)
+    → ranges ++ (get_or pages i d * size, size) ∷ [] ≡ map (λ (page : ℕ). (page * size, size)) (take (i + 1) pages)
+places_more size pages i d ranges there before =
+    let f : ℕ → ℕ × ℕ = λ page. (page * size, size) in
+    ap (λ (l : List (ℕ × ℕ)). l ++ (get_or pages i d * size, size) ∷ []) before
+    ∙ sym (map-append f (take i pages) (get_or pages i d ∷ []))
+    ∙ ap (λ (l : List ℕ). map f l) (sym (take_more pages i d there))
+
+-- all of them
+pub places_all : (P size : ℕ) (pages : List ℕ) (n : ℕ) (ranges : List (ℕ × ℕ)) → size ≡ P + 12 → length pages ≤ n → ranges ≡ map (λ (page : ℕ). (page * size, size)) (take n pages) → ranges ≡ places P pages
+places_all P size pages n ranges is enough made =
+    made ∙ ap (λ (l : List ℕ). map (λ (page : ℕ). (page * size, size)) l) (take_all n pages enough)
+    ∙ ap (λ (s : ℕ). map (λ (page : ℕ). (page * s, s)) pages) is
+
+pub some_from_test : (pages : List ℕ) → (length pages == 0) ≡ false → 0 < length pages
+some_from_test [] is = cc
+some_from_test (page ∷ pages) is = omega arith
+
+pub length-places : (P : ℕ) (pages : List ℕ) → length (places P pages) ≡ length pages
+length-places P [] = refl
+length-places P (page ∷ pages) = ap suc (length-places P pages)

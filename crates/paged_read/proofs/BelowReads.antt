@@ -1,0 +1,168 @@
+-- Reads of the bytes below a tail.
+use Rattle.std.proofs.Common.{◌≡◌, inl, inr, ℕ, ◌+◌, ◌*◌, ◌-◌, ◌<◌, ◌≤◌, List, [], ◌∷◌, ◌++◌, length, take, drop, refl, sym, ap, ◌∙◌, subst, arith, Ok, Err, Result, length-drop, append-nil, ◌≢◌, ◌^◌, true, false}
+use Rattle.std.specs.Prelude.{All, nat_eq}
+use Rattle.std.proofs.Math.Nat.{mul-le-mul_left}
+use Rattle.std.proofs.lemmas.Bool.{cases_lt}
+use Rattle.std.proofs.lemmas.Bool.Decides.{nat_tests}
+use Rattle.std.proofs.lemmas.List.{length-map, length-take-le, take-append-drop, take-take, drop-take, drop-drop, drop_all, take_all}
+use borrow.Rule.Slice.PartMut.{post_of, Post-is}
+use Rattle.disk.specs.Disk.{Disk, Life}
+use Rattle.disk.specs.declared.error.Error.{Error}
+use Rattle.cache.specs.CacheState.{CacheState, IsPiece, ReadsCached, pieces_left, with_pieces}
+use Rattle.cache.specs.declared.piece.Piece.{Piece}
+use Rattle.paged_read.specs.Tail.{Tail, told, CanRead}
+use Rattle.paged_read.specs.Ranges.{missing, slice, AsksForMissing}
+use Rattle.paged_read.specs.Pieces.{pieces_of}
+use Rattle.paged_read.specs.Parts.{IsPieceOf, ReadsPieces, ReadsBelow, TriesBelow, pages_of, with_told}
+use Rattle.paged_read.proofs.Windows.{missing_pages}
+use Rattle.paged_read.proofs.Copies.{LeavesPieces, held_agrees, told_agrees, left_fit}
+use Rattle.paged_read.proofs.RangePieces.{pieces_fit, pieces_cover, pieces_true, pieces_below, left_below}
+use Rattle.paged_read.proofs.Leaving.{length-told}
+use Rattle.paged_read.proofs.PageReads.{faults_missing, faults_same, full_missing}
+use Rattle.paged_read.proofs.CachedBytes.{cached_within, cached_bytes, cached_all, cached_some, missing_rest}
+
+module _ (t : Tail) (cache : CacheState) (offset len : ℕ) (some : 0 < t.page_size) (below : offset + len ≤ t.full_pages * t.page_size) where
+  -- the pieces that the cache is asked for are of its pages
+  pub pieces_are : (room : ℕ) → cache.page_size ≡ t.page_size → len ≤ room → All (IsPiece cache.page_size room) (pieces_of t.page_size (offset, len) 0)
+  pieces_are room size fits = subst (λ P. All (IsPiece P room) (pieces_of t.page_size (offset, len) 0)) (sym size) (λ k d under. (pieces_below t.page_size offset len some t room refl below fits k d under).part)
+
+  -- those that it leaves are of pages below
+  pub left_are : (room : ℕ) → len ≤ room → All (IsPieceOf t room) (pieces_left cache t.id (pieces_of t.page_size (offset, len) 0))
+  left_are room fits = left_below t room cache t.id (pieces_of t.page_size (offset, len) 0) (pieces_below t.page_size offset len some t room refl below fits)
+
+  -- as many as pages are missing
+  pub left_many : length (pieces_left cache t.id (pieces_of t.page_size (offset, len) 0)) ≡ length (missing cache t ((offset, len) ∷ []))
+  left_many = sym (ap length (missing_pages cache t offset len 0 some below) ∙ length-map (pieces_left cache t.id (pieces_of t.page_size (offset, len) 0)) (λ (p : Piece). p.page))
+
+  -- what the cache has of the range, and then what is left, is the range
+  copied_all : (d : Disk) (buf new : List ℕ) → CanRead t cache d → length buf ≡ len
+      → new ≡ with_told t.page_size (told t d.readable) (pieces_left cache t.id (pieces_of t.page_size (offset, len) 0)) (with_pieces cache t.id (pieces_of t.page_size (offset, len) 0) buf)
+      → new ≡ slice (told t d.readable) (offset, len)
+  copied_all d buf new can size is =
+      let P = t.page_size in
+      let content = told t d.readable in
+      let pieces = pieces_of P (offset, len) 0 in
+      let wanted = slice content (offset, len) in
+      let reach : offset + len ≤ length content = omega (arith, length-told t d.readable can.there, below) in
+      let many : length wanted ≡ len = length-take-le len (drop offset content) (omega (arith, length-drop offset content, reach)) in
+      let fit = pieces_fit P offset len some content reach in
+      let copied : LeavesPieces (λ i. ⊥) wanted (pieces_left cache t.id pieces) (with_pieces cache t.id pieces buf) =
+      held_agrees (λ i. ⊥) cache t.id P content pieces buf wanted (size ∙ sym many) fit (pieces_true P offset len some cache t.id t.full_pages content can.page_size below can.cached)
+      (λ i under. inr (inl (pieces_cover P offset len some i (omega (arith, under, many))))) in
+      is ∙ told_agrees P content (pieces_left cache t.id pieces) (with_pieces cache t.id pieces buf) wanted copied.size (left_fit P content wanted cache t.id pieces fit)
+      (λ i under. elim (copied.agrees i under) [ inl right ↦ inl right | inr (inl left) ↦ inr left | inr (inr none) ↦ absurd none ])
+
+  -- so the range is read
+  pub missing_read : (sum : List ℕ → ℕ) (old new : Life) (left pieces : List Piece) (buf mid behind : List ℕ) (result : Result (Unit {0}) Error) → CanRead t cache old.present → length buf ≡ len
+      → pieces ≡ pieces_of t.page_size (offset, len) 0 → left ≡ pieces_left cache t.id pieces → mid ≡ with_pieces cache t.id pieces buf
+      → ReadsPieces sum t left mid behind old new result → ReadsBelow sum t cache (offset, len) behind old new result
+  missing_read sum old new left pieces buf mid behind (Ok u) can size all is copied reads =
+      let those : left ≡ pieces_left cache t.id (pieces_of t.page_size (offset, len) 0) = is ∙ ap (λ (l : List Piece). pieces_left cache t.id l) all in
+      let there : mid ≡ with_pieces cache t.id (pieces_of t.page_size (offset, len) 0) buf = copied ∙ ap (λ (l : List Piece). with_pieces cache t.id l buf) all in
+      let pages : missing cache t ((offset, len) ∷ []) ≡ pages_of left = missing_pages cache t offset len 0 some below ∙ ap pages_of (sym those) in (
+        copied_all old.present buf behind can size (reads.0 ∙ ap (λ (l : List Piece). with_told t.page_size (told t old.present.readable) l mid) those ∙ ap (λ (l : List ℕ). with_told t.page_size (told t old.present.readable) (pieces_left cache t.id (pieces_of t.page_size (offset, len) 0)) l) there),
+        full_missing sum cache t ((offset, len) ∷ []) (pages_of left) old.present.readable pages reads.1,
+      )
+  missing_read sum old new left pieces buf mid behind (Err e) can size all is copied reads =
+      let those : left ≡ pieces_left cache t.id (pieces_of t.page_size (offset, len) 0) = is ∙ ap (λ (l : List Piece). pieces_left cache t.id l) all in
+      faults_missing sum cache t ((offset, len) ∷ []) (pages_of left) old new e (missing_pages cache t offset len 0 some below ∙ ap pages_of (sym those)) reads
+
+-- ---- a part that the cache had, and the rest
+
+-- a range is its beginning and what is behind it
+pub slice_two : (content : List ℕ) (offset n m : ℕ) → slice content (offset, n + m) ≡ slice content (offset, n) ++ slice content (offset + n, m)
+slice_two content offset n m =
+    let xs = drop offset content in
+    sym (take-append-drop n (take (n + m) xs))
+    ∙ ap (λ (l : List ℕ). l ++ drop n (take (n + m) xs)) (take-take n (n + m) xs (omega arith))
+    ∙ ap (λ (l : List ℕ). take n xs ++ l) (drop-take n m xs)
+    ∙ ap (λ (l : List ℕ). take n xs ++ take m l) (drop-drop n offset content)
+
+-- places below a tail are numbers of 64 bits
+pub places_fit : (P full place : ℕ) → full * (P + 12) < 2 ^ 64 → place ≤ full * P → place < 2 ^ 64
+places_fit P full place fits below =
+    let h : full * P ≤ full * (P + 12) = mul-le-mul_left full (omega arith) in
+    omega (arith, h, fits, below)
+
+-- nothing is behind the end of a list
+none_behind : (count : ℕ) (xs : List ℕ) → count ≤ length xs → post_of count (length xs - count) xs ≡ []
+none_behind count xs within = Post-is count (length xs) xs within ∙ drop_all (length xs) xs (omega arith)
+
+module _ (t : Tail) (cache : CacheState) (offset : ℕ) (buf mid : List ℕ) (count : ℕ) (some : 0 < t.page_size) (cached : ReadsCached cache t.id offset buf mid count) where
+  -- the whole range is read where the rest is
+  pub below_joins : (sum : List ℕ → ℕ) (old new : Life) (rest all : List ℕ) (result : Result (Unit {0}) Error) → CanRead t cache old.present → offset + length buf ≤ t.full_pages * t.page_size
+      → all ≡ take count mid ++ (rest ++ post_of count (length mid - count) mid) → ReadsBelow sum t cache (offset + count, length buf - count) rest old new result → ReadsBelow sum t cache (offset, length buf) all old new result
+  below_joins sum old new rest all (Ok u) can below is reads =
+      let content = told t old.present.readable in
+      let within = cached_within cache t.id offset buf mid count cached in
+      let front : take count mid ≡ slice content (offset, count) = cached_bytes cache t.id offset buf mid count cached t refl can.page_size some old.present can below in
+      let none : post_of count (length mid - count) mid ≡ [] = none_behind count mid (omega (arith, within, cached.size)) in
+      let many : count + (length buf - count) ≡ length buf = omega (arith, within) in (
+        is ∙ ap (λ (l : List ℕ). take count mid ++ (rest ++ l)) none ∙ ap (λ (l : List ℕ). take count mid ++ l) (append-nil rest)
+            ∙ ap (λ (l : List ℕ). l ++ rest) front ∙ ap (λ (l : List ℕ). slice content (offset, count) ++ l) reads.0
+            ∙ sym (slice_two content offset count (length buf - count)) ∙ ap (λ n. slice content (offset, n)) many,
+        full_missing sum cache t ((offset, length buf) ∷ []) (missing cache t ((offset + count, length buf - count) ∷ [])) old.present.readable (missing_rest cache t.id offset buf mid count cached t refl can.page_size some) reads.1,
+      )
+  below_joins sum old new rest all (Err e) can below is reads =
+      faults_same sum cache t ((offset + count, length buf - count) ∷ []) ((offset, length buf) ∷ []) old new e (missing_rest cache t.id offset buf mid count cached t refl can.page_size some) reads
+
+  -- and it asks for no more
+  pub asks_joins : (old new : Life) → cache.page_size ≡ t.page_size → offset + length buf ≤ t.full_pages * t.page_size → t.full_pages * (t.page_size + 12) < 2 ^ 64 → count ≢ length buf
+      → length new.present.log ≤ length old.present.log + length (missing cache t ((offset + count, length buf - count) ∷ [])) → AsksForMissing cache t (offset, length buf) old new
+  asks_joins old new size below fits short asks =
+      let within = cached_within cache t.id offset buf mid count cached in
+      let less : count < length buf = omega (arith, within, short) in
+      let lacks : 0 < length (missing cache t ((offset, length buf) ∷ [])) = cached_some cache t.id offset buf mid count cached t refl size some below (places_fit t.page_size t.full_pages (offset + length buf) fits below) less in (
+        omega (arith, asks, ap length (missing_rest cache t.id offset buf mid count cached t refl size some)),
+        λ served. absurd (none_served (length (missing cache t ((offset, length buf) ∷ []))) served lacks),
+      )
+    where
+      none_served : (n : ℕ) → nat_eq n 0 ≡ true → 0 < n → ⊥
+      none_served n is some = absurd (grind (arith, nat_tests, is, some))
+
+  -- where the cache had all, that is the range
+  pub cached_whole : (d : Disk) → CanRead t cache d → (0 < length buf → offset + length buf ≤ t.full_pages * t.page_size) → count ≡ length buf → mid ≡ slice (told t d.readable) (offset, length buf)
+  cached_whole d can below all = elim (cases_lt 0 (length buf)) [
+    | inl more ↦
+        sym (take_all count mid (omega (arith, all, cached.size))) ∙ cached_bytes cache t.id offset buf mid count cached t refl can.page_size some d can (below more) ∙ ap (λ n. slice (told t d.readable) (offset, n)) all
+    | inr nothing ↦
+        let zero_len : length buf ≡ 0 = omega (arith, nothing) in
+        sym (take_all 0 mid (omega (arith, zero_len, cached.size))) ∙ ap (λ n. slice (told t d.readable) (offset, n)) (sym zero_len)
+  ]
+
+  -- and nothing is asked for
+  pub cached_reads : (sum : List ℕ → ℕ) (life : Life) → CanRead t cache life.present → (0 < length buf → offset + length buf ≤ t.full_pages * t.page_size) → count ≡ length buf → ReadsBelow sum t cache (offset, length buf) mid life life (Ok tt)
+  cached_reads sum life can below all =
+      let none : missing cache t ((offset, length buf) ∷ []) ≡ [] = cached_all cache t.id offset buf mid count cached t refl can.page_size some all in
+      (cached_whole life.present can below all, full_missing sum cache t ((offset, length buf) ∷ []) [] life.present.readable none (λ page has. absurd (omega (arith, has.1))))
+
+  -- whether it had all says whether the range is served
+  pub cached_tries : cache.page_size ≡ t.page_size → t.full_pages * (t.page_size + 12) < 2 ^ 64 → (0 < length buf → offset + length buf ≤ t.full_pages * t.page_size) → TriesBelow t (offset, length buf) cache mid (nat_eq count (length mid))
+  cached_tries size fits below =
+      let within = cached_within cache t.id offset buf mid count cached in (
+        elim (cases_lt count (length buf)) [
+          | inl short ↦
+              let more = below (omega (arith, short)) in
+              differ count (length mid) (omega (arith, short, cached.size)) ∙ sym (not_none (length (missing cache t ((offset, length buf) ∷ []))) (cached_some cache t.id offset buf mid count cached t refl size some more (places_fit t.page_size t.full_pages (offset + length buf) fits more) short))
+          | inr long ↦
+              let all : count ≡ length buf = omega (arith, long, within) in
+              alike count (length mid) (omega (arith, all, cached.size)) ∙ sym (ap (λ (l : List ℕ). nat_eq (length l) 0) (cached_all cache t.id offset buf mid count cached t refl size some all))
+        ],
+        λ all d can. cached_whole d can below (omega (arith, same count (length mid) all, cached.size)),
+      )
+    where
+      alike : (m n : ℕ) → m ≡ n → nat_eq m n ≡ true
+      alike m n is = grind (arith, nat_tests)
+
+      differ : (m n : ℕ) → m < n → nat_eq m n ≡ false
+      differ m n less = grind (arith, nat_tests)
+
+      not_none : (n : ℕ) → 0 < n → nat_eq n 0 ≡ false
+      not_none n more = grind (arith, nat_tests)
+
+      same : (m n : ℕ) → nat_eq m n ≡ true → m ≡ n
+      same m n is = grind (arith, nat_tests)
+
+-- how many bytes the rest has
+pub rest_many : (buf mid : List ℕ) (count : ℕ) → length mid ≡ length buf → length (take (length mid - count) (drop count mid)) ≡ length buf - count
+rest_many buf mid count size = length-take-le (length mid - count) (drop count mid) (omega (arith, length-drop count mid)) ∙ ap (λ n. n - count) size

@@ -1,0 +1,15 @@
+pub mod FullPages
+pub mod Spans
+pub mod Windows
+pub mod Copies
+pub mod RangePieces
+pub mod Leaving
+pub mod CachedBytes
+pub mod PageReads
+pub mod BelowReads
+pub mod WholeReads
+pub mod RangedPages
+pub mod RangedLists
+pub mod BatchSteps
+pub mod BatchReads
+pub mod BatchKeeps

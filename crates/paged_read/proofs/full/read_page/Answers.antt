@@ -1,0 +1,12 @@
+use Rattle.std.proofs.Common.{◌+◌, ◌*◌, Ok, Err}
+use Rattle.crash.proofs.LookLaws.{looked_read}
+use Rattle.paged_read.proofs.full.read_page.Goals as goal
+
+pub returns-in_err-bytes-clause-looked : goal.returns-in_err-bytes-clause-looked
+returns-in_err-bytes-clause-looked g c = looked_read (c.args.page * (c.from.result + 12)) (c.from.result + 12) (g.B.Blob.life c.args.blob.now) (g.B.Blob.life c.read_at.new.self) (Err c.in_err-bytes.field-0.0) c.in_err-bytes.ensures.goes
+
+pub returns-then-is_full-clause-looked : goal.returns-then-is_full-clause-looked
+returns-then-is_full-clause-looked g c = looked_read (c.args.page * (c.from.result + 12)) (c.from.result + 12) (g.B.Blob.life c.args.blob.now) (g.B.Blob.life c.read_at.new.self) (Ok c.in_ok-bytes.bytes) c.in_ok-bytes.ensures.goes
+
+pub returns-else-is_full-clause-looked : goal.returns-else-is_full-clause-looked
+returns-else-is_full-clause-looked g c = looked_read (c.args.page * (c.from.result + 12)) (c.from.result + 12) (g.B.Blob.life c.args.blob.now) (g.B.Blob.life c.read_at.new.self) (Ok c.in_ok-bytes.bytes) c.in_ok-bytes.ensures.goes

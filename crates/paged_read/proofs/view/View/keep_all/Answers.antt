@@ -1,0 +1,40 @@
+use Rattle.std.proofs.Common.{◌≡◌, ◌∙◌, sym, ap, ℕ, ◌<◌, List, length, take, get_or, arith, rules, length-set}
+use Rattle.std.proofs.lemmas.List.{get_or_default}
+use Rattle.page.specs.Page.{value_len}
+use Rattle.paged_read.specs.Tail.{tail_at}
+use Rattle.cache.proofs.CacheLaws.{put_weakly}
+use Rattle.paged_read.proofs.Leaving.{leaves_none}
+use Rattle.paged_read.proofs.BatchKeeps.{marked_more, full_more, leaves_more}
+use Rattle.paged_read.proofs.view.View.keep_all.Goals as goal
+
+pub returns-in_err-resize-clause-leaves : goal.returns-in_err-resize-clause-leaves
+returns-in_err-resize-clause-leaves g c = λ life can delivered. leaves_none _ _ life can
+
+pub loop-index-init : goal.loop-index-init
+loop-index-init g c = record {
+  leaves = λ life can delivered. leaves_none _ _ life can;
+  size = c.requires.size;
+  full = λ k d less. absurd (omega (arith, less));
+  marked = λ k d less. absurd (omega (arith, less));
+  long = search rules;
+}
+
+pub loop-index-preserved : goal.loop-index-preserved
+loop-index-preserved g c =
+    let t = tail_at c.args.self.page_size c.args.self.id c.args.self.tip.now in
+    let inv = c.loop-index.invariant in
+    let kept = c.in_ok-keep_page.ensures in
+    let entry : ℕ × List ℕ = c.index-out-index.result in
+    let k = c.loop-index.index in
+    let here : (d : ℕ × List ℕ) → get_or c.args.out.now k d ≡ entry = λ d. sym (c.index-out-index.is ∙ get_or_default c.args.out.now k entry d c.loop-index-test.true) in
+    let number : (d : ℕ × List ℕ) → (get_or c.args.out.now k d).0 ≡ entry.0 = λ d. ap (λ (r : ℕ × List ℕ). r.0) (here d) in
+    let bytes : (d : ℕ × List ℕ) → (get_or c.args.out.now k d).1 ≡ entry.1 = λ d. ap (λ (r : ℕ × List ℕ). r.1) (here d) in
+    let fits : entry.0 < length c.args.pages.now = omega (arith, (c.requires.delivered k entry c.loop-index-test.true).0, number entry) in
+    record {
+      leaves = λ life can delivered. leaves_more t c.args.cache.now c.loop-index.cache c.keep_page.new.cache life c.args.pages.now c.args.out.now k entry.1 (get_or c.args.pages.now entry.0 0) (inv.leaves life can delivered) c.requires.below delivered c.loop-index-test.true bytes
+          (λ d. ap (λ (n : ℕ). get_or c.args.pages.now n 0) (sym (number d))) kept.1;
+      size = (put_weakly (c.args.self.id, get_or c.args.pages.now entry.0 0) (take t.page_size entry.1) c.loop-index.cache c.keep_page.new.cache kept.1).settings.page_size ∙ inv.size;
+      full = full_more g.H.Sum.sum_of t.page_size c.args.out.now k (λ d. ap (λ (l : List ℕ). value_len g.H.Sum.sum_of t.page_size l) (bytes d) ∙ kept.0) inv.full;
+      marked = marked_more c.loop-index.at.items c.args.out.now k entry.0 c.loop-index-test.true (omega (arith, fits, inv.long)) number inv.marked;
+      long = length-set c.loop-index.at.items entry.0 k ∙ inv.long;
+    }

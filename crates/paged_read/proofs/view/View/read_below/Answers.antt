@@ -1,0 +1,48 @@
+use Rattle.std.proofs.Common.{◌+◌, ◌≤◌, ◌∙◌, [], ◌∷◌, length, sym, subst, arith, refl}
+use Rattle.paged_read.specs.Tail.{tail_at}
+use Rattle.paged_read.specs.Ranges.{missing}
+use Rattle.paged_read.specs.Parts.{ReadsBelow}
+use Rattle.paged_read.proofs.Leaving.{leaves_none}
+use Rattle.paged_read.proofs.BelowReads.{below_joins, asks_joins, cached_reads, rest_many}
+use Rattle.paged_read.proofs.CachedBytes.{cached_within}
+use Rattle.paged_read.proofs.view.View.read_below.Goals as goal
+
+pub returns-then-count-buf-clause-reads : goal.returns-then-count-buf-clause-reads
+returns-then-count-buf-clause-reads g c =
+    let t = tail_at c.args.self.page_size c.args.self.id c.args.self.tip.now in
+    cached_reads t c.args.cache.now c.args.offset c.args.buf.now c.read_cached-count.new.buf c.read_cached-count.result c.args.self.page_size.ok c.read_cached-count.ensures g.H.Sum.sum_of (g.B.Blob.life c.args.blob.now) c.requires.can c.requires.below
+    (c.if-count-buf.true ∙ c.read_cached-count.ensures.size)
+
+pub returns-then-count-buf-clause-leaves : goal.returns-then-count-buf-clause-leaves
+returns-then-count-buf-clause-leaves g c = leaves_none (tail_at c.args.self.page_size c.args.self.id c.args.self.tip.now) c.args.cache.now (g.B.Blob.life c.args.blob.now) c.requires.can
+
+pub read_missing-requires-clause-below : goal.read_missing-requires-clause-below
+read_missing-requires-clause-below g c =
+    let t = tail_at c.args.self.page_size c.args.self.id c.args.self.tip.now in
+    let count = c.read_cached-count.result in
+    let within = cached_within c.args.cache.now t.id c.args.offset c.args.buf.now c.read_cached-count.new.buf count c.read_cached-count.ensures in
+    let many = rest_many c.args.buf.now c.read_cached-count.new.buf count c.read_cached-count.ensures.size in
+    omega (arith, many, within, c.requires.below (omega (arith, within, c.if-count-buf.false, c.read_cached-count.ensures.size)))
+
+pub returns-clause-reads : goal.returns-clause-reads
+returns-clause-reads g c =
+    let t = tail_at c.args.self.page_size c.args.self.id c.args.self.tip.now in
+    let count = c.read_cached-count.result in
+    let within = cached_within c.args.cache.now t.id c.args.offset c.args.buf.now c.read_cached-count.new.buf count c.read_cached-count.ensures in
+    let below = c.requires.below (omega (arith, within, c.if-count-buf.false, c.read_cached-count.ensures.size)) in
+    let many = rest_many c.args.buf.now c.read_cached-count.new.buf count c.read_cached-count.ensures.size in
+    below_joins t c.args.cache.now c.args.offset c.args.buf.now c.read_cached-count.new.buf count c.args.self.page_size.ok c.read_cached-count.ensures g.H.Sum.sum_of (g.B.Blob.life c.args.blob.now) (g.B.Blob.life c.read_missing.new.blob) c.read_missing.new.buf _ c.read_missing.result c.requires.can below refl
+    (subst (λ n. ReadsBelow g.H.Sum.sum_of t c.args.cache.now (c.args.offset + count, n) c.read_missing.new.buf (g.B.Blob.life c.args.blob.now) (g.B.Blob.life c.read_missing.new.blob) c.read_missing.result) many c.read_missing.ensures.reads)
+
+pub returns-clause-asks : goal.returns-clause-asks
+returns-clause-asks g c =
+    let t = tail_at c.args.self.page_size c.args.self.id c.args.self.tip.now in
+    let old = g.B.Blob.life c.args.blob.now in
+    let new = g.B.Blob.life c.read_missing.new.blob in
+    let count = c.read_cached-count.result in
+    let within = cached_within c.args.cache.now t.id c.args.offset c.args.buf.now c.read_cached-count.new.buf count c.read_cached-count.ensures in
+    let below = c.requires.below (omega (arith, within, c.if-count-buf.false, c.read_cached-count.ensures.size)) in
+    let many = rest_many c.args.buf.now c.read_cached-count.new.buf count c.read_cached-count.ensures.size in
+    asks_joins t c.args.cache.now c.args.offset c.args.buf.now c.read_cached-count.new.buf count c.args.self.page_size.ok c.read_cached-count.ensures old new c.requires.can.page_size below c.requires.view.fits
+    (λ all. c.if-count-buf.false (all ∙ sym c.read_cached-count.ensures.size))
+    (subst (λ n. length new.present.log ≤ length old.present.log + length (missing c.args.cache.now t ((c.args.offset + count, n) ∷ []))) many c.read_missing.ensures.asks)

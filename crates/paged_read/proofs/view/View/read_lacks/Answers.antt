@@ -1,0 +1,85 @@
+use Rattle.std.proofs.Common.{◌≡◌, ◌∙◌, refl, sym, ap, subst, ℕ, List, length}
+use Rattle.std.specs.Prelude.{All}
+use Rattle.std.proofs.lemmas.Result.{err_from_is_err_and}
+use Rattle.crash.proofs.LookLaws.{looked_readable}
+use Rattle.page.specs.Page.{value_len}
+use Rattle.paged_read.specs.Tail.{tail_at, told}
+use Rattle.paged_read.specs.Batch.{KeepsFault, pieces_in}
+use Rattle.paged_read.specs.Parts.{with_told}
+use Rattle.paged_read.specs.declared.lack.Lack.{Lack}
+use Rattle.paged_read.proofs.BatchKeeps.{delivers_same, whole_same, ready_same, told_same, marked_same, leaves_kept, delivered_whole, lacks_ready, lacks_told, pages_full, keeps_fault}
+use Rattle.paged_read.proofs.view.View.read_lacks.Goals as goal
+
+pub keep_all-requires-clause-delivered : goal.keep_all-requires-clause-delivered
+keep_all-requires-clause-delivered g c =
+    let t = tail_at c.args.self.page_size c.args.self.id c.args.self.tip.now in
+    let old = g.B.Blob.life c.args.blob.now in
+    let new = g.B.Blob.life c.fetch.new.blob in
+    let pages = c.args.batch.now.pages.items in
+    let out = c.in_ok-out.out.items in
+    let delivers = delivers_same t.page_size c.deref.result.now pages old.present.readable old.present.readable out out (sym c.deref.ensures.value) refl refl c.in_ok-out.ensures.reads in
+    whole_same t.page_size pages c.deref-2.result.now out c.deref-3.result.now c.deref-2.ensures.value c.deref-3.ensures.value (delivered_whole t pages old.present.readable out c.requires.can.there c.requires.below delivers)
+
+pub returns-in_err-at-clause-reads : goal.returns-in_err-at-clause-reads
+returns-in_err-at-clause-reads g c =
+    let t = tail_at c.args.self.page_size c.args.self.id c.args.self.tip.now in
+    let old = g.B.Blob.life c.args.blob.now in
+    let new = g.B.Blob.life c.fetch.new.blob in
+    let pages = c.args.batch.now.pages.items in
+    let out = c.in_ok-out.out.items in
+    let delivers = delivers_same t.page_size c.deref.result.now pages old.present.readable old.present.readable out out (sym c.deref.ensures.value) refl refl c.in_ok-out.ensures.reads in
+    let fault = subst (λ (o : List (ℕ × List ℕ)). KeepsFault g.H.Sum.sum_of t.page_size o c.in_err-at.field-0.0) c.deref-3.ensures.value c.in_err-at.ensures.err in
+    let error = err_from_is_err_and c.from_residual-in_err-at.result c.from_residual-in_err-at.ensures.1 in
+    rw (error.1, error.2) (keeps_fault g.H.Sum.sum_of t.page_size pages out old new c.in_err-at.field-0.0 delivers fault)
+
+pub returns-in_err-at-clause-leaves : goal.returns-in_err-at-clause-leaves
+returns-in_err-at-clause-leaves g c =
+    let t = tail_at c.args.self.page_size c.args.self.id c.args.self.tip.now in
+    let old = g.B.Blob.life c.args.blob.now in
+    let new = g.B.Blob.life c.fetch.new.blob in
+    let pages = c.args.batch.now.pages.items in
+    let out = c.in_ok-out.out.items in
+    let delivers = delivers_same t.page_size c.deref.result.now pages old.present.readable old.present.readable out out (sym c.deref.ensures.value) refl refl c.in_ok-out.ensures.reads in
+    leaves_kept t c.args.cache.now c.keep_all.new.cache old new c.requires.can c.fetch.ensures.looked
+    (λ can. c.keep_all.ensures.leaves new can (delivers_same t.page_size pages c.deref-2.result.now old.present.readable new.present.readable out c.deref-3.result.now c.deref-2.ensures.value (looked_readable old new c.fetch.ensures.looked) c.deref-3.ensures.value delivers))
+
+pub fill-requires : goal.fill-requires
+fill-requires g c =
+    let t = tail_at c.args.self.page_size c.args.self.id c.args.self.tip.now in
+    let old = g.B.Blob.life c.args.blob.now in
+    let new = g.B.Blob.life c.fetch.new.blob in
+    let pages = c.args.batch.now.pages.items in
+    let out = c.in_ok-out.out.items in
+    let delivers = delivers_same t.page_size c.deref.result.now pages old.present.readable old.present.readable out out (sym c.deref.ensures.value) refl refl c.in_ok-out.ensures.reads in
+    let marked = marked_same c.in_ok-at.at.items out c.deref-3.result.now c.deref-3.ensures.value c.in_ok-at.ensures.found in
+    let long : length c.in_ok-at.at.items ≡ length pages = c.in_ok-at.ensures.long ∙ ap (λ (l : List ℕ). length l) c.deref-2.ensures.value in
+    ready_same c.in_ok-at.at.items c.deref-5.result.now out c.deref-6.result.now (length c.args.buf.now) c.args.batch.now.lacks.items c.deref-4.result.now c.deref-5.ensures.value c.deref-6.ensures.value c.deref-4.ensures.value
+    (lacks_ready t pages old.present.readable c.in_ok-at.at.items out (length c.args.buf.now) c.args.batch.now.lacks.items c.requires.can.there c.requires.below delivers marked long c.requires.lacks)
+
+pub returns-clause-reads : goal.returns-clause-reads
+returns-clause-reads g c =
+    let t = tail_at c.args.self.page_size c.args.self.id c.args.self.tip.now in
+    let old = g.B.Blob.life c.args.blob.now in
+    let new = g.B.Blob.life c.fetch.new.blob in
+    let pages = c.args.batch.now.pages.items in
+    let out = c.in_ok-out.out.items in
+    let delivers = delivers_same t.page_size c.deref.result.now pages old.present.readable old.present.readable out out (sym c.deref.ensures.value) refl refl c.in_ok-out.ensures.reads in
+    let marked = marked_same c.in_ok-at.at.items out c.deref-3.result.now c.deref-3.ensures.value c.in_ok-at.ensures.found in
+    let content = told t old.present.readable in
+    let each = told_same t.page_size content c.in_ok-at.at.items c.deref-5.result.now out c.deref-6.result.now c.args.batch.now.lacks.items c.deref-4.result.now c.deref-5.ensures.value c.deref-6.ensures.value c.deref-4.ensures.value
+    (lacks_told t pages old.present.readable c.in_ok-at.at.items out (length c.args.buf.now) c.args.batch.now.lacks.items c.requires.can.there c.requires.below delivers marked c.requires.lacks) in
+    let full = subst (λ (o : List (ℕ × List ℕ)). All (λ page. value_len g.H.Sum.sum_of t.page_size page.1 ≡ t.page_size) o) c.deref-3.ensures.value c.in_ok-at.ensures.full in (
+      c.fill.ensures.told t.page_size content each ∙ ap (λ (l : List Lack). with_told t.page_size content (pieces_in l) c.args.buf.now) c.deref-4.ensures.value,
+      pages_full g.H.Sum.sum_of t.page_size pages old.present.readable c.in_ok-at.at.items out delivers marked full,
+    )
+
+pub returns-clause-leaves : goal.returns-clause-leaves
+returns-clause-leaves g c =
+    let t = tail_at c.args.self.page_size c.args.self.id c.args.self.tip.now in
+    let old = g.B.Blob.life c.args.blob.now in
+    let new = g.B.Blob.life c.fetch.new.blob in
+    let pages = c.args.batch.now.pages.items in
+    let out = c.in_ok-out.out.items in
+    let delivers = delivers_same t.page_size c.deref.result.now pages old.present.readable old.present.readable out out (sym c.deref.ensures.value) refl refl c.in_ok-out.ensures.reads in
+    leaves_kept t c.args.cache.now c.keep_all.new.cache old new c.requires.can c.fetch.ensures.looked
+    (λ can. c.keep_all.ensures.leaves new can (delivers_same t.page_size pages c.deref-2.result.now old.present.readable new.present.readable out c.deref-3.result.now c.deref-2.ensures.value (looked_readable old new c.fetch.ensures.looked) c.deref-3.ensures.value delivers))

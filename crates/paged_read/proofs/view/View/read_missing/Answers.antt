@@ -1,0 +1,51 @@
+use Rattle.std.proofs.Common.{◌≡◌, ◌<◌, ◌∙◌, List, ◌++◌, length, sym, ap, subst, arith, refl}
+use Rattle.std.specs.Prelude.{All}
+use Rattle.cache.specs.CacheState.{IsPiece, pieces_left}
+use Rattle.cache.specs.declared.piece.Piece.{Piece}
+use Rattle.paged_read.specs.Tail.{tail_at}
+use Rattle.paged_read.specs.Pieces.{pieces_of}
+use Rattle.paged_read.specs.Parts.{IsPieceOf}
+use Rattle.paged_read.proofs.Leaving.{leaves_none}
+use Rattle.paged_read.proofs.BelowReads.{pieces_are, left_are, left_many, missing_read}
+use Rattle.paged_read.proofs.view.View.read_missing.Goals as goal
+
+pub returns-in_err-push_pieces-clause-leaves : goal.returns-in_err-push_pieces-clause-leaves
+returns-in_err-push_pieces-clause-leaves g c = leaves_none (tail_at c.args.self.page_size c.args.self.id c.args.self.tip.now) c.args.cache.now (g.B.Blob.life c.args.blob.now) c.requires.can
+
+pub returns-in_err-left-clause-leaves : goal.returns-in_err-left-clause-leaves
+returns-in_err-left-clause-leaves g c = leaves_none (tail_at c.args.self.page_size c.args.self.id c.args.self.tip.now) c.args.cache.now (g.B.Blob.life c.args.blob.now) c.requires.can
+
+pub read_cached_many-requires : goal.read_cached_many-requires
+read_cached_many-requires g c =
+    let t = tail_at c.args.self.page_size c.args.self.id c.args.self.tip.now in
+    let some : 0 < t.page_size = c.args.self.page_size.ok in
+    let len = length c.args.buf.now in
+    let items : c.deref.result.now ≡ pieces_of t.page_size (c.args.offset, len) 0 = c.deref.ensures.value ∙ c.in_ok-push_pieces.ensures.ok ∙ ap (λ (l : List Piece). l ++ pieces_of t.page_size (c.args.offset, len) 0) c.new-pieces.ensures.items in
+    subst (λ (l : List Piece). All (IsPiece c.args.cache.now.page_size len) l) (sym items) (pieces_are t c.args.cache.now c.args.offset len some c.requires.below len c.requires.can.page_size (omega arith))
+
+pub read_pieces-requires-clause-pieces : goal.read_pieces-requires-clause-pieces
+read_pieces-requires-clause-pieces g c =
+    let t = tail_at c.args.self.page_size c.args.self.id c.args.self.tip.now in
+    let some : 0 < t.page_size = c.args.self.page_size.ok in
+    let len = length c.args.buf.now in
+    let items : c.deref.result.now ≡ pieces_of t.page_size (c.args.offset, len) 0 = c.deref.ensures.value ∙ c.in_ok-push_pieces.ensures.ok ∙ ap (λ (l : List Piece). l ++ pieces_of t.page_size (c.args.offset, len) 0) c.new-pieces.ensures.items in
+    let left : c.deref-2.result.now ≡ pieces_left c.args.cache.now t.id (pieces_of t.page_size (c.args.offset, len) 0) = c.deref-2.ensures.value ∙ c.in_ok-left.ensures.reads.0 ∙ ap (λ (l : List Piece). pieces_left c.args.cache.now t.id l) items in
+    subst (λ (l : List Piece). All (IsPieceOf t (length c.read_cached_many.new.buf)) l) (sym left) (left_are t c.args.cache.now c.args.offset len some c.requires.below (length c.read_cached_many.new.buf) (omega (arith, c.read_cached_many.ensures.size)))
+
+pub returns-clause-reads : goal.returns-clause-reads
+returns-clause-reads g c =
+    let t = tail_at c.args.self.page_size c.args.self.id c.args.self.tip.now in
+    let some : 0 < t.page_size = c.args.self.page_size.ok in
+    let len = length c.args.buf.now in
+    let items : c.deref.result.now ≡ pieces_of t.page_size (c.args.offset, len) 0 = c.deref.ensures.value ∙ c.in_ok-push_pieces.ensures.ok ∙ ap (λ (l : List Piece). l ++ pieces_of t.page_size (c.args.offset, len) 0) c.new-pieces.ensures.items in
+    missing_read t c.args.cache.now c.args.offset len some c.requires.below g.H.Sum.sum_of (g.B.Blob.life c.args.blob.now) (g.B.Blob.life c.read_pieces.new.blob) c.deref-2.result.now c.deref.result.now c.args.buf.now c.read_cached_many.new.buf c.read_pieces.new.buf c.read_pieces.result
+    c.requires.can refl items (c.deref-2.ensures.value ∙ c.in_ok-left.ensures.reads.0) c.in_ok-left.ensures.reads.1 c.read_pieces.ensures.reads
+
+pub returns-clause-asks : goal.returns-clause-asks
+returns-clause-asks g c =
+    let t = tail_at c.args.self.page_size c.args.self.id c.args.self.tip.now in
+    let some : 0 < t.page_size = c.args.self.page_size.ok in
+    let len = length c.args.buf.now in
+    let items : c.deref.result.now ≡ pieces_of t.page_size (c.args.offset, len) 0 = c.deref.ensures.value ∙ c.in_ok-push_pieces.ensures.ok ∙ ap (λ (l : List Piece). l ++ pieces_of t.page_size (c.args.offset, len) 0) c.new-pieces.ensures.items in
+    let left : c.deref-2.result.now ≡ pieces_left c.args.cache.now t.id (pieces_of t.page_size (c.args.offset, len) 0) = c.deref-2.ensures.value ∙ c.in_ok-left.ensures.reads.0 ∙ ap (λ (l : List Piece). pieces_left c.args.cache.now t.id l) items in
+    omega (arith, c.read_pieces.ensures.asks, ap length left, left_many t c.args.cache.now c.args.offset len some c.requires.below)

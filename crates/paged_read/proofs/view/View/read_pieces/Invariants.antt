@@ -1,0 +1,18 @@
+use Rattle.std.proofs.Common.{◌≡◌, ◌≤◌, ◌+◌, length, take, drop}
+use Rattle.paged_read.specs.Tail.{tail_at, told}
+use Rattle.paged_read.specs.Ranges.{LeavesAll}
+use Rattle.paged_read.specs.Parts.{with_told, pages_of, ArePagesFull}
+use Rattle.paged_read.proofs.view.View.read_pieces.Given as goal
+
+abbrev pub invariant-loop-piece : goal.invariant-loop-piece
+invariant-loop-piece g l =
+    let t = tail_at l.self.page_size l.self.id l.self.tip.now in
+    let old = g.B.Blob.life l.initial.blob in
+    let content = told t old.present.readable in
+    record {
+      bytes : with_told t.page_size content (drop l.piece-index l.pieces) l.buf ≡ with_told t.page_size content l.pieces l.initial.buf;
+      size : length l.buf ≡ length l.initial.buf;
+      full : ArePagesFull g.H.Sum.sum_of t.page_size (pages_of (take l.piece-index l.pieces)) old.present.readable;
+      asks : length (g.B.Blob.life l.blob).present.log ≤ length old.present.log + l.piece-index;
+      leaves : LeavesAll t l.initial.cache l.cache old (g.B.Blob.life l.blob);
+    }

@@ -1,0 +1,5 @@
+pub mod Tail
+pub mod Ranges
+pub mod Pieces
+pub mod Parts
+pub mod Batch

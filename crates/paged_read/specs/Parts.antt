@@ -1,0 +1,79 @@
+-- What the parts of a read do.
+use Rattle.std.specs.Prelude.{◌≡◌, ◌≢◌, ◌<◌, ℕ, List, [], ◌∷◌, take, drop}
+use Rattle.std.specs.Prelude.{map, Result, Ok, Err, Bool, true}
+use Rattle.std.specs.List.{Contains}
+use Rattle.disk.specs.Disk.{Disk, Life, HasFailed}
+use Rattle.disk.specs.declared.error.Error.{Error}
+use Rattle.disk.specs.declared.error.Error.TheVariants.{ReadFailed, InvalidChecksum, OutOfMemory}
+use Rattle.page.specs.Page.{value_len}
+use Rattle.cache.specs.CacheState.{CacheState, put_at, IsPiece}
+use Rattle.cache.specs.Pages.{page_of_content}
+use Rattle.cache.specs.declared.piece.Piece.{Piece}
+use Rattle.paged_read.specs.Tail.{Tail, told, CanRead}
+use Rattle.paged_read.specs.Ranges.{page_at, slice, is_served, AreMissingFull, ReadFault}
+
+-- a physical page that is there is read and found full, or the device failed, or the page isn't
+-- full, or memory was refused
+abbrev pub ReadsPage : (List ℕ → ℕ) → (P page : ℕ) → Life → Life → Result (List ℕ) Error → Type 0
+ReadsPage sum P page old new (Ok bytes) =
+    (bytes ≡ page_at P page old.present.readable) × (value_len sum P bytes ≡ P)
+ReadsPage sum P page old new (Err ReadFailed) = HasFailed ReadFailed old.present new.present
+ReadsPage sum P page old new (Err InvalidChecksum) =
+    value_len sum P (page_at P page old.present.readable) ≢ P
+ReadsPage sum P page old new (Err OutOfMemory) = Unit {0}
+ReadsPage sum P page old new (Err _) = ⊥
+
+-- each of these pages is full
+abbrev pub ArePagesFull : (List ℕ → ℕ) → (P : ℕ) → List ℕ → List ℕ → Type 0
+ArePagesFull sum P pages readable =
+    (page : ℕ) → Contains pages page → value_len sum P (page_at P page readable) ≡ P
+
+-- why a read of these pages, which are there, may answer this error
+abbrev pub PagesFault : (List ℕ → ℕ) → (P : ℕ) → List ℕ → Life → Life → Error → Type 0
+PagesFault sum P pages old new ReadFailed = HasFailed ReadFailed old.present new.present
+PagesFault sum P pages old new InvalidChecksum =
+    (page : ℕ) × Contains pages page
+    × (value_len sum P (page_at P page old.present.readable) ≢ P)
+PagesFault sum P pages old new OutOfMemory = Unit {0}
+PagesFault sum P pages old new _ = ⊥
+
+-- a piece is of a page below the tail, and there is room for it
+pub record IsPieceOf (t : Tail) (room : ℕ) (piece : Piece) : Type 0 where
+  pub below : piece.page < t.full_pages
+  pub part : IsPiece t.page_size room piece
+
+-- the pages of these pieces
+abbrev pub pages_of : List Piece → List ℕ
+pages_of pieces = map (λ piece. piece.page) pieces
+
+-- each piece of a content is put in its place, in order
+abbrev pub with_told : (P : ℕ) → List ℕ → List Piece → List ℕ → List ℕ
+with_told P content [] buf = buf
+with_told P content (piece ∷ pieces) buf =
+    let bytes = take piece.len (drop piece.skip (page_of_content P content piece.page)) in
+    with_told P content pieces (put_at piece.place bytes buf)
+
+-- these pieces are read: each is put in its place, and its page is full
+abbrev pub ReadsPieces : (List ℕ → ℕ) → Tail → List Piece → List ℕ → List ℕ → Life → Life
+    → Result (Unit {0}) Error → Type 0
+ReadsPieces sum t pieces bytes bytes_behind old new (Ok _) =
+    (bytes_behind ≡ with_told t.page_size (told t old.present.readable) pieces bytes)
+    × ArePagesFull sum t.page_size (pages_of pieces) old.present.readable
+ReadsPieces sum t pieces bytes bytes_behind old new (Err e) =
+    PagesFault sum t.page_size (pages_of pieces) old new e
+
+-- a range below the tail is read
+abbrev pub ReadsBelow : (List ℕ → ℕ) → Tail → CacheState → ℕ × ℕ → List ℕ → Life → Life
+    → Result (Unit {0}) Error → Type 0
+ReadsBelow sum t cache range bytes old new (Ok _) =
+    (bytes ≡ slice (told t old.present.readable) range)
+    × AreMissingFull sum cache t (range ∷ []) old.present.readable
+ReadsBelow sum t cache range bytes old new (Err e) = ReadFault sum cache t (range ∷ []) old new e
+
+-- a range below the tail is copied where the cache holds its pages: whether it does, and then these
+-- are its bytes over each disk with which the cache agrees
+abbrev pub TriesBelow : Tail → ℕ × ℕ → CacheState → List ℕ → Bool → Type 0
+TriesBelow t range cache bytes answer =
+    (answer ≡ is_served cache t range)
+    × (answer ≡ true → (d : Disk) → CanRead t cache d
+    → bytes ≡ slice (told t d.readable) range)

@@ -1,0 +1,170 @@
+-- Which ranges a tail and a cache serve, and what a read of one range or of many does.
+use Rattle.std.specs.Prelude.{◌≡◌, ◌≢◌, ◌⊎◌, ◌≤◌, ◌<◌, ◌+◌, ◌-◌, ◌*◌, ◌^◌, ◌&&◌, ℕ, Bool, true}
+use Rattle.std.specs.Prelude.{not, nat_lt, nat_le, nat_eq, is_some, min, if◌then◌else◌, List, []}
+use Rattle.std.specs.Prelude.{◌∷◌, length, take, drop, map, Result, Ok, Err, Vec}
+use Rattle.std.specs.List.{Contains, filter, flat_map, list_any, range_with_len}
+use Rattle.std.specs.declared.alloc.Global.{Global}
+use Rattle.disk.specs.Disk.{Disk, Life, ReadMany, AskedOnce, HasFailed}
+use Rattle.disk.specs.declared.error.Error.{Error}
+use Rattle.disk.specs.declared.error.Error.TheVariants.{ReadFailed, InvalidChecksum}
+use Rattle.disk.specs.declared.error.Error.TheVariants.{BlobInsufficientLength, OffsetOverflow}
+use Rattle.disk.specs.declared.error.Error.TheVariants.{OutOfMemory}
+use Rattle.page.specs.Geometry.{EndWithin, RangesGo}
+use Rattle.page.specs.Page.{value_len}
+use Rattle.cache.specs.CacheState.{CacheState, held}
+use Rattle.cache.specs.Pages.{CachesOnly, IsFresh}
+use Rattle.crash.specs.Looks.{Looked}
+use Rattle.paged_read.specs.Tail.{Tail, told, size_of, CanRead}
+
+-- a physical page by its place
+abbrev pub page_at : ℕ → ℕ → List ℕ → List ℕ
+page_at P p bytes = take (P + 12) (drop (p * (P + 12)) bytes)
+
+-- a range, a place and a length, has bytes of this page
+abbrev pub touches : (P : ℕ) → ℕ × ℕ → (page : ℕ) → Bool
+touches P range page =
+    nat_lt 0 range.1 && nat_lt (page * P) (range.0 + range.1) && nat_lt range.0 ((page + 1) * P)
+
+-- the pages below the tail that a range has bytes of and the cache lacks, in rising order, each
+-- once
+abbrev pub missing : CacheState → Tail → List (ℕ × ℕ) → List ℕ
+missing cache t ranges =
+    filter (λ page. not (is_some (held cache (t.id, page)))
+    && list_any (λ range. touches t.page_size range page) ranges) (range_with_len 0 t.full_pages)
+
+-- a range needs none of them
+abbrev pub is_served : CacheState → Tail → ℕ × ℕ → Bool
+is_served cache t range = nat_eq (length (missing cache t (range ∷ []))) 0
+
+-- how many ranges do
+abbrev pub served : CacheState → Tail → List (ℕ × ℕ) → ℕ
+served cache t ranges = length (filter (is_served cache t) ranges)
+
+-- the numbers of the others, rising, from this number on
+abbrev pub missed_from : ℕ → CacheState → Tail → List (ℕ × ℕ) → List ℕ
+missed_from n cache t [] = []
+missed_from n cache t (range ∷ ranges) =
+    if is_served cache t range
+    then missed_from (n + 1) cache t ranges
+    else n ∷ missed_from (n + 1) cache t ranges
+
+-- the bytes of a range of a content
+abbrev pub slice : List ℕ → ℕ × ℕ → List ℕ
+slice content range = take range.1 (drop range.0 content)
+
+-- each page that a read of these ranges finds missing is full
+abbrev pub AreMissingFull : (List ℕ → ℕ) → CacheState → Tail → List (ℕ × ℕ) → List ℕ → Type 0
+AreMissingFull sum cache t ranges readable =
+    (page : ℕ) → Contains (missing cache t ranges) page
+    → value_len sum t.page_size (page_at t.page_size page readable) ≡ t.page_size
+
+-- why a read within the size may answer this error: a read of the device failed in the call, a page
+-- that was missing isn't full, or memory was refused
+abbrev pub ReadFault : (List ℕ → ℕ) → CacheState → Tail → List (ℕ × ℕ) → Life → Life → Error
+    → Type 0
+ReadFault sum cache t ranges old new ReadFailed = HasFailed ReadFailed old.present new.present
+ReadFault sum cache t ranges old new InvalidChecksum =
+    (page : ℕ) × Contains (missing cache t ranges) page
+    × (value_len sum t.page_size (page_at t.page_size page old.present.readable) ≢ t.page_size)
+ReadFault sum cache t ranges old new OutOfMemory = Unit {0}
+ReadFault sum cache t ranges old new _ = ⊥
+
+-- what a read leaves: the disk but for its log, and the cache but for full pages of the content
+-- that were put, and such as went for them; and reads go on
+pub record LeavesAll (t : Tail) (cache cache_behind : CacheState) (old new : Life) : Type 0 where
+  pub looked : Looked old new
+  pub cached : CachesOnly t.id 0 (told t old.present.readable) cache cache_behind
+  pub can : CanRead t cache_behind new.present
+  pub fresh : IsFresh cache → IsFresh cache_behind
+
+-- ---- one range
+
+-- the bytes from an offset on; overflow comes before the end, and both before anything is asked for
+abbrev pub Reads : {A : Type 0} → (List ℕ → ℕ) → Tail → CacheState → ℕ × ℕ → (A → List ℕ) → Life
+    → Life → Result A Error → Type 0
+Reads sum t cache range bytes old new (Ok a) =
+    (range.0 + range.1 ≤ size_of t)
+    × (bytes a ≡ slice (told t old.present.readable) range)
+    × AreMissingFull sum cache t (range ∷ []) old.present.readable
+Reads sum t cache range bytes old new (Err OffsetOverflow) =
+    (new ≡ old) × (2 ^ 64 ≤ range.0 + range.1)
+Reads sum t cache range bytes old new (Err BlobInsufficientLength) =
+    (new ≡ old) × (range.0 + range.1 < 2 ^ 64) × (size_of t < range.0 + range.1)
+Reads sum t cache range bytes old new (Err e) = ReadFault sum cache t (range ∷ []) old new e
+
+-- as many of so many bytes as there are from an offset on
+abbrev pub range_up_to : Tail → (offset len : ℕ) → ℕ × ℕ
+range_up_to t offset len = (offset, min len (size_of t - offset))
+
+-- they are read, and counted; none may be asked for anywhere, and some only before the end
+abbrev pub ReadsUpTo : (List ℕ → ℕ) → Tail → CacheState → (offset len : ℕ) → Life → Life
+    → Result (Vec ℕ Global × ℕ) Error → Type 0
+ReadsUpTo sum t cache offset len old new (Ok r) =
+    let range = range_up_to t offset len in
+    ((len ≡ 0) ⊎ (offset < size_of t))
+    × (r.0.items ≡ slice (told t old.present.readable) range) × (r.1 ≡ range.1)
+    × AreMissingFull sum cache t (range ∷ []) old.present.readable
+ReadsUpTo sum t cache offset len old new (Err BlobInsufficientLength) =
+    (new ≡ old) × (len ≢ 0) × (size_of t ≤ offset)
+ReadsUpTo sum t cache offset len old new (Err OffsetOverflow) = ⊥
+ReadsUpTo sum t cache offset len old new (Err e) =
+    ReadFault sum cache t (range_up_to t offset len ∷ []) old new e
+
+-- at most one device call for each page that is missing as the read begins: so none where the range
+-- is served
+abbrev pub AsksForMissing : CacheState → Tail → ℕ × ℕ → Life → Life → Type 0
+AsksForMissing cache t range old new =
+    (length new.present.log ≤ length old.present.log + length (missing cache t (range ∷ [])))
+    × (is_served cache t range ≡ true → new ≡ old)
+
+-- a read that asks no device: whether the range lies within the size and is served, and then these
+-- are its bytes over each disk with which the cache agrees
+abbrev pub TriesRead : Tail → ℕ × ℕ → CacheState → List ℕ → Bool → Type 0
+TriesRead t range cache bytes answer =
+    (answer ≡ (nat_le (range.0 + range.1) (size_of t) && is_served cache t range))
+    × (answer ≡ true → (d : Disk) → CanRead t cache d
+    → bytes ≡ slice (told t d.readable) range)
+
+-- ---- many
+
+-- the ranges' bytes, joined, and how many of the ranges needed no device; or the first range that
+-- can't be read decides
+abbrev pub ReadsMany : (List ℕ → ℕ) → Tail → CacheState → List (ℕ × ℕ) → List ℕ → Life → Life
+    → Result ℕ Error → Type 0
+ReadsMany sum t cache ranges bytes old new (Ok count) =
+    EndWithin (size_of t) ranges × (count ≡ served cache t ranges)
+    × (bytes ≡ flat_map (slice (told t old.present.readable)) ranges)
+    × AreMissingFull sum cache t ranges old.present.readable
+ReadsMany sum t cache ranges bytes old new (Err OffsetOverflow) =
+    (new ≡ old) × RangesGo (size_of t) ranges (Err OffsetOverflow)
+ReadsMany sum t cache ranges bytes old new (Err BlobInsufficientLength) =
+    (new ≡ old) × RangesGo (size_of t) ranges (Err BlobInsufficientLength)
+ReadsMany sum t cache ranges bytes old new (Err e) =
+    EndWithin (size_of t) ranges × ReadFault sum cache t ranges old new e
+
+-- where these pages are
+abbrev pub places : (P : ℕ) → List ℕ → List (ℕ × ℕ)
+places P pages = map (λ page. (page * (P + 12), P + 12)) pages
+
+-- the device is asked for all of them in one call, at most once, and for none where there is none
+abbrev pub AsksTogether : List (ℕ × ℕ) → Life → Life → Type 0
+AsksTogether [] old new = new ≡ old
+AsksTogether (range ∷ ranges) old new =
+    (new ≡ old) ⊎ ((failed : Bool) × AskedOnce (ReadMany (range ∷ ranges)) failed old new)
+
+-- a read of many ranges asks for the missing pages alone
+abbrev pub AsksOnce : CacheState → Tail → List (ℕ × ℕ) → Life → Life → Type 0
+AsksOnce cache t ranges old new = AsksTogether (places t.page_size (missing cache t ranges)) old new
+
+-- which ranges would need the device: all where one can't be read
+abbrev pub Misses : Tail → List (ℕ × ℕ) → CacheState → List ℕ → Type 0
+Misses t ranges cache indices =
+    (EndWithin (size_of t) ranges × (indices ≡ missed_from 0 cache t ranges))
+    ⊎ ((EndWithin (size_of t) ranges → ⊥) × (indices ≡ range_with_len 0 (length ranges)))
+
+-- the bytes of the others stand in their places, over each disk with which the cache agrees
+abbrev pub HasServed : CacheState → Tail → List (ℕ × ℕ) → List ℕ → List ℕ → Type 0
+HasServed cache t [] content buf = Unit {0}
+HasServed cache t (range ∷ ranges) content buf =
+    (is_served cache t range ≡ true → take range.1 buf ≡ slice content range)
+    × HasServed cache t ranges content (drop range.1 buf)

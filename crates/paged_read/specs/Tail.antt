@@ -1,0 +1,56 @@
+-- What reads stand on: the full pages of a blob, and the bytes behind them, in memory.
+use Rattle.std.specs.Prelude.{◌≡◌, ◌≤◌, ◌<◌, ◌+◌, ◌*◌, ◌/◌, ◌^◌, ◌++◌, ℕ, List, length, take}
+use Rattle.std.specs.Int.NonZero.{non_zero_u16_get}
+use Rattle.std.specs.declared.num.NonZeroU16.{NonZeroU16}
+use Rattle.disk.specs.Disk.{Disk}
+use Rattle.page.specs.Page.{pages}
+use Rattle.page.specs.Tip.{Tip}
+use Rattle.crash.specs.Full.{AreFull}
+use Rattle.crash.specs.Sound.{stored}
+use Rattle.cache.specs.CacheState.{CacheState}
+use Rattle.cache.specs.Pages.{IsTrueFor}
+
+-- full pages of a blob of this id, and the bytes behind them
+pub record Tail : Type 0 where
+  pub page_size : ℕ
+  pub id : ℕ
+  pub full_pages : ℕ
+  pub bytes : List ℕ
+
+-- that of a blob whose tip is this
+abbrev pub tail_at : NonZeroU16 → (id : ℕ) → Tip → Tail
+tail_at page_size id tip = record {
+  page_size = non_zero_u16_get page_size;
+  id = id;
+  full_pages = tip.offset / non_zero_u16_get page_size;
+  bytes = tip.bytes;
+}
+
+-- the tip begins behind whole pages of this size, for which a blob has places
+pub record IsView (P : ℕ) (tip : Tip) : Type 0 where
+  pub whole : tip.offset ≡ tip.offset / P * P
+  pub fits : tip.offset / P * (P + 12) < 2 ^ 64
+
+-- the logical bytes: the pages' payloads, and the bytes behind them
+abbrev pub told : Tail → List ℕ → List ℕ
+told t readable = stored t.page_size t.full_pages readable ++ t.bytes
+
+-- how many there are
+abbrev pub size_of : Tail → ℕ
+size_of t = t.full_pages * t.page_size + length t.bytes
+
+-- the pages are in the blob
+abbrev pub HasPages : Tail → Disk → Type 0
+HasPages t d = t.full_pages * (t.page_size + 12) ≤ length d.readable
+
+-- and full
+abbrev pub HasFullPages : (List ℕ → ℕ) → Tail → Disk → Type 0
+HasFullPages sum t d = AreFull sum t.page_size (take t.full_pages (pages t.page_size d.readable))
+
+-- what a caller of a read is to know: the pages are there, the cache gave the blob's id, and what
+-- it holds of them is theirs
+pub record CanRead (t : Tail) (cache : CacheState) (d : Disk) : Type 0 where
+  pub there : HasPages t d
+  pub page_size : cache.page_size ≡ t.page_size
+  pub given : t.id < cache.ids_given
+  pub cached : IsTrueFor t.id (told t d.readable) t.full_pages cache

@@ -1,0 +1,136 @@
+// Reads of the bytes below a tail, page by page.
+ghost use Rattle.std.specs.Prelude.{◌≡◌, ◌+◌, ◌*◌, ◌<◌, ◌≤◌, ◌^◌, [], ◌∷◌, length, All};
+ghost use Rattle.std.specs.Int.NonZero.{non_zero_u16_get};
+ghost use Rattle.paged_read.specs.Tail.{tail_at, IsView, CanRead};
+ghost use Rattle.paged_read.specs.Ranges.{LeavesAll, AsksForMissing, missing};
+ghost use Rattle.paged_read.specs.Parts.{IsPieceOf, ReadsPieces, ReadsBelow};
+
+use crate::View;
+use crate::full::read_page;
+use crate::pieces::push_pieces;
+use cache::{CacheRef, Piece};
+use disk::{Blob, Error};
+use page::Sum;
+
+impl<B: Blob, H: Sum> View<'_, B, H> {
+    /// Reads the page of a piece, puts it in the cache, and copies the piece into its place.
+    fn read_piece(
+        self,
+        blob: &mut B,
+        cache: &mut CacheRef,
+        buf: &mut [u8],
+        piece: Piece,
+    ) -> Result<(), Error>
+        requires view { IsView (non_zero_u16_get self.page_size) self.tip.now }
+        requires can { let t = tail_at self.page_size self.id self.tip.now in
+            CanRead t cache.old (B.life blob.old).present }
+        requires piece { let t = tail_at self.page_size self.id self.tip.now in
+            IsPieceOf t (length buf.old) piece }
+        ensures reads { let t = tail_at self.entry.page_size self.entry.id self.entry.tip.now in
+            let old = B.life blob.old in let new = B.life blob.new in
+            ReadsPieces H.sum_of t (piece ∷ []) buf.old buf.new old new result }
+        ensures asks { let old = B.life blob.old in let new = B.life blob.new in
+            length new.present.log ≤ length old.present.log + 1 }
+        ensures leaves { let t = tail_at self.entry.page_size self.entry.id self.entry.tip.now in
+            LeavesAll t cache.old cache.new (B.life blob.old) (B.life blob.new) }
+        ensures size { length buf.new ≡ length buf.old }
+    {
+        let bytes = read_page::<B, H>(self.alloc, self.page_size, blob, piece.page)?;
+        let payload = &bytes.as_ref()[..usize::from(self.page_size.get())];
+        cache.keep(self.id, piece.page, payload);
+        let part = &payload[piece.skip..piece.skip + piece.len];
+        buf[piece.place..piece.place + piece.len].copy_from_slice(part);
+        Ok(())
+    }
+
+    /// The same for each piece, in order. Where one page can't be read, those before it stay in the
+    /// cache.
+    fn read_pieces(
+        self,
+        blob: &mut B,
+        cache: &mut CacheRef,
+        buf: &mut [u8],
+        pieces: &[Piece],
+    ) -> Result<(), Error>
+        requires view { IsView (non_zero_u16_get self.page_size) self.tip.now }
+        requires can { let t = tail_at self.page_size self.id self.tip.now in
+            CanRead t cache.old (B.life blob.old).present }
+        requires pieces { let t = tail_at self.page_size self.id self.tip.now in
+            All (IsPieceOf t (length buf.old)) pieces.now }
+        ensures reads { let t = tail_at self.entry.page_size self.entry.id self.entry.tip.now in
+            let old = B.life blob.old in let new = B.life blob.new in
+            ReadsPieces H.sum_of t pieces.now buf.old buf.new old new result }
+        ensures asks { let old = B.life blob.old in let new = B.life blob.new in
+            length new.present.log ≤ length old.present.log + length pieces.now }
+        ensures leaves { let t = tail_at self.entry.page_size self.entry.id self.entry.tip.now in
+            LeavesAll t cache.old cache.new (B.life blob.old) (B.life blob.new) }
+        ensures size { length buf.new ≡ length buf.old }
+    {
+        for piece in pieces {
+            self.read_piece(blob, cache, buf, *piece)?;
+        }
+        Ok(())
+    }
+
+    /// The bytes from `offset` on, all below the tip: those of pages that the cache holds are
+    /// copied first, since each page that is put then may take the place of one that is held.
+    fn read_missing(
+        self,
+        blob: &mut B,
+        cache: &mut CacheRef,
+        buf: &mut [u8],
+        offset: u64,
+    ) -> Result<(), Error>
+        requires view { IsView (non_zero_u16_get self.page_size) self.tip.now }
+        requires can { let t = tail_at self.page_size self.id self.tip.now in
+            CanRead t cache.old (B.life blob.old).present }
+        requires below { let t = tail_at self.page_size self.id self.tip.now in
+            offset + length buf.old ≤ t.full_pages * t.page_size }
+        ensures reads { let t = tail_at self.entry.page_size self.entry.id self.entry.tip.now in
+            let old = B.life blob.old in let new = B.life blob.new in
+            ReadsBelow H.sum_of t cache.old (offset, length buf.old) buf.new old new result }
+        ensures asks { let t = tail_at self.entry.page_size self.entry.id self.entry.tip.now in
+            let count = length (missing cache.old t ((offset, length buf.old) ∷ [])) in
+            let old = B.life blob.old in let new = B.life blob.new in
+            length new.present.log ≤ length old.present.log + count }
+        ensures leaves { let t = tail_at self.entry.page_size self.entry.id self.entry.tip.now in
+            LeavesAll t cache.old cache.new (B.life blob.old) (B.life blob.new) }
+        ensures size { length buf.new ≡ length buf.old }
+    {
+        let mut pieces = Vec::new(self.alloc);
+        push_pieces(&mut pieces, self.page_size, offset, buf.len(), 0)?;
+        let left = cache.read_cached_many(self.id, buf, &pieces)?;
+        self.read_pieces(blob, cache, buf, &left)
+    }
+
+    /// The bytes from `offset` on, all below the tip, or none. Where the cache holds all their
+    /// pages it copies them once, takes no memory and asks no device.
+    pub(crate) fn read_below(
+        self,
+        blob: &mut B,
+        cache: &mut CacheRef,
+        buf: &mut [u8],
+        offset: u64,
+    ) -> Result<(), Error>
+        requires view { IsView (non_zero_u16_get self.page_size) self.tip.now }
+        requires can { let t = tail_at self.page_size self.id self.tip.now in
+            CanRead t cache.old (B.life blob.old).present }
+        requires below { let t = tail_at self.page_size self.id self.tip.now in
+            0 < length buf.old → offset + length buf.old ≤ t.full_pages * t.page_size }
+        ensures reads { let t = tail_at self.entry.page_size self.entry.id self.entry.tip.now in
+            let old = B.life blob.old in let new = B.life blob.new in
+            ReadsBelow H.sum_of t cache.old (offset, length buf.old) buf.new old new result }
+        ensures asks { let t = tail_at self.entry.page_size self.entry.id self.entry.tip.now in
+            let old = B.life blob.old in let new = B.life blob.new in
+            AsksForMissing cache.old t (offset, length buf.old) old new }
+        ensures leaves { let t = tail_at self.entry.page_size self.entry.id self.entry.tip.now in
+            LeavesAll t cache.old cache.new (B.life blob.old) (B.life blob.new) }
+        ensures size { length buf.new ≡ length buf.old }
+    {
+        let count = cache.read_cached(self.id, buf, offset);
+        if count == buf.len() {
+            return Ok(());
+        }
+        self.read_missing(blob, cache, &mut buf[count..], offset + count as u64)
+    }
+}

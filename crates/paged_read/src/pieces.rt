@@ -1,0 +1,56 @@
+// The pages of a range.
+ghost use Rattle.std.specs.Prelude.{◌≡◌, ◌+◌, ◌*◌, ◌<◌, ◌≤◌, ◌^◌, ◌++◌, OnOk, IsOkUnless};
+ghost use Rattle.std.specs.Int.NonZero.{non_zero_u16_get};
+ghost use Rattle.paged_read.specs.Pieces.{piece_of, pieces_of};
+
+use cache::Piece;
+use disk::Error;
+use std::num::NonZeroU16;
+
+/// The bytes that a range has of a page that it comes to, for a buffer in which it begins at
+/// `place`.
+fn piece_at(page_size: NonZeroU16, offset: u64, len: usize, place: usize, page: u64) -> Piece
+    requires places { offset + len < 2 ^ 64 }
+    requires room { place + len < 2 ^ 64 }
+    requires begins { page * non_zero_u16_get page_size ≤ offset + len }
+    requires ends { offset ≤ (page + 1) * non_zero_u16_get page_size }
+    ensures { result ≡ piece_of (non_zero_u16_get page_size) (offset, len) place page }
+{
+    let size = u64::from(page_size.get());
+    let start = page * size;
+    let from = offset.max(start);
+    let end = (offset + len as u64).min(start.saturating_add(size));
+    Piece {
+        page,
+        skip: (from - start) as usize,
+        place: place + (from - offset) as usize,
+        len: (end - from) as usize,
+    }
+}
+
+/// Adds the bytes of a range page by page, for a buffer in which it begins at `place`.
+/// `OutOfMemory` alone.
+pub(crate) fn push_pieces(
+    pieces: &mut Vec<Piece>,
+    page_size: NonZeroU16,
+    offset: u64,
+    len: usize,
+    place: usize,
+) -> Result<(), Error>
+    requires places { offset + len < 2 ^ 64 }
+    requires room { place + len < 2 ^ 64 }
+    ensures ok { let more = pieces_of (non_zero_u16_get page_size) (offset, len) place in
+        OnOk result (pieces.new.items ≡ pieces.old.items ++ more) }
+    ensures err { IsOkUnless result Error.OutOfMemory }
+{
+    if len == 0 {
+        return Ok(());
+    }
+    let size = u64::from(page_size.get());
+    let first = offset / size;
+    let count = (offset % size + len as u64).div_ceil(size);
+    for page in first..first + count {
+        pieces.push(piece_at(page_size, offset, len, place, page))?;
+    }
+    Ok(())
+}

@@ -1,0 +1,262 @@
+// Views.
+ghost use Rattle.std.specs.Prelude.{◌≡◌, ◌+◌, ◌-◌, ◌*◌, ◌<◌, ◌≤◌, ◌≢◌, ◌^◌, length, min, take};
+ghost use Rattle.std.specs.Prelude.{drop, Err};
+ghost use Rattle.std.specs.Int.NonZero.{non_zero_u16_get};
+ghost use Rattle.std.specs.List.{concat};
+ghost use Rattle.paged_read.specs.Tail.{tail_at, size_of, IsView, CanRead};
+ghost use Rattle.paged_read.specs.Ranges.{Reads, ReadsUpTo, range_up_to, AsksForMissing, LeavesAll};
+ghost use Rattle.paged_read.specs.Ranges.{TriesRead};
+ghost use Rattle.paged_read.specs.Parts.{TriesBelow};
+
+use cache::CacheRef;
+use disk::{Blob, Error, IoBufs};
+use page::{Buffer, Sum};
+use std::alloc::{AllocError, Global};
+use std::marker::PhantomData;
+use std::num::NonZeroU16;
+
+/// What reads of a blob of the type `B` stand on, with pages under the checksum function `H`: its
+/// full pages, and the bytes behind them, in memory.
+///
+/// The blob and the cache are lent to each call: always those of the blob's writer. A read leaves
+/// the blob as it is, and puts each page that it reads in the cache, also where it fails behind it.
+/// A page that isn't full answers `InvalidChecksum`, which no page of a sound blob does.
+#[derive(Drop)]
+pub struct View<'a, B, H> {
+    pub(crate) alloc: Global,
+    pub(crate) page_size: NonZeroU16,
+    pub(crate) id: u64,
+    pub(crate) tip: &'a Buffer,
+    pub(crate) of: PhantomData<(B, H)>,
+}
+
+impl<B, H> Clone for View<'_, B, H> {
+    ghost is_clone = { λ v copy. copy ≡ v };
+
+    fn clone(&self) -> Result<Self, AllocError> {
+        Ok(*self)
+    }
+}
+
+impl<B, H> Copy for View<'_, B, H> {}
+
+impl<'a, B, H> View<'a, B, H> {
+    /// What reads of a blob stand on whose full pages, of `page_size` logical bytes, end where the
+    /// tip begins, and whose pages the cache knows under `id`.
+    pub fn new(alloc: Global, page_size: NonZeroU16, id: u64, tip: &'a Buffer) -> Self
+        requires { IsView (non_zero_u16_get page_size) tip.now }
+        ensures page_size { result.page_size ≡ page_size }
+        ensures id { result.id ≡ id }
+        ensures tip { result.tip.now ≡ tip.now }
+    {
+        View {
+            alloc,
+            page_size,
+            id,
+            tip,
+            of: PhantomData,
+        }
+    }
+}
+
+impl<B, H> View<'_, B, H> {
+    /// The logical bytes.
+    pub fn size(self) -> u64
+        requires { IsView (non_zero_u16_get self.page_size) self.tip.now }
+        ensures { result ≡ size_of (tail_at self.entry.page_size self.entry.id self.entry.tip.now) }
+    {
+        self.tip.size()
+    }
+
+    /// How many of the bytes of a range stand below the tip.
+    pub(crate) fn len_below(self, offset: u64, len: usize) -> usize
+        requires { IsView (non_zero_u16_get self.page_size) self.tip.now }
+        ensures { let t = tail_at self.entry.page_size self.entry.id self.entry.tip.now in
+            result ≡ min len (t.full_pages * t.page_size - offset) }
+    {
+        (len as u64).min(self.tip.offset().saturating_sub(offset)) as usize
+    }
+}
+
+impl<B: Blob, H: Sum> View<'_, B, H> {
+    /// Copies the bytes from `offset` on into `buf`, as many as it has places for: those below the
+    /// tip from pages that the cache holds, else from the blob, one read for each page, and the
+    /// others from memory. A read of held pages takes no memory and asks no device.
+    ///
+    /// `OffsetOverflow` where the range passes the greatest `u64`, else `BlobInsufficientLength`
+    /// where it passes the size: both before anything is asked for. `ReadFailed` where the device
+    /// failed, `InvalidChecksum`, `OutOfMemory`; then what `buf` holds says nothing.
+    pub fn read_into(
+        self,
+        blob: &mut B,
+        cache: &mut CacheRef,
+        buf: &mut [u8],
+        offset: u64,
+    ) -> Result<(), Error>
+        requires view { IsView (non_zero_u16_get self.page_size) self.tip.now }
+        requires can { let t = tail_at self.page_size self.id self.tip.now in
+            CanRead t cache.old (B.life blob.old).present }
+        ensures reads { let t = tail_at self.entry.page_size self.entry.id self.entry.tip.now in
+            let old = B.life blob.old in let new = B.life blob.new in
+            Reads H.sum_of t cache.old (offset, length buf.old) (λ _. buf.new) old new result }
+        ensures overflow { 2 ^ 64 ≤ offset + length buf.old → result ≡ Err Error.OffsetOverflow }
+        ensures end { let t = tail_at self.entry.page_size self.entry.id self.entry.tip.now in
+            offset + length buf.old < 2 ^ 64 → size_of t < offset + length buf.old
+            → result ≡ Err Error.BlobInsufficientLength }
+        ensures asks { let t = tail_at self.entry.page_size self.entry.id self.entry.tip.now in
+            let old = B.life blob.old in let new = B.life blob.new in
+            AsksForMissing cache.old t (offset, length buf.old) old new }
+        ensures leaves { let t = tail_at self.entry.page_size self.entry.id self.entry.tip.now in
+            LeavesAll t cache.old cache.new (B.life blob.old) (B.life blob.new) }
+        ensures size { length buf.new ≡ length buf.old }
+    {
+        let end = offset
+            .checked_add(buf.len() as u64)
+            .ok_or(Error::OffsetOverflow)?;
+        if end > self.size() {
+            return Err(Error::BlobInsufficientLength);
+        }
+        let below = self.len_below(offset, buf.len());
+        self.read_below(blob, cache, &mut buf[..below], offset)?;
+        self.copy_tip(&mut buf[below..], offset + below as u64);
+        Ok(())
+    }
+
+    /// The `len` bytes from `offset` on, read as [`View::read_into`] reads them, and refused as it
+    /// refuses them.
+    pub fn read_at(
+        self,
+        blob: &mut B,
+        cache: &mut CacheRef,
+        offset: u64,
+        len: usize,
+    ) -> Result<IoBufs, Error>
+        requires view { IsView (non_zero_u16_get self.page_size) self.tip.now }
+        requires can { let t = tail_at self.page_size self.id self.tip.now in
+            CanRead t cache.old (B.life blob.old).present }
+        ensures reads { let t = tail_at self.entry.page_size self.entry.id self.entry.tip.now in
+            let old = B.life blob.old in let new = B.life blob.new in
+            Reads H.sum_of t cache.old (offset, len) concat old new result }
+        ensures overflow { 2 ^ 64 ≤ offset + len → result ≡ Err Error.OffsetOverflow }
+        ensures end { let t = tail_at self.entry.page_size self.entry.id self.entry.tip.now in
+            offset + len < 2 ^ 64 → size_of t < offset + len
+            → result ≡ Err Error.BlobInsufficientLength }
+        ensures asks { let t = tail_at self.entry.page_size self.entry.id self.entry.tip.now in
+            let old = B.life blob.old in let new = B.life blob.new in
+            AsksForMissing cache.old t (offset, len) old new }
+        ensures leaves { let t = tail_at self.entry.page_size self.entry.id self.entry.tip.now in
+            LeavesAll t cache.old cache.new (B.life blob.old) (B.life blob.new) }
+    {
+        let Some(end) = offset.checked_add(len as u64) else {
+            return Err(Error::OffsetOverflow);
+        };
+        if self.size() < end {
+            return Err(Error::BlobInsufficientLength);
+        }
+        let mut bytes = Vec::new(self.alloc);
+        bytes.resize(len, 0)?;
+        self.read_into(blob, cache, &mut bytes, offset)?;
+        let mut bufs = IoBufs::new(self.alloc);
+        bufs.append_front(bytes, len)?;
+        Ok(bufs)
+    }
+
+    /// As many bytes from `offset` on as there are, at most `len`, in place of what `bytes` held,
+    /// and how many: at least one, unless none is asked for, which is answered at any place.
+    ///
+    /// `BlobInsufficientLength` at or behind the end, before anything is asked for; `ReadFailed`,
+    /// `InvalidChecksum`, `OutOfMemory`.
+    pub fn read_up_to(
+        self,
+        blob: &mut B,
+        cache: &mut CacheRef,
+        offset: u64,
+        len: usize,
+        mut bytes: Vec<u8>,
+    ) -> Result<(Vec<u8>, usize), Error>
+        requires view { IsView (non_zero_u16_get self.page_size) self.tip.now }
+        requires can { let t = tail_at self.page_size self.id self.tip.now in
+            CanRead t cache.old (B.life blob.old).present }
+        ensures reads { let t = tail_at self.entry.page_size self.entry.id self.entry.tip.now in
+            let old = B.life blob.old in let new = B.life blob.new in
+            ReadsUpTo H.sum_of t cache.old offset len old new result }
+        ensures end { let t = tail_at self.entry.page_size self.entry.id self.entry.tip.now in
+            len ≢ 0 → size_of t ≤ offset → result ≡ Err Error.BlobInsufficientLength }
+        ensures asks { let t = tail_at self.entry.page_size self.entry.id self.entry.tip.now in
+            let old = B.life blob.old in let new = B.life blob.new in
+            AsksForMissing cache.old t (range_up_to t offset len) old new }
+        ensures leaves { let t = tail_at self.entry.page_size self.entry.id self.entry.tip.now in
+            LeavesAll t cache.old cache.new (B.life blob.old) (B.life blob.new) }
+    {
+        bytes.clear();
+        if len == 0 {
+            return Ok((bytes, 0));
+        }
+        let size = self.size();
+        if offset >= size {
+            return Err(Error::BlobInsufficientLength);
+        }
+        let count = (len as u64).min(size - offset) as usize;
+        bytes.resize(count, 0)?;
+        self.read_into(blob, cache, &mut bytes, offset)?;
+        Ok((bytes, count))
+    }
+}
+
+impl<B, H> View<'_, B, H> {
+    /// Copies the bytes from `offset` on, all behind the full pages, if there are any.
+    pub(crate) fn copy_tip(self, buf: &mut [u8], offset: u64)
+        requires view { IsView (non_zero_u16_get self.page_size) self.tip.now }
+        requires behind { let t = tail_at self.page_size self.id self.tip.now in
+            0 < length buf.old → t.full_pages * t.page_size ≤ offset }
+        requires within { let t = tail_at self.page_size self.id self.tip.now in
+            offset + length buf.old ≤ size_of t }
+        ensures { let t = tail_at self.entry.page_size self.entry.id self.entry.tip.now in
+            let skip = offset - t.full_pages * t.page_size in
+            buf.new ≡ take (length buf.old) (drop skip t.bytes) }
+    {
+        if !buf.is_empty() {
+            self.tip.copy_to((offset - self.tip.offset()) as usize, buf);
+        }
+    }
+
+    /// Copies the bytes from `offset` on, all below the tip, or none, where the cache holds their
+    /// pages; it answers whether it does.
+    pub(crate) fn copy_held(self, cache: &CacheRef, buf: &mut [u8], offset: u64) -> bool
+        requires view { IsView (non_zero_u16_get self.page_size) self.tip.now }
+        requires page_size { cache.now.page_size ≡ non_zero_u16_get self.page_size }
+        requires below { let t = tail_at self.page_size self.id self.tip.now in
+            0 < length buf.old → offset + length buf.old ≤ t.full_pages * t.page_size }
+        ensures tries { let t = tail_at self.entry.page_size self.entry.id self.entry.tip.now in
+            TriesBelow t (offset, length buf.old) cache.now buf.new result }
+        ensures size { length buf.new ≡ length buf.old }
+    {
+        cache.read_cached(self.id, buf, offset) == buf.len()
+    }
+
+    /// Copies the bytes from `offset` on into `buf`, as many as it has places for, where that needs
+    /// no device: where they are within the size, and the cache holds the pages of those below the
+    /// tip. It answers whether it did; where it didn't, what `buf` holds says nothing. It takes no
+    /// memory.
+    pub fn try_read_sync_into(self, cache: &CacheRef, buf: &mut [u8], offset: u64) -> bool
+        requires view { IsView (non_zero_u16_get self.page_size) self.tip.now }
+        requires page_size { cache.now.page_size ≡ non_zero_u16_get self.page_size }
+        ensures tries { let t = tail_at self.entry.page_size self.entry.id self.entry.tip.now in
+            TriesRead t (offset, length buf.old) cache.now buf.new result }
+        ensures size { length buf.new ≡ length buf.old }
+    {
+        let size = self.size();
+        let Some(end) = offset.checked_add(buf.len() as u64) else {
+            return false;
+        };
+        if end > size {
+            return false;
+        }
+        let below = self.len_below(offset, buf.len());
+        if !self.copy_held(cache, &mut buf[..below], offset) {
+            return false;
+        }
+        self.copy_tip(&mut buf[below..], offset + below as u64);
+        true
+    }
+}

@@ -1,0 +1,130 @@
+-- What the steps that read other than all of a range do.
+use Rattle.std.proofs.Common.{◌≡◌, ◌⊎◌, ℕ, ◌+◌, ◌-◌, ◌<◌, ◌≤◌, List, [], length, take, drop, min, refl, sym, ap, ◌∙◌, subst, arith, inl, inr, Err, lit<}
+use Rattle.std.specs.Prelude.{Option, Some, None, IfSome, nat_le}
+use Rattle.std.specs.List.{Contains}
+use Rattle.std.proofs.lemmas.Bool.{leb-true, and_parts, cases_lt}
+use Rattle.std.proofs.lemmas.List.{take_all, length-drop}
+use Rattle.disk.specs.Disk.{Disk, Life}
+use Rattle.disk.specs.declared.error.Error.{Error}
+use Rattle.disk.specs.declared.error.Error.TheVariants.{ReadFailed, WriteFailed, ResizeFailed, SyncFailed, InvalidChecksum, BlobInsufficientLength, OffsetOverflow, OutOfMemory, IdsExhausted}
+use Rattle.crash.specs.Kept.{Through}
+use Rattle.crash.specs.Started.{StartsStand}
+use Rattle.crash.specs.WriterState.{WriterState}
+use Rattle.crash.specs.Sound.{IsSound}
+use Rattle.cache.specs.CacheState.{CacheState}
+use Rattle.paged_read.specs.Tail.{CanRead}
+use Rattle.paged_read.specs.Ranges.{ReadsUpTo, is_served}
+use Rattle.paged.specs.Caches.{tail_of}
+use Rattle.paged.specs.Reads.{size_of}
+use Rattle.paged.proofs.Flushes.{size_is_length}
+use Rattle.paged.proofs.There.{reads_keep_sound}
+use Rattle.session.specs.declared.steps.Step.TheVariants.{ReadUpTo, TryRead}
+use Rattle.session.specs.declared.steps.Reply.{Reply}
+use Rattle.session.specs.declared.steps.Reply.TheVariants.{At, Nothing, Done, Started, Answer, Length, Bytes, Fault, Closed, NotRecovering, NoSuch}
+use Rattle.session.specs.Run.{Standing, SessionState, faults, HasCause, Takes, Foretells, StandsFor, IsReady, CacheFits}
+use Rattle.session.specs.Calls.{ReadsBytesUpTo, ReadUpToSays, DidReadUpTo, TriedBytes, DidTryRead, StepsAlways, Steps}
+use Rattle.session.proofs.StepLaws.{held, turned_here, turned_closed, unasked, looked_steps, alike_stays_started, closed_takes, held_takes, sound_of, can_of, same_rest}
+
+-- ---- at most so many bytes
+
+-- those that are there
+take_up_to : (xs : List ℕ) (offset len size : ℕ) → size ≡ length xs → take (min len (size - offset)) (drop offset xs) ≡ take len (drop offset xs)
+take_up_to xs offset len size is =
+    let rest : length (drop offset xs) ≡ size - offset = length-drop offset xs ∙ ap (λ (n : ℕ). n - offset) (sym is) in
+    elim (cases_lt (size - offset) len) [
+      | inl fewer ↦ take_all (min len (size - offset)) (drop offset xs) (omega (arith, rest, fewer)) ∙ sym (take_all len (drop offset xs) (omega (arith, rest, fewer)))
+      | inr all ↦ let same : min len (size - offset) ≡ len = omega (arith, all) in ap (λ (n : ℕ). take n (drop offset xs)) same
+    ]
+
+-- why such a read is refused
+up_to_cause : (sum : List ℕ → ℕ) (P : ℕ) (w : WriterState) (cache : CacheState) (offset len : ℕ) (before : Standing) (old new : Life) (e : Error) → size_of w ≡ length before.content → (e ≡ InvalidChecksum → ⊥)
+    → ReadsUpTo sum (tail_of w) cache offset len old new (Err e) → Contains (faults (ReadUpTo offset len)) e × HasCause P (ReadUpTo offset len) before old.present new.present e
+up_to_cause sum P w cache offset len before old new ReadFailed size full goes = ((0, lit< tt, refl), goes)
+up_to_cause sum P w cache offset len before old new WriteFailed size full goes = absurd goes
+up_to_cause sum P w cache offset len before old new ResizeFailed size full goes = absurd goes
+up_to_cause sum P w cache offset len before old new SyncFailed size full goes = absurd goes
+up_to_cause sum P w cache offset len before old new InvalidChecksum size full goes = absurd (full refl)
+up_to_cause sum P w cache offset len before old new BlobInsufficientLength size full goes = ((1, lit< tt, refl), (goes.1, omega (arith, size, goes.2)))
+up_to_cause sum P w cache offset len before old new OffsetOverflow size full goes = absurd goes
+up_to_cause sum P w cache offset len before old new OutOfMemory size full goes = ((2, lit< tt, refl), tt)
+up_to_cause sum P w cache offset len before old new IdsExhausted size full goes = absurd goes
+
+-- such a read
+read_up_to_steps : (sum : List ℕ → ℕ) (was : SessionState) (w : WriterState) (cache : CacheState) (offset len : ℕ) (old new : Life) (reply : Reply) → IsSound sum w old.present → ReadUpToSays sum w cache offset len old new reply
+    → StepsAlways sum (ReadUpTo offset len) reply (held was (Some w)) (held was (Some w)) old new
+unfolding Through
+read_up_to_steps sum was w cache offset len old new reply sound says = λ P before stands.
+    let size : size_of w ≡ length before.content = size_is_length sum w old sound ∙ ap length (sym stands.fits.content) in
+    let foretold : Foretells P (ReadUpTo offset len) reply before = (λ none. absurd none, λ passes. says.end passes.0 (omega (arith, size, passes.1))) in
+    looked_steps sum was P w (ReadUpTo offset len) reply old new before refl refl (turned_here before.has_writer stands.fits.has_writer) sound says.looked says.looked.through says.looked.through.each stands (taken reply P before stands size says.full says.reads) foretold
+  where
+    some : (P : ℕ) (before : Standing) → size_of w ≡ length before.content → (len ≡ 0) ⊎ (offset < size_of w) → (len ≡ 0) ⊎ (offset < length before.content)
+    some P before size (inl none) = inl none
+    some P before size (inr there) = inr (omega (arith, size, there))
+
+    taken : (r : Reply) (P : ℕ) (before : Standing) → StandsFor sum P (held was (Some w)) before old.present → size_of w ≡ length before.content → (r ≡ Fault InvalidChecksum → ⊥) → ReadsBytesUpTo sum w cache offset len old new r → Takes P (ReadUpTo offset len) r old.present new.present before before
+    taken (Bytes bytes) P before stands size full (count, reads) =
+        let is : bytes.items ≡ take (min len (size_of w - offset)) (drop offset before.content) = reads.1 ∙ ap (λ (l : List ℕ). take (min len (size_of w - offset)) (drop offset l)) (sym stands.fits.content) in
+        ((some P before size reads.0, is ∙ take_up_to before.content offset len (size_of w) size), refl)
+    taken (Fault e) P before stands size full reads = let cause = up_to_cause sum P w cache offset len before old new e size (λ is. full (ap Fault is)) reads in (cause.0, cause.1, refl)
+    taken (At n) P before stands size full reads = absurd reads
+    taken Nothing P before stands size full reads = absurd reads
+    taken Done P before stands size full reads = absurd reads
+    taken (Started sync) P before stands size full reads = absurd reads
+    taken (Answer answer) P before stands size full reads = absurd reads
+    taken NoSuch P before stands size full reads = absurd reads
+    taken NotRecovering P before stands size full reads = absurd reads
+    taken (Length n) P before stands size full reads = absurd reads
+    taken Closed P before stands size full reads = absurd reads
+
+-- by a session
+pub read_up_to_takes : (sum : List ℕ → ℕ) (was : SessionState) (cache : CacheState) (offset len : ℕ) (old new : Life) (reply : Reply) → IsReady sum was old.present → DidReadUpTo sum was.writer cache offset len old new reply
+    → Steps sum (ReadUpTo offset len) reply was was old new
+read_up_to_takes sum was cache offset len old new reply ready goes = by_writer was.writer refl goes
+  where
+    by_writer : (o : Option WriterState) → was.writer ≡ o → DidReadUpTo sum o cache offset len old new reply → Steps sum (ReadUpTo offset len) reply was was old new
+    by_writer None at goes = closed_takes sum (ReadUpTo offset len) was was old new reply (λ before none. turned_closed before.has_writer none) at ready goes.0 refl goes.1
+    by_writer (Some w) at says =
+        let sound = sound_of sum was w old.present at ready in
+        let starts : (was.names ≡ []) ⊎ StartsStand new.present = elim ready.starts [ inl none ↦ inl none | inr stand ↦ inr (alike_stays_started old.present new.present says.looked.same stand) ] in
+        held_takes sum (ReadUpTo offset len) reply was was w (Some w) old new at (same_rest was) at (reads_keep_sound sum w old new says.looked sound) starts (read_up_to_steps sum was w cache offset len old new reply sound says)
+
+-- ---- bytes that need no device
+
+try_read_steps : (sum : List ℕ → ℕ) (was : SessionState) (w : WriterState) (cache : CacheState) (offset len : ℕ) (life : Life) (reply : Reply) → IsSound sum w life.present → CanRead (tail_of w) cache life.present → TriedBytes w cache offset len reply
+    → StepsAlways sum (TryRead offset len) reply (held was (Some w)) (held was (Some w)) life life
+try_read_steps sum was w cache offset len life reply sound can tried = λ P before stands.
+    let size : size_of w ≡ length before.content = size_is_length sum w life sound ∙ ap length (sym stands.fits.content) in
+    unasked sum P was w (TryRead offset len) reply (held was (Some w)) life before before (turned_here before.has_writer stands.fits.has_writer) stands (taken reply P before stands size tried) (λ none. absurd none, λ none. absurd none) stands
+  where
+    taken : (r : Reply) (P : ℕ) (before : Standing) → StandsFor sum P (held was (Some w)) before life.present → size_of w ≡ length before.content → TriedBytes w cache offset len r → Takes P (TryRead offset len) r life.present life.present before before
+    taken (Bytes bytes) P before stands size tries =
+        let within : offset + len ≤ size_of w = leb-true (offset + len) (size_of w) (and_parts (nat_le (offset + len) (size_of w)) (is_served cache (tail_of w) (offset, len)) (sym tries.0)).0 in
+        ((omega (arith, size, within), tries.1 refl life.present can ∙ ap (λ (l : List ℕ). take len (drop offset l)) (sym stands.fits.content)), refl)
+    taken Nothing P before stands size tried = refl
+    taken (Fault e) P before stands size (is, within) =
+        subst (λ (x : Error). Takes P (TryRead offset len) (Fault x) life.present life.present before before) (sym is) ((0, lit< tt, refl), omega (arith, size, within), refl)
+    taken (At n) P before stands size tried = absurd tried
+    taken Done P before stands size tried = absurd tried
+    taken (Started sync) P before stands size tried = absurd tried
+    taken (Answer answer) P before stands size tried = absurd tried
+    taken (Length n) P before stands size tried = absurd tried
+    taken Closed P before stands size tried = absurd tried
+    taken NoSuch P before stands size tried = absurd tried
+    taken NotRecovering P before stands size tried = absurd tried
+
+-- by a session
+pub try_read_takes : (sum : List ℕ → ℕ) (was : SessionState) (cache : CacheState) (offset len : ℕ) (life : Life) (reply : Reply) → IsReady sum was life.present → CacheFits was.writer cache life.present → DidTryRead was.writer cache offset len reply
+    → Steps sum (TryRead offset len) reply was was life life
+try_read_takes sum was cache offset len life reply ready fits goes = by_writer was.writer refl goes
+  where
+    by_writer : (o : Option WriterState) → was.writer ≡ o → DidTryRead o cache offset len reply → Steps sum (TryRead offset len) reply was was life life
+    by_writer None at is = closed_takes sum (TryRead offset len) was was life life reply (λ before none. turned_closed before.has_writer none) at ready is refl refl
+    by_writer (Some w) at tried =
+        let sound = sound_of sum was w life.present at ready in
+        held_takes sum (TryRead offset len) reply was was w (Some w) life life at (same_rest was) at sound ready.starts (try_read_steps sum was w cache offset len life reply sound (can_of was w cache life.present at fits) tried)
+
+-- the cache's page size is the writer's
+pub page_size_fits : (o : Option WriterState) (cache : CacheState) (d : Disk) → CacheFits o cache d → IfSome o (λ w. cache.page_size ≡ w.page_size)
+page_size_fits None cache d fits = tt
+page_size_fits (Some w) cache d fits = fits.page_size
