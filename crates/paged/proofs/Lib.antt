@@ -33,6 +33,7 @@ pub mod Shortened
 pub mod Truncated
 pub mod Truncating
 pub mod Caching
+pub mod Refused
 pub mod CachedCuts
 pub mod OpenedReads
 pub mod Serves

@@ -2,6 +2,7 @@
 use Rattle.std.specs.Prelude.{◌≡◌, ◌≤◌, ◌+◌, ◌*◌, ℕ, List, length, Result, Ok, Err}
 use Rattle.disk.specs.Disk.{Disk, Life}
 use Rattle.disk.specs.declared.error.Error.{Error}
+use Rattle.disk.specs.declared.error.Error.TheVariants.{OffsetOverflow, SyncFailed}
 use Rattle.cache.specs.CacheState.{CacheState, PutsAll}
 use Rattle.crash.specs.WriterState.{WriterState}
 use Rattle.paged_read.specs.Tail.{Tail, CanRead}
@@ -39,6 +40,19 @@ Caches writer w bytes old new (Ok a) =
     PutsUpTo w.id w.full_pages w.page_size bytes (writer a).full_pages old new
 Caches writer w bytes old new (Err e) =
     (to : ℕ) × PutsUpTo w.id w.full_pages w.page_size bytes to old new
+
+-- a call that is refused for a place past the greatest, or for the started sync that it waits for,
+-- is refused before it puts anything
+abbrev pub PutsOnceWaited : {A : Type 0} → CacheState → CacheState → Result A Error → Type 0
+PutsOnceWaited old new (Err OffsetOverflow) = new ≡ old
+PutsOnceWaited old new (Err SyncFailed) = new ≡ old
+PutsOnceWaited old new _ = Unit {0}
+
+-- it is refused for neither
+abbrev pub IsNotBefore : {A : Type 0} → Result A Error → Type 0
+IsNotBefore (Err OffsetOverflow) = ⊥
+IsNotBefore (Err SyncFailed) = ⊥
+IsNotBefore _ = Unit {0}
 
 -- where one writer could be read, another can be
 abbrev pub ReadsOn : WriterState → WriterState → CacheState → CacheState → Life → Life → Type 0

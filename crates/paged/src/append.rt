@@ -12,7 +12,7 @@ ghost use Rattle.paged.specs.Calls.{Completed, wait_calls};
 ghost use Rattle.paged.specs.Calls.{TryAppends, BuffersOver, KeepsSound, KeepsPages};
 ghost use Rattle.paged.specs.Reads.{HasPages, size_of};
 ghost use Rattle.paged.specs.Flush.{answered};
-ghost use Rattle.paged.specs.Caches.{CachesTo, Caches, ReadsOn, KeepsReads};
+ghost use Rattle.paged.specs.Caches.{CachesTo, Caches, ReadsOn, KeepsReads, PutsOnceWaited};
 ghost use Rattle.cache.specs.Pages.{CachesOnly, IsFresh};
 
 use crate::Writer;
@@ -103,6 +103,7 @@ impl<B: Blob, H: Sum, Phase> Writer<B, H, Phase> {
         ensures caches { let held = content self (B.life blob.old).present.readable in
             CachesOnly self.id self.full_pages (held ++ bytes.now) cache.old cache.new }
         ensures fresh_ids { self.id < cache.old.ids_given → IsFresh cache.old → IsFresh cache.new }
+        ensures refused { PutsOnceWaited cache.old cache.new result }
         ensures idle_cache { length self.tip + length bytes.now ≤ self.capacity
             → cache.new ≡ cache.old }
 
@@ -156,6 +157,7 @@ impl<B: Blob, H: Sum, Phase> Writer<B, H, Phase> {
         ensures starts { StartsStand (B.life blob.new).present }
         ensures puts { CachesTo self.old self.new (self.old.tip ++ bytes.now) cache.old cache.new
             result }
+        ensures refused { PutsOnceWaited cache.old cache.new result }
         ensures idle_cache { length self.old.tip + length bytes.now ≤ self.old.capacity
             → cache.new ≡ cache.old }
     {
@@ -203,6 +205,7 @@ impl<B: Blob, H: Sum, Phase> Writer<B, H, Phase> {
         ensures starts { StartsStand (B.life blob.new).present }
         ensures puts { CachesTo self.old self.new (self.old.tip ++ bytes.now) cache.old cache.new
             result }
+        ensures refused { PutsOnceWaited cache.old cache.new result }
         ensures idle_cache { length self.old.tip + length bytes.now ≤ self.old.capacity
             → cache.new ≡ cache.old }
     {

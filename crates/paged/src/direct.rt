@@ -1,6 +1,6 @@
 // Appending what is too big for the buffer: whole pages go to the device from where they stand.
 ghost use Rattle.std.specs.Prelude.{◌≡◌, ◌<◌, ◌≤◌, ◌+◌, ◌/◌, ◌%◌, ◌^◌, ◌++◌, [], true, length};
-ghost use Rattle.std.specs.Prelude.{if◌then◌else◌, false};
+ghost use Rattle.std.specs.Prelude.{if◌then◌else◌, false, ◌⊎◌};
 ghost use Rattle.std.specs.Prelude.{IfOk, OnOk, IsErrOf, IsOkUnless, Err};
 ghost use Rattle.std.specs.List.{concat};
 ghost use Rattle.disk.specs.Disk.{WriteGoes};
@@ -16,7 +16,7 @@ ghost use Rattle.paged.specs.Calls.{Completed, wait_calls};
 ghost use Rattle.paged.specs.Direct.{fill_of, is_too_big, buffering, IsDirect, AsksWithWait};
 ghost use Rattle.paged.specs.Flush.{advanced, answered, flush_bytes, place_of, written};
 ghost use Rattle.paged.specs.Reads.{HasPages, size_of};
-ghost use Rattle.paged.specs.Caches.{CachesTo, Caches, ReadsOn};
+ghost use Rattle.paged.specs.Caches.{CachesTo, Caches, ReadsOn, PutsOnceWaited, IsNotBefore};
 ghost use Rattle.cache.specs.Pages.{CachesOnly, IsFresh};
 
 use crate::Writer;
@@ -157,6 +157,7 @@ impl<B: Blob, H: Sum, Phase> Writer<B, H, Phase> {
         ensures caches { let held = content self (B.life blob.old).present.readable in
             CachesOnly self.id self.full_pages (held ++ bytes) cache.old cache.new }
         ensures fresh_ids { self.id < cache.old.ids_given → IsFresh cache.old → IsFresh cache.new }
+        ensures refused { PutsOnceWaited cache.old cache.new result }
         ensures idle_cache { length self.tip + length bytes ≤ self.capacity
             → cache.new ≡ cache.old }
 
@@ -205,6 +206,7 @@ impl<B: Blob, H: Sum, Phase> Writer<B, H, Phase> {
         ensures starts { StartsStand (B.life blob.new).present }
         ensures puts { CachesTo self.old self.new (self.old.tip ++ bytes.now) cache.old cache.new
             result }
+        ensures refused { PutsOnceWaited cache.old cache.new result }
         ensures idle_cache { length self.old.tip + length bytes.now ≤ self.old.capacity
             → cache.new ≡ cache.old }
     {
@@ -249,6 +251,7 @@ impl<B: Blob, H: Sum, Phase> Writer<B, H, Phase> {
         ensures starts { StartsStand (B.life blob.new).present }
         ensures puts { CachesTo self.old self.new (self.old.tip ++ bytes.now) cache.old cache.new
             result }
+        ensures refused { PutsOnceWaited cache.old cache.new result }
     {
         let page_size = usize::from(self.page_size.get());
         let end = bytes.len() - (bytes.len() - fill) % page_size;
@@ -279,6 +282,8 @@ impl<B: Blob, H: Sum, Phase> Writer<B, H, Phase> {
         ensures starts { StartsStand (B.life blob.new).present }
         ensures puts { CachesTo self.old self.new (self.old.tip ++ bytes.now) cache.old cache.new
             result }
+        ensures refused { PutsOnceWaited cache.old cache.new result }
+        ensures once { OnOk result ((cache.new ≡ cache.old) ⊎ WaitsForNone self.new.sync) }
     {
         self.buffer(bytes)?;
         self.flush(blob, cache, false)
@@ -310,6 +315,8 @@ impl<B: Blob, H: Sum, Phase> Writer<B, H, Phase> {
             AsksAtMost (wait_calls self.old.sync + 1) old new }
         ensures starts { StartsStand (B.life blob.new).present }
         ensures puts { CachesTo self.old self.new (whole ++ rest.now) cache.old cache.new result }
+        ensures refused { PutsOnceWaited cache.old cache.new result }
+        ensures late { WaitsForNone self.old.sync → IsNotBefore result }
     {
         self.wait(blob)?;
         self.flush_direct(blob, cache, whole, rest)
@@ -340,6 +347,7 @@ impl<B: Blob, H: Sum, Phase> Writer<B, H, Phase> {
         ensures calls { AsksAtMost 1 (B.life blob.old) (B.life blob.new) }
         ensures starts { StartsStand (B.life blob.new).present }
         ensures puts { CachesTo self.old self.new (whole ++ rest.now) cache.old cache.new result }
+        ensures late { IsNotBefore result }
     {
         self.carry();
         self.write_taken(blob, cache, whole, rest)

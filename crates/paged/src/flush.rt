@@ -16,7 +16,7 @@ ghost use Rattle.paged.specs.Calls.{WaitsForSync, wait_calls};
 ghost use Rattle.paged.specs.Reads.{HasPages};
 ghost use Rattle.page.specs.Tip.{ArePages};
 ghost use Rattle.paged.specs.Writer.{FitsBlob};
-ghost use Rattle.paged.specs.Caches.{CachesTo, Caches, ReadsOn};
+ghost use Rattle.paged.specs.Caches.{CachesTo, Caches, ReadsOn, PutsOnceWaited, IsNotBefore};
 ghost use Rattle.cache.specs.CacheState.{PutsAll};
 ghost use Rattle.cache.specs.Pages.{CachesOnly, IsFresh};
 ghost use Rattle.paged.specs.Flush.{full_in, rest_of, rest_bytes, has_work, carried, advanced};
@@ -272,6 +272,7 @@ impl<B: Blob, H: Sum, Phase> Writer<B, H, Phase> {
             → (result ≡ Ok tt) × (self.new ≡ self.old) × (B.life blob.new ≡ B.life blob.old) }
         ensures room { self.old.page_size ≤ self.old.capacity }
         ensures puts { CachesTo self.old self.new self.old.tip cache.old cache.new result }
+        ensures refused { PutsOnceWaited cache.old cache.new result }
         ensures idle_cache { has_work self.old rest ≡ false → cache.new ≡ cache.old }
     {
         if self.has_flush_work(rest) {
@@ -302,6 +303,7 @@ impl<B: Blob, H: Sum, Phase> Writer<B, H, Phase> {
         ensures names { OnOk result
             ((B.life blob.new).present.started ≡ (B.life blob.old).present.started) }
         ensures puts { CachesTo self.old self.new self.old.tip cache.old cache.new result }
+        ensures late { IsNotBefore result }
     {
         let behind = self.writes_rest(rest);
         self.carry();
@@ -335,6 +337,7 @@ impl<B: Blob, H: Sum, Phase> Writer<B, H, Phase> {
             CachesOnly self.id self.full_pages (content self old.present.readable) cache.old
             cache.new }
         ensures fresh_ids { self.id < cache.old.ids_given → IsFresh cache.old → IsFresh cache.new }
+        ensures refused { wait_calls self.sync ≡ 1 → PutsOnceWaited cache.old cache.new result }
         ensures idle_cache { has_work self true ≡ false → cache.new ≡ cache.old }
 
         // From then on every image keeps the whole content.
@@ -376,6 +379,8 @@ impl<B: Blob, H: Sum, Phase> Writer<B, H, Phase> {
             → SettlesBy self.old.sync (B.life blob.old) (B.life blob.new) result }
         ensures starts { StartsStand (B.life blob.new).present }
         ensures puts { CachesTo self.old self.new self.old.tip cache.old cache.new result }
+        ensures refused { wait_calls self.old.sync ≡ 1
+            → PutsOnceWaited cache.old cache.new result }
         ensures idle_cache { has_work self.old true ≡ false → cache.new ≡ cache.old }
     {
         if self.has_flush_work(true) {
@@ -400,6 +405,8 @@ impl<B: Blob, H: Sum, Phase> Writer<B, H, Phase> {
         ensures starts { StartsStand (B.life blob.new).present }
         ensures calls { AsksAtMost (sync_calls self.old) (B.life blob.old) (B.life blob.new) }
         ensures puts { CachesTo self.old self.new self.old.tip cache.old cache.new result }
+        ensures refused { wait_calls self.old.sync ≡ 1
+            → PutsOnceWaited cache.old cache.new result }
     {
         self.wait(blob)?;
         self.write_durably(blob, cache)
@@ -422,6 +429,7 @@ impl<B: Blob, H: Sum, Phase> Writer<B, H, Phase> {
         ensures starts { StartsStand (B.life blob.new).present }
         ensures calls { AsksAtMost (sync_calls self.old) (B.life blob.old) (B.life blob.new) }
         ensures puts { CachesTo self.old self.new self.old.tip cache.old cache.new result }
+        ensures late { self.old.sync ≡ Clean → IsNotBefore result }
     {
         let rest = self.has_rest();
         match self.sync_state {

@@ -1,3 +1,4 @@
+use Rattle.paged.proofs.Refused.{puts_none}
 use Rattle.std.proofs.Common.{ℕ, ◌++◌, subst}
 use Rattle.paged.specs.Caches.{PutsUpTo}
 use Rattle.paged.proofs.Caching.{refused_before, puts_buffered, puts_alike, puts_nothing}
@@ -91,3 +92,6 @@ returns-else-branch-clause-puts g c =
     subst (λ (n : ℕ). PutsUpTo w.id w.full_pages w.page_size (w.tip ++ c.args.bytes.now) n c.args.cache.now c.args.cache.now)
     (sym (ap (λ (v : WriterState). v.full_pages) c.in_ok-buffer.ensures.1))
     (puts_nothing w.id w.full_pages w.page_size (w.tip ++ c.args.bytes.now) c.args.cache.now)
+
+pub returns-in_err-buffer-clause-refused : goal.returns-in_err-buffer-clause-refused
+returns-in_err-buffer-clause-refused g c = puts_none c.args.cache.now c.from_residual.result

@@ -1,3 +1,4 @@
+use Rattle.paged.proofs.Refused.{puts_none}
 use Rattle.std.proofs.Common.{◌++◌}
 use Rattle.paged.proofs.Caching.{puts_nothing, refused_before}
 use Rattle.std.proofs.Common.{refl, sym, subst, Err}
@@ -48,3 +49,6 @@ returns-then-not-fits-clause-puts g c =
 pub returns-in_err-bytes-clause-puts : goal.returns-in_err-bytes-clause-puts
 returns-in_err-bytes-clause-puts g c =
     refused_before _ c.args.self.now c.args.self.now (c.args.self.now.tip ++ c.args.bytes.now) c.args.cache.now c.from_residual.result c.from_residual.ensures.1
+
+pub returns-in_err-bytes-clause-refused : goal.returns-in_err-bytes-clause-refused
+returns-in_err-bytes-clause-refused g c = puts_none c.args.cache.now c.from_residual.result

@@ -1,3 +1,4 @@
+use Rattle.paged.proofs.Refused.{puts_behind}
 use Rattle.std.proofs.Common.{sym}
 use Rattle.paged.proofs.Caching.{direct_joined, longer_refused, puts_settings}
 use Rattle.std.proofs.Common.{◌≡◌, ◌-◌, ◌%◌, ◌<◌, ◌+◌, ◌++◌, List, ℕ, true, length, take, drop, refl, ap, sym, subst, arith, ◌∙◌, Err, length-drop}
@@ -159,3 +160,8 @@ returns-clause-puts g c =
     let is = cut w c.args.fill c.from-page_size.result end c.len.result c.len-2.result bytes one two whole c.requires.sound.stands.some c.requires.fill size c.len.ensures c.len-2.ensures c.requires.big c.as_ref.ensures c.as_ref-2.ensures refl c.in_ok-whole.ensures.ok in
     direct_joined sum w m c.write_direct.new.self (take c.args.fill one) (whole ++ rest) bytes old mid c.args.cache.now c.fill_tip.new.cache c.write_direct.new.cache c.write_direct.result
     c.requires.sound c.in_ok-fill_tip.ensures.appends.1 c.in_ok-fill_tip.ensures.empty c.requires.cached is.joined c.in_ok-fill_tip.ensures.puts c.write_direct.ensures.puts
+
+pub returns-clause-refused : goal.returns-clause-refused
+returns-clause-refused g c =
+    puts_behind c.args.cache.now c.fill_tip.new.cache c.write_direct.new.cache c.fill_tip.new.self.sync c.write_direct.result
+    c.in_ok-fill_tip.ensures.once c.write_direct.ensures.refused c.write_direct.ensures.late

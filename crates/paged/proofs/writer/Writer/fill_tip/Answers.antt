@@ -1,3 +1,6 @@
+use Rattle.paged.proofs.Refused.{puts_none, flushed_once}
+use Rattle.std.specs.Prelude.{false}
+use Rattle.paged.specs.Flush.{has_work}
 use Rattle.std.proofs.Common.{ℕ, ◌++◌, subst}
 use Rattle.paged.specs.Caches.{PutsUpTo}
 use Rattle.paged.proofs.Caching.{refused_before, puts_buffered, puts_alike, puts_nothing}
@@ -59,3 +62,10 @@ returns-clause-puts g c =
     puts_buffered w b c.flush.new.self c.args.bytes.now (w.tip ++ c.args.bytes.now) c.args.cache.now c.flush.new.cache c.flush.result c.in_ok-buffer.ensures.1
     (puts_alike b c.flush.new.self b.tip (w.tip ++ c.args.bytes.now) c.args.cache.now c.flush.new.cache c.flush.result
     (ap (λ (v : WriterState). v.tip) c.in_ok-buffer.ensures.1) c.flush.ensures.puts)
+
+pub returns-in_err-buffer-clause-refused : goal.returns-in_err-buffer-clause-refused
+returns-in_err-buffer-clause-refused g c = puts_none c.args.cache.now c.from_residual.result
+
+pub returns-clause-once : goal.returns-clause-once
+returns-clause-once g c =
+    flushed_once c.args.cache.now c.flush.new.cache c.flush.new.self.sync (has_work c.buffer.new.self false) c.flush.result c.flush.ensures.idle_cache c.flush.ensures.dirty

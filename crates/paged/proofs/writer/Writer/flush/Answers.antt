@@ -1,3 +1,5 @@
+use Rattle.paged.proofs.Refused.{puts_none, puts_late}
+use Rattle.std.specs.Prelude.{Err}
 use Rattle.std.proofs.Common.{ap}
 use Rattle.paged.proofs.Caching.{puts_nothing, refused_nothing, puts_waited, puts_alike}
 use Rattle.std.proofs.Common.{◌≡◌, ◌<◌, ℕ, length, refl, sym, ◌∙◌, subst, arith, true}
@@ -23,6 +25,7 @@ returns g c =
     let idle = sym c.has_flush_work.ensures.work ∙ c.if-has_flush_work.false in
     record {
       puts = puts_nothing w.id w.full_pages w.page_size w.tip c.args.cache.now;
+      refused = tt;
       idle_cache = λ _. refl;
       flushes = goes_on_same sum w life c.requires.sound;
       pages = pages_none w.page_size w.full_pages life life refl;
@@ -43,6 +46,7 @@ returns-in_err-wait g c =
     let work = sym c.has_flush_work.ensures.work ∙ c.if-has_flush_work.true in
     rw (p.1, p.2) (record {
       puts = (c.args.self.now.full_pages, puts_nothing c.args.self.now.id c.args.self.now.full_pages c.args.self.now.page_size c.args.self.now.tip c.args.cache.now);
+      refused = puts_none {A = Unit {0}} c.args.cache.now (Err c.in_err-wait.field-0.0);
       idle_cache = λ none. absurd (cc (work, none));
       flushes = c.in_err-wait.ensures.waits;
       pages = c.in_err-wait.ensures.pages;
@@ -83,6 +87,7 @@ returns-then-has_flush_work g c =
     record {
       puts = puts_waited w m now w.tip c.args.cache.now c.flush_pages.new.cache result is
           (puts_alike m now m.tip w.tip c.args.cache.now c.flush_pages.new.cache result (ap (λ (v : WriterState). v.tip) is) c.flush_pages.ensures.puts);
+      refused = puts_late c.args.cache.now c.flush_pages.new.cache result c.flush_pages.ensures.late;
       idle_cache = λ none. absurd (cc (work, none));
       flushes = flushes_behind sum w m old mid new first (answered now result) c.flush_pages.ensures.flushes;
       pages = pages_behind sum w m old mid new first c.in_ok-wait.ensures.pages c.flush_pages.ensures.pages;

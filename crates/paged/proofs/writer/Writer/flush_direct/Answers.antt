@@ -1,3 +1,4 @@
+use Rattle.paged.proofs.Refused.{write_late}
 use Rattle.paged.proofs.Caching.{puts_carried}
 use Rattle.std.proofs.Common.{◌≡◌, ◌++◌, refl, ap, false}
 use Rattle.crash.specs.WriterState.{WriterState}
@@ -33,6 +34,7 @@ returns g c =
     let can : CanWrite v.page_size v.tip (full_in v) false = direct_can c.carry.new.self c.args.whole c.args.rest.now direct in
     let goes = c.write_taken.ensures.goes in
     record {
+      late = write_late (place_of v) bytes false old new result c.write_taken.ensures.fits c.write_taken.ensures.goes;
       puts = puts_carried w c.carry.new.self now more c.args.cache.now c.write_taken.new.cache result c.carry.ensures.is c.write_taken.ensures.puts;
       appends = append_flushed sum w longer now old new more result c.requires.sound refl
           (flush_call sum longer v now false old new result g.met.H.Sum.small sound c.carry.ensures.ready is can goes c.write_taken.ensures.state c.write_taken.ensures.fits);

@@ -1,3 +1,4 @@
+use Rattle.paged.proofs.Refused.{write_late}
 use Rattle.paged.proofs.Caching.{puts_carried, puts_alike}
 use Rattle.crash.specs.Sound.{IsSound, CanWrite}
 use Rattle.crash.specs.WriterState.{WriterState}
@@ -35,6 +36,7 @@ returns g c =
     record {
       puts = puts_carried w v now w.tip c.args.cache.now c.write_pages.new.cache result c.carry.ensures.is
           (puts_alike v now v.tip w.tip c.args.cache.now c.write_pages.new.cache result (ap (λ (u : WriterState). u.tip) c.carry.ensures.is) c.write_pages.ensures.puts);
+      late = write_late (place_of v) bytes false old new result c.write_pages.ensures.fits goes;
       flushes = flush_call sum w v now rest old new result g.met.H.Sum.small c.requires.sound c.carry.ensures.ready c.carry.ensures.is can goes c.write_pages.ensures.state c.write_pages.ensures.fits;
       pages = flush_pages sum w (place_of v) bytes false old new result c.requires.sound (ap place_of c.carry.ensures.is) goes;
       covers = carried_covers sum w v rest false old new result g.met.H.Sum.small c.requires.sound c.carry.ensures.ready c.carry.ensures.is can goes;

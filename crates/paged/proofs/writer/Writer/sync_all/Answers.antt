@@ -1,3 +1,4 @@
+use Rattle.paged.proofs.Refused.{puts_none}
 use Rattle.std.proofs.Common.{refl}
 use Rattle.paged.proofs.Caching.{settled_nothing}
 use Rattle.std.proofs.Common.{sym, ◌∙◌, arith}
@@ -10,6 +11,7 @@ returns-then-has_flush_work g c =
     let work = sym c.has_flush_work.ensures.work ∙ c.if-has_flush_work.true in
     record {
       puts = c.sync_pages.ensures.puts;
+      refused = c.sync_pages.ensures.refused;
       idle_cache = λ none. absurd (cc (work, none));
       syncs = c.sync_pages.ensures.syncs;
       room = c.has_flush_work.ensures.room;
@@ -28,6 +30,7 @@ returns-else-has_flush_work g c =
     let none_due = sym c.has_flush_work.ensures.work ∙ c.if-has_flush_work.false in
     record {
       puts = settled_nothing g.H.Sum.sum_of c.args.self.now c.settle.new.self c.args.self.now.tip c.args.cache.now old new c.settle.result c.settle.ensures.settles;
+      refused = λ _. puts_none c.args.cache.now c.settle.result;
       idle_cache = λ _. refl;
       syncs = sync_settles g.H.Sum.sum_of c.args.self.now old new (answered c.settle.new.self c.settle.result) c.requires.sound none_due c.settle.ensures.settles;
       room = c.has_flush_work.ensures.room;

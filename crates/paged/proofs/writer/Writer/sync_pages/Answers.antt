@@ -1,3 +1,5 @@
+use Rattle.paged.proofs.Refused.{puts_none, puts_late, waited_clean}
+use Rattle.std.specs.Prelude.{Err}
 use Rattle.std.proofs.Common.{ap, ◌∙◌}
 use Rattle.paged.proofs.Caching.{puts_nothing, puts_waited, puts_alike}
 use Rattle.std.proofs.Common.{◌≡◌, sym, subst, true}
@@ -13,6 +15,7 @@ returns-in_err-wait g c =
     let p = err_from_is_err_and c.from_residual.result c.from_residual.ensures.1 in
     rw (p.1, p.2) (record {
       puts = (c.args.self.now.full_pages, puts_nothing c.args.self.now.id c.args.self.now.full_pages c.args.self.now.page_size c.args.self.now.tip c.args.cache.now);
+      refused = λ _. puts_none {A = Unit {0}} c.args.cache.now (Err c.in_err-wait.field-0.0);
       syncs = c.in_err-wait.ensures.waits;
       pages = c.in_err-wait.ensures.pages;
       covers = c.in_err-wait.ensures.covers;
@@ -45,6 +48,7 @@ returns g c =
     record {
       puts = puts_waited w m now w.tip c.args.cache.now c.write_durably.new.cache result is
           (puts_alike m now m.tip w.tip c.args.cache.now c.write_durably.new.cache result (ap (λ (v : WriterState). v.tip) is) c.write_durably.ensures.puts);
+      refused = λ one. puts_late c.args.cache.now c.write_durably.new.cache result (c.write_durably.ensures.late (waited_clean w m is one));
       syncs = syncs_behind sum w m old mid new first (answered now result) c.write_durably.ensures.syncs;
       pages = pages_behind sum w m old mid new first c.in_ok-wait.ensures.pages c.write_durably.ensures.pages;
       covers = covers_behind sum w m old mid new first c.in_ok-wait.ensures.covers c.write_durably.ensures.covers;

@@ -1,3 +1,6 @@
+use Rattle.paged.proofs.Refused.{puts_none, puts_late, waits_none, waited_ok}
+use Rattle.std.specs.Prelude.{Err}
+use Rattle.std.proofs.Common.{refl}
 use Rattle.std.proofs.Common.{ap, ◌∙◌, sym}
 use Rattle.paged.proofs.Caching.{puts_nothing, puts_waited}
 use Rattle.std.proofs.Common.{◌++◌, [], sym, subst, arith}
@@ -23,6 +26,8 @@ returns-in_err-wait g c =
     let e = c.in_err-wait.field-0.0 in
     let p = err_from_is_err_and c.from_residual.result c.from_residual.ensures.1 in
     rw (p.1, p.2) (record {
+      refused = puts_none {A = Unit {0}} c.args.cache.now (Err c.in_err-wait.field-0.0);
+      late = λ none. absurd (waited_ok e (Err e) refl (c.in_err-wait.ensures.idle (waits_none w.sync none)).0);
       puts = (w.full_pages, puts_nothing w.id w.full_pages w.page_size more c.args.cache.now);
       appends = append_fails sum w more old new e (refuses_longer sum w (content w old.present.readable) more old new e c.in_err-wait.ensures.waits);
       pages = c.in_err-wait.ensures.pages;
@@ -59,6 +64,8 @@ returns g c =
     let direct = direct_waited w m c.args.whole c.args.rest.now is c.requires.direct in
     record {
       puts = puts_waited w m now more c.args.cache.now c.flush_direct.new.cache result is c.flush_direct.ensures.puts;
+      refused = puts_late c.args.cache.now c.flush_direct.new.cache result c.flush_direct.ensures.late;
+      late = λ _. c.flush_direct.ensures.late;
       appends = appends_join sum w m old mid new [] more first now result c.requires.sound (direct_places m c.args.whole c.args.rest.now direct) c.flush_direct.ensures.appends;
       pages = pages_join w.page_size w.full_pages w.full_pages old mid new (omega arith) c.in_ok-wait.ensures.pages
           (subst (λ (v : WriterState). PagesStay v.page_size v.full_pages mid new) is c.flush_direct.ensures.pages);

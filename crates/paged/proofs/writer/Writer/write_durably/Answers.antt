@@ -1,3 +1,4 @@
+use Rattle.paged.proofs.Refused.{write_late}
 use Rattle.paged.proofs.Caching.{puts_carried, puts_alike, puts_before, synced_pages}
 use Rattle.std.proofs.Common.{◌≡◌, ◌∙◌, refl, sym, subst, ap, arith, true, false}
 use Rattle.crash.proofs.BelowLaws.{pages_join, sync_pages_stay}
@@ -46,6 +47,7 @@ returns-in_err-write_pages-in-Dirty g c =
           c.in_err-write_pages-in-Dirty.ensures.goes c.in_err-write_pages-in-Dirty.ensures.state c.in_err-write_pages-in-Dirty.ensures.fits;
       pages = flush_pages sum w (place_of w) (flush_bytes sum w rest) false old mid (Err e) c.requires.sound refl c.in_err-write_pages-in-Dirty.ensures.goes;
       covers = flush_covers sum w rest false old mid (Err e) g.met.H.Sum.small c.requires.sound (dirty_carried w dirty) can c.in_err-write_pages-in-Dirty.ensures.goes;
+      late = λ clean. absurd (cc (dirty, clean));
       calls = sync_asks_once w old mid c.requires.work (write_asks (place_of w) (flush_bytes sum w rest) false old mid (Err e) c.in_err-write_pages-in-Dirty.ensures.goes);
       starts = write_stands (place_of w) (flush_bytes sum w rest) false old mid (Err e) (dirty_settled sum w old.present c.requires.sound dirty) c.in_err-write_pages-in-Dirty.ensures.goes;
     })
@@ -69,6 +71,7 @@ returns-in-Clean g c =
       pages = flush_pages sum w (place_of v) (flush_bytes sum v rest) true old new c.write_pages.result c.requires.sound (ap place_of c.carry.ensures.is) c.write_pages.ensures.goes;
       covers = carried_covers sum w v rest true old new c.write_pages.result g.met.H.Sum.small c.requires.sound c.carry.ensures.ready c.carry.ensures.is
           (subst (λ (v : WriterState). CanWrite v.page_size v.tip (full_in v) rest) (sym c.carry.ensures.is) can) c.write_pages.ensures.goes;
+      late = λ _. write_late (place_of v) (flush_bytes sum v rest) true old new c.write_pages.result c.write_pages.ensures.fits c.write_pages.ensures.goes;
       calls = sync_asks_once w old new c.requires.work (write_asks (place_of v) (flush_bytes sum v rest) true old new c.write_pages.result c.write_pages.ensures.goes);
       starts = write_stands (place_of v) (flush_bytes sum v rest) true old new c.write_pages.result (ready_settled sum w old.present c.requires.sound c.carry.ensures.ready) c.write_pages.ensures.goes;
     }
@@ -100,6 +103,7 @@ returns-in_ok-write_pages-in-Dirty g c =
       starts = sync_stands sum m mid new c.sync_blob.result
           ((flush_goes sum w m rest old mid (Ok tt) g.met.H.Sum.small c.requires.sound (dirty_carried w dirty) can c.in_ok-write_pages-in-Dirty.ensures.goes c.in_ok-write_pages-in-Dirty.ensures.state (λ is. cc)).sound)
           c.sync_blob.ensures.goes;
+      late = λ clean. absurd (cc (dirty, clean));
       calls = sync_asks_twice w old mid new c.requires.work dirty
           (write_asks (place_of w) (flush_bytes sum w rest) false old mid (Ok tt) c.in_ok-write_pages-in-Dirty.ensures.goes)
           (sync_asks mid new c.sync_blob.result c.sync_blob.ensures.goes);

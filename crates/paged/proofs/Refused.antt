@@ -1,0 +1,106 @@
+-- Answers that are given before anything is put in the cache, and others.
+use Rattle.std.proofs.Common.{◌≡◌, ℕ, List, refl, sym, subst, inl, inr, arith}
+use Rattle.std.specs.Prelude.{◌⊎◌, Result, Ok, Err, Bool, true, false}
+use Rattle.std.specs.Result.{IsErrAnd, IsErrOf}
+use Rattle.std.specs.Prelude.{OnOk}
+use Rattle.disk.specs.Disk.{Life, WriteGoes}
+use Rattle.disk.specs.declared.error.Error.{Error}
+use Rattle.disk.specs.declared.error.Error.TheVariants.{ReadFailed, WriteFailed, ResizeFailed}
+use Rattle.disk.specs.declared.error.Error.TheVariants.{SyncFailed, InvalidChecksum, OutOfMemory}
+use Rattle.disk.specs.declared.error.Error.TheVariants.{BlobInsufficientLength, OffsetOverflow}
+use Rattle.disk.specs.declared.error.Error.TheVariants.{IdsExhausted}
+use Rattle.cache.specs.CacheState.{CacheState}
+use Rattle.crash.specs.WriterState.{WriterState, SyncState}
+use Rattle.crash.specs.WriterState.SyncState.{Clean, Dirty, Pending}
+use Rattle.paged.specs.Calls.{WaitsForNone, wait_calls, waited, waited_state}
+use Rattle.paged.specs.Caches.{PutsOnceWaited, IsNotBefore}
+
+-- nothing was put
+pub puts_none : {A : Type 0} (cache : CacheState) (result : Result A Error)
+    → PutsOnceWaited cache cache result
+puts_none cache (Ok a) = tt
+puts_none cache (Err ReadFailed) = tt
+puts_none cache (Err WriteFailed) = tt
+puts_none cache (Err ResizeFailed) = tt
+puts_none cache (Err SyncFailed) = refl
+puts_none cache (Err InvalidChecksum) = tt
+puts_none cache (Err BlobInsufficientLength) = tt
+puts_none cache (Err OffsetOverflow) = refl
+puts_none cache (Err OutOfMemory) = tt
+puts_none cache (Err IdsExhausted) = tt
+
+-- another answer is given
+pub puts_late : {A : Type 0} (old new : CacheState) (result : Result A Error)
+    → IsNotBefore result → PutsOnceWaited old new result
+puts_late old new (Ok a) late = tt
+puts_late old new (Err ReadFailed) late = tt
+puts_late old new (Err WriteFailed) late = tt
+puts_late old new (Err ResizeFailed) late = tt
+puts_late old new (Err SyncFailed) late = absurd late
+puts_late old new (Err InvalidChecksum) late = tt
+puts_late old new (Err BlobInsufficientLength) late = tt
+puts_late old new (Err OffsetOverflow) late = absurd late
+puts_late old new (Err OutOfMemory) late = tt
+puts_late old new (Err IdsExhausted) late = tt
+
+-- a write, durable or not, whose place is within the bounds
+pub write_late : (place : ℕ) (bytes : List ℕ) (sync : Bool) (old new : Life)
+    (result : Result (Unit {0}) Error) → (IsErrOf result OffsetOverflow → ⊥)
+    → WriteGoes place bytes sync old new result → IsNotBefore result
+write_late place bytes false old new (Ok done) fits goes = tt
+write_late place bytes false old new (Err ReadFailed) fits goes = tt
+write_late place bytes false old new (Err WriteFailed) fits goes = tt
+write_late place bytes false old new (Err ResizeFailed) fits goes = tt
+write_late place bytes false old new (Err SyncFailed) fits goes = absurd (cc goes.0)
+write_late place bytes false old new (Err InvalidChecksum) fits goes = tt
+write_late place bytes false old new (Err BlobInsufficientLength) fits goes = tt
+write_late place bytes false old new (Err OffsetOverflow) fits goes = fits refl
+write_late place bytes false old new (Err OutOfMemory) fits goes = tt
+write_late place bytes false old new (Err IdsExhausted) fits goes = tt
+write_late place bytes true old new (Ok done) fits goes = tt
+write_late place bytes true old new (Err ReadFailed) fits goes = tt
+write_late place bytes true old new (Err WriteFailed) fits goes = tt
+write_late place bytes true old new (Err ResizeFailed) fits goes = tt
+write_late place bytes true old new (Err SyncFailed) fits goes = goes
+write_late place bytes true old new (Err InvalidChecksum) fits goes = tt
+write_late place bytes true old new (Err BlobInsufficientLength) fits goes = tt
+write_late place bytes true old new (Err OffsetOverflow) fits goes = fits refl
+write_late place bytes true old new (Err OutOfMemory) fits goes = tt
+write_late place bytes true old new (Err IdsExhausted) fits goes = tt
+
+-- a call goes on behind another that put nothing, or behind which no sync is pending
+pub puts_behind : {A : Type 0} (old mid new : CacheState) (s : SyncState) (result : Result A Error)
+    → (mid ≡ old) ⊎ WaitsForNone s → PutsOnceWaited mid new result
+    → (WaitsForNone s → IsNotBefore result) → PutsOnceWaited old new result
+puts_behind {A} old mid new s result (inl same) puts late =
+    subst (λ (c : CacheState). PutsOnceWaited {A = A} c new result) same puts
+puts_behind old mid new s result (inr none) puts late = puts_late old new result (late none)
+
+-- what was waited for is clean
+pub waited_clean : (w m : WriterState) → m ≡ waited w → wait_calls w.sync ≡ 1 → m.sync ≡ Clean
+waited_clean w m is one = subst (λ (v : WriterState). v.sync ≡ Clean) (sym is) (clean w.sync one)
+  where
+    clean : (s : SyncState) → wait_calls s ≡ 1 → waited_state s ≡ Clean
+    clean Clean one = refl
+    clean Dirty one = absurd (omega (arith, one))
+    clean (Pending name) one = refl
+
+-- no wait is due
+pub waits_none : (s : SyncState) → WaitsForNone s → wait_calls s ≡ 0
+waits_none Clean none = refl
+waits_none Dirty none = refl
+waits_none (Pending name) none = absurd none
+
+pub dirty_waits_none : (s : SyncState) → s ≡ Dirty → WaitsForNone s
+dirty_waits_none s is = subst WaitsForNone (sym is) tt
+
+-- a flush put nothing, or left its write unsynced
+pub flushed_once : {A : Type 0} (old new : CacheState) (s : SyncState) (work : Bool)
+    (result : Result A Error) → (work ≡ false → new ≡ old)
+    → (work ≡ true → OnOk result (s ≡ Dirty)) → OnOk result ((new ≡ old) ⊎ WaitsForNone s)
+flushed_once old new s work (Err e) idle dirty = tt
+flushed_once old new s false (Ok a) idle dirty = inl (idle refl)
+flushed_once old new s true (Ok a) idle dirty = inr (dirty_waits_none s (dirty refl))
+
+pub waited_ok : (e : Error) (result : Result (Unit {0}) Error) → result ≡ Err e → result ≡ Ok tt → ⊥
+waited_ok e result is done = absurd (cc (is, done))
