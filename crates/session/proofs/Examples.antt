@@ -1,7 +1,7 @@
 -- Examples of what a run says.
-use Rattle.std.proofs.Common.{◌≡◌, ◌⊎◌, ◌+◌, ◌<◌, ℕ, Vec, List, [], ◌∷◌, ◌++◌, length, length-append, take, refl, sym, ap, ◌∙◌, inl, inr, arith, true, false}
-use Rattle.std.specs.Prelude.{Some, None}
-use Rattle.std.specs.List.{Contains}
+use Rattle.std.proofs.Common.{◌≡◌, ◌⊎◌, ◌+◌, ◌<◌, ℕ, zero, suc, Vec, List, [], ◌∷◌, ◌++◌, length, length-append, take, drop, refl, sym, ap, subst, ◌∙◌, inl, inr, arith, true, false}
+use Rattle.std.specs.Prelude.{Some, None, if◌then◌else◌}
+use Rattle.std.specs.List.{Contains, flat_map}
 use Rattle.std.specs.declared.alloc.Global.{Global}
 use Rattle.std.proofs.lemmas.Bool.{le-leb, false≢true}
 use Rattle.std.proofs.lemmas.Bool.Decides.{nat_tests}
@@ -9,6 +9,7 @@ use Rattle.disk.specs.Disk.{Disk, Entry, SomeFailed}
 use Rattle.disk.specs.declared.started_sync.StartedSync.TheVariants.{Done as AllDone, Named}
 use Rattle.disk.specs.declared.error.Error.{Error}
 use Rattle.disk.specs.declared.error.Error.TheVariants.{WriteFailed, SyncFailed, BlobInsufficientLength, OffsetOverflow, OutOfMemory}
+use Rattle.page.specs.Geometry.{EndWithin}
 use Rattle.page.specs.Page.{text}
 use Rattle.page.specs.Sums.{add_sum}
 use Rattle.crash.specs.Kept.{AllOnly}
@@ -17,10 +18,10 @@ use Rattle.crash.proofs.Disks.{base_is_image, base_is_whole}
 use Rattle.crash.proofs.Promise.{whole_is_chance_free}
 use Rattle.crash.proofs.Examples.{durable, six, all_keep}
 use Rattle.session.specs.declared.steps.Step.{Step}
-use Rattle.session.specs.declared.steps.Step.TheVariants.{Append, Owned, TryAppend, Sync, StartSync, Wait, WaitSync, Needs, Size, Read, ReadUpTo, TryRead, Begin, Truncate}
-use Rattle.session.specs.declared.steps.Reply.TheVariants.{At, Nothing, Done, Length, Bytes, Fault, Closed, NotRecovering, NoSuch}
-use Rattle.session.specs.Run.{Standing, buffered_after, awaited_after, appended, synced, starting, truncated, waited, begun, needs_sync, raised, started_by, ended, turned_away, Accepts, faults, HasCause, Allocates, waits_for, Refuses, Takes, Answers, touch, Ran}
-use Rattle.session.specs.Run.Touch.{Leaves, Changes}
+use Rattle.session.specs.declared.steps.Step.TheVariants.{Append, Owned, TryAppend, Sync, StartSync, Wait, WaitSync, Needs, Size, Read, ReadUpTo, TryRead, ReadRanges, TryReadRanges, Begin, Truncate}
+use Rattle.session.specs.declared.steps.Reply.TheVariants.{At, Nothing, Done, Length, Bytes, Fault, Closed, NotRecovering, NoSuch, Served, Missed, BadRanges}
+use Rattle.session.specs.Run.{Standing, buffered_after, awaited_after, appended, synced, starting, truncated, waited, begun, needs_sync, raised, started_by, ended, fit_together, turned_away, Accepts, faults, HasCause, Allocates, waits_for, Refuses, Takes, Foretells, RiseBelow, Answers, touch, Ran}
+use Rattle.session.specs.Run.Touch.{Leaves, Looks, Changes}
 use Rattle.session.specs.Promise.{Crashes, fresh}
 
 -- a writer of "abcdef", all of which every crash keeps: "ef" is buffered, of eight bytes
@@ -312,6 +313,8 @@ nothing_is_of_a_try P Needs from to before behind accepts = absurd accepts
 nothing_is_of_a_try P Size from to before behind accepts = absurd accepts
 nothing_is_of_a_try P (Read offset len) from to before behind accepts = absurd accepts
 nothing_is_of_a_try P (ReadUpTo offset len) from to before behind accepts = absurd accepts
+nothing_is_of_a_try P (ReadRanges ranges) from to before behind accepts = absurd accepts
+nothing_is_of_a_try P (TryReadRanges ranges) from to before behind accepts = absurd accepts
 nothing_is_of_a_try P Begin from to before behind accepts = absurd accepts
 nothing_is_of_a_try P (Truncate n) from to before behind accepts = absurd accepts
 
@@ -329,6 +332,77 @@ some_up_to_at_the_end = (λ is. cc is, omega arith)
 -- a read that asks no device leaves it alone, and only memory is refused
 pub a_try_read_asks_nothing : touch (TryRead 0 4) six_stand ≡ Leaves
 a_try_read_asks_nothing = refl
+
+-- ranges that touch can be read in one call, and an empty one at the end of the last
+pub touching_ranges : fit_together ((0, 4) ∷ (4, 4) ∷ (8, 0) ∷ []) ≡ true
+touching_ranges = refl
+
+-- but not ranges that overlap, or are out of order
+pub overlapping_ranges : fit_together ((0, 4) ∷ (3, 4) ∷ []) ≡ false
+overlapping_ranges = refl
+
+pub ranges_out_of_order : fit_together ((4, 4) ∷ (0, 4) ∷ []) ≡ false
+ranges_out_of_order = refl
+
+-- also where the end of one passes the greatest place
+pub far_ranges : fit_together ((18446744073709551615, 2) ∷ (18446744073709551615, 0) ∷ []) ≡ false
+far_ranges = refl
+
+-- nor such as no buffer has room for
+pub long_ranges : fit_together ((0, 9223372036854775808) ∷ (9223372036854775808, 9223372036854775808) ∷ []) ≡ false
+long_ranges = refl
+
+-- they are turned away, unless there is no writer
+pub bad_ranges : (ranges : Vec (ℕ × ℕ) Global) → ranges.items ≡ (0, 4) ∷ (3, 4) ∷ [] → turned_away (ReadRanges ranges) six_stand ≡ Some BadRanges
+bad_ranges ranges is = ap (λ (rs : List (ℕ × ℕ)). if fit_together rs then None else Some BadRanges) is
+
+pub closed_before_bad_ranges : (ranges : Vec (ℕ × ℕ) Global) → turned_away (TryReadRanges ranges) (record six_stand { has_writer = false }) ≡ Some Closed
+closed_before_bad_ranges ranges = refl
+
+-- the second byte and the last two
+abbrev pub two_ranges : List (ℕ × ℕ)
+two_ranges = (1, 1) ∷ (4, 2) ∷ []
+
+two_within : EndWithin 6 two_ranges
+two_within zero range lt = omega (arith, lt)
+two_within (suc zero) range lt = omega (arith, lt)
+two_within (suc (suc k)) range lt = absurd (omega (arith, lt))
+
+pub bytes_of_ranges : (ranges : Vec (ℕ × ℕ) Global) (bytes : Vec ℕ Global) → ranges.items ≡ two_ranges → bytes.items ≡ 98 ∷ 101 ∷ 102 ∷ [] → Accepts 4 (ReadRanges ranges) (Served 2 bytes) durable durable six_stand six_stand
+bytes_of_ranges ranges bytes is are = (
+  (subst (λ (rs : List (ℕ × ℕ)). EndWithin 6 rs) (sym is) two_within, are ∙ ap (λ (rs : List (ℕ × ℕ)). flat_map (λ (range : ℕ × ℕ). take range.1 (drop range.0 six)) rs) (sym is)),
+  omega (arith, ap length is),
+  refl,
+)
+
+-- no more ranges needed no device than there are
+pub no_third_range : (ranges : Vec (ℕ × ℕ) Global) (bytes : Vec ℕ Global) → ranges.items ≡ two_ranges → Accepts 4 (ReadRanges ranges) (Served 3 bytes) durable durable six_stand six_stand → ⊥
+no_third_range ranges bytes is accepts = omega (arith, ap length is, accepts.1)
+
+-- the first range that can't be read decides, and then nothing else is answered
+pub the_first_decides : (ranges : Vec (ℕ × ℕ) Global) → ranges.items ≡ (0, 2) ∷ (5, 2) ∷ (18446744073709551615, 1) ∷ [] → HasCause 4 (ReadRanges ranges) six_stand durable durable BlobInsufficientLength
+the_first_decides ranges is = ((0, 2) ∷ [], (18446744073709551615, 1) ∷ [], ((5, 2), is, first, (omega arith, omega arith)))
+  where
+    first : EndWithin 6 ((0, 2) ∷ [])
+    first zero range lt = omega (arith, lt)
+    first (suc k) range lt = absurd (omega (arith, lt))
+
+pub and_alone : (ranges : Vec (ℕ × ℕ) Global) → ranges.items ≡ (0, 2) ∷ (5, 2) ∷ (18446744073709551615, 1) ∷ [] → Takes 4 (ReadRanges ranges) (Fault OffsetOverflow) durable durable six_stand six_stand × Foretells 4 (ReadRanges ranges) (Fault OffsetOverflow) six_stand → ⊥
+and_alone ranges is takes = let other : Fault OffsetOverflow ≡ Fault BlobInsufficientLength = takes.1.1 (the_first_decides ranges is) in cc other
+
+-- the numbers of missed ranges rise, and are those of ranges
+pub no_number_twice : (ranges : Vec (ℕ × ℕ) Global) (numbers : Vec ℕ Global) → numbers.items ≡ 0 ∷ 0 ∷ [] → Accepts 4 (TryReadRanges ranges) (Missed numbers) durable durable six_stand six_stand → ⊥
+no_number_twice ranges numbers is accepts = let rise = subst (λ (ns : List ℕ). RiseBelow 0 (length ranges.items) ns) is accepts.0.0 in omega (arith, rise.2.0)
+
+pub no_number_of_none : (ranges : Vec (ℕ × ℕ) Global) (numbers : Vec ℕ Global) → ranges.items ≡ two_ranges → numbers.items ≡ 2 ∷ [] → Accepts 4 (TryReadRanges ranges) (Missed numbers) durable durable six_stand six_stand → ⊥
+no_number_of_none ranges numbers is are accepts = let rise = subst (λ (ns : List ℕ). RiseBelow 0 (length ranges.items) ns) are accepts.0.0 in omega (arith, rise.1, ap length is)
+
+-- a read of ranges only reads, and a question for them leaves the device alone
+pub a_read_of_ranges_looks : (ranges : Vec (ℕ × ℕ) Global) → touch (ReadRanges ranges) six_stand ≡ Looks
+a_read_of_ranges_looks ranges = refl
+
+pub a_question_leaves : (ranges : Vec (ℕ × ℕ) Global) → touch (TryReadRanges ranges) six_stand ≡ Leaves
+a_question_leaves ranges = refl
 
 -- a size has no error
 pub no_fault_of_a_size : (e : Error) → Contains (faults Size) e → ⊥

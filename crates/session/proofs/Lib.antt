@@ -1,5 +1,6 @@
 pub mod StepLaws
 pub mod ReadLaws
+pub mod RangeLaws
 pub mod StartLaws
 pub mod TruncateLaws
 pub mod RunLaws

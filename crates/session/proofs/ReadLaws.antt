@@ -20,7 +20,7 @@ use Rattle.paged.proofs.Flushes.{size_is_length}
 use Rattle.paged.proofs.There.{reads_keep_sound}
 use Rattle.session.specs.declared.steps.Step.TheVariants.{ReadUpTo, TryRead}
 use Rattle.session.specs.declared.steps.Reply.{Reply}
-use Rattle.session.specs.declared.steps.Reply.TheVariants.{At, Nothing, Done, Started, Answer, Length, Bytes, Fault, Closed, NotRecovering, NoSuch}
+use Rattle.session.specs.declared.steps.Reply.TheVariants.{At, Nothing, Done, Started, Answer, Length, Bytes, Fault, Closed, NotRecovering, NoSuch, Served, Missed, BadRanges}
 use Rattle.session.specs.Run.{Standing, SessionState, faults, HasCause, Takes, Foretells, StandsFor, IsReady, CacheFits}
 use Rattle.session.specs.Calls.{ReadsBytesUpTo, ReadUpToSays, DidReadUpTo, TriedBytes, DidTryRead, StepsAlways, Steps}
 use Rattle.session.proofs.StepLaws.{held, turned_here, turned_closed, unasked, looked_steps, alike_stays_started, closed_takes, held_takes, sound_of, can_of, same_rest}
@@ -74,6 +74,9 @@ read_up_to_steps sum was w cache offset len old new reply sound says = λ P befo
     taken (Answer answer) P before stands size full reads = absurd reads
     taken NoSuch P before stands size full reads = absurd reads
     taken NotRecovering P before stands size full reads = absurd reads
+    taken (Served count read) P before stands size full reads = absurd reads
+    taken (Missed numbers) P before stands size full reads = absurd reads
+    taken BadRanges P before stands size full reads = absurd reads
     taken (Length n) P before stands size full reads = absurd reads
     taken Closed P before stands size full reads = absurd reads
 
@@ -112,6 +115,9 @@ try_read_steps sum was w cache offset len life reply sound can tried = λ P befo
     taken Closed P before stands size tried = absurd tried
     taken NoSuch P before stands size tried = absurd tried
     taken NotRecovering P before stands size tried = absurd tried
+    taken (Served count read) P before stands size tried = absurd tried
+    taken (Missed numbers) P before stands size tried = absurd tried
+    taken BadRanges P before stands size tried = absurd tried
 
 -- by a session
 pub try_read_takes : (sum : List ℕ → ℕ) (was : SessionState) (cache : CacheState) (offset len : ℕ) (life : Life) (reply : Reply) → IsReady sum was life.present → CacheFits was.writer cache life.present → DidTryRead was.writer cache offset len reply

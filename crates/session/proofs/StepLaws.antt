@@ -37,9 +37,9 @@ use Rattle.page.specs.Page.{text}
 use Rattle.paged.proofs.There.{reads_keep_sound}
 use Rattle.paged.proofs.Halves.{appends_stay, syncs_stay, sync_keeps_all}
 use Rattle.session.specs.declared.steps.Step.{Step}
-use Rattle.session.specs.declared.steps.Step.TheVariants.{Append, Owned, TryAppend, Sync, StartSync, Wait, WaitSync, Needs, Size, Read, ReadUpTo, TryRead, Begin, Truncate}
+use Rattle.session.specs.declared.steps.Step.TheVariants.{Append, Owned, TryAppend, Sync, StartSync, Wait, WaitSync, Needs, Size, Read, ReadUpTo, TryRead, ReadRanges, TryReadRanges, Begin, Truncate}
 use Rattle.session.specs.declared.steps.Reply.{Reply}
-use Rattle.session.specs.declared.steps.Reply.TheVariants.{At, Nothing, Done, Started, Answer, Length, Bytes, Fault, Closed, NotRecovering, NoSuch}
+use Rattle.session.specs.declared.steps.Reply.TheVariants.{At, Nothing, Done, Started, Answer, Length, Bytes, Fault, Closed, NotRecovering, NoSuch, Served, Missed, BadRanges}
 use Rattle.session.specs.Run.{Standing, SessionState, has_room, buffered_after, written_after, awaited_after, appended, synced, ended, needs_sync, is_complete, raise, raised, lowered, begun, turned_away, faults, HasCause, HadFailed, content_after, Takes, Foretells, Answers, Touch, touch, wait_touch, last, Touches, AllCover, pending_in, WriterStandsFor, WriterFits, NamesFit, StandsFor, HasSoundWriter, IsReady, CacheFits}
 use Rattle.session.specs.Run.Touch.{Leaves, Looks, Changes}
 use Rattle.session.specs.Calls.{IsClosed, KeepsRest, OwesStarts, AppendSays, Appended, TriedAppend, SyncSays, Synced, Sized, IsBytes, ReadsBytes, ReadSays, DidRead, Stepped, StepsAlways, Steps}
@@ -201,6 +201,8 @@ begun_either Q Size s same less = same
 begun_either Q (Read offset len) s same less = same
 begun_either Q (ReadUpTo offset len) s same less = same
 begun_either Q (TryRead offset len) s same less = same
+begun_either Q (ReadRanges ranges) s same less = same
+begun_either Q (TryReadRanges ranges) s same less = same
 begun_either Q Begin s same less = same
 
 pub begun_keeps : (sum : List ℕ → ℕ) (P : ℕ) (step : Step) (s : Standing) (d : Disk) → AllKeep sum P s.content s.floor d → AllKeep sum P s.content (begun step s).floor d
@@ -984,6 +986,9 @@ read_says sum w cache offset len old new bufs (Length n) reads overflow end look
 read_says sum w cache offset len old new bufs Closed reads overflow end looked is = absurd is
 read_says sum w cache offset len old new bufs NoSuch reads overflow end looked is = absurd is
 read_says sum w cache offset len old new bufs NotRecovering reads overflow end looked is = absurd is
+read_says sum w cache offset len old new bufs (Served count read) reads overflow end looked is = absurd is
+read_says sum w cache offset len old new bufs (Missed numbers) reads overflow end looked is = absurd is
+read_says sum w cache offset len old new bufs BadRanges reads overflow end looked is = absurd is
 
 -- a read
 pub read_steps : (sum : List ℕ → ℕ) (was : SessionState) (w : WriterState) (cache : CacheState) (offset len : ℕ) (old new : Life) (reply : Reply) → IsSound sum w old.present → ReadSays sum w cache offset len old new reply
@@ -1004,6 +1009,9 @@ read_steps sum was w cache offset len old new reply sound says = λ P before sta
     taken (Answer answer) P before stands size full reads = absurd reads
     taken NoSuch P before stands size full reads = absurd reads
     taken NotRecovering P before stands size full reads = absurd reads
+    taken (Served count read) P before stands size full reads = absurd reads
+    taken (Missed numbers) P before stands size full reads = absurd reads
+    taken BadRanges P before stands size full reads = absurd reads
     taken (Length n) P before stands size full reads = absurd reads
     taken Closed P before stands size full reads = absurd reads
 
@@ -1067,6 +1075,9 @@ appended_takes sum was now bytes old new reply ready rest goes = by_writer was.w
     by_writer (Some w) at Closed goes = absurd goes
     by_writer (Some w) at NoSuch goes = absurd goes
     by_writer (Some w) at NotRecovering goes = absurd goes
+    by_writer (Some w) at (Served count read) goes = absurd goes
+    by_writer (Some w) at (Missed numbers) goes = absurd goes
+    by_writer (Some w) at BadRanges goes = absurd goes
 
 -- a cause of an append is one of an append of a buffer
 owned_cause : (P : ℕ) (bytes : Vec ℕ Global) (s : Standing) (from to : Disk) (e : Error) → HasCause P (Append bytes) s from to e → HasCause P (Owned bytes) s from to e
@@ -1093,6 +1104,9 @@ owned_takes P bytes (Bytes read) s behind from to takes = takes
 owned_takes P bytes Closed s behind from to takes = takes
 owned_takes P bytes NoSuch s behind from to takes = takes
 owned_takes P bytes NotRecovering s behind from to takes = takes
+owned_takes P bytes (Served count read) s behind from to takes = takes
+owned_takes P bytes (Missed numbers) s behind from to takes = takes
+owned_takes P bytes BadRanges s behind from to takes = takes
 
 owned_answers : (P : ℕ) (bytes : Vec ℕ Global) (reply : Reply) (s behind : Standing) (from to : Disk) → Answers P (Append bytes) reply from to s behind → Answers P (Owned bytes) reply from to s behind
 owned_answers P bytes reply s behind from to = by_turn (if s.has_writer then None else Some Closed)
@@ -1150,6 +1164,9 @@ tried_takes sum was now bytes life reply ready rest goes = by_writer was.writer 
     by_writer (Some w) at Closed goes = absurd goes
     by_writer (Some w) at NoSuch goes = absurd goes
     by_writer (Some w) at NotRecovering goes = absurd goes
+    by_writer (Some w) at (Served count read) goes = absurd goes
+    by_writer (Some w) at (Missed numbers) goes = absurd goes
+    by_writer (Some w) at BadRanges goes = absurd goes
 
 -- a sync by a session
 pub synced_takes : (sum : List ℕ → ℕ) (was now : SessionState) (old new : Life) (reply : Reply) → IsReady sum was old.present → KeepsRest was now → Synced sum was.writer now.writer old new reply → Steps sum Sync reply was now old new
@@ -1168,6 +1185,9 @@ synced_takes sum was now old new reply ready rest goes = by_writer was.writer re
     by_writer (Some w) at Closed goes = absurd goes
     by_writer (Some w) at NoSuch goes = absurd goes
     by_writer (Some w) at NotRecovering goes = absurd goes
+    by_writer (Some w) at (Served count read) goes = absurd goes
+    by_writer (Some w) at (Missed numbers) goes = absurd goes
+    by_writer (Some w) at BadRanges goes = absurd goes
 
 -- what is read of a session leaves all of it
 pub same_rest : (was : SessionState) → KeepsRest was was

@@ -25,7 +25,7 @@ use Rattle.paged.specs.Truncate.{TruncateCause, shorten_calls, truncate_calls}
 use Rattle.paged.proofs.Flushes.{size_is_length}
 use Rattle.session.specs.declared.steps.Step.TheVariants.{Truncate}
 use Rattle.session.specs.declared.steps.Reply.{Reply}
-use Rattle.session.specs.declared.steps.Reply.TheVariants.{At, Nothing, Done, Started, Answer, Length, Bytes, Fault, Closed, NotRecovering, NoSuch}
+use Rattle.session.specs.declared.steps.Reply.TheVariants.{At, Nothing, Done, Started, Answer, Length, Bytes, Fault, Closed, NotRecovering, NoSuch, Served, Missed, BadRanges}
 use Rattle.session.specs.Run.{Standing, SessionState, truncated, lowered, begun, ended, turned_away, faults, HasCause, Takes, pending_in, AllCover, NamesFit, StandsFor, IsReady}
 use Rattle.session.specs.Run.Touch.{Changes}
 use Rattle.session.specs.Calls.{KeepsRest, TruncateSays, Cuts, Truncated, Stepped, StepsAlways, Steps}
@@ -309,6 +309,9 @@ cuts_takes sum was now w n old new (Answer answer) at recovering sound rest cuts
 cuts_takes sum was now w n old new (Bytes read) at recovering sound rest cuts = absurd cuts
 cuts_takes sum was now w n old new Closed at recovering sound rest cuts = absurd cuts
 cuts_takes sum was now w n old new NotRecovering at recovering sound rest cuts = absurd cuts
+cuts_takes sum was now w n old new (Served count read) at recovering sound rest cuts = absurd cuts
+cuts_takes sum was now w n old new (Missed numbers) at recovering sound rest cuts = absurd cuts
+cuts_takes sum was now w n old new BadRanges at recovering sound rest cuts = absurd cuts
 cuts_takes sum was now w n old new NoSuch at recovering sound rest cuts = absurd cuts
 
 -- what a call of the writer did, by the session's state

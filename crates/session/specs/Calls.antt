@@ -10,6 +10,7 @@ use Rattle.disk.specs.declared.started_sync.StartedSync.TheVariants.{Done as All
 use Rattle.disk.specs.declared.error.Error.{Error}
 use Rattle.disk.specs.declared.error.Error.TheVariants.{BlobInsufficientLength, OffsetOverflow}
 use Rattle.disk.specs.declared.error.Error.TheVariants.{InvalidChecksum, OutOfMemory}
+use Rattle.page.specs.Geometry.{RangesGo}
 use Rattle.crash.specs.WriterState.{WriterState}
 use Rattle.crash.specs.WriterState.SyncState.{Dirty}
 use Rattle.crash.specs.Looks.{Looked}
@@ -23,6 +24,7 @@ use Rattle.paged.specs.Calls.{started_already, WaitsForSync, SettlesBy}
 use Rattle.paged.specs.Flush.{outcome}
 use Rattle.cache.specs.CacheState.{CacheState}
 use Rattle.paged_read.specs.Ranges.{Reads, ReadsUpTo, TriesRead, is_served}
+use Rattle.paged_read.specs.Ranges.{ReadsMany, AsksOnce, Misses}
 use Rattle.paged.specs.Caches.{tail_of}
 use Rattle.paged.specs.Reads.{size_of}
 use Rattle.paged.specs.Truncate.{Truncates, KeepsFloorsWithin, truncate_calls}
@@ -31,6 +33,7 @@ use Rattle.session.specs.declared.steps.Reply.{Reply}
 use Rattle.session.specs.declared.steps.Reply.TheVariants.{At, Nothing, Done, Started, Answer}
 use Rattle.session.specs.declared.steps.Reply.TheVariants.{Length, Bytes, Fault, Closed, NoSuch}
 use Rattle.session.specs.declared.steps.Reply.TheVariants.{NotRecovering}
+use Rattle.session.specs.declared.steps.Reply.TheVariants.{Served, Missed, BadRanges}
 use Rattle.session.specs.Run.{Standing, SessionState, Did, StandsFor, IsReady}
 
 -- what a call of the writer leaves of the session but the writer
@@ -274,6 +277,49 @@ TriedBytes w cache offset len _ = ⊥
 abbrev pub DidTryRead : Option WriterState → CacheState → (offset len : ℕ) → Reply → Type 0
 DidTryRead None cache offset len reply = reply ≡ Closed
 DidTryRead (Some w) cache offset len reply = TriedBytes w cache offset len reply
+
+-- the bytes of ranges, joined, and how many of the ranges needed no device; or why a read of them
+-- is refused: the first that can't be read decides, before anything is asked for
+abbrev pub ReadsRanges : (List ℕ → ℕ) → WriterState → CacheState → List (ℕ × ℕ) → Life → Life
+    → Reply → Type 0
+ReadsRanges sum w cache ranges old new (Served count bytes) =
+    ReadsMany sum (tail_of w) cache ranges bytes.items old new (Ok count)
+ReadsRanges sum w cache ranges old new (Fault e) =
+    ReadsMany sum (tail_of w) cache ranges [] old new (Err e)
+ReadsRanges sum w cache ranges old new _ = ⊥
+
+-- what a read of ranges that one call can take says of its answer
+pub record ReadRangesSays (sum : List ℕ → ℕ) (w : WriterState) (cache : CacheState)
+    (ranges : List (ℕ × ℕ)) (old new : Life) (reply : Reply) : Type 0 where
+  pub reads : ReadsRanges sum w cache ranges old new reply
+  pub full : reply ≡ Fault InvalidChecksum → ⊥
+  pub overflow : RangesGo (size_of w) ranges (Err OffsetOverflow) → reply ≡ Fault OffsetOverflow
+  pub end : RangesGo (size_of w) ranges (Err BlobInsufficientLength)
+      → reply ≡ Fault BlobInsufficientLength
+  pub asks : AsksOnce cache (tail_of w) ranges old new
+  pub looked : Looked old new
+
+-- a read of ranges, by the writer, and whether one call can take them
+abbrev pub DidReadRanges : (List ℕ → ℕ) → Option WriterState → (fit : Bool) → CacheState
+    → List (ℕ × ℕ) → Life → Life → Reply → Type 0
+DidReadRanges sum None fit cache ranges old new reply = (reply ≡ Closed) × (new ≡ old)
+DidReadRanges sum (Some w) false cache ranges old new reply = (reply ≡ BadRanges) × (new ≡ old)
+DidReadRanges sum (Some w) true cache ranges old new reply =
+    ReadRangesSays sum w cache ranges old new reply
+
+-- the numbers of the ranges that need the device, of all where one can't be read; or there is no
+-- memory
+abbrev pub TriedRanges : WriterState → CacheState → List (ℕ × ℕ) → Reply → Type 0
+TriedRanges w cache ranges (Missed numbers) = Misses (tail_of w) ranges cache numbers.items
+TriedRanges w cache ranges (Fault e) = e ≡ OutOfMemory
+TriedRanges w cache ranges _ = ⊥
+
+-- a question for ranges that asks no device, by the writer, and whether one call can take them
+abbrev pub DidTryReadRanges : Option WriterState → (fit : Bool) → CacheState → List (ℕ × ℕ) → Reply
+    → Type 0
+DidTryReadRanges None fit cache ranges reply = reply ≡ Closed
+DidTryReadRanges (Some w) false cache ranges reply = reply ≡ BadRanges
+DidTryReadRanges (Some w) true cache ranges reply = TriedRanges w cache ranges reply
 
 -- the reply of these bytes, or that there is no memory for them
 abbrev pub IsBytes : List ℕ → Reply → Type 0

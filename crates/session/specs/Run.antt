@@ -2,8 +2,8 @@
 use Rattle.std.specs.Prelude.{◌≡◌, ◌≢◌, ◌⊎◌, ◌<◌, ◌≤◌, ◌+◌, ◌%◌, ◌^◌, ◌++◌, ℕ, List, [], ◌∷◌}
 use Rattle.std.specs.Prelude.{length, take, drop, min, max, map, All, Bool, true, false, not}
 use Rattle.std.specs.Prelude.{nat_le, nat_lt, nat_eq, ◌||◌, ◌&&◌}
-use Rattle.std.specs.Prelude.{if◌then◌else◌, is_some, slice_get, Option, Some, None}
-use Rattle.std.specs.List.{Contains, list_any}
+use Rattle.std.specs.Prelude.{if◌then◌else◌, is_some, slice_get, sum_by, Option, Some, None, Err}
+use Rattle.std.specs.List.{Contains, list_any, flat_map, range_with_len}
 use Rattle.disk.specs.Disk.{Disk, Life, after, HasFailed, coverings, had_failed}
 use Rattle.disk.specs.declared.started_sync.StartedSync.{StartedSync}
 use Rattle.disk.specs.declared.started_sync.StartedSync.TheVariants.{Done as AllDone, Named}
@@ -11,6 +11,7 @@ use Rattle.disk.specs.declared.error.Error.{Error}
 use Rattle.disk.specs.declared.error.Error.TheVariants.{ReadFailed, WriteFailed, ResizeFailed}
 use Rattle.disk.specs.declared.error.Error.TheVariants.{SyncFailed, BlobInsufficientLength}
 use Rattle.disk.specs.declared.error.Error.TheVariants.{OffsetOverflow, OutOfMemory}
+use Rattle.page.specs.Geometry.{EndWithin, RangesGo}
 use Rattle.crash.specs.Kept.{AllKeep, AllOnly, Each}
 use Rattle.crash.specs.Looks.{SameButLog}
 use Rattle.crash.specs.Started.{WouldKeep, StartsStand}
@@ -26,10 +27,12 @@ use Rattle.session.specs.declared.steps.Step.{Step}
 use Rattle.session.specs.declared.steps.Step.TheVariants.{Append, Owned, TryAppend, Sync, StartSync}
 use Rattle.session.specs.declared.steps.Step.TheVariants.{Wait, WaitSync, Needs, Size, Read, Begin}
 use Rattle.session.specs.declared.steps.Step.TheVariants.{ReadUpTo, TryRead, Truncate}
+use Rattle.session.specs.declared.steps.Step.TheVariants.{ReadRanges, TryReadRanges}
 use Rattle.session.specs.declared.steps.Reply.{Reply}
 use Rattle.session.specs.declared.steps.Reply.TheVariants.{At, Nothing, Done, Started, Answer}
 use Rattle.session.specs.declared.steps.Reply.TheVariants.{Length, Bytes, Fault, Closed, NoSuch}
 use Rattle.session.specs.declared.steps.Reply.TheVariants.{NotRecovering}
+use Rattle.session.specs.declared.steps.Reply.TheVariants.{Served, Missed, BadRanges}
 
 -- ---- what a session stands for
 
@@ -156,12 +159,32 @@ begun step s = s
 abbrev pub has_name : Standing → ℕ → Bool
 has_name s name = list_any (λ c. nat_eq c.0 name) s.covers
 
+-- each range, a place and a length, begins at or behind the end of the one before; the first at or
+-- behind this place
+abbrev pub in_order_from : (place : ℕ) → List (ℕ × ℕ) → Bool
+in_order_from place [] = true
+in_order_from place (range ∷ ranges) =
+    nat_le place range.0 && in_order_from (range.0 + range.1) ranges
+
+-- one call can take these ranges: they are in order, don't overlap, and their lengths together are
+-- below 2 ^ 64
+abbrev pub fit_together : List (ℕ × ℕ) → Bool
+fit_together ranges = in_order_from 0 ranges && nat_lt (sum_by (λ range. range.1) ranges) (2 ^ 64)
+
 -- the reply, where the session has not what the step needs: a writer, one whose recovery hasn't
--- ended, or a name that it was given
+-- ended, or a name that it was given; or where one call can't take the ranges
 abbrev pub turned_away : Step → Standing → Option Reply
 turned_away (WaitSync name) s = if has_name s name then None else Some NoSuch
 turned_away (Truncate n) s =
     if s.has_writer then (if s.recovering then None else Some NotRecovering) else Some Closed
+turned_away (ReadRanges ranges) s =
+    if s.has_writer
+    then (if fit_together ranges.items then None else Some BadRanges)
+    else Some Closed
+turned_away (TryReadRanges ranges) s =
+    if s.has_writer
+    then (if fit_together ranges.items then None else Some BadRanges)
+    else Some Closed
 turned_away step s = if s.has_writer then None else Some Closed
 
 -- ---- steps that are accepted
@@ -176,6 +199,23 @@ Slices content offset len bytes =
 abbrev pub SlicesUpTo : List ℕ → (offset len : ℕ) → List ℕ → Type 0
 SlicesUpTo content offset len bytes =
     ((len ≡ 0) ⊎ (offset < length content)) × (bytes ≡ take len (drop offset content))
+
+-- the bytes of ranges of the content, one behind the other, all within it
+abbrev pub SlicesAll : List ℕ → (ranges : List (ℕ × ℕ)) → List ℕ → Type 0
+SlicesAll content ranges bytes =
+    EndWithin (length content) ranges
+    × (bytes ≡ flat_map (λ range. take range.1 (drop range.0 content)) ranges)
+
+-- numbers that rise, from this one on and below the end
+abbrev pub RiseBelow : (from end : ℕ) → List ℕ → Type 0
+RiseBelow from end [] = Unit {0}
+RiseBelow from end (n ∷ ns) = (from ≤ n) × (n < end) × RiseBelow (n + 1) end ns
+
+-- the numbers of some of these ranges, rising; of all where one isn't within the content
+abbrev pub NumbersSome : List ℕ → (ranges : List (ℕ × ℕ)) → List ℕ → Type 0
+NumbersSome content ranges numbers =
+    RiseBelow 0 (length ranges) numbers
+    × (EndWithin (length content) ranges ⊎ (numbers ≡ range_with_len 0 (length ranges)))
 
 -- what starting a sync answers: where all is written, the sync that is awaited, if one is, and else
 -- a new one, whose name is its number
@@ -216,6 +256,10 @@ Accepts P (ReadUpTo offset len) (Bytes bytes) from to s behind =
 Accepts P (TryRead offset len) (Bytes bytes) from to s behind =
     Slices s.content offset len bytes.items × (behind ≡ s)
 Accepts P (TryRead offset len) Nothing from to s behind = behind ≡ s
+Accepts P (ReadRanges ranges) (Served count bytes) from to s behind =
+    SlicesAll s.content ranges.items bytes.items × (count ≤ length ranges.items) × (behind ≡ s)
+Accepts P (TryReadRanges ranges) (Missed numbers) from to s behind =
+    NumbersSome s.content ranges.items numbers.items × (behind ≡ s)
 Accepts P Begin Done from to s behind = behind ≡ record s { recovering = false }
 Accepts P (Truncate n) (Length m) from to s behind =
     (m ≡ min n (length s.content)) × (behind ≡ truncated P n s)
@@ -240,19 +284,25 @@ faults (Truncate n) =
 faults (Read offset len) = ReadFailed ∷ BlobInsufficientLength ∷ OffsetOverflow ∷ OutOfMemory ∷ []
 faults (ReadUpTo offset len) = ReadFailed ∷ BlobInsufficientLength ∷ OutOfMemory ∷ []
 faults (TryRead offset len) = OutOfMemory ∷ []
+faults (ReadRanges ranges) = ReadFailed ∷ BlobInsufficientLength ∷ OffsetOverflow ∷ OutOfMemory ∷ []
+faults (TryReadRanges ranges) = OutOfMemory ∷ []
 
--- a place, or the blob that the new size needs in pages of P bytes, passes the greatest number
+-- a place, or the blob that the new size needs in pages of P bytes, passes the greatest number; of
+-- ranges the first that can't be read decides
 abbrev pub Overflows : (P : ℕ) → Step → Standing → Type 0
 Overflows P (Append bytes) s = 2 ^ 64 ≤ physical_size P 0 (length s.content + length bytes.items)
 Overflows P (Owned bytes) s = 2 ^ 64 ≤ physical_size P 0 (length s.content + length bytes.items)
 Overflows P (TryAppend bytes) s = 2 ^ 64 ≤ physical_size P 0 (length s.content + length bytes.items)
 Overflows P (Read offset len) s = 2 ^ 64 ≤ offset + len
+Overflows P (ReadRanges ranges) s = RangesGo (length s.content) ranges.items (Err OffsetOverflow)
 Overflows P step s = ⊥
 
 -- a range passes the end, and no greatest number; or some bytes are asked for where there is none
 abbrev pub PassesEnd : Step → Standing → Type 0
 PassesEnd (Read offset len) s = (offset + len < 2 ^ 64) × (length s.content < offset + len)
 PassesEnd (ReadUpTo offset len) s = (len ≢ 0) × (length s.content ≤ offset)
+PassesEnd (ReadRanges ranges) s =
+    RangesGo (length s.content) ranges.items (Err BlobInsufficientLength)
 PassesEnd step s = ⊥
 
 -- a step that may ask for memory
@@ -360,6 +410,8 @@ touch Size s = Leaves
 touch (Read offset len) s = Looks
 touch (ReadUpTo offset len) s = Looks
 touch (TryRead offset len) s = Leaves
+touch (ReadRanges ranges) s = Looks
+touch (TryReadRanges ranges) s = Leaves
 touch Begin s = Leaves
 touch (Truncate n) s = Changes (if nat_lt n (length s.content) then 8 else 2)
 

@@ -1,15 +1,24 @@
 // Steps that read.
 ghost use Rattle.std.specs.Prelude.{◌≡◌, ◌≤◌, ◌+◌, IfSome, IfOk, IsOkUnless, length, IsTrue, ◌↔◌};
-ghost use Rattle.std.specs.List.{concat};
+ghost use Rattle.std.specs.Prelude.{is_some, sum_by};
+ghost use Rattle.std.specs.List.{concat, range_with_len};
+ghost use Rattle.page.specs.Geometry.{AreInOrder};
 ghost use Rattle.cache.specs.Pages.{IsFresh};
-ghost use Rattle.session.specs.Run.{IsReady, CacheFits};
+ghost use Rattle.crash.specs.Sound.{IsSound};
+ghost use Rattle.paged_read.specs.Tail.{CanRead};
+ghost use Rattle.paged_read.specs.Ranges.{Misses};
+ghost use Rattle.paged.specs.Caches.{tail_of};
+ghost use Rattle.session.specs.Run.{IsReady, CacheFits, fit_together};
 ghost use Rattle.session.specs.Calls.{DidRead, DidReadUpTo, DidTryRead, IsBytes};
+ghost use Rattle.session.specs.Calls.{ReadRangesSays, DidReadRanges, DidTryReadRanges};
 
 use crate::Session;
 use crate::steps::Reply;
 use cache::CacheRef;
 use disk::{Blob, Error, IoBufs};
-use page::Sum;
+use page::{Sum, validate_read_ranges};
+use paged::Recovery;
+use std::alloc::Global;
 
 impl<B: Blob, H: Sum> Session<B, H> {
     pub(crate) fn read(&self, blob: &mut B, cache: &mut CacheRef, offset: u64, len: usize) -> Reply
@@ -74,6 +83,97 @@ impl<B: Blob, H: Sum> Session<B, H> {
         }
     }
 
+    pub(crate) fn read_ranges(
+        &self,
+        blob: &mut B,
+        cache: &mut CacheRef,
+        ranges: &[(u64, usize)],
+    ) -> Reply
+        requires ready { IsReady H.sum_of self.now (B.life blob.old).present }
+        requires cached { CacheFits self.now.writer cache.old (B.life blob.old).present }
+        ensures goes { let old = B.life blob.old in let new = B.life blob.new in
+            let fit = fit_together ranges.now in
+            DidReadRanges H.sum_of self.now.writer fit cache.old ranges.now old new result }
+        ensures cached { CacheFits self.now.writer cache.new (B.life blob.new).present }
+        ensures fresh_ids { IsFresh cache.old → IsFresh cache.new }
+    {
+        match (&self.writer, len_together(ranges)) {
+            (None, _) => Reply::Closed,
+            (_, None) => Reply::BadRanges,
+            (Some(writer), Some(len)) => self.read_fitting(writer, blob, cache, ranges, len),
+        }
+    }
+
+    // Room for the bytes is made only where they are within the size.
+    fn read_fitting(
+        &self,
+        writer: &Recovery<B, H>,
+        blob: &mut B,
+        cache: &mut CacheRef,
+        ranges: &[(u64, usize)],
+        len: usize,
+    ) -> Reply
+        requires sound { IsSound H.sum_of writer.now (B.life blob.old).present }
+        requires can { CanRead (tail_of writer.now) cache.old (B.life blob.old).present }
+        requires in_order { AreInOrder ranges.now }
+        requires filled { len ≡ sum_by (λ range. range.1) ranges.now }
+        ensures says { let old = B.life blob.old in let new = B.life blob.new in
+            ReadRangesSays H.sum_of writer.now cache.old ranges.now old new result }
+        ensures can { CanRead (tail_of writer.now) cache.new (B.life blob.new).present }
+        ensures fresh_ids { IsFresh cache.old → IsFresh cache.new }
+    {
+        if let Err(error) = validate_read_ranges(len, ranges, writer.size()) {
+            return Reply::Fault(error);
+        }
+        let mut bytes = match self.room_for(len) {
+            Ok(bytes) => bytes,
+            Err(error) => return Reply::Fault(error),
+        };
+        match writer.read_ranges_into(blob, cache, &mut bytes, ranges) {
+            Ok(count) => Reply::Served(count, bytes),
+            Err(error) => Reply::Fault(error),
+        }
+    }
+
+    pub(crate) fn try_read_ranges(&self, cache: &CacheRef, ranges: &[(u64, usize)]) -> Reply
+        requires { IfSome self.now.writer (λ w. cache.now.page_size ≡ w.page_size) }
+        ensures { let fit = fit_together ranges.now in
+            DidTryReadRanges self.now.writer fit cache.now ranges.now result }
+    {
+        let Some(writer) = &self.writer else {
+            return Reply::Closed;
+        };
+        let Some(len) = len_together(ranges) else {
+            return Reply::BadRanges;
+        };
+        match self.missed(writer, cache, ranges, len) {
+            Ok(numbers) => Reply::Missed(numbers),
+            Err(error) => Reply::Fault(error),
+        }
+    }
+
+    // All are missed where one can't be read, and then no room is made for the bytes.
+    fn missed(
+        &self,
+        writer: &Recovery<B, H>,
+        cache: &CacheRef,
+        ranges: &[(u64, usize)],
+        len: usize,
+    ) -> Result<Vec<usize>, Error>
+        requires page_size { cache.now.page_size ≡ writer.now.page_size }
+        requires in_order { AreInOrder ranges.now }
+        requires filled { len ≡ sum_by (λ range. range.1) ranges.now }
+        ensures missed { IfOk result (λ numbers.
+            Misses (tail_of writer.now) ranges.now cache.now numbers.items) }
+        ensures err { IsOkUnless result Error.OutOfMemory }
+    {
+        if validate_read_ranges(len, ranges, writer.size()).is_err() {
+            return all_below(self.alloc, ranges.len());
+        }
+        let mut bytes = self.room_for(len)?;
+        writer.try_read_ranges_sync_into(cache, &mut bytes, ranges)
+    }
+
     fn room_for(&self, len: usize) -> Result<Vec<u8>, Error>
         ensures len { IfOk result (λ bytes. length bytes.items ≡ len) }
         ensures err { IsOkUnless result Error.OutOfMemory }
@@ -109,4 +209,38 @@ fn ends_within(size: u64, offset: u64, len: usize) -> bool
         Some(end) => end <= size,
         None => false,
     }
+}
+
+// How many bytes the ranges have together, where one call can take them.
+fn len_together(ranges: &[(u64, usize)]) -> Option<usize>
+    ensures fit { is_some result ≡ fit_together ranges.now }
+    ensures in_order { IfSome result (λ len. AreInOrder ranges.now) }
+    ensures len { IfSome result (λ len. len ≡ sum_by (λ range. range.1) ranges.now) }
+{
+    let mut total = 0usize;
+    let mut end = 0u128;
+    for &(place, len) in ranges {
+        let begin = u128::from(place);
+        if begin < end {
+            return None;
+        }
+        let Some(more) = total.checked_add(len) else {
+            return None;
+        };
+        total = more;
+        end = begin + len as u128;
+    }
+    Some(total)
+}
+
+// The numbers below this one.
+fn all_below(alloc: Global, count: usize) -> Result<Vec<usize>, Error>
+    ensures items { IfOk result (λ all. all.items ≡ range_with_len 0 count) }
+    ensures err { IsOkUnless result Error.OutOfMemory }
+{
+    let mut all = Vec::new(alloc);
+    for index in 0..count {
+        all.push(index)?;
+    }
+    Ok(all)
 }

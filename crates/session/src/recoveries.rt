@@ -107,8 +107,8 @@ impl<H: Sum> Session<MemBlob, H> {
         ensures cached { let new = life_of blob.new in IsFresh cache.old
             → OnOk result (CacheFits self.new.writer cache.new new.present) }
         ensures fresh_ids { IsFresh cache.old → IsFresh cache.new }
-        ensures refused { let same = (self.new ≡ self.old) × (blob.new ≡ blob.old) × (cache.new ≡ cache.old) in
-            OnErr result ((self.new ≡ closed) ⊎ same) }
+        ensures refused { let same = (self.new ≡ self.old) × (blob.new ≡ blob.old) in
+            OnErr result ((self.new ≡ closed) ⊎ (same × (cache.new ≡ cache.old))) }
 
         // What came back begins with the floor that stood as the crash came, and chance aside it is
         // a prefix of what stood.

@@ -101,6 +101,8 @@ impl<B: Blob, H: Sum> Session<B, H> {
             Step::Read(offset, len) => self.read(blob, cache, *offset, *len),
             Step::ReadUpTo(offset, len) => self.read_up_to(blob, cache, *offset, *len),
             Step::TryRead(offset, len) => self.try_read(cache, *offset, *len),
+            Step::ReadRanges(ranges) => self.read_ranges(blob, cache, ranges),
+            Step::TryReadRanges(ranges) => self.try_read_ranges(cache, ranges),
             Step::Begin => self.begin(),
             Step::Truncate(size) => self.truncate(blob, cache, *size),
         }

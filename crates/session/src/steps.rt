@@ -28,6 +28,10 @@ pub enum Step {
     ReadUpTo(u64, usize),
     /// Reads from this logical place so many bytes where that needs no device.
     TryRead(u64, usize),
+    /// Reads these ranges, each a logical place and a length, in one call.
+    ReadRanges(Vec<(u64, usize)>),
+    /// Asks which of these ranges can't be read without the device.
+    TryReadRanges(Vec<(u64, usize)>),
     /// Ends the recovery: from then on the writer appends.
     Begin,
     /// Cuts the blob to its first so many logical bytes, durably, where the recovery hasn't ended.
@@ -51,12 +55,18 @@ pub enum Reply {
     Length(u64),
     /// The bytes that were asked for.
     Bytes(Vec<u8>),
+    /// How many of the ranges needed no device, and the bytes of all, one behind the other.
+    Served(usize, Vec<u8>),
+    /// The numbers of the ranges that can't be read without the device.
+    Missed(Vec<usize>),
     /// The call was refused.
     Fault(Error),
     /// The step needs a writer, and there is none.
     Closed,
     /// The step needs a writer in recovery, and its recovery has ended.
     NotRecovering,
+    /// The ranges overlap, aren't in order, or are too long together.
+    BadRanges,
     /// The session wasn't given a sync of this name.
     NoSuch,
 }

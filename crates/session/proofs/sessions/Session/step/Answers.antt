@@ -1,8 +1,10 @@
 use Rattle.std.proofs.Common.{ℕ, List, subst}
-use Rattle.session.specs.Calls.{Appended, TriedAppend}
+use Rattle.session.specs.Run.{fit_together}
+use Rattle.session.specs.Calls.{Appended, TriedAppend, DidReadRanges, DidTryReadRanges}
 use Rattle.session.proofs.StepLaws.{appended_takes, owned_steps, tried_takes, synced_takes, sized_takes, read_takes}
 use Rattle.session.proofs.StartLaws.{started_takes, waited_takes, named_takes, needed_takes, begun_takes}
 use Rattle.session.proofs.ReadLaws.{read_up_to_takes, try_read_takes, page_size_fits}
+use Rattle.session.proofs.RangeLaws.{read_ranges_takes, try_read_ranges_takes}
 use Rattle.session.proofs.TruncateLaws.{truncated_takes}
 use Rattle.session.proofs.sessions.Session.step.Goals as goal
 
@@ -74,3 +76,19 @@ try_read-requires g c = page_size_fits c.args.self.now.writer c.args.cache.now (
 pub returns-in-TryRead-clause-goes : goal.returns-in-TryRead-clause-goes
 returns-in-TryRead-clause-goes g c =
     rw c.in-TryRead.is (try_read_takes g.H.Sum.sum_of c.args.self.now c.args.cache.now c.in-TryRead.offset c.in-TryRead.len (g.B.Blob.life c.args.blob.now) c.try_read.result c.requires.ready c.requires.cached c.try_read.ensures)
+
+pub returns-in-ReadRanges-clause-goes : goal.returns-in-ReadRanges-clause-goes
+returns-in-ReadRanges-clause-goes g c =
+    let sum = g.H.Sum.sum_of in
+    let old = g.B.Blob.life c.args.blob.now in
+    let new = g.B.Blob.life c.read_ranges.new.blob in
+    rw c.in-ReadRanges.is (read_ranges_takes sum c.args.self.now c.args.cache.now c.in-ReadRanges.ranges old new c.read_ranges.result c.requires.ready
+    (subst (λ (ranges : List (ℕ × ℕ)). DidReadRanges sum c.args.self.now.writer (fit_together ranges) c.args.cache.now ranges old new c.read_ranges.result) c.deref-in-ReadRanges.ensures.value c.read_ranges.ensures.goes))
+
+pub try_read_ranges-requires : goal.try_read_ranges-requires
+try_read_ranges-requires g c = page_size_fits c.args.self.now.writer c.args.cache.now (g.B.Blob.life c.args.blob.now).present c.requires.cached
+
+pub returns-in-TryReadRanges-clause-goes : goal.returns-in-TryReadRanges-clause-goes
+returns-in-TryReadRanges-clause-goes g c =
+    rw c.in-TryReadRanges.is (try_read_ranges_takes g.H.Sum.sum_of c.args.self.now c.args.cache.now c.in-TryReadRanges.ranges (g.B.Blob.life c.args.blob.now) c.try_read_ranges.result c.requires.ready
+    (subst (λ (ranges : List (ℕ × ℕ)). DidTryReadRanges c.args.self.now.writer (fit_together ranges) c.args.cache.now ranges c.try_read_ranges.result) c.deref-in-TryReadRanges.ensures.value c.try_read_ranges.ensures))
