@@ -1,25 +1,24 @@
 -- What a cut leaves of what the cache holds.
-use Rattle.std.proofs.Common.{◌≡◌, ◌∙◌, ◌⊎◌, ℕ, ◌+◌, ◌*◌, ◌/◌, ◌<◌, ◌≤◌, List, [], ◌++◌, length, take, drop}
+use Rattle.std.proofs.Common.{◌≡◌, ◌∙◌, ◌⊎◌, ℕ, ◌+◌, ◌*◌, ◌/◌, ◌<◌, ◌≤◌, List, [], ◌++◌, length, drop}
 use Rattle.std.proofs.Common.{refl, sym, ap, subst, arith, Bool, true, false, append_assoc, append-nil}
 use Rattle.std.proofs.Common.{length-take, take-append-drop, replicate}
 use Rattle.std.proofs.lemmas.List.{length-replicate}
 use Rattle.std.proofs.Math.Nat.{mul-le-mul_right, div-lt_iff_lt-mul}
-use Rattle.std.specs.Prelude.{Result, Ok, Err}
+use Rattle.std.specs.Prelude.{Ok}
 use Rattle.disk.specs.Disk.{Disk, Life}
 use Rattle.cache.specs.CacheState.{CacheState}
-use Rattle.cache.specs.Pages.{CachesOnly, IsTrueFor, IsFresh, page_of_content}
+use Rattle.cache.specs.Pages.{IsTrueFor, IsFresh, page_of_content}
 use Rattle.cache.proofs.CacheLaws.{longer_true}
 use Rattle.crash.specs.WriterState.{WriterState}
-use Rattle.crash.specs.Sound.{IsSound, content, stored}
+use Rattle.crash.specs.Sound.{IsSound, stored}
 use Rattle.crash.specs.Below.{SamePages, PagesStay}
 use Rattle.crash.proofs.Pages.{length-stored, take-stored, stored_same}
-use Rattle.paged.specs.Calls.{IsSettled}
 use Rattle.paged.specs.Flush.{has_work, synced}
 use Rattle.paged.specs.Recovery.{IsAsOpened}
 use Rattle.paged.specs.Truncate.{IsShortened}
 use Rattle.paged.specs.Caches.{PutsUpTo, ReadsOn, tail_of}
-use Rattle.paged_read.specs.Tail.{Tail, CanRead}
-use Rattle.paged.proofs.Caching.{puts_only, only_law, fresh_law, reads_behind, page_of_front}
+use Rattle.paged_read.specs.Tail.{CanRead}
+use Rattle.paged.proofs.Caching.{puts_only, fresh_law, reads_behind, page_of_front}
 use Rattle.crash.specs.Moments.{through_end}
 use Rattle.paged.proofs.Shortened.{sound_working}
 use Rattle.paged.proofs.Truncating.{SyncsWritten}

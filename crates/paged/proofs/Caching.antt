@@ -1,12 +1,12 @@
 -- What calls of a writer put in the cache, and that reads go on.
-use Rattle.std.proofs.Common.{◌≡◌, ◌∙◌, ℕ, zero, suc, ◌+◌, ◌-◌, ◌*◌, ◌<◌, ◌≤◌, List, [], ◌∷◌, ◌++◌}
-use Rattle.std.proofs.Common.{length, take, drop, refl, sym, ap, subst, arith, All, slice_index_or}
+use Rattle.std.proofs.Common.{◌≡◌, ◌∙◌, ℕ, zero, suc, ◌+◌, ◌*◌, ◌<◌, ◌≤◌, List, [], ◌∷◌, ◌++◌}
+use Rattle.std.proofs.Common.{length, take, drop, refl, sym, ap, subst, arith, slice_index_or}
 use Rattle.std.proofs.Common.{length-append, length-take, length-drop, drop-drop, append_assoc}
 use Rattle.std.proofs.Common.{append-nil, take-append-drop}
 use Rattle.std.proofs.Math.Nat.{mul-le-mul_right, eq_of_mul-eq-mul_right}
 use Rattle.std.proofs.Math.Nat.{le-mul_of_pos_right, div-mul-le_self}
 use Rattle.std.specs.Int.{div_ceil}
-use Rattle.std.specs.Prelude.{◌/◌, ◌%◌, ◌^◌, min}
+use Rattle.std.specs.Prelude.{◌/◌, ◌^◌}
 use Rattle.cache.specs.CacheState.{put_count}
 use Rattle.std.proofs.Math.Seq.{drop-append_seam, take-append_seam}
 use Rattle.std.proofs.lemmas.List.{take-append-le, drop-append-le}
@@ -14,14 +14,13 @@ use Rattle.std.specs.Prelude.{Result, Ok, Err, Option, Some, None}
 use Rattle.std.specs.Result.{IsErrAnd}
 use Rattle.std.specs.List.{concat}
 use Rattle.std.proofs.lemmas.Result.{err_from_is_err_and}
-use Rattle.std.proofs.lemmas.List.Elements.{All-get_or}
-use Rattle.disk.specs.Disk.{Disk, Life}
+use Rattle.disk.specs.Disk.{Life}
 use Rattle.disk.specs.declared.error.Error.{Error}
 use Rattle.page.specs.Tip.{ArePages}
 use Rattle.cache.specs.CacheState.{CacheState, PutsAll, Puts}
 use Rattle.cache.specs.Pages.{CachesOnly, IsTrueFor, IsFresh, page_of_content}
 use Rattle.cache.proofs.CacheLaws.{put_weakly, put_all_settings, puts_one_more, puts_all_true}
-use Rattle.cache.proofs.CacheLaws.{puts_all_caches, fresh_stays, fresh_true, longer_true}
+use Rattle.cache.proofs.CacheLaws.{puts_all_caches, fresh_stays, longer_true}
 use Rattle.crash.specs.WriterState.{WriterState, SyncState}
 use Rattle.crash.specs.Sound.{content, stored, IsSound}
 use Rattle.crash.proofs.Pages.{length-stored}
@@ -37,7 +36,6 @@ use Rattle.disk.specs.declared.error.Error.TheVariants.{BlobInsufficientLength, 
 use Rattle.paged.specs.Flush.{carried, synced, answered}
 use Rattle.paged.specs.Flush.{full_in}
 use Rattle.paged.specs.Direct.{IsDirect, buffering}
-use Rattle.paged.specs.Writer.{FitsBlob}
 use Rattle.paged.specs.Caches.{PutsUpTo, CachesTo, Caches, ReadsOn, KeepsReads, tail_of}
 use Rattle.paged_read.specs.Tail.{CanRead}
 

@@ -1,5 +1,5 @@
 -- What a writer's calls are told by, at a few bytes. Pages have 4 bytes, and the checksum is their sum.
-use Rattle.std.proofs.Common.{◌≡◌, ℕ, zero, suc, List, [], ◌∷◌, ◌++◌, length, length-append, ap, refl, sym, subst, inl, inr, arith}
+use Rattle.std.proofs.Common.{◌≡◌, List, [], ◌∷◌, ◌++◌, length, length-append, ap, refl, sym, subst, inl, inr, arith}
 use Rattle.std.specs.Prelude.{None, Some, Ok, true, false}
 use Rattle.disk.specs.Disk.{Life, Entry, LogGrows, SomeFailed, HasFailed, next, logged, failed_at}
 use Rattle.disk.specs.Disk.Request.{ReadAt, WaitSync}
@@ -18,7 +18,7 @@ use Rattle.paged.specs.Flush.{full_in, rest_of, has_work, carried, advanced, syn
 use Rattle.paged.specs.Recovery.{RecoveryCause}
 use Rattle.paged.specs.Calls.{IsSettled, TryAppends, HasCause, SettlesBy, sync_calls, start_calls, started_already, waited}
 use Rattle.paged.specs.Direct.{fill_of, is_too_big, IsDirect}
-use Rattle.paged.specs.Prefix.{page_at}
+use Rattle.paged_read.specs.Ranges.{page_at}
 use Rattle.paged.specs.Reads.{HasPages, size_of}
 
 -- one full page and five bytes more take three pages of 16 bytes

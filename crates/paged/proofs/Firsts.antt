@@ -12,10 +12,11 @@ use Rattle.crash.specs.Built.{kept_len}
 use Rattle.crash.specs.Full.{AreFull}
 use Rattle.crash.proofs.Pages.{length-pages, pages_at, pages_fit, pages_reach, take-pieces, pieces_of_take}
 use Rattle.crash.proofs.Texts.{active_is, active_none, text_full, text_part, value_len_le}
-use Rattle.paged.specs.declared.prefix.Prefix.{Prefix}
-use Rattle.paged.specs.Prefix.{page_at, behind, value_and_slot, prefix_of, prefix_pages, prefix_size, partial_pages, tip_of, slot_of_tip}
-use Rattle.paged.specs.Recovery.{opened_prefix, opened_size}
-use Rattle.paged.proofs.Prefixes.{partial_pages_le, active_zero, one_page, prefix_full, prefix_part, tip_short, last_is}
+use Rattle.paged_read.specs.declared.prefix.Prefix.{Prefix}
+use Rattle.paged_read.specs.Ranges.{page_at}
+use Rattle.paged_read.specs.Prefix.{behind, value_and_slot, prefix_of, prefix_pages, prefix_size, partial_pages, tip_of}
+use Rattle.paged.specs.Recovery.{opened_prefix, opened_size, slot_of_tip}
+use Rattle.paged_read.proofs.Prefixes.{partial_pages_le, active_zero, one_page, prefix_full, prefix_part, tip_short, last_is}
 
 module _ (sum : List ℕ → ℕ) (P : ℕ) where
   -- what stands behind the full pages: nothing that has a value, or the page whose value this is

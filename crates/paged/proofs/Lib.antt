@@ -11,13 +11,11 @@ pub mod Waits
 pub mod Starting
 pub mod Appends
 pub mod Halves
-pub mod Prefixes
-pub mod Looking
 pub mod Recoveries
 pub mod Firsts
 pub mod Places
 pub mod Standing
-pub mod Searching
+pub mod QuietCuts
 pub mod Recovered
 pub mod Opened
 pub mod Trims

@@ -19,15 +19,16 @@ use Rattle.crash.specs.Built.{kept_len}
 use Rattle.crash.proofs.BuiltLaws.{IsSmall}
 use Rattle.crash.proofs.Pages.{pages_at, pages_reach, page_is, length-page, length-pages}
 use Rattle.crash.proofs.Texts.{active_some}
-use Rattle.paged.specs.declared.prefix.Prefix.{Prefix}
+use Rattle.paged_read.specs.declared.prefix.Prefix.{Prefix}
 use Rattle.paged.specs.declared.writer.SyncState.{SyncState as State}
 use Rattle.paged.specs.Writer.{state_of}
-use Rattle.paged.specs.Prefix.{page_at, last_prefix, prefix_pages, partial_pages, tip_of, slot_of_tip, value_and_slot, at_prefix, HasBytes}
+use Rattle.paged_read.specs.Ranges.{page_at}
+use Rattle.paged_read.specs.Prefix.{last_prefix, prefix_pages, partial_pages, tip_of, value_and_slot, HasBytes}
 use Rattle.paged.specs.Reads.{HasPages}
 use Rattle.paged.specs.Calls.{WaitsForNone}
-use Rattle.paged.specs.Recovery.{IsKept, Stands, SoundWhereFull, IsAsOpened, IsOpened, Opens, opened_prefix, opened_size}
+use Rattle.paged.specs.Recovery.{IsKept, Stands, SoundWhereFull, IsAsOpened, IsOpened, Opens, opened_prefix, opened_size, slot_of_tip, at_prefix}
 use Rattle.paged.specs.Recovery.IsKept.{whole, cut}
-use Rattle.paged.proofs.Prefixes.{last_is, last_none_suc, last_full_suc, last_part_suc}
+use Rattle.paged_read.proofs.Prefixes.{last_is, last_none_suc, last_full_suc, last_part_suc}
 use Rattle.paged.proofs.Firsts.{Behind, told_len}
 use Rattle.paged.proofs.Standing.{stands_behind, page_behind}
 use Rattle.paged.proofs.Recovered.{kept_readable, kept_durable, opened_stays_durable, opened_readable, opened_length, opened_page_size}

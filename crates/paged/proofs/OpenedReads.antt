@@ -1,5 +1,5 @@
 -- What a new writer can read: nothing is held under its id.
-use Rattle.std.proofs.Common.{◌≡◌, ◌∙◌, inr, ℕ, ◌+◌, ◌*◌, ◌<◌, ◌≤◌, List, [], ◌++◌, length, sym, ap, subst, arith}
+use Rattle.std.proofs.Common.{◌≡◌, ◌∙◌, inr, ℕ, ◌+◌, ◌*◌, ◌<◌, ◌≤◌, List, length, sym, ap, subst, arith}
 use Rattle.std.specs.Prelude.{Result, Ok, Err, IfOk}
 use Rattle.disk.specs.Disk.{Disk, Life}
 use Rattle.disk.specs.declared.error.Error.{Error}
@@ -8,7 +8,6 @@ use Rattle.cache.specs.Pages.{IsTrueFor, IsFresh}
 use Rattle.cache.proofs.CacheLaws.{fresh_true}
 use Rattle.crash.specs.WriterState.{WriterState}
 use Rattle.crash.specs.Looks.{Looked}
-use Rattle.crash.specs.Sound.{stored}
 use Rattle.paged.specs.Reads.{HasPages}
 use Rattle.paged.specs.Recovery.{Opens, cache_after}
 use Rattle.paged.specs.Recovers.{GivesId}

@@ -11,12 +11,12 @@ use Rattle.page.specs.Tip.{Tip}
 use Rattle.page.specs.declared.slot.ActiveChecksum.{ActiveChecksum}
 use Rattle.cache.specs.CacheState.{CacheState}
 use Rattle.crash.specs.WriterState.{WriterState, SyncState}
-use Rattle.paged.specs.declared.prefix.Prefix.{Prefix}
+use Rattle.paged_read.specs.declared.prefix.Prefix.{Prefix}
 use Rattle.paged.specs.Writer.{physical_size, FitsBlob, IsWriter}
-use Rattle.paged.specs.Prefix.{tip_of, slot_of_tip, at_prefix}
+use Rattle.paged_read.specs.Prefix.{tip_of}
 use Rattle.paged.specs.Calls.{HoldsWithin}
-use Rattle.paged.specs.Recovery.{Opens, opened_prefix}
-use Rattle.paged.proofs.Prefixes.{last_is}
+use Rattle.paged.specs.Recovery.{Opens, opened_prefix, slot_of_tip, at_prefix}
+use Rattle.paged_read.proofs.Prefixes.{last_is}
 
 -- what is rounded up is whole pages
 next_whole : (n P : ℕ) → 0 < P → next_multiple_of n P % P ≡ 0

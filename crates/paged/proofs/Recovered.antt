@@ -24,15 +24,16 @@ use Rattle.crash.proofs.Soundness.{sound_leaves}
 use Rattle.crash.proofs.Pages.{pages_whole, page_is, drop-pieces, length-page, length-pieces}
 use Rattle.crash.proofs.Texts.{active_is, text_part, value_at}
 use Rattle.crash.proofs.FlushLaws.{tip_reach, length-content}
-use Rattle.paged.specs.declared.prefix.Prefix.{Prefix}
+use Rattle.paged_read.specs.declared.prefix.Prefix.{Prefix}
 use Rattle.paged.specs.Flush.{has_work, synced}
 use Rattle.page.specs.Geometry.{adjusted}
-use Rattle.paged.specs.Prefix.{page_at, prefix_of, prefix_pages, prefix_size, partial_pages, slot_of_tip, tip_of}
+use Rattle.paged_read.specs.Ranges.{page_at}
+use Rattle.paged_read.specs.Prefix.{prefix_of, prefix_pages, prefix_size, partial_pages, tip_of}
 use Rattle.paged.specs.Reads.{size_of}
 use Rattle.paged.specs.Calls.{WaitsForNone, HadFailed}
 use Rattle.paged.specs.Truncate.{IsCut, IsTruncated, SoundAndKept, TruncateCause, Truncates, cut_writer, cut_bytes, shortened_writer}
 use Rattle.paged.specs.Recovers.{RecoverCause, IsRecovered, Recovers, opened_bytes}
-use Rattle.paged.specs.Recovery.{RecoveryCause, IsDurable, IsKept, IsOpened, IsAsOpened, slot_pages, opened_prefix, opened_size, opened_writer}
+use Rattle.paged.specs.Recovery.{RecoveryCause, IsDurable, IsKept, IsOpened, IsAsOpened, slot_pages, opened_prefix, opened_size, opened_writer, slot_of_tip}
 use Rattle.paged.specs.Recovery.IsKept.{whole, cut}
 use Rattle.disk.proofs.Logs.{grows_joins, failed_later}
 use Rattle.crash.proofs.LookLaws.{looked_readable}

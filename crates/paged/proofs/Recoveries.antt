@@ -11,14 +11,15 @@ use Rattle.disk.specs.declared.error.Error.TheVariants.{ReadFailed, WriteFailed,
 use Rattle.cache.specs.CacheState.{CacheState}
 use Rattle.crash.specs.Looks.{Looked}
 use Rattle.crash.proofs.Pages.{cut_is, pages_reach}
-use Rattle.paged.specs.declared.prefix.Prefix.{Prefix}
+use Rattle.paged_read.specs.declared.prefix.Prefix.{Prefix}
 use Rattle.paged.specs.declared.writer.SyncState.TheVariants.{Clean as IsClean, Dirty as IsDirty, Pending as IsPending}
 use Rattle.paged.specs.declared.writer.SyncState.{SyncState as State}
 use Rattle.paged.specs.Writer.{state_of, FitsBlob}
-use Rattle.paged.specs.Prefix.{last_prefix, prefix_pages, partial_pages, tip_of}
-use Rattle.paged.specs.Recovery.{RecoveryCause, Finds, IsDurable, Cuts, CutsBack, IsKept, Opens, opened_prefix, opened_size}
+use Rattle.paged_read.specs.Prefix.{last_prefix, prefix_pages, partial_pages, tip_of}
+use Rattle.paged.specs.Recovery.{RecoveryCause, IsDurable, Cuts, CutsBack, IsKept, Opens, opened_prefix, opened_size}
+use Rattle.paged_read.specs.Searches.{Finds}
 use Rattle.paged.specs.Recovery.IsKept.{whole, cut}
-use Rattle.paged.proofs.Prefixes.{IsLast, last_is}
+use Rattle.paged_read.proofs.Prefixes.{IsLast, last_is}
 use Rattle.disk.proofs.Logs.{grows_once, grows_joins, failed_once, failed_later}
 use Rattle.crash.proofs.LookLaws.{looked_readable}
 

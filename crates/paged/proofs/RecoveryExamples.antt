@@ -16,13 +16,13 @@ use Rattle.crash.proofs.FloorLaws.{ReadsImage, floors_none, floors_sync}
 use Rattle.crash.specs.Looks.{looked_start}
 use Rattle.crash.proofs.Texts.{bytes_from_all}
 use Rattle.crash.proofs.Examples.{durable, rewritten, seven, before, behind}
-use Rattle.paged.specs.Prefix.{prefix_of, last_prefix, prefix_pages, at_prefix}
+use Rattle.paged_read.specs.Prefix.{prefix_of, last_prefix, prefix_pages}
 use Rattle.paged.specs.Calls.{AsksAtMost, IsSettled}
-use Rattle.paged.specs.Recovery.{IsDurable, IsAsOpened, KeepsText, LeavesText, SoundWhereFull, opened_prefix, opened_size, opened_writer}
+use Rattle.paged.specs.Recovery.{IsDurable, IsAsOpened, KeepsText, LeavesText, SoundWhereFull, opened_prefix, opened_size, opened_writer, at_prefix}
 use Rattle.paged.specs.Recovers.{recovered_writer, recovered_bytes}
 use Rattle.cache.specs.CacheState.{CacheState, empty_cache}
 use Rattle.paged.specs.Recovery.IsKept.{whole}
-use Rattle.paged.specs.Searches.{AreWithin, FallFrom, ReadsWithin, ReadsBack, scan_bytes}
+use Rattle.paged_read.specs.Searches.{AreWithin, FallFrom, ReadsWithin, ReadsBack, scan_bytes}
 use Rattle.paged.proofs.Opened.{opened_sound}
 use Rattle.paged.proofs.Trims.{keeps_text, leaves_text}
 

@@ -1,21 +1,18 @@
 -- Reads of a sound writer find each of its pages full.
-use Rattle.std.proofs.Common.{◌≡◌, ◌≢◌, ◌∙◌, ◌⊎◌, inl, inr, ℕ, zero, suc, ◌+◌, ◌*◌, ◌<◌, ◌≤◌, List, []}
-use Rattle.std.proofs.Common.{◌∷◌, length, take, drop, refl, sym, ap, subst, arith, Bool, true, false, cond}
-use Rattle.std.specs.Prelude.{Result, Ok, Err, Vec, IsErrOf}
+use Rattle.std.proofs.Common.{◌≡◌, inl, inr, ℕ, zero, suc, ◌+◌, ◌<◌, List, []}
+use Rattle.std.proofs.Common.{◌∷◌, refl, ap, subst, arith, Bool, true, false, cond}
+use Rattle.std.specs.Prelude.{Result, Vec, IsErrOf}
 use Rattle.std.specs.List.{Contains, filter, range_with_len}
 use Rattle.std.specs.declared.alloc.Global.{Global}
 use Rattle.disk.specs.Disk.{Life}
 use Rattle.disk.specs.declared.error.Error.{Error}
 use Rattle.disk.specs.declared.error.Error.TheVariants.{InvalidChecksum}
-use Rattle.page.specs.Page.{value_len}
 use Rattle.cache.specs.CacheState.{CacheState}
 use Rattle.crash.specs.WriterState.{WriterState}
 use Rattle.crash.specs.Sound.{IsSound}
 use Rattle.crash.proofs.FlushLaws.{tip_reach}
 use Rattle.crash.proofs.Texts.{AreFull_page}
-use Rattle.paged_read.specs.Tail.{Tail}
-use Rattle.paged_read.specs.Ranges.{missing, ReadFault, Reads, ReadsUpTo, ReadsMany, range_up_to}
-use Rattle.paged_read.specs.Ranges.{page_at}
+use Rattle.paged_read.specs.Ranges.{ReadFault, Reads, ReadsUpTo, ReadsMany, range_up_to}
 use Rattle.paged_read.proofs.PageReads.{first_or_later, has_first, has_later}
 use Rattle.paged.specs.Caches.{tail_of}
 

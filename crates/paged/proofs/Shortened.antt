@@ -30,7 +30,7 @@ use Rattle.crash.proofs.Lists.{drop_past, within_take}
 use Rattle.crash.proofs.LookLaws.{looked_readable}
 use Rattle.crash.proofs.ShortenLaws.{MayHold, holds_at_rest, rest_latest, resize_latest, value_may_hold, may_hold_on, resize_stays_held, looked_holds, looked_latest, looked_stays_held}
 use Rattle.crash.proofs.Texts.{AreBytes}
-use Rattle.paged.specs.Prefix.{page_at}
+use Rattle.paged_read.specs.Ranges.{page_at}
 use Rattle.paged.specs.Reads.{size_of}
 use Rattle.paged.specs.Recovery.{IsAsOpened, IsDurable, slot_pages}
 use Rattle.paged.specs.Writer.{FitsBlob}

@@ -30,7 +30,7 @@ use Rattle.crash.proofs.Pages.{cut_is}
 use Rattle.crash.proofs.ShrinkLaws.{other_other}
 use Rattle.crash.proofs.ShortenLaws.{StartsGoOn, MayHold, looked_holds, resize_holds, sync_holds, stage_holds, publish_holds, clear_holds, looked_goes_on, resize_goes_on, write_goes_on, sync_goes_on, goes_on_joins, sync_stays_held, stays_held, may_hold_on, may_hold_spares, may_hold_payload, published_may_hold, published_spares, write_latest, sync_latest}
 use Rattle.paged.specs.Calls.{AsksAtMost, HasCause}
-use Rattle.paged.specs.Searches.{AreWithin, ReadsWithin}
+use Rattle.paged_read.specs.Searches.{AreWithin, ReadsWithin}
 use Rattle.paged.specs.Recovery.{IsDurable, RecoveryCause}
 use Rattle.paged.specs.Truncate.{Then, WritesSlot, Stages, Rewrites, ReadsOnce, Cutting, SparesSlot}
 use Rattle.disk.specs.Images.{only_image}
@@ -39,9 +39,9 @@ use Rattle.std.specs.Prelude.{slice_range}
 use Rattle.std.proofs.Common.{◌-◌, length-drop}
 use Rattle.page.specs.Page.{value_len}
 use Rattle.crash.proofs.Texts.{AreBytes, active_is}
-use Rattle.paged.specs.Prefix.{page_at}
+use Rattle.paged_read.specs.Ranges.{page_at}
 use Rattle.paged.proofs.Reading.{within_page}
-use Rattle.paged.proofs.Searching.{gained_none, gained_once, gained_joins, within_joins}
+use Rattle.paged_read.proofs.Searching.{gained_none, gained_once, gained_joins, within_joins}
 
 -- ---- the log
 

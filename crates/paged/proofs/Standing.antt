@@ -14,9 +14,10 @@ use Rattle.crash.proofs.Texts.{AreBytes, AreFull_same, active_is, text_cut, text
 use Rattle.crash.proofs.BuiltLaws.{IsSmall}
 use Rattle.crash.proofs.FlushLaws.{rest_settled, exact_content, page_content, has_page}
 use Rattle.crash.proofs.Soundness.{exact_sound, page_sound}
-use Rattle.paged.specs.declared.prefix.Prefix.{Prefix}
-use Rattle.paged.specs.Prefix.{page_at, prefix_of, prefix_pages, partial_pages, at_prefix, HasBytes}
-use Rattle.paged.specs.Recovery.{IsDurable}
+use Rattle.paged_read.specs.declared.prefix.Prefix.{Prefix}
+use Rattle.paged_read.specs.Ranges.{page_at}
+use Rattle.paged_read.specs.Prefix.{prefix_of, prefix_pages, partial_pages, HasBytes}
+use Rattle.paged.specs.Recovery.{IsDurable, at_prefix}
 use Rattle.paged.proofs.Firsts.{Behind, IsFirst, prefix_is}
 
 module _ (sum : List ℕ → ℕ) (P : ℕ) (bytes readable : List ℕ) (full : ℕ) (v : List ℕ × ActiveChecksum) (behind : Behind sum P (pages P bytes) full (Some v)) where

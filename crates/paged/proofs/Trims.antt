@@ -14,9 +14,10 @@ use Rattle.crash.proofs.Moments.{stays_through_joins, only_through}
 use Rattle.crash.proofs.FloorLaws.{ReadsImage, floors_of_content, floors_none, floors_joins, floors_looked, floors_resize, floors_cut, looked_image}
 use Rattle.crash.proofs.LookLaws.{looked_readable}
 use Rattle.crash.proofs.CutLaws.{cut_few, rest_keeps, resize_stays, cut_sync_stays, rest_through_start, rest_looked_stays, rest_looked_rests}
-use Rattle.paged.specs.declared.prefix.Prefix.{Prefix}
-use Rattle.paged.specs.Prefix.{prefix_pages}
-use Rattle.paged.specs.Recovery.{IsDurable, Cuts, KeepsText, LeavesText, IsKept, Finds, opened_prefix, opened_size}
+use Rattle.paged_read.specs.declared.prefix.Prefix.{Prefix}
+use Rattle.paged_read.specs.Prefix.{prefix_pages}
+use Rattle.paged.specs.Recovery.{IsDurable, Cuts, KeepsText, LeavesText, IsKept, opened_prefix, opened_size}
+use Rattle.paged_read.specs.Searches.{Finds}
 use Rattle.paged.specs.Truncate.{KeepsFloorsWithin}
 use Rattle.paged.proofs.Firsts.{text_of_beginning, first_size_le}
 use Rattle.paged.proofs.Recoveries.{TrimsTo, opened_size_le}

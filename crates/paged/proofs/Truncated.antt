@@ -30,7 +30,7 @@ use Rattle.crash.proofs.Pages.{length-stored, stored_same, take-stored}
 use Rattle.crash.proofs.Texts.{AreFull_fewer, AreFull_same}
 use Rattle.crash.proofs.Soundness.{exact_sound, page_sound, settle_keeps}
 use Rattle.crash.proofs.ShortenLaws.{covers_through_shorten, shorten_floors, shorten_leaves, shorten_stands, sound_text}
-use Rattle.paged.specs.Prefix.{page_at}
+use Rattle.paged_read.specs.Ranges.{page_at}
 use Rattle.paged.specs.Calls.{IsSettled, Syncs, WaitsForNone}
 use Rattle.paged.specs.Reads.{HasPages, size_of}
 use Rattle.paged.specs.Recovery.{IsAsOpened, IsDurable, slot_pages}

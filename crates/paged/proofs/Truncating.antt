@@ -36,15 +36,15 @@ use Rattle.crash.proofs.Texts.{AreFull_page}
 use Rattle.crash.proofs.Soundness.{settled_sound, settle_keeps}
 use Rattle.paged.specs.Calls.{AsksAtMost, HasCause, HoldsWithin, IsSettled, IsWritten, SettlesBy, Syncs, WaitsForNone, sync_calls, settle_calls}
 use Rattle.paged.specs.Flush.{answered, has_work, synced}
-use Rattle.paged.specs.Prefix.{page_at}
+use Rattle.paged_read.specs.Ranges.{page_at}
 use Rattle.paged.specs.Reads.{HasPages, size_of}
 use Rattle.paged.specs.Recovery.{IsAsOpened, IsDurable, LeavesText}
-use Rattle.paged.specs.Searches.{AreWithin, ReadsWithin}
+use Rattle.paged_read.specs.Searches.{AreWithin, ReadsWithin}
 use Rattle.paged.specs.Truncate.{Truncates, IsTruncated, IsCut, TruncateCause, SoundAndKept, KeepsFloorsWithin, CutsTo, Shortens, IsShortened, ShortenCause, shorten_calls, shortened, shortened_writer, truncate_calls}
 use Rattle.paged.proofs.Causes.{sync_cause, waited_log}
 use Rattle.paged.proofs.Flushes.{idle_written, settle_none, sync_due}
 use Rattle.paged.proofs.Halves.{syncs_stay, sync_keeps, sync_keeps_all}
-use Rattle.paged.proofs.Searching.{gained_none, gained_once, gained_joins, within_joins}
+use Rattle.paged_read.proofs.Searching.{gained_none, gained_once, gained_joins, within_joins}
 use Rattle.paged.proofs.Waits.{settled_readable}
 use Rattle.paged.proofs.Truncated.{settled_opened, settled_full_before, cut_floors, cut_only, sync_cut_only, sync_cut_covers, sync_cut_starts, left_content, left_size, left_settled, left_there, left_sound, left_keeps}
 

@@ -17,11 +17,11 @@ use Rattle.crash.specs.Kept.{AllKeep, Through}
 use Rattle.crash.specs.Full.{AreFull}
 use Rattle.crash.specs.Built.{kept_len}
 use Rattle.crash.specs.Stays.{LeavesOnly}
-use Rattle.paged.specs.declared.prefix.Prefix.{Prefix}
+use Rattle.paged_read.specs.declared.prefix.Prefix.{Prefix}
 use Rattle.paged.specs.declared.writer.SyncState.TheVariants.{Clean as IsClean, Dirty as IsDirty}
 use Rattle.paged.specs.declared.writer.SyncState.TheVariants.{Pending as IsPending}
 use Rattle.paged.specs.declared.writer.SyncState.{SyncState as State}
-use Rattle.paged.specs.Prefix.{last_prefix, prefix_pages, at_prefix, HasBytes}
+use Rattle.paged_read.specs.Prefix.{last_prefix, prefix_pages, tip_of, HasBytes}
 use Rattle.paged.specs.Calls.{IsWritten, WaitsForNone}
 
 -- why opening a blob may answer this error: it doesn't write
@@ -31,13 +31,6 @@ RecoveryCause old new ResizeFailed = HasFailed ResizeFailed old.present new.pres
 RecoveryCause old new SyncFailed = HasFailed SyncFailed old.present new.present
 RecoveryCause old new OutOfMemory = Unit {0}
 RecoveryCause old new _ = ⊥
-
--- a search through pages: it answers this prefix, and only reads
-abbrev pub Finds : Prefix → Life → Life → Result Prefix Error → Type 0
-Finds p old new (Ok found) = (found ≡ p) × Looked old new
-Finds p old new (Err ReadFailed) = HasFailed ReadFailed old.present new.present × Looked old new
-Finds p old new (Err OutOfMemory) = Looked old new
-Finds p old new (Err _) = ⊥
 
 -- all that is readable is durable
 pub record IsDurable (d : Disk) : Type 0 where
@@ -64,6 +57,25 @@ pub data IsKept (old new : Life) (kept : ℕ) : SyncState → Type 0 where
   whole : kept ≡ length old.present.readable → Looked old new → IsKept old new kept Dirty
   cut : kept ≢ length old.present.readable → new.present.readable ≡ take kept old.present.readable
       → IsDurable new.present → IsKept old new kept Clean
+
+-- the slot that tells a partial page, where there is one
+abbrev pub slot_of_tip : Option (List ℕ × ActiveChecksum) → Option ActiveChecksum
+slot_of_tip None = None
+slot_of_tip (Some p) = Some p.1
+
+-- a writer whose blob ends with this prefix: its partial page is the tip, under the slot that tells
+-- it
+abbrev pub at_prefix : (P id capacity : ℕ) → Prefix → SyncState → WriterState
+at_prefix P id capacity p sync = record {
+  page_size = P;
+  id = id;
+  capacity = capacity;
+  full_pages = p.full_pages;
+  tip = tip_of p.partial;
+  flushed = slot_of_tip p.partial;
+  durable = slot_of_tip p.partial;
+  sync = sync;
+}
 
 -- a writer that stands behind these pages gets an id
 abbrev pub Stands : CacheState → ℕ → Prefix → SyncState → Result WriterState Error → Type 0

@@ -21,12 +21,12 @@ use Rattle.crash.specs.Stays.{KeepsAll, KeepsFloors}
 use Rattle.crash.specs.Kept.{Through}
 use Rattle.crash.specs.Below.{PagesStay}
 use Rattle.crash.specs.Shrink.{HeldBy, HoldsText, StaysHeld}
-use Rattle.paged.specs.Prefix.{page_at}
+use Rattle.paged_read.specs.Ranges.{page_at}
 use Rattle.paged.specs.Reads.{size_of}
 use Rattle.paged.specs.Flush.{synced}
 use Rattle.paged.specs.Recovery.{IsDurable}
 use Rattle.paged.specs.Calls.{AsksAtMost, IsSettled, HadFailed, sync_calls}
-use Rattle.paged.specs.Searches.{ReadsWithin}
+use Rattle.paged_read.specs.Searches.{ReadsWithin}
 
 -- the slot that tells the last page of a blob that is cut inside it: the one that isn't its value's
 abbrev pub shortened_slot : (List ℕ → ℕ) → (P n : ℕ) → List ℕ → Option ActiveChecksum

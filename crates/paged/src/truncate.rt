@@ -14,7 +14,7 @@ ghost use Rattle.paged.specs.Calls.{AsksAtMost, HoldsWithin, SettlesBy, Syncs, s
 ghost use Rattle.paged.specs.Flush.{answered, has_work, synced};
 ghost use Rattle.paged.specs.Reads.{HasPages, size_of};
 ghost use Rattle.paged.specs.Recovery.{IsAsOpened, LeavesText, slot_pages};
-ghost use Rattle.paged.specs.Searches.{ReadsWithin};
+ghost use Rattle.paged_read.specs.Searches.{ReadsWithin};
 ghost use Rattle.paged.specs.Truncate.{Truncates, IsCut, SoundAndKept, KeepsFloorsWithin};
 ghost use Rattle.paged.specs.Truncate.{truncate_calls, WritesSlot, Stages, Rewrites, ResizesTo};
 ghost use Rattle.paged.specs.Truncate.{ReadsOnce, ReadsValue, Shortens, CutsTo, SparesSlot};

@@ -13,3 +13,6 @@ pub mod RangedLists
 pub mod BatchSteps
 pub mod BatchReads
 pub mod BatchKeeps
+pub mod Prefixes
+pub mod Looking
+pub mod Searching

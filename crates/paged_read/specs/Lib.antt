@@ -3,3 +3,5 @@ pub mod Ranges
 pub mod Pieces
 pub mod Parts
 pub mod Batch
+pub mod Prefix
+pub mod Searches

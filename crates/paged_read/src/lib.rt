@@ -1,4 +1,5 @@
-//! Reads of a blob of pages: of one range or of many, through a cache of pages.
+//! Reads of a blob of pages: of one range or of many, through a cache of pages; and searches for the
+//! pages that have a value.
 #![tactic(auto)]
 
 mod batch;
@@ -7,14 +8,20 @@ mod fetch;
 mod full;
 mod lack;
 mod pieces;
+mod prefix;
 mod ranges;
+mod search;
 mod view;
 
+pub use prefix::{Partial, Prefix};
+pub use search::{last_pages, pages_of, physical_size, scan};
 pub use view::View;
 
 #[cfg(test)]
 mod kit;
 #[cfg(test)]
 mod ranges_tests;
+#[cfg(test)]
+mod search_tests;
 #[cfg(test)]
 mod tests;

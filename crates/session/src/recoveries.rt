@@ -6,7 +6,7 @@ ghost use Rattle.disk.specs.History.{life_of};
 ghost use Rattle.disk.specs.Torn.{torn};
 ghost use Rattle.page.specs.Page.{text};
 ghost use Rattle.page.specs.Geometry.{adjusted};
-ghost use Rattle.paged.specs.Searches.{ReadsWithin, scan_bytes};
+ghost use Rattle.paged_read.specs.Searches.{ReadsWithin, scan_bytes};
 ghost use Rattle.cache.specs.Pages.{IsFresh};
 ghost use Rattle.session.specs.Run.{StandsFor, IsReady, CacheFits};
 ghost use Rattle.session.specs.Promise.{HasCrashed, AttemptsThrough, BeginsBy, GivesId, GivesBack};

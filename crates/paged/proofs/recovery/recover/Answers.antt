@@ -6,13 +6,13 @@ use Rattle.std.proofs.Math.Nat.{mul-le-mul_left}
 use Rattle.std.specs.Int.NonZero.{non_zero_u16_get, non_zero_usize_get}
 use Rattle.crash.specs.WriterState.{WriterState}
 use Rattle.page.specs.Page.{pieces, text}
-use Rattle.paged.specs.Prefix.{prefix_of, prefix_pages}
+use Rattle.paged_read.specs.Prefix.{prefix_of, prefix_pages}
 use Rattle.paged.specs.Recovers.{Recovers}
 use Rattle.paged.proofs.Recoveries.{opened_size_le, finds_cause}
 use Rattle.paged.proofs.Recovered.{counted_length, opened_length, opened_page_size, opened_positive, found_is, found_within, found_short, counted_text, no_work, CutToText, scanned_length, scanned_as_opened, recovers_unfound, recovers_end, recovers_keep}
 use Rattle.paged.proofs.Trims.{Owes, scanned_owe, recovers_owe, finds_looked}
-use Rattle.paged.specs.Searches.{ReadsWithin, scan_bytes}
-use Rattle.paged.proofs.Searching.{back_within, page_within, scans_within, cuts_within}
+use Rattle.paged_read.specs.Searches.{ReadsWithin, scan_bytes}
+use Rattle.paged_read.proofs.Searching.{back_within, page_within, scans_within, cuts_within}
 use Rattle.paged.proofs.There.{recovered_sound}
 use Rattle.paged.proofs.recovery.recover.Given.{Over}
 use Rattle.paged.proofs.recovery.recover.Goals as goal

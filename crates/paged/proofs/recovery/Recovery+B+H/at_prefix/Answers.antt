@@ -2,7 +2,8 @@ use Rattle.std.proofs.Common.{◌*◌, ℕ, length, ◌∙◌, ap, arith, refl, 
 use Rattle.std.specs.Int.NonZero.{non_zero_u16_get}
 use Rattle.page.specs.Tip.{Tip}
 use Rattle.paged.specs.Writer.{state_of, FitsBlob}
-use Rattle.paged.specs.Prefix.{tip_of, at_prefix}
+use Rattle.paged_read.specs.Prefix.{tip_of}
+use Rattle.paged.specs.Recovery.{at_prefix}
 use Rattle.paged.proofs.Places.{IsPlaced, is_writer_placed, state_at}
 use Rattle.paged.proofs.recovery.Recovery+B+H.at_prefix.Given.{Over}
 use Rattle.paged.proofs.recovery.Recovery+B+H.at_prefix.Goals as goal

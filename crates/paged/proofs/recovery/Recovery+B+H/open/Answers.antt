@@ -4,13 +4,13 @@ use Rattle.std.proofs.lemmas.Result.{err_from_is_err_and}
 use Rattle.std.specs.Int.NonZero.{non_zero_u16_get}
 use Rattle.std.specs.Prelude.{Ok}
 use Rattle.page.specs.Geometry.{adjusted}
-use Rattle.paged.specs.Prefix.{last_prefix, HasBytes}
+use Rattle.paged_read.specs.Prefix.{last_prefix, HasBytes}
 use Rattle.paged.specs.Recovery.{Opens, opened_size, CutsBack}
 use Rattle.crash.specs.Looks.{looked_start}
 use Rattle.crash.proofs.FloorLaws.{floors_none}
 use Rattle.paged.proofs.Recoveries.{opened_is, opened_last, opened_reach, opened_kept, opened_size_le, pages_count, fits_prefix, opens_cause, back_cause, kept_back, trims_back}
-use Rattle.paged.specs.Searches.{ReadsBack}
-use Rattle.paged.proofs.Searching.{opens_back}
+use Rattle.paged_read.specs.Searches.{ReadsBack}
+use Rattle.paged.proofs.QuietCuts.{opens_back}
 use Rattle.paged.proofs.Opened.{opens_end, opened_there, opens_as_opened}
 use Rattle.paged.proofs.Trims.{Owes, opens_owe, finds_looked}
 use Rattle.paged.proofs.Places.{opens_within}

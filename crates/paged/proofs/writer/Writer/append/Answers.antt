@@ -1,9 +1,8 @@
 use Rattle.crash.specs.Sound.{content}
-use Rattle.disk.specs.declared.error.Error.{Error}
-use Rattle.std.specs.Prelude.{Ok, Err, Result}
-use Rattle.std.proofs.Common.{List, ℕ, [], append-nil, sym, refl, ◌++◌}
+use Rattle.std.specs.Prelude.{Ok, Err}
+use Rattle.std.proofs.Common.{ℕ, sym, refl, ◌++◌}
 use Rattle.crash.specs.WriterState.{WriterState}
-use Rattle.paged.proofs.Caching.{caches_law, caches_law_same, fresh_law, reads_behind}
+use Rattle.paged.proofs.Caching.{caches_law, fresh_law, reads_behind}
 use Rattle.std.proofs.Common.{Ok, Err, subst, sym}
 use Rattle.std.specs.Prelude.{ℕ}
 use Rattle.paged.specs.Calls.{Appends}

@@ -1,18 +1,12 @@
 use Rattle.disk.specs.declared.error.Error.TheVariants.{BlobInsufficientLength}
 use Rattle.std.proofs.Common.{◌≢◌}
-use Rattle.std.proofs.Common.{◌≡◌, ◌≤◌, ◌<◌, ◌+◌, ◌^◌, sym, subst, length, List, ℕ}
-use Rattle.std.specs.Prelude.{Err, IfOk, OnOk}
-use Rattle.std.specs.List.{concat}
-use Rattle.std.specs.Int.NonZero.{non_zero_usize_get}
-use Rattle.disk.specs.Disk.{Disk}
-use Rattle.page.specs.Geometry.{EndWithin}
-use Rattle.paged_read.specs.Tail.{Tail, CanRead, told, size_of}
-use Rattle.paged_read.specs.Ranges.{Reads, ReadsUpTo, ReadsMany, range_up_to, TriesRead}
-use Rattle.paged_read.specs.Ranges.{AsksForMissing, AsksOnce, LeavesAll, Misses, HasServed}
-use Rattle.paged_read.specs.Batch.{ranges_of}
-use Rattle.paged.specs.Caches.{tail_of}
+use Rattle.std.proofs.Common.{◌≡◌, ◌≤◌, sym, subst}
+use Rattle.std.specs.Prelude.{Err}
+use Rattle.paged_read.specs.Tail.{Tail, CanRead, size_of}
+use Rattle.paged_read.specs.Ranges.{ReadsUpTo, range_up_to}
+use Rattle.paged_read.specs.Ranges.{AsksForMissing, LeavesAll}
 use Rattle.paged.proofs.There.{reads_keep_sound, reads_keep, reads_leave}
-use Rattle.paged.proofs.Serves.{reads_never, reads_up_to_never, reads_many_never}
+use Rattle.paged.proofs.Serves.{reads_up_to_never}
 use Rattle.paged.proofs.writer.Writer.read_up_to.Goals as goal
 
 pub read_up_to-requires-clause-can : goal.read_up_to-requires-clause-can

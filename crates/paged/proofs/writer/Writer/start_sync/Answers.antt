@@ -1,10 +1,9 @@
 use Rattle.disk.specs.declared.started_sync.StartedSync.{StartedSync}
 use Rattle.crash.specs.Sound.{content}
-use Rattle.disk.specs.declared.error.Error.{Error}
-use Rattle.std.specs.Prelude.{Ok, Err, Result}
-use Rattle.std.proofs.Common.{List, ℕ, [], append-nil, sym, refl, ◌++◌}
+use Rattle.std.specs.Prelude.{Ok, Err}
+use Rattle.std.proofs.Common.{[], append-nil, sym}
 use Rattle.crash.specs.WriterState.{WriterState}
-use Rattle.paged.proofs.Caching.{caches_law, caches_law_same, fresh_law, reads_behind}
+use Rattle.paged.proofs.Caching.{caches_law_same, fresh_law, reads_behind}
 use Rattle.std.proofs.Common.{Ok, Err}
 use Rattle.paged.proofs.Covers.{completed}
 use Rattle.paged.proofs.Halves.{start_keeps, start_leaves, start_within}

@@ -1,8 +1,6 @@
 use Rattle.std.proofs.Common.{◌≡◌, ◌<◌, ◌+◌, ◌++◌, ◌/◌, length, ap, sym, ◌∙◌, subst, ℕ}
 use Rattle.crash.specs.WriterState.{WriterState}
-use Rattle.cache.specs.CacheState.{CacheState}
 use Rattle.paged.specs.Direct.{buffering}
-use Rattle.paged.specs.Caches.{PutsUpTo, CachesTo}
 use Rattle.paged.specs.Flush.{full_in}
 use Rattle.paged.proofs.Caching.{direct_put, refused_after, put_either}
 use Rattle.std.specs.Prelude.{IfOk}

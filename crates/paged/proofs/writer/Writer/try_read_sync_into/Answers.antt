@@ -1,16 +1,6 @@
-use Rattle.std.proofs.Common.{◌≡◌, ◌≤◌, ◌<◌, ◌+◌, ◌^◌, sym, subst, length, List, ℕ}
-use Rattle.std.specs.Prelude.{Err, IfOk, OnOk}
-use Rattle.std.specs.List.{concat}
-use Rattle.std.specs.Int.NonZero.{non_zero_usize_get}
-use Rattle.disk.specs.Disk.{Disk}
-use Rattle.page.specs.Geometry.{EndWithin}
-use Rattle.paged_read.specs.Tail.{Tail, CanRead, told, size_of}
-use Rattle.paged_read.specs.Ranges.{Reads, ReadsUpTo, ReadsMany, range_up_to, TriesRead}
-use Rattle.paged_read.specs.Ranges.{AsksForMissing, AsksOnce, LeavesAll, Misses, HasServed}
-use Rattle.paged_read.specs.Batch.{ranges_of}
-use Rattle.paged.specs.Caches.{tail_of}
-use Rattle.paged.proofs.There.{reads_keep_sound, reads_keep, reads_leave}
-use Rattle.paged.proofs.Serves.{reads_never, reads_up_to_never, reads_many_never}
+use Rattle.std.proofs.Common.{subst, length}
+use Rattle.paged_read.specs.Tail.{Tail}
+use Rattle.paged_read.specs.Ranges.{TriesRead}
 use Rattle.paged.proofs.writer.Writer.try_read_sync_into.Goals as goal
 
 pub returns-clause-tries : goal.returns-clause-tries

@@ -1,8 +1,8 @@
 use Rattle.std.specs.Int.NonZero.{non_zero_u16_get}
 use Rattle.page.specs.Page.{pages}
-use Rattle.paged.specs.Prefix.{prefix_of}
-use Rattle.paged.proofs.Prefixes.{StandsAt}
-use Rattle.paged.proofs.search.leading_pages.Given as goal
+use Rattle.paged_read.specs.Prefix.{prefix_of}
+use Rattle.paged_read.proofs.Prefixes.{StandsAt}
+use Rattle.paged_read.proofs.search.leading_pages.Given as goal
 
 abbrev pub invariant-loop-page : goal.invariant-loop-page
 invariant-loop-page g l =

@@ -1,9 +1,9 @@
 use Rattle.std.proofs.Common.{◌≡◌, ◌≤◌, ◌+◌, ◌*◌}
 use Rattle.std.specs.Int.NonZero.{non_zero_u16_get}
 use Rattle.crash.specs.Looks.{Looked}
-use Rattle.paged.specs.Prefix.{last_prefix}
-use Rattle.paged.proofs.Searching.{ReadsDownTo}
-use Rattle.paged.proofs.search.last_pages.Given as goal
+use Rattle.paged_read.specs.Prefix.{last_prefix}
+use Rattle.paged_read.proofs.Searching.{ReadsDownTo}
+use Rattle.paged_read.proofs.search.last_pages.Given as goal
 
 abbrev pub invariant-loop-pages : goal.invariant-loop-pages
 invariant-loop-pages g l =

@@ -2,9 +2,10 @@ use Rattle.std.proofs.Common.{◌+◌, ◌*◌, ◌/◌, ◌≤◌, length, ◌�
 use Rattle.std.proofs.Math.Nat.{div-mul-le_self, mul-le-mul_left}
 use Rattle.std.specs.Int.NonZero.{non_zero_u16_get}
 use Rattle.page.specs.Page.{pages}
-use Rattle.paged.specs.Prefix.{page_at, prefix_of}
-use Rattle.paged.proofs.Prefixes.{told_at, told_full, told_part, value_told, value_within, has_bytes, stands_next, stands_part}
-use Rattle.paged.proofs.search.leading_pages.Goals as goal
+use Rattle.paged_read.specs.Ranges.{page_at}
+use Rattle.paged_read.specs.Prefix.{prefix_of}
+use Rattle.paged_read.proofs.Prefixes.{told_at, told_full, told_part, value_told, value_within, has_bytes, stands_next, stands_part}
+use Rattle.paged_read.proofs.search.leading_pages.Goals as goal
 
 pub value_at-requires-clause-within : goal.value_at-requires-clause-within
 value_at-requires-clause-within g c =

@@ -2,7 +2,7 @@ use Rattle.std.proofs.Common.{◌≡◌, ◌+◌, ◌-◌, ℕ, List, length, ta
 use Rattle.std.proofs.lemmas.List.{length-take-le, length-drop}
 use Rattle.page.specs.Page.{active}
 use Rattle.crash.proofs.Texts.{bytes_of_take, bytes_of_drop}
-use Rattle.paged.proofs.search.slot_at.Goals as goal
+use Rattle.paged_read.proofs.search.slot_at.Goals as goal
 
 pub returns-clause-slot : goal.returns-clause-slot
 returns-clause-slot g c =

@@ -1,4 +1,4 @@
--- The prefix of pages that a recovery keeps.
+-- What a search through a blob's pages finds.
 use Rattle.std.proofs.Common.{◌≡◌, ◌≢◌, inl, inr, ℕ, zero, suc, ◌+◌, ◌-◌, ◌*◌, ◌<◌, ◌≤◌, List, [], ◌∷◌, ◌++◌, length, take, drop, refl, sym, ◌∙◌, ap, subst, arith, Bool, true, false, length-take}
 use Rattle.std.specs.Prelude.{Option, Some, None, is_some, MatchOption, ◌==◌}
 use Rattle.std.proofs.Math.Nat.{mul-le-mul_left}
@@ -10,8 +10,9 @@ use Rattle.crash.specs.Built.{kept_len}
 use Rattle.crash.proofs.Texts.{AreBytes, active_is, active_none, value_len_le}
 use Rattle.crash.proofs.Lists.{within_take, within_drop}
 use Rattle.crash.proofs.Pages.{pieces-add, pages_of_take, take-pages, length-pieces}
-use Rattle.paged.specs.declared.prefix.Prefix.{Prefix}
-use Rattle.paged.specs.Prefix.{page_at, behind, value_and_slot, prefix_of, last_prefix, prefix_pages, partial_pages, tip_of, HasBytes}
+use Rattle.paged_read.specs.declared.prefix.Prefix.{Prefix}
+use Rattle.paged_read.specs.Ranges.{page_at}
+use Rattle.paged_read.specs.Prefix.{behind, value_and_slot, prefix_of, last_prefix, prefix_pages, partial_pages, tip_of, HasBytes}
 
 -- pages in front of pages in front
 pub behind-behind : (m n : ℕ) (p : Prefix) → behind m (behind n p) ≡ behind (m + n) p

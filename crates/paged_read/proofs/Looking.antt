@@ -7,8 +7,8 @@ use Rattle.disk.specs.declared.error.Error.TheVariants.{ReadFailed, WriteFailed,
 use Rattle.disk.proofs.Logs.{failed_once, failed_later}
 use Rattle.crash.specs.Looks.{Looked, looked_joins}
 use Rattle.crash.proofs.LookLaws.{looked_asked, looked_readable}
-use Rattle.paged.specs.declared.prefix.Prefix.{Prefix}
-use Rattle.paged.specs.Recovery.{Finds}
+use Rattle.paged_read.specs.declared.prefix.Prefix.{Prefix}
+use Rattle.paged_read.specs.Searches.{Finds}
 
 -- a look that goes on with a read
 pub looked_on : (place len : ℕ) (start old new : Life) (bytes : List ℕ) → Looked start old → ReadGoes place len old new (Ok bytes) → Looked start new

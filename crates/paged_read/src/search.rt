@@ -4,10 +4,9 @@ ghost use Rattle.std.specs.Prelude.{slice_index, IfOk, IsOkUnless, MatchOption};
 ghost use Rattle.std.specs.Int.NonZero.{non_zero_u16_get, non_zero_usize_get};
 ghost use Rattle.page.specs.Page.{active, pages, pieces};
 ghost use Rattle.crash.specs.Built.{kept_len};
-ghost use Rattle.paged.specs.Prefix.{prefix_of, last_prefix, prefix_pages, value_and_slot};
-ghost use Rattle.paged.specs.Prefix.{HasBytes};
-ghost use Rattle.paged.specs.Recovery.{Finds};
-ghost use Rattle.paged.specs.Searches.{ReadsBack, ReadsWithin, scan_bytes};
+ghost use Rattle.paged_read.specs.Prefix.{prefix_of, last_prefix, prefix_pages, value_and_slot};
+ghost use Rattle.paged_read.specs.Prefix.{HasBytes};
+ghost use Rattle.paged_read.specs.Searches.{Finds, ReadsBack, ReadsWithin, scan_bytes};
 
 use crate::prefix::{Partial, Prefix};
 use disk::{Blob, Error, IoBuf, ReadOptions};
@@ -15,15 +14,15 @@ use page::{ActiveChecksum, CHECKSUM_SIZE, Checksum, Sum};
 use std::alloc::Global;
 use std::num::{NonZeroU16, NonZeroUsize};
 
-/// The bytes of a physical page.
-pub(crate) fn physical_size(page_size: NonZeroU16) -> u64
+/// The bytes of a physical page: `page_size` logical bytes and a footer.
+pub fn physical_size(page_size: NonZeroU16) -> u64
     ensures { result ≡ non_zero_u16_get page_size + 12 }
 {
     u64::from(page_size.get()) + CHECKSUM_SIZE
 }
 
-/// How many pages a prefix has.
-pub(crate) fn pages_of(prefix: &Prefix) -> u64
+/// How many pages a prefix has, with the one of the partial value, if there is one.
+pub fn pages_of(prefix: &Prefix) -> u64
     requires { prefix.now.full_pages + 1 < 2 ^ 64 }
     ensures { result ≡ prefix_pages prefix.now }
 {
@@ -88,9 +87,13 @@ pub(crate) fn leading_pages<H: Sum>(page_size: NonZeroU16, bytes: &IoBuf) -> Res
     })
 }
 
-/// The prefix of the first `pages` pages of a blob, which has them. Each read has at most as many
-/// pages as fit `buffer_size`, and at least one.
-pub(crate) fn scan<B: Blob, H: Sum>(
+/// Looks through the first `pages` pages of a blob, which has them, from the first one on: how many
+/// are full, of `page_size` logical bytes, up to the first that isn't, and the value of that one.
+/// Each read is of at most as many whole pages as fit `buffer_size` bytes, and at least one; pages
+/// behind those of the read in which the search ends aren't read.
+///
+/// `ReadFailed` where the device failed, `OutOfMemory`. The blob is only read, also where it fails.
+pub fn scan<B: Blob, H: Sum>(
     alloc: Global,
     blob: &mut B,
     page_size: NonZeroU16,
@@ -135,9 +138,13 @@ pub(crate) fn scan<B: Blob, H: Sum>(
     })
 }
 
-/// The first `pages` pages of a blob, which has them, up to the last that has a value. Each is read
-/// once at most, from the last one back, and those before that one aren't.
-pub(crate) fn last_pages<B: Blob, H: Sum>(
+/// Looks through the first `pages` pages of a blob, which has them, from the last one back, for one
+/// that has a value: the pages up to it, of which those before it count as full. Each page, of
+/// `page_size` logical bytes, is read once at most, by a read of its own; those before the last one
+/// that has a value aren't read.
+///
+/// `ReadFailed` where the device failed, `OutOfMemory`. The blob is only read, also where it fails.
+pub fn last_pages<B: Blob, H: Sum>(
     alloc: Global,
     blob: &mut B,
     page_size: NonZeroU16,

@@ -1,6 +1,11 @@
--- What a search through a blob's pages reads, told by the log.
+-- What a search through a blob's pages answers, and what it reads, told by the log.
 use Rattle.std.specs.Prelude.{◌≡◌, ◌≤◌, ◌+◌, ◌*◌, ◌/◌, ℕ, List, [], ◌∷◌, ◌++◌, length, map, max}
-use Rattle.disk.specs.Disk.{Request, Entry, Life, ReadAt, ReadMany, StartReadMany}
+use Rattle.std.specs.Prelude.{Result, Ok, Err}
+use Rattle.disk.specs.Disk.{Request, Entry, Life, HasFailed, ReadAt, ReadMany, StartReadMany}
+use Rattle.disk.specs.declared.error.Error.{Error}
+use Rattle.disk.specs.declared.error.Error.TheVariants.{ReadFailed, OutOfMemory}
+use Rattle.crash.specs.Looks.{Looked}
+use Rattle.paged_read.specs.declared.prefix.Prefix.{Prefix}
 
 -- Q holds of the requests that the log gained, in turn
 abbrev pub Gained : (List Request → Type 0) → Life → Life → Type 0
@@ -37,3 +42,10 @@ ReadsBack size old new = Gained (FallFrom size (length old.present.readable)) ol
 -- the bytes of a scan's longest read: the pages that fit so many bytes, and at least one
 abbrev pub scan_bytes : (P buffer_size : ℕ) → ℕ
 scan_bytes P buffer_size = max 1 (buffer_size / (P + 12)) * (P + 12)
+
+-- a search through pages: it answers this prefix, and only reads
+abbrev pub Finds : Prefix → Life → Life → Result Prefix Error → Type 0
+Finds p old new (Ok found) = (found ≡ p) × Looked old new
+Finds p old new (Err ReadFailed) = HasFailed ReadFailed old.present new.present × Looked old new
+Finds p old new (Err OutOfMemory) = Looked old new
+Finds p old new (Err _) = ⊥

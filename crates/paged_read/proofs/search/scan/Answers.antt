@@ -2,16 +2,16 @@ use Rattle.std.proofs.Common.{rules, ◌≡◌, ℕ, ◌+◌, ◌*◌, ◌/◌, 
 use Rattle.std.proofs.lemmas.Result.{err_from_is_err_and}
 use Rattle.std.specs.Int.NonZero.{non_zero_u16_get, non_zero_usize_get}
 use Rattle.page.specs.Page.{pieces}
-use Rattle.paged.specs.Prefix.{prefix_of}
-use Rattle.paged.proofs.Prefixes.{batch_fits, batch_read, stands_ended, stands_on, has_bytes_batch}
+use Rattle.paged_read.specs.Prefix.{prefix_of}
+use Rattle.paged_read.proofs.Prefixes.{batch_fits, batch_read, stands_ended, stands_on, has_bytes_batch}
 use Rattle.crash.specs.Looks.{looked_start}
 use Rattle.crash.proofs.LookLaws.{read_gives}
-use Rattle.paged.proofs.Looking.{looked_on, finds_fault, finds_memory}
-use Rattle.paged.specs.Searches.{ReadsWithin, scan_bytes}
-use Rattle.paged.proofs.Searching.{within_batch, scan_bytes_is}
-use Rattle.paged.proofs.search.scan.Given.{Over}
-use Rattle.paged.proofs.search.scan.Goals as goal
-use Rattle.paged.proofs.search.scan.Goals.{After-read_at}
+use Rattle.paged_read.proofs.Looking.{looked_on, finds_fault, finds_memory}
+use Rattle.paged_read.specs.Searches.{ReadsWithin, scan_bytes}
+use Rattle.paged_read.proofs.Searching.{within_batch, scan_bytes_is}
+use Rattle.paged_read.proofs.search.scan.Given.{Over}
+use Rattle.paged_read.proofs.search.scan.Goals as goal
+use Rattle.paged_read.proofs.search.scan.Goals.{After-read_at}
 
 pub returns-in_err-bytes-clause-finds : goal.returns-in_err-bytes-clause-finds
 returns-in_err-bytes-clause-finds g c =

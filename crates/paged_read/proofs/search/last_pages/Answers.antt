@@ -1,16 +1,17 @@
 use Rattle.std.proofs.Common.{◌-◌, ◌+◌, ◌*◌, ◌<◌, length, ◌∙◌, arith, refl, sym}
 use Rattle.std.proofs.lemmas.Result.{err_from_is_err_and}
 use Rattle.std.specs.Int.NonZero.{non_zero_u16_get}
-use Rattle.paged.specs.Prefix.{page_at, last_prefix}
-use Rattle.paged.proofs.Prefixes.{told_read, value_read, told_full, told_part, found_some, found_none, last_none, last_full, last_part, last_fits, has_bytes_read}
+use Rattle.paged_read.specs.Ranges.{page_at}
+use Rattle.paged_read.specs.Prefix.{last_prefix}
+use Rattle.paged_read.proofs.Prefixes.{told_read, value_read, told_full, told_part, found_some, found_none, last_none, last_full, last_part, last_fits, has_bytes_read}
 use Rattle.crash.specs.Looks.{looked_start}
 use Rattle.crash.proofs.LookLaws.{read_gives}
-use Rattle.paged.proofs.Looking.{looked_on, finds_fault, finds_memory}
-use Rattle.paged.proofs.Searching.{down_start, down_page, down_back}
-use Rattle.paged.specs.Searches.{ReadsBack}
-use Rattle.paged.proofs.search.last_pages.Given.{Over}
-use Rattle.paged.proofs.search.last_pages.Goals as goal
-use Rattle.paged.proofs.search.last_pages.Goals.{After-read_at}
+use Rattle.paged_read.proofs.Looking.{looked_on, finds_fault, finds_memory}
+use Rattle.paged_read.proofs.Searching.{down_start, down_page, down_back}
+use Rattle.paged_read.specs.Searches.{ReadsBack}
+use Rattle.paged_read.proofs.search.last_pages.Given.{Over}
+use Rattle.paged_read.proofs.search.last_pages.Goals as goal
+use Rattle.paged_read.proofs.search.last_pages.Goals.{After-read_at}
 
 pub returns-in_err-bytes-clause-finds : goal.returns-in_err-bytes-clause-finds
 returns-in_err-bytes-clause-finds g c =

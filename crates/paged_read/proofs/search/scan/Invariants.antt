@@ -2,10 +2,10 @@ use Rattle.std.proofs.Common.{◌≤◌, ◌<◌, ◌-◌, ◌+◌, ◌*◌}
 use Rattle.std.specs.Int.NonZero.{non_zero_u16_get}
 use Rattle.page.specs.Page.{pieces}
 use Rattle.crash.specs.Looks.{Looked}
-use Rattle.paged.specs.Prefix.{prefix_of}
-use Rattle.paged.specs.Searches.{ReadsWithin}
-use Rattle.paged.proofs.Prefixes.{StandsAt}
-use Rattle.paged.proofs.search.scan.Given as goal
+use Rattle.paged_read.specs.Prefix.{prefix_of}
+use Rattle.paged_read.specs.Searches.{ReadsWithin}
+use Rattle.paged_read.proofs.Prefixes.{StandsAt}
+use Rattle.paged_read.proofs.search.scan.Given as goal
 
 abbrev pub invariant-loop-done : goal.invariant-loop-done
 invariant-loop-done g l =

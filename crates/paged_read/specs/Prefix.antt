@@ -1,14 +1,10 @@
--- The pages of a blob that a recovery keeps.
-use Rattle.std.specs.Prelude.{◌==◌, ◌+◌, ◌*◌, ◌<◌, ℕ, zero, suc, List, [], ◌∷◌, take, drop, get_or}
+-- What a search through a blob's pages finds.
+use Rattle.std.specs.Prelude.{◌==◌, ◌+◌, ◌*◌, ◌<◌, ℕ, zero, suc, List, [], ◌∷◌, take, get_or}
 use Rattle.std.specs.Prelude.{length, Option, Some, None, if◌then◌else◌}
 use Rattle.page.specs.Page.{value_len, active}
 use Rattle.page.specs.declared.slot.ActiveChecksum.{ActiveChecksum}
-use Rattle.crash.specs.WriterState.{WriterState, SyncState}
-use Rattle.paged.specs.declared.prefix.Prefix.{Prefix}
-
--- a physical page by its place
-abbrev pub page_at : ℕ → ℕ → List ℕ → List ℕ
-page_at P p bytes = take (P + 12) (drop (p * (P + 12)) bytes)
+use Rattle.paged_read.specs.declared.prefix.Prefix.{Prefix}
+use Rattle.paged_read.specs.Ranges.{page_at}
 
 -- so many full pages more in front
 abbrev pub behind : ℕ → Prefix → Prefix
@@ -51,24 +47,6 @@ tip_of (Some p) = p.0
 -- how many logical bytes a prefix has
 abbrev pub prefix_size : ℕ → Prefix → ℕ
 prefix_size P p = p.full_pages * P + length (tip_of p.partial)
-
-abbrev pub slot_of_tip : Option (List ℕ × ActiveChecksum) → Option ActiveChecksum
-slot_of_tip None = None
-slot_of_tip (Some p) = Some p.1
-
--- a writer whose blob ends with this prefix: its partial page is the tip, under the slot that tells
--- it
-abbrev pub at_prefix : (P id capacity : ℕ) → Prefix → SyncState → WriterState
-at_prefix P id capacity p sync = record {
-  page_size = P;
-  id = id;
-  capacity = capacity;
-  full_pages = p.full_pages;
-  tip = tip_of p.partial;
-  flushed = slot_of_tip p.partial;
-  durable = slot_of_tip p.partial;
-  sync = sync;
-}
 
 -- a partial page that was read holds bytes: its slots are those that the slot's length and checksum
 -- are written as

@@ -1,0 +1,89 @@
+-- A cut reads nothing, so a search back and a cut behind it read as the search does.
+use Rattle.std.proofs.Common.{◌≡◌, inl, inr, ℕ, List, [], ◌∷◌, ◌++◌, length, Bool, true, false, Result, Ok, Err, ap, ◌∙◌}
+use Rattle.disk.specs.Disk.{Request, Life, ReadAt, ReadMany, StartReadMany, ResizeTo, SyncAll, ResizeGoes, SyncGoes}
+use Rattle.disk.specs.declared.error.Error.{Error}
+use Rattle.disk.specs.declared.error.Error.TheVariants.{ReadFailed, WriteFailed, ResizeFailed, SyncFailed, InvalidChecksum, BlobInsufficientLength, OffsetOverflow, OutOfMemory, IdsExhausted}
+use Rattle.paged_read.specs.Searches.{Gained, FallFrom, ReadsBack}
+use Rattle.paged_read.proofs.Searching.{gained_none, gained_once, gained_joins}
+use Rattle.paged.specs.declared.writer.SyncState.TheVariants.{Clean as IsClean, Dirty as IsDirty, Pending as IsPending}
+use Rattle.paged.specs.declared.writer.SyncState.{SyncState as State}
+use Rattle.paged.specs.Recovery.{Cuts, CutsBack}
+
+-- none of these reads
+abbrev AreQuiet : List Request → Type 0
+AreQuiet [] = Unit {0}
+AreQuiet (ReadAt place len ∷ rest) = ⊥
+AreQuiet (ReadMany ranges ∷ rest) = ⊥
+AreQuiet (StartReadMany ranges ∷ rest) = ⊥
+AreQuiet (_ ∷ rest) = AreQuiet rest
+
+quiet_joins : (xs ys : List Request) → AreQuiet xs → AreQuiet ys → AreQuiet (xs ++ ys)
+quiet_joins [] ys first second = second
+quiet_joins (ReadAt place len ∷ xs) ys first second = absurd first
+quiet_joins (ReadMany ranges ∷ xs) ys first second = absurd first
+quiet_joins (StartReadMany ranges ∷ xs) ys first second = absurd first
+quiet_joins (_ ∷ xs) ys first second = quiet_joins xs ys first second
+
+-- reads that fall, and then none
+fall_then_quiet : (size top : ℕ) (xs ys : List Request) → FallFrom size top xs → AreQuiet ys → FallFrom size top (xs ++ ys)
+fall_then_quiet size top [] [] fall quiet = tt
+fall_then_quiet size top [] (ReadAt place len ∷ ys) fall quiet = absurd quiet
+fall_then_quiet size top [] (ReadMany ranges ∷ ys) fall quiet = absurd quiet
+fall_then_quiet size top [] (StartReadMany ranges ∷ ys) fall quiet = absurd quiet
+fall_then_quiet size top [] (_ ∷ ys) fall quiet = fall_then_quiet size top [] ys fall quiet
+fall_then_quiet size top (ReadAt place len ∷ xs) ys fall quiet = (fall.0, fall.1, fall_then_quiet size place xs ys fall.2 quiet)
+fall_then_quiet size top (ReadMany ranges ∷ xs) ys fall quiet = absurd fall
+fall_then_quiet size top (StartReadMany ranges ∷ xs) ys fall quiet = absurd fall
+fall_then_quiet size top (_ ∷ xs) ys fall quiet = fall_then_quiet size top xs ys fall quiet
+
+abbrev Quiet : Life → Life → Type 0
+Quiet old new = Gained AreQuiet old new
+
+quiet_both : (old mid new : Life) → Quiet old mid → Quiet mid new → Quiet old new
+quiet_both old mid new first second = gained_joins AreQuiet AreQuiet AreQuiet old mid new quiet_joins first second
+
+resize_once : (len : ℕ) (failed : Bool) (old new : Life) → new.present.log ≡ old.present.log ++ record { request = ResizeTo len; failed = failed } ∷ [] → Quiet old new
+resize_once len failed old new is = gained_once AreQuiet (ResizeTo len) failed old new is tt
+
+resize_quiet : (len : ℕ) (old new : Life) (answer : Result (Unit {0}) Error) → ResizeGoes len old new answer → Quiet old new
+resize_quiet len old new (Ok done) (d, is, operated) = resize_once len false old new (ap (λ (l : Life). l.present.log) is ∙ ap (λ x. x.log) operated.rest)
+resize_quiet len old new (Err OffsetOverflow) goes = absurd goes.1
+resize_quiet len old new (Err OutOfMemory) goes = gained_none AreQuiet old new goes.0 tt
+resize_quiet len old new (Err ReadFailed) (e, (d, is, operated)) = resize_once len true old new (ap (λ (l : Life). l.present.log) is ∙ ap (λ x. x.log) operated.rest)
+resize_quiet len old new (Err WriteFailed) (e, (d, is, operated)) = resize_once len true old new (ap (λ (l : Life). l.present.log) is ∙ ap (λ x. x.log) operated.rest)
+resize_quiet len old new (Err ResizeFailed) (e, (d, is, operated)) = resize_once len true old new (ap (λ (l : Life). l.present.log) is ∙ ap (λ x. x.log) operated.rest)
+resize_quiet len old new (Err SyncFailed) (e, (d, is, operated)) = resize_once len true old new (ap (λ (l : Life). l.present.log) is ∙ ap (λ x. x.log) operated.rest)
+resize_quiet len old new (Err InvalidChecksum) (e, (d, is, operated)) = resize_once len true old new (ap (λ (l : Life). l.present.log) is ∙ ap (λ x. x.log) operated.rest)
+resize_quiet len old new (Err BlobInsufficientLength) (e, (d, is, operated)) = resize_once len true old new (ap (λ (l : Life). l.present.log) is ∙ ap (λ x. x.log) operated.rest)
+resize_quiet len old new (Err IdsExhausted) (e, (d, is, operated)) = resize_once len true old new (ap (λ (l : Life). l.present.log) is ∙ ap (λ x. x.log) operated.rest)
+
+sync_quiet : (old new : Life) (answer : Result (Unit {0}) Error) → SyncGoes old new answer → Quiet old new
+sync_quiet old new (Ok done) goes = gained_once AreQuiet SyncAll false old new (ap (λ (l : Life). l.present.log) goes) tt
+sync_quiet old new (Err SyncFailed) goes = gained_once AreQuiet SyncAll true old new (ap (λ (l : Life). l.present.log) goes) tt
+sync_quiet old new (Err OutOfMemory) goes = gained_none AreQuiet old new goes tt
+sync_quiet old new (Err ReadFailed) goes = absurd goes
+sync_quiet old new (Err WriteFailed) goes = absurd goes
+sync_quiet old new (Err ResizeFailed) goes = absurd goes
+sync_quiet old new (Err InvalidChecksum) goes = absurd goes
+sync_quiet old new (Err BlobInsufficientLength) goes = absurd goes
+sync_quiet old new (Err OffsetOverflow) goes = absurd goes
+sync_quiet old new (Err IdsExhausted) goes = absurd goes
+
+cuts_quiet : (kept : ℕ) (old new : Life) (answer : Result (Unit {0}) Error) → Cuts kept old new answer → Quiet old new
+cuts_quiet kept old new (Ok u) cuts = quiet_both old cuts.0 new (resize_quiet kept old cuts.0 (Ok u) cuts.1) (sync_quiet cuts.0 new (Ok u) cuts.2)
+cuts_quiet kept old new (Err e) cuts = elim cuts [
+  | inl first ↦ resize_quiet kept old new (Err e) first
+  | inr second ↦ quiet_both old second.0 new (resize_quiet kept old second.0 (Ok tt) second.1) (sync_quiet second.0 new (Err e) second.2)
+]
+
+cuts_back_quiet : (kept : ℕ) (old new : Life) (answer : Result State Error) → CutsBack kept old new answer → Quiet old new
+cuts_back_quiet kept old new (Ok IsDirty) cuts = gained_none AreQuiet old new cuts.1 tt
+cuts_back_quiet kept old new (Ok IsClean) cuts = cuts_quiet kept old new (Ok tt) cuts.1
+cuts_back_quiet kept old new (Ok (IsPending name)) cuts = absurd cuts
+cuts_back_quiet kept old new (Err e) cuts = cuts_quiet kept old new (Err e) cuts
+
+-- opening: a search back, and then a cut
+pub opens_back : (size kept : ℕ) (old mid new : Life) (answer : Result State Error) → ReadsBack size old mid → CutsBack kept mid new answer → ReadsBack size old new
+opens_back size kept old mid new answer back cuts =
+    let top = length old.present.readable in
+    gained_joins (FallFrom size top) AreQuiet (FallFrom size top) old mid new (fall_then_quiet size top) back (cuts_back_quiet kept mid new answer cuts)

@@ -1,0 +1,16 @@
+// What a search through the pages of a blob finds.
+use disk::IoBuf;
+use page::ActiveChecksum;
+
+/// The value of a page that isn't full, and the slot that tells it; `None` where there is none.
+pub type Partial = Option<(IoBuf, ActiveChecksum)>;
+
+/// The pages at the front of a blob that are full or count as full, and the value of the page
+/// behind them, if it has one.
+#[derive(Drop)]
+pub struct Prefix {
+    /// How many pages are or count as full.
+    pub full_pages: u64,
+    /// The value of the page behind them.
+    pub partial: Partial,
+}
