@@ -1,6 +1,6 @@
 -- A recovery finds a cache that holds nothing under ids that are still to be given.
 use Rattle.std.proofs.Common.{◌≡◌, ℕ, refl, sym, subst}
-use Rattle.std.specs.Prelude.{Option, Some, None}
+use Rattle.std.specs.Prelude.{Option, Some}
 use Rattle.disk.specs.Disk.{Disk}
 use Rattle.cache.specs.CacheState.{CacheState, empty_cache}
 use Rattle.cache.specs.Pages.{IsFresh}

@@ -4,4 +4,5 @@ pub mod HexText
 pub mod Caches
 pub mod Lines
 pub mod Numbers
+pub mod Ranges
 pub mod ScriptLines

@@ -8,8 +8,8 @@ use Rattle.std.specs.Int.NonZero.{non_zero_u64_get}
 use Rattle.std.proofs.lemmas.Fmt.{decimal_injective}
 use Rattle.pagedctl.specs.declared.script.Line.{Line}
 use Rattle.pagedctl.specs.declared.script.Line.TheVariants.{Step, Fail, Crash, Recover, Dump}
-use Rattle.session.specs.declared.steps.Step.TheVariants.{Append, Owned, TryAppend, Sync, StartSync, Wait, WaitSync, Needs, Size, Read, ReadUpTo, TryRead, Begin, Truncate}
-use Rattle.pagedctl.specs.Script.{IsLine, line_words, parts_of}
+use Rattle.session.specs.declared.steps.Step.TheVariants.{Append, Owned, TryAppend, Sync, StartSync, Wait, WaitSync, Needs, Size, Read, ReadUpTo, TryRead, ReadRanges, TryReadRanges, Begin, Truncate}
+use Rattle.pagedctl.specs.Script.{IsLine, AreRanges, line_words, parts_of, ranges_words}
 
 -- no line fails the call of number 0
 pub no_fail_zero : (word : List ℕ) (n : ℕ) → word ≡ decimal n → n ≡ 0 → (v : Line) → IsLine v → codes "fail" ∷ word ∷ [] ≢ line_words v
@@ -27,6 +27,8 @@ no_fail_zero word n written zero (Step Size) is same = cc
 no_fail_zero word n written zero (Step (Read offset len)) is same = cc
 no_fail_zero word n written zero (Step (ReadUpTo offset len)) is same = cc
 no_fail_zero word n written zero (Step (TryRead offset len)) is same = cc
+no_fail_zero word n written zero (Step (ReadRanges ranges)) is same = cc
+no_fail_zero word n written zero (Step (TryReadRanges ranges)) is same = cc
 no_fail_zero word n written zero (Fail number) is same =
     let e : decimal n ≡ decimal (non_zero_u64_get number) = cc in
     let same_number = decimal_injective n (non_zero_u64_get number) (omega arith) is.1 e in
@@ -34,6 +36,11 @@ no_fail_zero word n written zero (Fail number) is same =
 no_fail_zero word n written zero (Crash keep) is same = cc
 no_fail_zero word n written zero Recover is same = cc
 no_fail_zero word n written zero Dump is same = cc
+
+-- the name of ranges isn't all of a line
+no_name_alone : (ranges : List (ℕ × ℕ)) (name other : List ℕ) → AreRanges ranges → name ∷ [] ≢ other ∷ ranges_words ranges
+no_name_alone [] name other are same = absurd (omega (arith, are.0))
+no_name_alone (range ∷ ranges) name other are same = cc
 
 -- a line of one word is one of these
 pub no_one_word : (name : List ℕ) → name ≢ codes "sync" → name ≢ codes "start-sync" → name ≢ codes "wait" → name ≢ codes "needs" → name ≢ codes "size" → name ≢ codes "begin" → name ≢ codes "recover" → name ≢ codes "dump"
@@ -56,49 +63,55 @@ no_one_word name a b c d e f g h (Crash keep) is same = cc
 no_one_word name a b c d e f g h (Step (Read offset len)) is same = cc
 no_one_word name a b c d e f g h (Step (ReadUpTo offset len)) is same = cc
 no_one_word name a b c d e f g h (Step (TryRead offset len)) is same = cc
+no_one_word name a b c d e f g h (Step (ReadRanges ranges)) is same = no_name_alone ranges.items _ _ is same
+no_one_word name a b c d e f g h (Step (TryReadRanges ranges)) is same = no_name_alone ranges.items _ _ is same
 
 -- one of two words begins with one of these
-pub no_two_words : (name word : List ℕ) → name ≢ codes "append" → name ≢ codes "owned" → name ≢ codes "try" → name ≢ codes "wait-sync" → name ≢ codes "truncate" → name ≢ codes "fail" → name ≢ codes "crash"
+pub no_two_words : (name word : List ℕ) → name ≢ codes "ranges" → name ≢ codes "cached-ranges" → name ≢ codes "append" → name ≢ codes "owned" → name ≢ codes "try" → name ≢ codes "wait-sync" → name ≢ codes "truncate" → name ≢ codes "fail" → name ≢ codes "crash"
     → (v : Line) → IsLine v → name ∷ word ∷ [] ≢ line_words v
-no_two_words name word a b c d e f g (Step (Append bytes)) is same = a cc
-no_two_words name word a b c d e f g (Step (Owned bytes)) is same = b cc
-no_two_words name word a b c d e f g (Step (TryAppend bytes)) is same = c cc
-no_two_words name word a b c d e f g (Step (WaitSync n)) is same = d cc
-no_two_words name word a b c d e f g (Step (Truncate n)) is same = e cc
-no_two_words name word a b c d e f g (Fail n) is same = f cc
-no_two_words name word a b c d e f g (Crash keep) is same = g cc
-no_two_words name word a b c d e f g (Step Sync) is same = cc
-no_two_words name word a b c d e f g (Step StartSync) is same = cc
-no_two_words name word a b c d e f g (Step Wait) is same = cc
-no_two_words name word a b c d e f g (Step Needs) is same = cc
-no_two_words name word a b c d e f g (Step Size) is same = cc
-no_two_words name word a b c d e f g (Step Begin) is same = cc
-no_two_words name word a b c d e f g Recover is same = cc
-no_two_words name word a b c d e f g Dump is same = cc
-no_two_words name word a b c d e f g (Step (Read offset len)) is same = cc
-no_two_words name word a b c d e f g (Step (ReadUpTo offset len)) is same = cc
-no_two_words name word a b c d e f g (Step (TryRead offset len)) is same = cc
+no_two_words name word x y a b c d e f g (Step (Append bytes)) is same = a cc
+no_two_words name word x y a b c d e f g (Step (Owned bytes)) is same = b cc
+no_two_words name word x y a b c d e f g (Step (TryAppend bytes)) is same = c cc
+no_two_words name word x y a b c d e f g (Step (WaitSync n)) is same = d cc
+no_two_words name word x y a b c d e f g (Step (Truncate n)) is same = e cc
+no_two_words name word x y a b c d e f g (Fail n) is same = f cc
+no_two_words name word x y a b c d e f g (Crash keep) is same = g cc
+no_two_words name word x y a b c d e f g (Step Sync) is same = cc
+no_two_words name word x y a b c d e f g (Step StartSync) is same = cc
+no_two_words name word x y a b c d e f g (Step Wait) is same = cc
+no_two_words name word x y a b c d e f g (Step Needs) is same = cc
+no_two_words name word x y a b c d e f g (Step Size) is same = cc
+no_two_words name word x y a b c d e f g (Step Begin) is same = cc
+no_two_words name word x y a b c d e f g Recover is same = cc
+no_two_words name word x y a b c d e f g Dump is same = cc
+no_two_words name word x y a b c d e f g (Step (Read offset len)) is same = cc
+no_two_words name word x y a b c d e f g (Step (ReadUpTo offset len)) is same = cc
+no_two_words name word x y a b c d e f g (Step (TryRead offset len)) is same = cc
+no_two_words name word x y a b c d e f g (Step (ReadRanges ranges)) is same = x cc
+no_two_words name word x y a b c d e f g (Step (TryReadRanges ranges)) is same = y cc
 
 -- one of three words begins with one of these
-pub no_three_words : (name first second : List ℕ) → name ≢ codes "read" → name ≢ codes "upto" → name ≢ codes "cached" → (v : Line) → IsLine v → name ∷ first ∷ second ∷ [] ≢ line_words v
-no_three_words name first second a b c (Step (Read offset len)) is same = a cc
-no_three_words name first second a b c (Step (ReadUpTo offset len)) is same = b cc
-no_three_words name first second a b c (Step (TryRead offset len)) is same = c cc
-no_three_words name first second a b c (Step (Append bytes)) is same = cc
-no_three_words name first second a b c (Step (Owned bytes)) is same = cc
-no_three_words name first second a b c (Step (TryAppend bytes)) is same = cc
-no_three_words name first second a b c (Step (WaitSync n)) is same = cc
-no_three_words name first second a b c (Step (Truncate n)) is same = cc
-no_three_words name first second a b c (Fail n) is same = cc
-no_three_words name first second a b c (Crash keep) is same = cc
-no_three_words name first second a b c (Step Sync) is same = cc
-no_three_words name first second a b c (Step StartSync) is same = cc
-no_three_words name first second a b c (Step Wait) is same = cc
-no_three_words name first second a b c (Step Needs) is same = cc
-no_three_words name first second a b c (Step Size) is same = cc
-no_three_words name first second a b c (Step Begin) is same = cc
-no_three_words name first second a b c Recover is same = cc
-no_three_words name first second a b c Dump is same = cc
+pub no_three_words : (name first second : List ℕ) → name ≢ codes "ranges" → name ≢ codes "cached-ranges" → name ≢ codes "read" → name ≢ codes "upto" → name ≢ codes "cached" → (v : Line) → IsLine v → name ∷ first ∷ second ∷ [] ≢ line_words v
+no_three_words name first second x y a b c (Step (Read offset len)) is same = a cc
+no_three_words name first second x y a b c (Step (ReadUpTo offset len)) is same = b cc
+no_three_words name first second x y a b c (Step (TryRead offset len)) is same = c cc
+no_three_words name first second x y a b c (Step (ReadRanges ranges)) is same = x cc
+no_three_words name first second x y a b c (Step (TryReadRanges ranges)) is same = y cc
+no_three_words name first second x y a b c (Step (Append bytes)) is same = cc
+no_three_words name first second x y a b c (Step (Owned bytes)) is same = cc
+no_three_words name first second x y a b c (Step (TryAppend bytes)) is same = cc
+no_three_words name first second x y a b c (Step (WaitSync n)) is same = cc
+no_three_words name first second x y a b c (Step (Truncate n)) is same = cc
+no_three_words name first second x y a b c (Fail n) is same = cc
+no_three_words name first second x y a b c (Crash keep) is same = cc
+no_three_words name first second x y a b c (Step Sync) is same = cc
+no_three_words name first second x y a b c (Step StartSync) is same = cc
+no_three_words name first second x y a b c (Step Wait) is same = cc
+no_three_words name first second x y a b c (Step Needs) is same = cc
+no_three_words name first second x y a b c (Step Size) is same = cc
+no_three_words name first second x y a b c (Step Begin) is same = cc
+no_three_words name first second x y a b c Recover is same = cc
+no_three_words name first second x y a b c Dump is same = cc
 
 -- there is a part, if only an empty one
 pub some_parts : {E : Type 0} (at : ℕ) (bytes : List ℕ) (r : Result (Vec (Bor (List ℕ)) Global) E) → IfOk r (λ parts. map (λ part. part.now) parts.items ≡ parts_of at bytes) → IfOk r (λ parts. 0 < vec_len parts)

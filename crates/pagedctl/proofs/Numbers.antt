@@ -10,7 +10,7 @@ use Rattle.std.proofs.lemmas.Str.{IsUtf8-from_ascii}
 use Rattle.std.proofs.lemmas.Str.Parse.{IsNumeralModel, numerals_by_value, tells_digits, parse_plain}
 use Rattle.pagedctl.specs.Script.{HasLead}
 
-numerals : IsNumeralModel (AllDigits 10) (digits_value 10)
+pub numerals : IsNumeralModel (AllDigits 10) (digits_value 10)
 numerals = numerals_by_value (AllDigits 10) tells_digits
 
 no_lead : (n : ℕ) → n < 2 ^ 64 → HasLead (decimal n) → ⊥

@@ -1,7 +1,7 @@
 -- How a script is written.
 use Rattle.std.specs.Prelude.{◌≡◌, ◌⊎◌, length, ◌≢◌, ◌<◌, ◌^◌, ℕ, Bool, List, [], ◌∷◌, Result, Ok}
 use Rattle.std.specs.Prelude.{Err, slice_index, slice_index_or, codes, map, take, drop, ◌-◌, ◌+◌}
-use Rattle.std.specs.Prelude.{◌≤◌, ◌==◌, zero, suc, nat_eq, if◌then◌else◌}
+use Rattle.std.specs.Prelude.{◌≤◌, ◌==◌, ◌++◌, zero, suc, nat_eq, All, if◌then◌else◌}
 use Rattle.std.specs.List.{slice_split, starts_with}
 use Rattle.std.specs.Fmt.{decimal}
 use Rattle.std.specs.Int.NonZero.{non_zero_u16_get, non_zero_u64_get, non_zero_usize_get}
@@ -21,6 +21,7 @@ use Rattle.session.specs.declared.steps.Step as step
 use Rattle.session.specs.declared.steps.Step.TheVariants.{Append, Owned, TryAppend, Sync, StartSync}
 use Rattle.session.specs.declared.steps.Step.TheVariants.{Wait, WaitSync, Needs, Size, Read, Begin}
 use Rattle.session.specs.declared.steps.Step.TheVariants.{ReadUpTo, TryRead, Truncate}
+use Rattle.session.specs.declared.steps.Step.TheVariants.{ReadRanges, TryReadRanges}
 use Rattle.pagedctl.specs.Text.{hex_of}
 
 -- what reading answers, where each value has a text: the value of which this is the text, or that
@@ -86,6 +87,14 @@ start_words start =
     codes "start" ∷ decimal (non_zero_u16_get start.page_size) ∷ decimal start.capacity
     ∷ decimal (non_zero_usize_get start.pages) ∷ sum_word start.sum ∷ []
 
+-- a range of bytes as a word: its place, a colon and its length
+abbrev pub range_word : ℕ × ℕ → List ℕ
+range_word range = decimal range.0 ++ 58 ∷ decimal range.1
+
+-- ranges as words
+abbrev pub ranges_words : List (ℕ × ℕ) → List (List ℕ)
+ranges_words ranges = map range_word ranges
+
 -- the words of a step
 abbrev pub step_words : step.Step → List (List ℕ)
 step_words (Append bytes) = codes "append" ∷ hex_of bytes.items ∷ []
@@ -100,6 +109,8 @@ step_words Size = codes "size" ∷ []
 step_words (Read offset len) = codes "read" ∷ decimal offset ∷ decimal len ∷ []
 step_words (ReadUpTo offset len) = codes "upto" ∷ decimal offset ∷ decimal len ∷ []
 step_words (TryRead offset len) = codes "cached" ∷ decimal offset ∷ decimal len ∷ []
+step_words (ReadRanges ranges) = codes "ranges" ∷ ranges_words ranges.items
+step_words (TryReadRanges ranges) = codes "cached-ranges" ∷ ranges_words ranges.items
 step_words Begin = codes "begin" ∷ []
 step_words (Truncate size) = codes "truncate" ∷ decimal size ∷ []
 
@@ -111,7 +122,15 @@ line_words (Crash keep) = codes "crash" ∷ flags_text keep.items ∷ []
 line_words Recover = codes "recover" ∷ []
 line_words Dump = codes "dump" ∷ []
 
--- the numbers and the bytes of a line are in range
+-- the numbers of a range are of 64 bits
+abbrev pub IsRange : ℕ × ℕ → Type 0
+IsRange range = IsU64 range.0 × IsU64 range.1
+
+-- there are ranges, and their numbers are in range
+abbrev pub AreRanges : List (ℕ × ℕ) → Type 0
+AreRanges ranges = (0 < length ranges) × All IsRange ranges
+
+-- the numbers and the bytes of a line are in range, and no list of ranges is empty
 abbrev pub IsLine : Line → Type 0
 IsLine (Step (Append bytes)) = AreBytes bytes.items
 IsLine (Step (Owned bytes)) = AreBytes bytes.items
@@ -121,6 +140,8 @@ IsLine (Step (Truncate size)) = IsU64 size
 IsLine (Step (Read offset len)) = IsU64 offset × IsU64 len
 IsLine (Step (ReadUpTo offset len)) = IsU64 offset × IsU64 len
 IsLine (Step (TryRead offset len)) = IsU64 offset × IsU64 len
+IsLine (Step (ReadRanges ranges)) = AreRanges ranges.items
+IsLine (Step (TryReadRanges ranges)) = AreRanges ranges.items
 IsLine (Fail number) = (0 < non_zero_u64_get number) × IsU64 (non_zero_u64_get number)
 IsLine _ = Unit {0}
 

@@ -8,7 +8,7 @@ use Rattle.session.specs.declared.steps.Reply.{Reply}
 use Rattle.disk.specs.declared.started_sync.StartedSync.TheVariants.{Done as AllDone, Named}
 use Rattle.session.specs.declared.steps.Reply.TheVariants.{At, Nothing, Done, Started, Answer}
 use Rattle.session.specs.declared.steps.Reply.TheVariants.{Length, Bytes, Fault, Closed, NoSuch}
-use Rattle.session.specs.declared.steps.Reply.TheVariants.{NotRecovering}
+use Rattle.session.specs.declared.steps.Reply.TheVariants.{NotRecovering, Served, Missed, BadRanges}
 
 -- a byte as two hexadecimal digits
 abbrev pub hex_digits : ℕ → List ℕ
@@ -18,6 +18,15 @@ hex_digits byte = digit_glyph false (byte / 16) ∷ digit_glyph false (byte % 16
 abbrev pub hex_of : List ℕ → List ℕ
 hex_of [] = codes "-"
 hex_of (byte ∷ bytes) = flat_map hex_digits (byte ∷ bytes)
+
+-- a number behind a space
+abbrev pub spaced : ℕ → List ℕ
+spaced number = codes " " ++ decimal number
+
+-- numbers, a space before each
+abbrev pub numbers_text : List ℕ → List ℕ
+numbers_text [] = codes " -"
+numbers_text (number ∷ numbers) = flat_map spaced (number ∷ numbers)
 
 -- a reply as it is printed
 abbrev pub reply_text : Reply → List ℕ
@@ -29,8 +38,12 @@ reply_text (Started (Named name)) = codes "named " ++ decimal name
 reply_text (Answer answer) = if answer then codes "yes" else codes "no"
 reply_text (Length size) = codes "size " ++ decimal size
 reply_text (Bytes bytes) = codes "bytes " ++ hex_of bytes.items
+reply_text (Served count bytes) =
+    codes "served " ++ decimal count ++ codes " " ++ hex_of bytes.items
+reply_text (Missed numbers) = codes "missed" ++ numbers_text numbers.items
 reply_text (Fault error) =
     codes "fault E" ++ decimal (number_of error) ++ codes " " ++ name_of error
 reply_text Closed = codes "closed"
 reply_text NotRecovering = codes "not-recovering"
 reply_text NoSuch = codes "no-such"
+reply_text BadRanges = codes "bad-ranges"

@@ -1,5 +1,5 @@
 // Scripts: what each line asks for.
-ghost use Rattle.std.specs.Prelude.{◌≡◌, ◌<◌, [], ◌∷◌, vec_len, codes, map, IfOk, ⊤};
+ghost use Rattle.std.specs.Prelude.{◌≡◌, ◌≢◌, ◌<◌, [], ◌∷◌, vec_len, codes, map, IfOk, ⊤};
 ghost use Rattle.std.specs.Fmt.{decimal};
 ghost use Rattle.std.specs.Int.NonZero.{non_zero_u16_get, non_zero_usize_get};
 ghost use Rattle.pagedctl.specs.Script.{Reads, ReadsScript, IsLine, IsStart, IsPageSize, IsPages};
@@ -7,7 +7,7 @@ ghost use Rattle.pagedctl.specs.Script.{parts_of, lines_of, words_of, without_la
 ghost use Rattle.pagedctl.specs.Script.{line_words, start_words, sum_word};
 
 use crate::stop::Stop;
-use crate::word::{ReadError, parse_flags, parse_hex, parse_number};
+use crate::word::{ReadError, parse_flags, parse_hex, parse_number, parse_ranges};
 use session::Step;
 use std::alloc::{AllocError, AllocFailed, Global};
 use std::num::{NonZeroU16, NonZeroU64, NonZeroUsize};
@@ -187,9 +187,34 @@ fn parse_words(alloc: Global, words: &[&[u8]]) -> Result<Line, ReadError>
     ensures reads { Reads line_words IsLine (map (λ word. word.now) words.now) result }
 {
     match words {
-        [name] => parse_one_word(name),
-        [name, word] => parse_two_words(alloc, name, word),
-        [name, first, second] => parse_three_words(name, first, second),
+        [name, others @ ..] => parse_named(alloc, name, others),
+        [] => Err(ReadError::Unreadable),
+    }
+}
+
+// A line by its first word, which names what it asks for, and the others.
+fn parse_named(alloc: Global, name: &[u8], others: &[&[u8]]) -> Result<Line, ReadError>
+    ensures reads { Reads line_words IsLine
+        (name.now ∷ map (λ word. word.now) others.now) result }
+{
+    match name {
+        b"ranges" => parse_read_ranges(alloc, others),
+        b"cached-ranges" => parse_try_read_ranges(alloc, others),
+        _ => parse_few_words(alloc, name, others),
+    }
+}
+
+// A line of at most three words.
+fn parse_few_words(alloc: Global, name: &[u8], others: &[&[u8]]) -> Result<Line, ReadError>
+    requires read { name.now ≢ codes "ranges" }
+    requires cached { name.now ≢ codes "cached-ranges" }
+    ensures reads { Reads line_words IsLine
+        (name.now ∷ map (λ word. word.now) others.now) result }
+{
+    match others {
+        [] => parse_one_word(name),
+        [word] => parse_two_words(alloc, name, word),
+        [first, second] => parse_three_words(name, first, second),
         _ => Err(ReadError::Unreadable),
     }
 }
@@ -213,6 +238,8 @@ fn parse_one_word(name: &[u8]) -> Result<Line, ReadError>
 
 // A line of two words.
 fn parse_two_words(alloc: Global, name: &[u8], word: &[u8]) -> Result<Line, ReadError>
+    requires read { name.now ≢ codes "ranges" }
+    requires cached { name.now ≢ codes "cached-ranges" }
     ensures reads { Reads line_words IsLine (name.now ∷ word.now ∷ []) result }
 {
     match name {
@@ -229,6 +256,8 @@ fn parse_two_words(alloc: Global, name: &[u8], word: &[u8]) -> Result<Line, Read
 
 // A line of three words.
 fn parse_three_words(name: &[u8], first: &[u8], second: &[u8]) -> Result<Line, ReadError>
+    requires read { name.now ≢ codes "ranges" }
+    requires cached { name.now ≢ codes "cached-ranges" }
     ensures reads { Reads line_words IsLine (name.now ∷ first.now ∷ second.now ∷ []) result }
 {
     match name {
@@ -312,4 +341,20 @@ fn parse_try_read(offset: &[u8], len: &[u8]) -> Result<Line, ReadError>
     let offset = parse_number(offset)?;
     let len = parse_number(len)? as usize;
     Ok(Line::Step(Step::TryRead(offset, len)))
+}
+
+fn parse_read_ranges(alloc: Global, words: &[&[u8]]) -> Result<Line, ReadError>
+    ensures reads { Reads line_words IsLine
+        (codes "ranges" ∷ map (λ word. word.now) words.now) result }
+{
+    let ranges = parse_ranges(alloc, words)?;
+    Ok(Line::Step(Step::ReadRanges(ranges)))
+}
+
+fn parse_try_read_ranges(alloc: Global, words: &[&[u8]]) -> Result<Line, ReadError>
+    ensures reads { Reads line_words IsLine
+        (codes "cached-ranges" ∷ map (λ word. word.now) words.now) result }
+{
+    let ranges = parse_ranges(alloc, words)?;
+    Ok(Line::Step(Step::TryReadRanges(ranges)))
 }

@@ -533,7 +533,7 @@ fn a_bad_first_line_is_named(rt: HostRuntime) -> Result<(), Fail> {
 }
 
 // Lines that can't be read, also behind a first one that can.
-const BAD_LINES: [&[u8]; 43] = [
+const BAD_LINES: [&[u8]; 56] = [
     b"",
     b" ",
     b"append",
@@ -577,6 +577,19 @@ const BAD_LINES: [&[u8]; 43] = [
     b"truncate 6 1",
     b"replay 64",
     b"start 4 8 4 add",
+    b"ranges",
+    b"ranges 0",
+    b"ranges 0:",
+    b"ranges :1",
+    b"ranges 00:1",
+    b"ranges 0:01",
+    b"ranges 0:1:2",
+    b"ranges 0:18446744073709551616",
+    b"ranges 0:1  2:1",
+    b"ranges 0:1 ",
+    b"ranges 0:1 2",
+    b"cached-ranges",
+    b"cached-ranges 0:1 2",
 ];
 
 #[test]
@@ -680,6 +693,97 @@ bytes -
 bytes -
 fault E6 BlobInsufficientLength
 crashed 0
+closed
+closed
+";
+    plays(&rt, rt.alloc(), script, out)
+}
+
+#[test]
+fn ranges_are_read_in_one_call(rt: HostRuntime) -> Result<(), Fail> {
+    let script = "\
+start 4 8 1 add
+append 6162636465666768696a
+cached-ranges 4:2 9:1
+ranges 0:2 5:2 9:1
+cached-ranges 0:2 5:2 9:1
+ranges 0:4 4:4 8:0
+ranges 0:0
+";
+    let out = "\
+recovered 0
+at 0
+missed -
+served 2 616266676a
+missed 1
+served 2 6162636465666768
+served 1 -
+";
+    plays(&rt, rt.alloc(), script, out)
+}
+
+#[test]
+fn the_first_range_past_the_end_decides(rt: HostRuntime) -> Result<(), Fail> {
+    let script = "\
+start 4 8 1 add
+append 6162636465666768696a
+ranges 9:2
+ranges 0:2 9:2 18446744073709551615:1
+ranges 0:2 18446744073709551615:1
+ranges 18446744073709551615:18446744073709551615
+cached-ranges 9:2
+cached-ranges 0:2 5:2 9:2
+fail 1
+ranges 0:2
+ranges 5:2
+";
+    let out = "\
+recovered 0
+at 0
+fault E6 BlobInsufficientLength
+fault E6 BlobInsufficientLength
+fault E7 OffsetOverflow
+fault E7 OffsetOverflow
+missed 0
+missed 0 1 2
+ok
+fault E1 ReadFailed
+served 1 6667
+";
+    plays(&rt, rt.alloc(), script, out)
+}
+
+#[test]
+fn bad_ranges_are_turned_away_by_an_open_session(rt: HostRuntime) -> Result<(), Fail> {
+    let script = "\
+start 4 8 1 add
+append 6162636465666768696a
+ranges 5:2 0:2
+ranges 0:2 1:1
+ranges 18446744073709551615:2 18446744073709551615:0
+ranges 0:18446744073709551615 18446744073709551615:1
+cached-ranges 5:2 0:2
+append 6b
+fail 1
+sync
+ranges 0:1
+ranges 5:2 0:2
+cached-ranges 0:1
+cached-ranges 5:2 0:2
+";
+    let out = "\
+recovered 0
+at 0
+bad-ranges
+bad-ranges
+bad-ranges
+bad-ranges
+bad-ranges
+at 10
+ok
+fault E2 WriteFailed
+closed
+closed
 closed
 closed
 ";

@@ -1,6 +1,6 @@
 // The printed text of replies.
 ghost use Rattle.std.specs.Prelude.{Some};
-ghost use Rattle.pagedctl.specs.Text.{hex_of, reply_text};
+ghost use Rattle.pagedctl.specs.Text.{hex_of, numbers_text, reply_text};
 
 use disk::StartedSync;
 use session::Reply;
@@ -24,6 +24,24 @@ impl fmt::Display for Hex<'_> {
     }
 }
 
+/// Numbers with a space before each, or ` -` where there is none.
+#[derive(Clone, Copy, Debug)]
+pub struct Numbers<'a>(pub &'a [usize]);
+
+impl fmt::Display for Numbers<'_> {
+    ghost output = { λ numbers. Some (numbers_text numbers.0.now) };
+
+    fn fmt<W: fmt::Write>(&self, f: &mut fmt::Formatter<W>) -> fmt::Result {
+        if self.0.is_empty() {
+            return write!(f, " -");
+        }
+        for &number in self.0 {
+            write!(f, " {number}")?;
+        }
+        Ok(())
+    }
+}
+
 /// A reply as a line of the output says it.
 #[derive(Clone, Copy, Debug)]
 pub struct Said<'a>(pub &'a Reply);
@@ -42,10 +60,13 @@ impl fmt::Display for Said<'_> {
             Reply::Answer(false) => write!(f, "no"),
             Reply::Length(size) => write!(f, "size {size}"),
             Reply::Bytes(bytes) => write!(f, "bytes {}", Hex(bytes)),
+            Reply::Served(count, bytes) => write!(f, "served {count} {}", Hex(bytes)),
+            Reply::Missed(numbers) => write!(f, "missed{}", Numbers(numbers)),
             Reply::Fault(error) => write!(f, "fault E{} {}", error.number(), error.name()),
             Reply::Closed => write!(f, "closed"),
             Reply::NotRecovering => write!(f, "not-recovering"),
             Reply::NoSuch => write!(f, "no-such"),
+            Reply::BadRanges => write!(f, "bad-ranges"),
         }
     }
 }

@@ -1,11 +1,12 @@
 // The words of a line.
 ghost use Rattle.std.specs.Prelude.{◌≡◌, ◌≢◌, ◌<◌, ◌^◌, ◌↔◌, ℕ, codes, IsTrue, IfSome, IfNone};
-ghost use Rattle.std.specs.Prelude.{MatchOption, ⊤};
+ghost use Rattle.std.specs.Prelude.{MatchOption, ⊤, map};
 ghost use Rattle.std.specs.Fmt.{decimal};
 ghost use Rattle.std.specs.List.{list_any};
 ghost use Rattle.std.specs.Char.{is_ascii_uppercase};
 ghost use Rattle.pagedctl.specs.Text.{hex_of};
 ghost use Rattle.pagedctl.specs.Script.{Reads, IsU64, HasLead, AreBytes, flag_digit, flags_text};
+ghost use Rattle.pagedctl.specs.Script.{IsRange, AreRanges, range_word, ranges_words};
 
 use hex::FromHexError;
 use std::alloc::{AllocError, AllocFailed, Global};
@@ -111,6 +112,33 @@ fn has_upper(word: &[u8]) -> bool
     ensures { result ≡ list_any is_ascii_uppercase word.now }
 {
     word.iter().any(u8::is_ascii_uppercase)
+}
+
+// A range of bytes: a place and a length, with a colon between.
+fn parse_range(word: &[u8]) -> Result<(u64, usize), ReadError>
+    ensures reads { Reads range_word IsRange word.now result }
+{
+    let Some(colon) = word.iter().position(|byte| *byte == b':') else {
+        return Err(ReadError::Unreadable);
+    };
+    let offset = parse_number(&word[..colon])?;
+    let len = parse_number(&word[colon + 1..])? as usize;
+    Ok((offset, len))
+}
+
+/// Ranges of bytes, at least one, each a word.
+pub fn parse_ranges(alloc: Global, words: &[&[u8]]) -> Result<Vec<(u64, usize)>, ReadError>
+    ensures reads { Reads (λ ranges. ranges_words ranges.items)
+        (λ ranges. AreRanges ranges.items) (map (λ word. word.now) words.now) result }
+{
+    if words.is_empty() {
+        return Err(ReadError::Unreadable);
+    }
+    let mut ranges = Vec::with_capacity(alloc, words.len())?;
+    for word in words {
+        ranges.push(parse_range(word)?)?;
+    }
+    Ok(ranges)
 }
 
 /// Flags in digits 0 and 1, or `-` for none.
