@@ -1,5 +1,5 @@
-//! Reads of a blob of pages: of one range or of many, through a cache of pages; and searches for the
-//! pages that have a value.
+//! Reads of a blob of pages: of one range or of many, through a cache of pages; and searches for
+//! the pages that have a value.
 #![tactic(auto)]
 
 mod batch;
