@@ -14,6 +14,7 @@ ghost use Rattle.paged_read.specs.Ranges.{AsksForMissing, AsksOnce, LeavesAll, M
 ghost use Rattle.paged_read.specs.Batch.{ranges_of};
 ghost use Rattle.paged.specs.Caches.{tail_of};
 ghost use Rattle.paged.specs.Reads.{size_of};
+ghost use Rattle.paged.specs.Recovery.{IsAsOpened};
 
 use crate::Writer;
 use cache::CacheRef;
@@ -139,6 +140,10 @@ impl<B: Blob, H: Sum, Phase> Writer<B, H, Phase> {
             let held = content self.now old.present.readable in
             IsSound H.sum_of self.now old.present
             → LeavesOnly H.sum_of self.now.page_size held held old new }
+
+        // Of a recovery that was opened over any blob: it can still be cut.
+        ensures opened { let old = B.life blob.old in let new = B.life blob.new in
+            IsAsOpened H.sum_of self.now old.present → IsAsOpened H.sum_of self.now new.present }
     {
         self.view().read_into(blob, cache, buf, offset)
     }
@@ -177,6 +182,10 @@ impl<B: Blob, H: Sum, Phase> Writer<B, H, Phase> {
             let held = content self.now old.present.readable in
             IsSound H.sum_of self.now old.present
             → LeavesOnly H.sum_of self.now.page_size held held old new }
+
+        // Of a recovery that was opened over any blob: it can still be cut.
+        ensures opened { let old = B.life blob.old in let new = B.life blob.new in
+            IsAsOpened H.sum_of self.now old.present → IsAsOpened H.sum_of self.now new.present }
     {
         self.view().read_at(blob, cache, offset, len)
     }
@@ -219,6 +228,10 @@ impl<B: Blob, H: Sum, Phase> Writer<B, H, Phase> {
             let held = content self.now old.present.readable in
             IsSound H.sum_of self.now old.present
             → LeavesOnly H.sum_of self.now.page_size held held old new }
+
+        // Of a recovery that was opened over any blob: it can still be cut.
+        ensures opened { let old = B.life blob.old in let new = B.life blob.new in
+            IsAsOpened H.sum_of self.now old.present → IsAsOpened H.sum_of self.now new.present }
     {
         self.view().read_up_to(blob, cache, offset, len, bytes)
     }
@@ -264,6 +277,10 @@ impl<B: Blob, H: Sum, Phase> Writer<B, H, Phase> {
             let held = content self.now old.present.readable in
             IsSound H.sum_of self.now old.present
             → LeavesOnly H.sum_of self.now.page_size held held old new }
+
+        // Of a recovery that was opened over any blob: it can still be cut.
+        ensures opened { let old = B.life blob.old in let new = B.life blob.new in
+            IsAsOpened H.sum_of self.now old.present → IsAsOpened H.sum_of self.now new.present }
     {
         self.view().read_ranges_into(blob, cache, buf, ranges)
     }
@@ -303,6 +320,10 @@ impl<B: Blob, H: Sum, Phase> Writer<B, H, Phase> {
             let held = content self.now old.present.readable in
             IsSound H.sum_of self.now old.present
             → LeavesOnly H.sum_of self.now.page_size held held old new }
+
+        // Of a recovery that was opened over any blob: it can still be cut.
+        ensures opened { let old = B.life blob.old in let new = B.life blob.new in
+            IsAsOpened H.sum_of self.now old.present → IsAsOpened H.sum_of self.now new.present }
     {
         self.view().read_many_into(blob, cache, buf, offsets, len)
     }

@@ -1,3 +1,4 @@
+use Rattle.paged.proofs.Recovered.{looked_as_opened}
 use Rattle.std.proofs.Common.{sym, subst}
 use Rattle.paged_read.specs.Tail.{Tail, CanRead}
 use Rattle.paged_read.specs.Ranges.{ReadsMany}
@@ -17,6 +18,9 @@ returns-clause-leaves g c = subst (λ (t : Tail). LeavesAll t c.args.cache.now c
 
 pub returns-clause-sound : goal.returns-clause-sound
 returns-clause-sound g c = reads_keep_sound g.H.Sum.sum_of c.args.self.now (g.B.Blob.life c.args.blob.now) (g.B.Blob.life c.read_ranges_into.new.blob) c.read_ranges_into.ensures.leaves.looked
+
+pub returns-clause-opened : goal.returns-clause-opened
+returns-clause-opened g c = looked_as_opened g.H.Sum.sum_of c.args.self.now (g.B.Blob.life c.args.blob.now) (g.B.Blob.life c.read_ranges_into.new.blob) c.read_ranges_into.ensures.leaves.looked
 
 pub returns-clause-kept : goal.returns-clause-kept
 returns-clause-kept g c = reads_keep g.H.Sum.sum_of c.args.self.now (g.B.Blob.life c.args.blob.now) (g.B.Blob.life c.read_ranges_into.new.blob) c.read_ranges_into.ensures.leaves.looked
