@@ -178,7 +178,7 @@ fn refused(rt: &impl Abort, alloc: Global, row: &Row) -> Result<Store<AddSum>, E
     let mut store = about_to_fail(alloc, row)?;
     let before = store.blob().calls().len();
     assert_eq!(rt; change(&mut store, row), Err(row.error));
-    assert_eq!(rt; store.calls_from(before)?.as_slice(), row.calls);
+    assert!(rt; store.asks(before, row.calls)?);
     assert_eq!(rt; store.blob().failures(), 1);
     Ok(store)
 }

@@ -139,7 +139,7 @@ fn append(rt: &impl Abort, alloc: Global, row: &Row, way: Way) -> Result<(), Err
         way.append(&mut store, row.bytes),
         Ok(row.before.len() as u64)
     );
-    assert_eq!(rt; store.calls_from(before)?.as_slice(), row.calls);
+    assert!(rt; store.asks(before, row.calls)?);
     assert!(rt; row.pages.is_empty() || store.is_made_of(row.pages)?);
     assert_eq!(rt; store.size(), content.len() as u64);
     assert!(rt; store.has(&content)?);

@@ -326,6 +326,11 @@ impl<H: Sum> Store<H> {
         &self.blob
     }
 
+    /// Whether the device was asked for just this since so many calls.
+    pub fn asks(&self, first: usize, calls: &[Call<'static>]) -> Result<bool, Error> {
+        Ok(self.calls_from(first)?.as_slice() == calls)
+    }
+
     /// The device calls from one on.
     pub fn calls_from(&self, first: usize) -> Result<Vec<Call<'_>>, Error> {
         calls_from(self.alloc, &self.blob, first)
