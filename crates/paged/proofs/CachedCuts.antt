@@ -17,7 +17,9 @@ use Rattle.paged.specs.Flush.{has_work, synced}
 use Rattle.paged.specs.Recovery.{IsAsOpened}
 use Rattle.paged.specs.Truncate.{IsShortened}
 use Rattle.paged.specs.Caches.{PutsUpTo, ReadsOn, tail_of}
+use Rattle.paged_read.specs.Snapshots.{LeavesOthers}
 use Rattle.paged_read.specs.Tail.{CanRead}
+use Rattle.paged_read.proofs.Outliving.{others_stay}
 use Rattle.paged.proofs.Caching.{puts_only, fresh_law, reads_behind, page_of_front}
 use Rattle.crash.specs.Moments.{through_end}
 use Rattle.paged.proofs.Shortened.{sound_working}
@@ -32,6 +34,14 @@ fresh_of_puts id from P to bytes cache behind same puts given fresh =
     fresh_law id from (front ++ bytes) cache behind
     (puts_only id from P to front bytes (front ++ bytes) cache behind (length-replicate (from * P) 0) refl same puts)
     given fresh
+
+-- and what reads of another blob stand on is left
+pub others_of_puts : (id from P to : ℕ) (bytes : List ℕ) (cache behind : CacheState)
+    → cache.page_size ≡ P → PutsUpTo id from P bytes to cache behind → LeavesOthers id cache behind
+others_of_puts id from P to bytes cache behind same puts =
+    let front : List ℕ = replicate (from * P) 0 in
+    others_stay id from (front ++ bytes) cache behind
+    (puts_only id from P to front bytes (front ++ bytes) cache behind (length-replicate (from * P) 0) refl same puts)
 
 -- where the first pages stay, those of them that are held stay true, whatever stands behind them
 pub pages_read : (P id full k : ℕ) (tip behind : List ℕ) (cache : CacheState) (old new : Disk)

@@ -35,3 +35,4 @@ pub mod Refused
 pub mod CachedCuts
 pub mod OpenedReads
 pub mod Serves
+pub mod Snapshotting

@@ -1,5 +1,5 @@
 -- What a new writer can read: nothing is held under its id.
-use Rattle.std.proofs.Common.{◌≡◌, ◌∙◌, inr, ℕ, ◌+◌, ◌*◌, ◌<◌, ◌≤◌, List, length, sym, ap, subst, arith}
+use Rattle.std.proofs.Common.{◌≡◌, ◌∙◌, inl, inr, ℕ, ◌+◌, ◌*◌, ◌<◌, ◌≤◌, List, length, sym, ap, subst, arith}
 use Rattle.std.specs.Prelude.{Result, Ok, Err, IfOk}
 use Rattle.disk.specs.Disk.{Disk, Life}
 use Rattle.disk.specs.declared.error.Error.{Error}
@@ -12,7 +12,9 @@ use Rattle.paged.specs.Reads.{HasPages}
 use Rattle.paged.specs.Recovery.{Opens, cache_after}
 use Rattle.paged.specs.Recovers.{GivesId}
 use Rattle.paged.specs.Caches.{ReadsOn, tail_of}
+use Rattle.paged_read.specs.Snapshots.{LeavesReads}
 use Rattle.paged_read.specs.Tail.{Tail, CanRead, told}
+use Rattle.paged_read.proofs.Outliving.{given_reads}
 
 -- a tail whose id a fresh cache gave last
 new_reads : (w : WriterState) (cache : CacheState) (d : Disk) → w.id ≡ cache.ids_given
@@ -72,3 +74,14 @@ pub gives_id : (w : WriterState) (cache behind : CacheState) (result : Result Wr
     → behind ≡ cache_after (Ok w) cache → GivesId result cache behind
 gives_id w cache behind (Ok now) is = is
 gives_id w cache behind (Err e) is = inr is
+
+-- what reads of other blobs stand on is left, as an id is given
+pub opened_others : (result : Result WriterState Error) (cache behind : CacheState)
+    → behind ≡ cache_after result cache → LeavesReads cache behind
+opened_others (Ok w) cache behind is = given_reads cache behind (inr is)
+opened_others (Err e) cache behind is = given_reads cache behind (inl is)
+
+pub gives_others : (result : Result WriterState Error) (cache behind : CacheState)
+    → GivesId result cache behind → LeavesReads cache behind
+gives_others (Ok w) cache behind gives = given_reads cache behind (inr gives)
+gives_others (Err e) cache behind gives = given_reads cache behind gives

@@ -1,7 +1,7 @@
 -- Answers that are given before anything is put in the cache, and others.
 use Rattle.std.proofs.Common.{◌≡◌, ℕ, List, refl, sym, subst, inl, inr, arith}
 use Rattle.std.specs.Prelude.{◌⊎◌, Result, Ok, Err, Bool, true, false}
-use Rattle.std.specs.Result.{IsErrAnd, IsErrOf}
+use Rattle.std.specs.Result.{IsErrOf}
 use Rattle.std.specs.Prelude.{OnOk}
 use Rattle.disk.specs.Disk.{Life, WriteGoes}
 use Rattle.disk.specs.declared.error.Error.{Error}

@@ -24,12 +24,13 @@ use Rattle.paged.specs.Writer.{state_of}
 use Rattle.paged.specs.declared.writer.SyncState.{SyncState as State}
 use Rattle.paged.specs.declared.writer.SyncState.TheVariants.{Clean as IsClean, Dirty as IsDirty}
 use Rattle.paged.specs.Flush.{has_work, synced, answered}
-use Rattle.paged.specs.Calls.{AsksAtMost, wait_calls, settle_calls, sync_calls, GoesOn, IsSameWriter, Flushes, Settles, SettlesBy, Syncs, HadFailed, HasCause, WaitsForNone, WaitsForSync, Completes, Covers, LeavesWriters, waited, waited_state}
+use Rattle.paged_read.specs.Snapshots.{LeavesWriters}
+use Rattle.paged.specs.Calls.{AsksAtMost, wait_calls, settle_calls, sync_calls, GoesOn, IsSameWriter, Flushes, Settles, SettlesBy, Syncs, HadFailed, HasCause, WaitsForNone, WaitsForSync, Completes, Covers, waited, waited_state}
 use Rattle.paged.proofs.Causes.{wait_cause, wait_asks, wait_grows, sync_asks}
 use Rattle.paged.proofs.Flushes.{size_is_length, stays_nil, goes_on_more, refuses_more, goes_on_same, settle_goes}
 
 -- what a wait leaves of what is readable
-wait_readable : (name : ℕ) (old new : Life) (answer : Result (Unit {0}) Error) → WaitGoes name old new answer → new.present.readable ≡ old.present.readable
+pub wait_readable : (name : ℕ) (old new : Life) (answer : Result (Unit {0}) Error) → WaitGoes name old new answer → new.present.readable ≡ old.present.readable
 wait_readable name old new (Ok u) (s, named, well, is) = ap (λ (l : Life). l.present.readable) is ∙ (settles_same (s.covers, s.bytes) old.present).0
 wait_readable name old new (Err SyncFailed) (failed, why, is) = ap (λ (l : Life). l.present.readable) is
 wait_readable name old new (Err OutOfMemory) is = ap (λ (l : Life). l.present.readable) is

@@ -12,7 +12,7 @@ use Rattle.crash.specs.WriterState.{WriterState, SyncState}
 use Rattle.crash.specs.WriterState.SyncState.{Clean, Dirty, Pending}
 use Rattle.crash.specs.Sound.{IsSound, LeavesItsContent, content}
 use Rattle.crash.specs.Kept.{AllKeep}
-use Rattle.crash.specs.Started.{WouldKeep, CoversThrough}
+use Rattle.crash.specs.Started.{WouldKeep}
 use Rattle.crash.specs.Stays.{StaysThrough, KeepsAll}
 use Rattle.crash.specs.Built.{kept_len}
 use Rattle.paged.specs.Writer.{physical_size, FitsBlob}
@@ -177,18 +177,6 @@ Completed sum P held Dirty behind old new = Unit {0}
 Completed sum P held (Pending name) behind old new =
     (behind ≢ Pending name) → (cover : ℕ) → cover ≤ length held
     → WouldKeep sum P held name cover old.present → AllKeep sum P held cover new.present
-
--- a call behind the back of a blob's writer: it stays sound, the pages below its tip stay there,
--- and each moment owes to it what it would in a call of its own
-pub record LeavesWriter (sum : List ℕ → ℕ) (w : WriterState) (old new : Life) : Type 0 where
-  pub sound : IsSound sum w new.present
-  pub readable : new.present.readable ≡ old.present.readable
-  pub stays : StaysThrough sum w.page_size (content w old.present.readable) old new
-  pub covers : CoversThrough sum w.page_size (content w old.present.readable) old new
-
-abbrev pub LeavesWriters : (List ℕ → ℕ) → Life → Life → Type 0
-LeavesWriters sum old new =
-    (w : WriterState) → IsSound sum w old.present → LeavesWriter sum w old new
 
 -- what a started sync covers, every image keeps from then on
 abbrev pub Covers : (List ℕ → ℕ) → (P : ℕ) → StartedSync → Life → Life → Type 0

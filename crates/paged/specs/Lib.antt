@@ -7,3 +7,4 @@ pub mod Direct
 pub mod Truncate
 pub mod Recovers
 pub mod Caches
+pub mod Snapshots

@@ -12,6 +12,7 @@ ghost use Rattle.paged_read.specs.Tail.{CanRead, IsView, tail_at, told};
 ghost use Rattle.paged_read.specs.Ranges.{Reads, ReadsUpTo, ReadsMany, range_up_to, TriesRead};
 ghost use Rattle.paged_read.specs.Ranges.{AsksForMissing, AsksOnce, LeavesAll, Misses, HasServed};
 ghost use Rattle.paged_read.specs.Batch.{ranges_of};
+ghost use Rattle.paged_read.specs.Snapshots.{LeavesOthers, LeavesTails};
 ghost use Rattle.paged.specs.Caches.{tail_of};
 ghost use Rattle.paged.specs.Reads.{size_of};
 ghost use Rattle.paged.specs.Recovery.{IsAsOpened};
@@ -141,6 +142,11 @@ impl<B: Blob, H: Sum, Phase> Writer<B, H, Phase> {
             IsSound H.sum_of self.now old.present
             → LeavesOnly H.sum_of self.now.page_size held held old new }
 
+        // What snapshots, and reads of other blobs, stand on.
+        ensures tails { let old = B.life blob.old in let new = B.life blob.new in
+            LeavesTails H.sum_of self.now.full_pages cache.old cache.new old new }
+        ensures others { LeavesOthers self.now.id cache.old cache.new }
+
         // Of a recovery that was opened over any blob: it can still be cut.
         ensures opened { let old = B.life blob.old in let new = B.life blob.new in
             IsAsOpened H.sum_of self.now old.present → IsAsOpened H.sum_of self.now new.present }
@@ -182,6 +188,11 @@ impl<B: Blob, H: Sum, Phase> Writer<B, H, Phase> {
             let held = content self.now old.present.readable in
             IsSound H.sum_of self.now old.present
             → LeavesOnly H.sum_of self.now.page_size held held old new }
+
+        // What snapshots, and reads of other blobs, stand on.
+        ensures tails { let old = B.life blob.old in let new = B.life blob.new in
+            LeavesTails H.sum_of self.now.full_pages cache.old cache.new old new }
+        ensures others { LeavesOthers self.now.id cache.old cache.new }
 
         // Of a recovery that was opened over any blob: it can still be cut.
         ensures opened { let old = B.life blob.old in let new = B.life blob.new in
@@ -228,6 +239,11 @@ impl<B: Blob, H: Sum, Phase> Writer<B, H, Phase> {
             let held = content self.now old.present.readable in
             IsSound H.sum_of self.now old.present
             → LeavesOnly H.sum_of self.now.page_size held held old new }
+
+        // What snapshots, and reads of other blobs, stand on.
+        ensures tails { let old = B.life blob.old in let new = B.life blob.new in
+            LeavesTails H.sum_of self.now.full_pages cache.old cache.new old new }
+        ensures others { LeavesOthers self.now.id cache.old cache.new }
 
         // Of a recovery that was opened over any blob: it can still be cut.
         ensures opened { let old = B.life blob.old in let new = B.life blob.new in
@@ -278,6 +294,11 @@ impl<B: Blob, H: Sum, Phase> Writer<B, H, Phase> {
             IsSound H.sum_of self.now old.present
             → LeavesOnly H.sum_of self.now.page_size held held old new }
 
+        // What snapshots, and reads of other blobs, stand on.
+        ensures tails { let old = B.life blob.old in let new = B.life blob.new in
+            LeavesTails H.sum_of self.now.full_pages cache.old cache.new old new }
+        ensures others { LeavesOthers self.now.id cache.old cache.new }
+
         // Of a recovery that was opened over any blob: it can still be cut.
         ensures opened { let old = B.life blob.old in let new = B.life blob.new in
             IsAsOpened H.sum_of self.now old.present → IsAsOpened H.sum_of self.now new.present }
@@ -320,6 +341,11 @@ impl<B: Blob, H: Sum, Phase> Writer<B, H, Phase> {
             let held = content self.now old.present.readable in
             IsSound H.sum_of self.now old.present
             → LeavesOnly H.sum_of self.now.page_size held held old new }
+
+        // What snapshots, and reads of other blobs, stand on.
+        ensures tails { let old = B.life blob.old in let new = B.life blob.new in
+            LeavesTails H.sum_of self.now.full_pages cache.old cache.new old new }
+        ensures others { LeavesOthers self.now.id cache.old cache.new }
 
         // Of a recovery that was opened over any blob: it can still be cut.
         ensures opened { let old = B.life blob.old in let new = B.life blob.new in

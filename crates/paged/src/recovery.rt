@@ -18,6 +18,7 @@ ghost use Rattle.paged_read.specs.Tail.{CanRead};
 ghost use Rattle.cache.specs.Pages.{IsFresh};
 ghost use Rattle.crash.specs.Sound.{IsSound};
 ghost use Rattle.crash.specs.Stays.{KeepsAll, KeepsAllFloors};
+ghost use Rattle.paged_read.specs.Snapshots.{LeavesReads};
 
 use crate::writer::SyncState;
 use crate::{Recovery, Writer};
@@ -152,6 +153,9 @@ impl<B: Blob, H: Sum> Recovery<B, H> {
             → IfOk result (λ w. CanRead (tail_of w) cache.new (B.life blob.new).present) }
         ensures fresh_ids { IsFresh cache.old → IsFresh cache.new }
 
+        // What reads of other blobs stand on.
+        ensures others { LeavesReads cache.old cache.new }
+
         // What a cut of it asks for.
         ensures as_opened { let new = B.life blob.new in
             IfOk result (λ w. IsAsOpened H.sum_of w new.present) }
@@ -203,6 +207,9 @@ impl<B: Blob, H: Sum> Writer<B, H> {
             → IfOk result (λ w. CanRead (tail_of w) cache.new (B.life blob.new).present) }
         ensures fresh_ids { IsFresh cache.old → IsFresh cache.new }
 
+        // What reads of other blobs stand on.
+        ensures others { LeavesReads cache.old cache.new }
+
         // What a cut of it asks for.
         ensures as_opened { let new = B.life blob.new in
             IfOk result (λ w. IsAsOpened H.sum_of w new.present) }
@@ -253,6 +260,9 @@ pub fn recover<B: Blob, H: Sum>(
     ensures can_read { IsFresh cache.old
         → IfOk result (λ w. CanRead (tail_of w) cache.new (B.life blob.new).present) }
     ensures fresh_ids { IsFresh cache.old → IsFresh cache.new }
+
+    // What reads of other blobs stand on.
+    ensures others { LeavesReads cache.old cache.new }
 
     // From then on every image keeps the whole text.
     ensures durable { let old = B.life blob.old in let new = B.life blob.new in

@@ -7,7 +7,9 @@ ghost use Rattle.crash.specs.Started.{CoversThrough, StartsStand};
 ghost use Rattle.crash.specs.Stays.{KeepsAllFloors, LeavesOnly};
 ghost use Rattle.paged.specs.Calls.{AsksAtMost, HoldsWithin, IsWritten, StartsSync};
 ghost use Rattle.paged.specs.Calls.{WaitsForSync, Completed, Completes, start_calls};
-ghost use Rattle.paged.specs.Calls.{started_already, started_state, LeavesWriters, Covers};
+ghost use Rattle.paged.specs.Calls.{started_already, started_state, Covers};
+ghost use Rattle.paged_read.specs.Snapshots.{LeavesAllTails, LeavesOthers, LeavesTails};
+ghost use Rattle.paged_read.specs.Snapshots.{LeavesWriters};
 ghost use Rattle.disk.specs.Disk.{StartGoes, WaitsFor};
 ghost use Rattle.paged.specs.Calls.{sync_calls, unstarted_calls, wait_calls, SettlesBy};
 ghost use Rattle.paged.specs.Flush.{answered, outcome, paired};
@@ -88,13 +90,18 @@ impl<B: Blob, H: Sum, Phase> Writer<B, H, Phase> {
             let held = content self old.present.readable in
             CoversThrough H.sum_of self.page_size held old new }
         ensures starts { StartsStand (B.life blob.new).present }
+
+        // What snapshots, and reads of other blobs, stand on.
+        ensures tails { let old = B.life blob.old in let new = B.life blob.new in
+            LeavesTails H.sum_of self.full_pages cache.old cache.new old new }
+        ensures others { LeavesOthers self.id cache.old cache.new }
     {
         let started = self.start_all(blob, cache)?;
         Ok((self, started))
     }
 
     /// The same. After an error the writer is of no use.
-    fn start_all(&mut self, blob: &mut B, cache: &mut CacheRef) -> Result<StartedSync, Error>
+    pub(crate) fn start_all(&mut self, blob: &mut B, cache: &mut CacheRef) -> Result<StartedSync, Error>
         requires cached { cache.old.page_size ≡ self.old.page_size }
         requires sound { IsSound H.sum_of self.old (B.life blob.old).present }
         ensures starts_sync { let old = B.life blob.old in let new = B.life blob.new in
@@ -192,6 +199,11 @@ impl<B: Blob, H: Sum, Phase> Writer<B, H, Phase> {
             let held = content self old.present.readable in
             CoversThrough H.sum_of self.page_size held old new }
         ensures starts { StartsStand (B.life blob.new).present }
+
+        // What snapshots stand on, with whichever cache.
+        ensures tails { let old = B.life blob.old in let new = B.life blob.new in
+            (cache : CacheState) → cache.page_size ≡ self.page_size
+            → LeavesTails H.sum_of self.full_pages cache cache old new }
     {
         self.wait(blob)?;
         Ok(self)
@@ -209,6 +221,8 @@ pub fn wait_sync<B: Blob, H: Sum>(blob: &mut B, started: StartedSync) -> Result<
     ensures writers { LeavesWriters H.sum_of (B.life blob.old) (B.life blob.new) }
     ensures can_read { (t : Tail) (cache : CacheState) → CanRead t cache (B.life blob.old).present
         → CanRead t cache (B.life blob.new).present }
+    ensures tails { (cache : CacheState)
+        → LeavesAllTails H.sum_of cache cache (B.life blob.old) (B.life blob.new) }
 
     // From then on every image keeps what the sync covers.
     ensures durable { OnOk result ((page_size : ℕ) →

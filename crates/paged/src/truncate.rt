@@ -22,6 +22,7 @@ ghost use Rattle.paged.specs.Truncate.{standing};
 ghost use Rattle.paged.specs.Writer.{FitsBlob};
 ghost use Rattle.paged.specs.Caches.{CachesTo, PutsUpTo, ReadsOn};
 ghost use Rattle.cache.specs.Pages.{CachesOnly, IsFresh};
+ghost use Rattle.paged_read.specs.Snapshots.{LeavesOthers};
 
 use crate::Recovery;
 use crate::recovery::cut;
@@ -101,6 +102,9 @@ impl<B: Blob, H: Sum> Recovery<B, H> {
             cache.new }
         ensures fresh_ids { self.id < cache.old.ids_given → IsFresh cache.old → IsFresh cache.new }
         ensures idle_cache { has_work self true ≡ false → cache.new ≡ cache.old }
+
+        // What reads of other blobs stand on.
+        ensures others { LeavesOthers self.id cache.old cache.new }
 
         // At each moment since the call began, and at every answer.
         ensures floors { let old = B.life blob.old in let new = B.life blob.new in

@@ -16,3 +16,5 @@ pub mod BatchKeeps
 pub mod Prefixes
 pub mod Looking
 pub mod Searching
+pub mod Outliving
+pub mod FullReads

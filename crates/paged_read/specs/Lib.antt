@@ -5,3 +5,4 @@ pub mod Parts
 pub mod Batch
 pub mod Prefix
 pub mod Searches
+pub mod Snapshots

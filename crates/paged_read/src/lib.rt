@@ -10,10 +10,12 @@ mod lack;
 mod pieces;
 mod prefix;
 mod ranges;
+mod sealed;
 mod search;
 mod view;
 
 pub use prefix::{Partial, Prefix};
+pub use sealed::Sealed;
 pub use search::{last_pages, pages_of, physical_size, scan};
 pub use view::View;
 

@@ -4,7 +4,7 @@ use Rattle.std.specs.Prelude.{Option, Some, None}
 use Rattle.disk.specs.Disk.{Life}
 use Rattle.cache.specs.CacheState.{CacheState}
 use Rattle.crash.specs.WriterState.{WriterState}
-use Rattle.paged.specs.Calls.{LeavesWriters}
+use Rattle.paged_read.specs.Snapshots.{LeavesWriters}
 use Rattle.paged_read.specs.Tail.{Tail, CanRead}
 use Rattle.rows.specs.Store.{IsReady}
 

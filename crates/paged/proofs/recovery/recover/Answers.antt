@@ -15,6 +15,7 @@ use Rattle.paged_read.specs.Searches.{ReadsWithin, scan_bytes}
 use Rattle.paged_read.proofs.Searching.{back_within, page_within, scans_within, cuts_within}
 use Rattle.paged.proofs.There.{recovered_sound}
 use Rattle.paged.proofs.recovery.recover.Given.{Over}
+use Rattle.paged.proofs.OpenedReads.{gives_others}
 use Rattle.paged.proofs.recovery.recover.Goals as goal
 use Rattle.paged.proofs.recovery.recover.Goals.{In_err-prefix, After-scan, After-size_of-text_size, After-truncate}
 
@@ -263,3 +264,7 @@ returns-clause-can_read g c = λ fresh.
     cut_reads w c.open.new.cache c.truncate.new.cache (life c.scan.new.blob) (life c.truncate.new.blob) c.truncate.result
     (looked_reads (tail_of w) c.open.new.cache (life c.open.new.blob) (life c.scan.new.blob) c.in_ok-prefix.ensures.finds.1 (c.in_ok-recovery.ensures.can_read fresh))
     c.truncate.ensures.can_read
+
+pub returns-clause-others : goal.returns-clause-others
+returns-clause-others g c =
+    gives_others c.truncate.result c.args.cache.now c.truncate.new.cache (returns-clause-ids g c)

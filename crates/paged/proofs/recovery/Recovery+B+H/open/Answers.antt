@@ -16,6 +16,7 @@ use Rattle.paged.proofs.Trims.{Owes, opens_owe, finds_looked}
 use Rattle.paged.proofs.Places.{opens_within}
 use Rattle.paged.proofs.Places.{adjusted_whole, adjusted_room}
 use Rattle.paged.proofs.recovery.Recovery+B+H.open.Given.{Over}
+use Rattle.paged.proofs.OpenedReads.{opened_others}
 use Rattle.paged.proofs.recovery.Recovery+B+H.open.Goals as goal
 use Rattle.paged.proofs.recovery.Recovery+B+H.open.Goals.{In_err-capacity, In_err-last, After-cut_back, After-at_prefix}
 
@@ -200,3 +201,7 @@ returns-clause-can_read g c = λ fresh.
     let all = opens g (goal.at.returns-clause-can_read g c).After-at_prefix in
     opened_reads sum c.args.cache.now c.at_prefix.new.cache c.args.capacity old new c.at_prefix.result all
     (opened_there sum c.args.cache.now c.args.capacity old new c.at_prefix.result all) c.at_prefix.ensures.ids fresh
+
+pub returns-clause-others : goal.returns-clause-others
+returns-clause-others g c =
+    opened_others c.at_prefix.result c.args.cache.now c.at_prefix.new.cache c.at_prefix.ensures.ids

@@ -3,7 +3,7 @@ use Rattle.cache.specs.Pages.{CachesOnly}
 use Rattle.crash.specs.Sound.{content}
 use Rattle.paged.specs.Caches.{ReadsOn}
 use Rattle.paged.proofs.Caching.{only_law}
-use Rattle.paged.proofs.CachedCuts.{fresh_of_puts, written_reads, shortened_reads, fewer_pages}
+use Rattle.paged.proofs.CachedCuts.{fresh_of_puts, others_of_puts, written_reads, shortened_reads, fewer_pages}
 use Rattle.std.proofs.Common.{◌≡◌, ◌<◌, ℕ, Ok, Err, Result, subst, arith}
 use Rattle.std.proofs.lemmas.Result.{err_from_is_err_and}
 use Rattle.std.specs.Prelude.{IsErrAnd}
@@ -294,3 +294,21 @@ pub returns-clause-can_read : goal.returns-clause-can_read
 returns-clause-can_read g c =
     let at = (goal.at.returns-clause-can_read g c).After-sync_written in
     ended_reads g c (begun g at) (written g at (Ok tt) c.in_ok-sync_written.was)
+
+pub returns-in_err-sync_written-clause-others : goal.returns-in_err-sync_written-clause-others
+returns-in_err-sync_written-clause-others g c =
+    let w = c.args.self in
+    others_of_puts w.id w.full_pages w.page_size c.in_err-sync_written.ensures.puts.0 w.tip
+    c.args.cache.now c.sync_written.new.cache c.requires.cached c.in_err-sync_written.ensures.puts.1
+
+pub returns-in_err-shorten-clause-others : goal.returns-in_err-shorten-clause-others
+returns-in_err-shorten-clause-others g c =
+    let w = c.args.self in
+    others_of_puts w.id w.full_pages w.page_size c.sync_written.new.self.full_pages w.tip
+    c.args.cache.now c.sync_written.new.cache c.requires.cached c.in_ok-sync_written.ensures.puts
+
+pub returns-clause-others : goal.returns-clause-others
+returns-clause-others g c =
+    let w = c.args.self in
+    others_of_puts w.id w.full_pages w.page_size c.sync_written.new.self.full_pages w.tip
+    c.args.cache.now c.sync_written.new.cache c.requires.cached c.in_ok-sync_written.ensures.puts

@@ -9,6 +9,7 @@ use Rattle.paged.specs.Calls.{Appends}
 use Rattle.paged.proofs.Covers.{completed}
 use Rattle.paged.proofs.Halves.{append_keeps, append_leaves}
 use Rattle.paged.proofs.There.{appended_there}
+use Rattle.paged_read.proofs.Outliving.{others_stay, tails_stay}
 use Rattle.paged.proofs.writer.Writer.append.Goals as goal
 
 pub returns-clause-appends : goal.returns-clause-appends
@@ -70,3 +71,33 @@ returns-clause-can_read g c =
     let behind = c.append_bytes.new.cache in
     let new = g.B.Blob.life c.append_bytes.new.blob in
     reads_behind {A = WriterState × ℕ} g.H.Sum.sum_of (λ r. r.0) w c.args.bytes.now (w.tip ++ c.args.bytes.now) old new c.args.cache.now behind (c.append_bytes.new.self, c.size-at.result) c.requires.cached refl c.in_ok-append_bytes.ensures.appends.1 c.in_ok-append_bytes.ensures.puts
+
+pub returns-in_err-append_bytes-clause-tails : goal.returns-in_err-append_bytes-clause-tails
+returns-in_err-append_bytes-clause-tails g c =
+    let w = c.args.self in
+    let old = g.B.Blob.life c.args.blob.now in
+    tails_stay g.H.Sum.sum_of w.page_size w.id w.full_pages (content w old.present.readable ++ c.args.bytes.now)
+    c.args.cache.now c.append_bytes.new.cache old (g.B.Blob.life c.append_bytes.new.blob) c.requires.cached
+    c.in_err-append_bytes.ensures.pages (returns-in_err-append_bytes-clause-caches g c)
+
+pub returns-in_err-append_bytes-clause-others : goal.returns-in_err-append_bytes-clause-others
+returns-in_err-append_bytes-clause-others g c =
+    let w = c.args.self in
+    let old = g.B.Blob.life c.args.blob.now in
+    others_stay w.id w.full_pages (content w old.present.readable ++ c.args.bytes.now) c.args.cache.now
+    c.append_bytes.new.cache (returns-in_err-append_bytes-clause-caches g c)
+
+pub returns-clause-tails : goal.returns-clause-tails
+returns-clause-tails g c =
+    let w = c.args.self in
+    let old = g.B.Blob.life c.args.blob.now in
+    tails_stay g.H.Sum.sum_of w.page_size w.id w.full_pages (content w old.present.readable ++ c.args.bytes.now)
+    c.args.cache.now c.append_bytes.new.cache old (g.B.Blob.life c.append_bytes.new.blob) c.requires.cached
+    c.in_ok-append_bytes.ensures.pages (returns-clause-caches g c)
+
+pub returns-clause-others : goal.returns-clause-others
+returns-clause-others g c =
+    let w = c.args.self in
+    let old = g.B.Blob.life c.args.blob.now in
+    others_stay w.id w.full_pages (content w old.present.readable ++ c.args.bytes.now) c.args.cache.now
+    c.append_bytes.new.cache (returns-clause-caches g c)

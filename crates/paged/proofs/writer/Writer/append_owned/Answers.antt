@@ -9,6 +9,7 @@ use Rattle.paged.specs.Calls.{Appends}
 use Rattle.paged.proofs.Covers.{completed}
 use Rattle.paged.proofs.Halves.{append_keeps, append_leaves}
 use Rattle.paged.proofs.There.{appended_there}
+use Rattle.paged_read.proofs.Outliving.{others_stay, tails_stay}
 use Rattle.paged.proofs.writer.Writer.append_owned.Goals as goal
 
 pub returns-clause-appends : goal.returns-clause-appends
@@ -70,3 +71,33 @@ returns-clause-can_read g c =
     let behind = c.append_buf.new.cache in
     let new = g.B.Blob.life c.append_buf.new.blob in
     reads_behind {A = WriterState × ℕ} g.H.Sum.sum_of (λ r. r.0) w c.args.bytes (w.tip ++ c.args.bytes) old new c.args.cache.now behind (c.append_buf.new.self, c.size-at.result) c.requires.cached refl c.in_ok-append_buf.ensures.appends.1 c.in_ok-append_buf.ensures.puts
+
+pub returns-in_err-append_buf-clause-tails : goal.returns-in_err-append_buf-clause-tails
+returns-in_err-append_buf-clause-tails g c =
+    let w = c.args.self in
+    let old = g.B.Blob.life c.args.blob.now in
+    tails_stay g.H.Sum.sum_of w.page_size w.id w.full_pages (content w old.present.readable ++ c.args.bytes)
+    c.args.cache.now c.append_buf.new.cache old (g.B.Blob.life c.append_buf.new.blob) c.requires.cached
+    c.in_err-append_buf.ensures.pages (returns-in_err-append_buf-clause-caches g c)
+
+pub returns-in_err-append_buf-clause-others : goal.returns-in_err-append_buf-clause-others
+returns-in_err-append_buf-clause-others g c =
+    let w = c.args.self in
+    let old = g.B.Blob.life c.args.blob.now in
+    others_stay w.id w.full_pages (content w old.present.readable ++ c.args.bytes) c.args.cache.now
+    c.append_buf.new.cache (returns-in_err-append_buf-clause-caches g c)
+
+pub returns-clause-tails : goal.returns-clause-tails
+returns-clause-tails g c =
+    let w = c.args.self in
+    let old = g.B.Blob.life c.args.blob.now in
+    tails_stay g.H.Sum.sum_of w.page_size w.id w.full_pages (content w old.present.readable ++ c.args.bytes)
+    c.args.cache.now c.append_buf.new.cache old (g.B.Blob.life c.append_buf.new.blob) c.requires.cached
+    c.in_ok-append_buf.ensures.pages (returns-clause-caches g c)
+
+pub returns-clause-others : goal.returns-clause-others
+returns-clause-others g c =
+    let w = c.args.self in
+    let old = g.B.Blob.life c.args.blob.now in
+    others_stay w.id w.full_pages (content w old.present.readable ++ c.args.bytes) c.args.cache.now
+    c.append_buf.new.cache (returns-clause-caches g c)

@@ -1,9 +1,8 @@
 use Rattle.paged.proofs.Refused.{puts_none, flushed_once}
 use Rattle.std.specs.Prelude.{false}
 use Rattle.paged.specs.Flush.{has_work}
-use Rattle.std.proofs.Common.{ℕ, ◌++◌, subst}
-use Rattle.paged.specs.Caches.{PutsUpTo}
-use Rattle.paged.proofs.Caching.{refused_before, puts_buffered, puts_alike, puts_nothing}
+use Rattle.std.proofs.Common.{◌++◌, subst}
+use Rattle.paged.proofs.Caching.{refused_before, puts_buffered, puts_alike}
 use Rattle.std.proofs.Common.{ap, ◌∙◌, sym}
 use Rattle.std.proofs.Common.{refl, sym, subst}
 use Rattle.std.proofs.lemmas.Result.{err_from_is_err_and}

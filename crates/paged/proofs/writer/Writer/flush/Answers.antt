@@ -1,7 +1,7 @@
 use Rattle.paged.proofs.Refused.{puts_none, puts_late}
 use Rattle.std.specs.Prelude.{Err}
 use Rattle.std.proofs.Common.{ap}
-use Rattle.paged.proofs.Caching.{puts_nothing, refused_nothing, puts_waited, puts_alike}
+use Rattle.paged.proofs.Caching.{puts_nothing, puts_waited, puts_alike}
 use Rattle.std.proofs.Common.{◌≡◌, ◌<◌, ℕ, length, refl, sym, ◌∙◌, subst, arith, true}
 use Rattle.std.specs.Prelude.{OnOk}
 use Rattle.std.proofs.lemmas.Result.{err_from_is_err_and}

@@ -8,6 +8,8 @@ use Rattle.paged_read.specs.Ranges.{Reads}
 use Rattle.paged_read.specs.Ranges.{AsksForMissing, LeavesAll}
 use Rattle.paged.proofs.There.{reads_keep_sound, reads_keep, reads_leave}
 use Rattle.paged.proofs.Serves.{reads_never}
+use Rattle.paged_read.proofs.Outliving.{read_leaves_others, read_leaves_tails}
+use Rattle.paged.specs.Caches.{tail_of}
 use Rattle.paged.proofs.writer.Writer.read_at.Goals as goal
 
 pub read_at-requires-clause-can : goal.read_at-requires-clause-can
@@ -42,3 +44,19 @@ returns-clause-asks g c = subst (λ (t : Tail). AsksForMissing c.args.cache.now 
 
 pub returns-clause-looked : goal.returns-clause-looked
 returns-clause-looked g c = c.read_at.ensures.leaves.looked
+
+pub returns-clause-tails : goal.returns-clause-tails
+returns-clause-tails g c =
+    read_leaves_tails g.H.Sum.sum_of (tail_of c.args.self.now) c.args.cache.now c.read_at.new.cache
+    (g.B.Blob.life c.args.blob.now) (g.B.Blob.life c.read_at.new.blob) c.requires.can
+    (subst (λ (t : Tail). LeavesAll t c.args.cache.now c.read_at.new.cache
+    (g.B.Blob.life c.args.blob.now) (g.B.Blob.life c.read_at.new.blob))
+    c.view.ensures.tail c.read_at.ensures.leaves)
+
+pub returns-clause-others : goal.returns-clause-others
+returns-clause-others g c =
+    read_leaves_others g.H.Sum.sum_of (tail_of c.args.self.now) c.args.cache.now c.read_at.new.cache
+    (g.B.Blob.life c.args.blob.now) (g.B.Blob.life c.read_at.new.blob) c.requires.can
+    (subst (λ (t : Tail). LeavesAll t c.args.cache.now c.read_at.new.cache
+    (g.B.Blob.life c.args.blob.now) (g.B.Blob.life c.read_at.new.blob))
+    c.view.ensures.tail c.read_at.ensures.leaves)

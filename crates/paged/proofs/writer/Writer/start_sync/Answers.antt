@@ -8,6 +8,7 @@ use Rattle.std.proofs.Common.{Ok, Err}
 use Rattle.paged.proofs.Covers.{completed}
 use Rattle.paged.proofs.Halves.{start_keeps, start_leaves, start_within}
 use Rattle.paged.proofs.There.{start_there}
+use Rattle.paged_read.proofs.Outliving.{others_stay, tails_stay}
 use Rattle.paged.proofs.writer.Writer.start_sync.Goals as goal
 
 pub returns-clause-there : goal.returns-clause-there
@@ -68,3 +69,33 @@ returns-clause-can_read g c =
     let behind = c.start_all.new.cache in
     let new = g.B.Blob.life c.start_all.new.blob in
     reads_behind {A = WriterState × StartedSync} g.H.Sum.sum_of (λ r. r.0) w [] w.tip old new c.args.cache.now behind (c.start_all.new.self, c.in_ok-started.started) c.requires.cached (sym (append-nil w.tip)) c.in_ok-started.ensures.starts_sync.0 c.in_ok-started.ensures.puts
+
+pub returns-in_err-started-clause-tails : goal.returns-in_err-started-clause-tails
+returns-in_err-started-clause-tails g c =
+    let w = c.args.self in
+    let old = g.B.Blob.life c.args.blob.now in
+    tails_stay g.H.Sum.sum_of w.page_size w.id w.full_pages (content w old.present.readable)
+    c.args.cache.now c.start_all.new.cache old (g.B.Blob.life c.start_all.new.blob) c.requires.cached
+    c.in_err-started.ensures.pages (returns-in_err-started-clause-caches g c)
+
+pub returns-in_err-started-clause-others : goal.returns-in_err-started-clause-others
+returns-in_err-started-clause-others g c =
+    let w = c.args.self in
+    let old = g.B.Blob.life c.args.blob.now in
+    others_stay w.id w.full_pages (content w old.present.readable) c.args.cache.now
+    c.start_all.new.cache (returns-in_err-started-clause-caches g c)
+
+pub returns-clause-tails : goal.returns-clause-tails
+returns-clause-tails g c =
+    let w = c.args.self in
+    let old = g.B.Blob.life c.args.blob.now in
+    tails_stay g.H.Sum.sum_of w.page_size w.id w.full_pages (content w old.present.readable)
+    c.args.cache.now c.start_all.new.cache old (g.B.Blob.life c.start_all.new.blob) c.requires.cached
+    c.in_ok-started.ensures.pages (returns-clause-caches g c)
+
+pub returns-clause-others : goal.returns-clause-others
+returns-clause-others g c =
+    let w = c.args.self in
+    let old = g.B.Blob.life c.args.blob.now in
+    others_stay w.id w.full_pages (content w old.present.readable) c.args.cache.now
+    c.start_all.new.cache (returns-clause-caches g c)

@@ -7,6 +7,7 @@ use Rattle.std.proofs.Common.{Ok, Err}
 use Rattle.paged.proofs.Flushes.{sync_within}
 use Rattle.paged.proofs.Halves.{sync_keeps_all, sync_keeps, sync_leaves}
 use Rattle.paged.proofs.There.{synced_there}
+use Rattle.paged_read.proofs.Outliving.{others_stay, tails_stay}
 use Rattle.paged.proofs.writer.Writer.sync.Goals as goal
 
 pub returns-clause-within : goal.returns-clause-within
@@ -67,3 +68,33 @@ returns-clause-can_read g c =
     let behind = c.sync_all.new.cache in
     let new = g.B.Blob.life c.sync_all.new.blob in
     reads_behind {A = WriterState} g.H.Sum.sum_of (λ v. v) w [] w.tip old new c.args.cache.now behind c.sync_all.new.self c.requires.cached (sym (append-nil w.tip)) c.in_ok-sync_all.ensures.syncs.0 c.in_ok-sync_all.ensures.puts
+
+pub returns-in_err-sync_all-clause-tails : goal.returns-in_err-sync_all-clause-tails
+returns-in_err-sync_all-clause-tails g c =
+    let w = c.args.self in
+    let old = g.B.Blob.life c.args.blob.now in
+    tails_stay g.H.Sum.sum_of w.page_size w.id w.full_pages (content w old.present.readable)
+    c.args.cache.now c.sync_all.new.cache old (g.B.Blob.life c.sync_all.new.blob) c.requires.cached
+    c.in_err-sync_all.ensures.pages (returns-in_err-sync_all-clause-caches g c)
+
+pub returns-in_err-sync_all-clause-others : goal.returns-in_err-sync_all-clause-others
+returns-in_err-sync_all-clause-others g c =
+    let w = c.args.self in
+    let old = g.B.Blob.life c.args.blob.now in
+    others_stay w.id w.full_pages (content w old.present.readable) c.args.cache.now
+    c.sync_all.new.cache (returns-in_err-sync_all-clause-caches g c)
+
+pub returns-clause-tails : goal.returns-clause-tails
+returns-clause-tails g c =
+    let w = c.args.self in
+    let old = g.B.Blob.life c.args.blob.now in
+    tails_stay g.H.Sum.sum_of w.page_size w.id w.full_pages (content w old.present.readable)
+    c.args.cache.now c.sync_all.new.cache old (g.B.Blob.life c.sync_all.new.blob) c.requires.cached
+    c.in_ok-sync_all.ensures.pages (returns-clause-caches g c)
+
+pub returns-clause-others : goal.returns-clause-others
+returns-clause-others g c =
+    let w = c.args.self in
+    let old = g.B.Blob.life c.args.blob.now in
+    others_stay w.id w.full_pages (content w old.present.readable) c.args.cache.now
+    c.sync_all.new.cache (returns-clause-caches g c)

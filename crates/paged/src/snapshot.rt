@@ -1,0 +1,256 @@
+// Snapshots of a writer's blob.
+ghost use Rattle.std.specs.Prelude.{◌≡◌, ◌≤◌, ◌<◌, ◌*◌, IfOk, OnOk, false, true, length};
+ghost use Rattle.cache.specs.Pages.{CachesOnly, IsFresh};
+ghost use Rattle.crash.specs.Below.{PagesStay};
+ghost use Rattle.crash.specs.Sound.{content, IsSound};
+ghost use Rattle.crash.specs.Started.{CoversThrough, StartsStand};
+ghost use Rattle.crash.specs.Stays.{KeepsAllFloors, LeavesOnly};
+ghost use Rattle.paged_read.specs.Snapshots.{IsTailOf, LeavesOthers, LeavesTails, StandsOn};
+ghost use Rattle.paged_read.specs.Tail.{CanRead};
+ghost use Rattle.paged.specs.Caches.{Caches, CachesTo, PutsOnceWaited, ReadsOn, tail_of};
+ghost use Rattle.paged.specs.Calls.{AsksAtMost, Completed, HoldsWithin, StartsSync, wait_calls};
+ghost use Rattle.paged.specs.Calls.{Starts};
+ghost use Rattle.paged.specs.Flush.{has_work, paired};
+ghost use Rattle.paged.specs.Reads.{HasPages};
+ghost use Rattle.paged.specs.Snapshots.{answer_of_seal, CachesOfSeal, CopiesTail, MakesSnapshot};
+ghost use Rattle.paged.specs.Snapshots.{seal_calls, SealsWriter, snapshot_calls, TriesSnapshot};
+
+use crate::Writer;
+use cache::CacheRef;
+use disk::{Blob, Error, StartedSync};
+use page::{Buffer, Sum};
+use paged_read::Sealed;
+
+impl<B, H> Writer<B, H> {
+    /// A snapshot of all that was appended until now, for which nothing is written: `None` exactly
+    /// while a full page is buffered. It copies the bytes behind the full pages, less than a page,
+    /// and makes no device call. `OutOfMemory` alone; the writer stays as it is.
+    pub fn try_snapshot(&self) -> Result<Option<Sealed<B, H>>, Error>
+        ensures { TriesSnapshot self.now result }
+    {
+        if self.tip.len() >= usize::from(self.page_size.get()) {
+            return Ok(None);
+        }
+        Ok(Some(self.copy_tail()?))
+    }
+
+    /// A snapshot, where no full page is buffered. `OutOfMemory` alone.
+    fn copy_tail(&self) -> Result<Sealed<B, H>, Error>
+        requires short { length self.now.tip < self.now.page_size }
+        ensures copies { CopiesTail self.now (paired self.now result) }
+    {
+        let size = usize::from(self.page_size.get());
+        let tip = Buffer::from(
+            self.alloc,
+            self.tip.offset(),
+            self.tip.partial(),
+            size,
+            size,
+        )?;
+        Ok(Sealed::new(self.alloc, self.page_size, self.id, tip))
+    }
+
+    /// What the writer leaves where it ends, and no full page is buffered.
+    fn into_sealed(self) -> Sealed<B, H>
+        requires short { length self.tip < self.page_size }
+        ensures is { result ≡ tail_of self }
+    {
+        let Writer {
+            alloc,
+            id,
+            tip,
+            page_size,
+            ..
+        } = self;
+        Sealed::new(alloc, page_size, id, tip)
+    }
+}
+
+impl<B: Blob, H: Sum> Writer<B, H> {
+    /// A snapshot of all that was appended until now, and the writer. Full pages that are buffered
+    /// are written first, without a sync; the bytes behind them, less than a page, are copied. So
+    /// it makes two device calls at most, a wait for the sync that was started before and a write;
+    /// and none where no full page is buffered.
+    ///
+    /// What the snapshot tells isn't durable by it: a crash ends it, as it ends the writer.
+    ///
+    /// `WriteFailed` where the device failed, `SyncFailed` where the started sync had failed;
+    /// `OutOfMemory`. The writer is gone then.
+    pub fn snapshot(
+        mut self,
+        blob: &mut B,
+        cache: &mut CacheRef,
+    ) -> Result<(Self, Sealed<B, H>), Error>
+        requires cached { cache.old.page_size ≡ self.page_size }
+        requires sound { IsSound H.sum_of self (B.life blob.old).present }
+        ensures makes { let old = B.life blob.old in let new = B.life blob.new in
+            MakesSnapshot H.sum_of self old new result }
+        ensures sound { IfOk result (λ r. IsSound H.sum_of r.0 (B.life blob.new).present) }
+        ensures there { IfOk result (λ r. HasPages r.0 (B.life blob.new)) }
+        ensures within { IfOk result (λ r. HoldsWithin r.0) }
+        ensures calls { AsksAtMost (snapshot_calls self) (B.life blob.old) (B.life blob.new) }
+        ensures idle { has_work self false ≡ false
+            → CopiesTail self result × (B.life blob.new ≡ B.life blob.old) }
+        ensures completed { let old = B.life blob.old in let new = B.life blob.new in
+            let held = content self old.present.readable in
+            IfOk result (λ r. Completed H.sum_of self.page_size held self.sync r.0.sync old new) }
+
+        // The snapshot tells the content, and can be read where the writer could be.
+        ensures tells { let old = B.life blob.old in let new = B.life blob.new in
+            let held = content self old.present.readable in
+            IfOk result (λ r. IsTailOf H.sum_of r.1 held new.present) }
+        ensures stands { let old = B.life blob.old in let new = B.life blob.new in
+            let held = content self old.present.readable in
+            IfOk result (λ r. CanRead (tail_of self) cache.old old.present
+            → StandsOn H.sum_of r.1 held cache.new new.present) }
+
+        // The full pages that are written are put in the cache, which stays true: reads go on.
+        ensures puts { Caches (λ r. r.0) self self.tip cache.old cache.new result }
+        ensures can_read { let old = B.life blob.old in let new = B.life blob.new in
+            IfOk result (λ r. ReadsOn self r.0 cache.old cache.new old new) }
+        ensures caches { let old = B.life blob.old in
+            CachesOnly self.id self.full_pages (content self old.present.readable) cache.old
+            cache.new }
+        ensures fresh_ids { self.id < cache.old.ids_given → IsFresh cache.old → IsFresh cache.new }
+        ensures refused { PutsOnceWaited cache.old cache.new result }
+        ensures idle_cache { has_work self false ≡ false → cache.new ≡ cache.old }
+
+        // At each moment since the call began, and at every answer.
+        ensures kept { KeepsAllFloors H.sum_of self.page_size (B.life blob.old) (B.life blob.new) }
+        ensures only { let old = B.life blob.old in let new = B.life blob.new in
+            let held = content self old.present.readable in
+            LeavesOnly H.sum_of self.page_size held held old new }
+        ensures pages { let old = B.life blob.old in let new = B.life blob.new in
+            PagesStay self.page_size self.full_pages old new }
+        ensures covers { let old = B.life blob.old in let new = B.life blob.new in
+            let held = content self old.present.readable in
+            CoversThrough H.sum_of self.page_size held old new }
+        ensures starts { StartsStand (B.life blob.new).present }
+
+        // What snapshots, and reads of other blobs, stand on.
+        ensures tails { let old = B.life blob.old in let new = B.life blob.new in
+            LeavesTails H.sum_of self.full_pages cache.old cache.new old new }
+        ensures others { LeavesOthers self.id cache.old cache.new }
+    {
+        let sealed = self.snapshot_all(blob, cache)?;
+        Ok((self, sealed))
+    }
+
+    /// The same. After an error of the device the writer is of no use.
+    fn snapshot_all(
+        &mut self,
+        blob: &mut B,
+        cache: &mut CacheRef,
+    ) -> Result<Sealed<B, H>, Error>
+        requires cached { cache.old.page_size ≡ self.old.page_size }
+        requires sound { IsSound H.sum_of self.old (B.life blob.old).present }
+        ensures makes { let old = B.life blob.old in let new = B.life blob.new in
+            MakesSnapshot H.sum_of self.old old new (paired self.new result) }
+        ensures pages { let old = B.life blob.old in let new = B.life blob.new in
+            PagesStay self.old.page_size self.old.full_pages old new }
+        ensures covers { let old = B.life blob.old in let new = B.life blob.new in
+            let held = content self.old old.present.readable in
+            CoversThrough H.sum_of self.old.page_size held old new }
+        ensures starts { StartsStand (B.life blob.new).present }
+        ensures room { self.old.page_size ≤ self.old.capacity }
+        ensures calls { let old = B.life blob.old in let new = B.life blob.new in
+            AsksAtMost (snapshot_calls self.old) old new }
+        ensures idle { has_work self.old false ≡ false
+            → CopiesTail self.old (paired self.new result)
+            × (B.life blob.new ≡ B.life blob.old) }
+        ensures puts { CachesTo self.old self.new self.old.tip cache.old cache.new result }
+        ensures refused { PutsOnceWaited cache.old cache.new result }
+        ensures idle_cache { has_work self.old false ≡ false → cache.new ≡ cache.old }
+    {
+        self.flush(blob, cache, false)?;
+        self.copy_tail()
+    }
+
+    /// Ends the writer: it writes all that was appended, starts a sync of it, and answers a
+    /// snapshot that reads on, and the name to wait for, by [`wait_sync`](crate::wait_sync); or
+    /// that all is durable already. Before that wait answers `Ok` the sync promises nothing.
+    ///
+    /// It waits for the sync that was started before, whether or not there is something to write.
+    /// So it makes three device calls at most: the wait, a write, and the start. A start that
+    /// fails shows at the wait.
+    ///
+    /// `WriteFailed` and `SyncFailed` where the device failed, and `SyncFailed` where the sync that
+    /// was started before had failed; `OutOfMemory`. The writer is gone at every answer.
+    pub fn seal(
+        mut self,
+        blob: &mut B,
+        cache: &mut CacheRef,
+    ) -> Result<(Sealed<B, H>, StartedSync), Error>
+        requires cached { cache.old.page_size ≡ self.page_size }
+        requires sound { IsSound H.sum_of self (B.life blob.old).present }
+        ensures seals { let old = B.life blob.old in let new = B.life blob.new in
+            SealsWriter H.sum_of self old new result }
+        ensures calls { AsksAtMost (seal_calls self) (B.life blob.old) (B.life blob.new) }
+        ensures answers { IfOk result (λ r. r.1 ≡ answer_of_seal self (B.life blob.old)) }
+
+        // What is started stands for the content, once it completed.
+        ensures covered { let old = B.life blob.old in let new = B.life blob.new in
+            IfOk result (λ r.
+            Starts H.sum_of self.page_size (content self old.present.readable) new r.1) }
+
+        // The snapshot tells the content, and can be read where the writer could be.
+        ensures tells { let old = B.life blob.old in let new = B.life blob.new in
+            let held = content self old.present.readable in
+            IfOk result (λ r. IsTailOf H.sum_of r.0 held new.present) }
+        ensures stands { let old = B.life blob.old in let new = B.life blob.new in
+            let held = content self old.present.readable in
+            IfOk result (λ r. CanRead (tail_of self) cache.old old.present
+            → StandsOn H.sum_of r.0 held cache.new new.present) }
+
+        // The full pages that are written are put in the cache, which stays true: reads go on.
+        ensures puts { CachesOfSeal self cache.old cache.new result }
+        ensures caches { let old = B.life blob.old in
+            CachesOnly self.id self.full_pages (content self old.present.readable) cache.old
+            cache.new }
+        ensures fresh_ids { self.id < cache.old.ids_given → IsFresh cache.old → IsFresh cache.new }
+        ensures idle_cache { has_work self true ≡ false → cache.new ≡ cache.old }
+
+        // At each moment since the call began, and at every answer.
+        ensures kept { KeepsAllFloors H.sum_of self.page_size (B.life blob.old) (B.life blob.new) }
+        ensures only { let old = B.life blob.old in let new = B.life blob.new in
+            let held = content self old.present.readable in
+            LeavesOnly H.sum_of self.page_size held held old new }
+        ensures pages { let old = B.life blob.old in let new = B.life blob.new in
+            PagesStay self.page_size self.full_pages old new }
+        ensures covers { let old = B.life blob.old in let new = B.life blob.new in
+            let held = content self old.present.readable in
+            CoversThrough H.sum_of self.page_size held old new }
+        ensures starts { StartsStand (B.life blob.new).present }
+
+        // What snapshots, and reads of other blobs, stand on.
+        ensures tails { let old = B.life blob.old in let new = B.life blob.new in
+            LeavesTails H.sum_of self.full_pages cache.old cache.new old new }
+        ensures others { LeavesOthers self.id cache.old cache.new }
+    {
+        let started = self.seal_all(blob, cache)?;
+        Ok((self.into_sealed(), started))
+    }
+
+    /// The same, of which the writer is left. After an error it is of no use.
+    fn seal_all(&mut self, blob: &mut B, cache: &mut CacheRef) -> Result<StartedSync, Error>
+        requires cached { cache.old.page_size ≡ self.old.page_size }
+        requires sound { IsSound H.sum_of self.old (B.life blob.old).present }
+        ensures starts_sync { let old = B.life blob.old in let new = B.life blob.new in
+            StartsSync H.sum_of self.old old new (paired self.new result) }
+        ensures pages { let old = B.life blob.old in let new = B.life blob.new in
+            PagesStay self.old.page_size self.old.full_pages old new }
+        ensures covers { let old = B.life blob.old in let new = B.life blob.new in
+            let held = content self.old old.present.readable in
+            CoversThrough H.sum_of self.old.page_size held old new }
+        ensures starts { StartsStand (B.life blob.new).present }
+        ensures calls { let old = B.life blob.old in let new = B.life blob.new in
+            AsksAtMost (seal_calls self.old) old new }
+        ensures answers { IfOk result (λ started.
+            started ≡ answer_of_seal self.old (B.life blob.old)) }
+        ensures puts { CachesTo self.old self.new self.old.tip cache.old cache.new result }
+        ensures idle_cache { has_work self.old true ≡ false → cache.new ≡ cache.old }
+    {
+        self.wait(blob)?;
+        self.start_all(blob, cache)
+    }
+}

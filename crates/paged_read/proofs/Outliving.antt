@@ -1,0 +1,233 @@
+-- What a snapshot stands on outlives the calls of its blob, and those of other blobs.
+use Rattle.std.proofs.Common.{◌≡◌, ◌⊎◌, inl, inr, ℕ, ◌+◌, ◌*◌, ◌<◌, ◌≤◌, List, ◌++◌, length, take, sym, ap, ◌∙◌, subst, arith}
+use Rattle.std.proofs.lemmas.Bool.{cases_lt}
+use Rattle.std.proofs.lemmas.Option.{same_Some}
+use Rattle.std.proofs.Math.Nat.{mul-le-mul_right, suc-mul}
+use Rattle.disk.specs.Disk.{Disk, Life, coverings}
+use Rattle.cache.specs.CacheState.{CacheState}
+use Rattle.cache.specs.Pages.{CachesOnly, IsTrueFor, page_of_content}
+use Rattle.cache.proofs.CacheLaws.{caches_true}
+use Rattle.crash.specs.Below.{SamePages, PagesStay}
+use Rattle.crash.specs.Full.{AreFull}
+use Rattle.crash.specs.Looks.{SameButLog, Looked}
+use Rattle.crash.specs.Moments.{through_end, through_then}
+use Rattle.crash.specs.Sound.{IsSound, content}
+use Rattle.crash.specs.Started.{CoversStay}
+use Rattle.crash.specs.Stays.{Stays}
+use Rattle.crash.proofs.BelowLaws.{fewer_stay, pages_there, full_still, stored_still}
+use Rattle.crash.proofs.LookLaws.{looked_readable}
+use Rattle.crash.proofs.Moments.{stays_alike, stays_itself}
+use Rattle.crash.proofs.Soundness.{looked_sound}
+use Rattle.crash.proofs.StartedLaws.{alike_covers}
+use Rattle.page.specs.Page.{pages}
+use Rattle.paged_read.specs.Tail.{Tail, told, size_of, HasPages, CanRead}
+use Rattle.paged_read.specs.Ranges.{LeavesAll, page_at}
+use Rattle.paged_read.specs.Snapshots.{IsTailOf, StandsOn, LeavesTails, LeavesAllTails}
+use Rattle.paged_read.specs.Snapshots.{LeavesOthers, LeavesReads, LeavesWriters}
+use Rattle.paged_read.proofs.Leaving.{length-told, payload_told}
+
+-- ---- a call that leaves the first pages
+
+module _ (t : Tail) (k : ℕ) (d e : Disk) (below : t.full_pages ≤ k)
+    (same : SamePages t.page_size k d e) where
+  fewer : SamePages t.page_size t.full_pages d e
+  fewer = fewer_stay t.page_size t.full_pages k d e below same
+
+  still_told : HasPages t d → told t e.readable ≡ told t d.readable
+  still_told there =
+      ap (λ (s : List ℕ). s ++ t.bytes)
+      (stored_still (λ _. 0) t.page_size t.full_pages d e there fewer)
+
+  -- what a tail told it tells
+  pub tail_stays : (sum : List ℕ → ℕ) (content : List ℕ) → IsTailOf sum t content d
+      → IsTailOf sum t content e
+  tail_stays sum content tail = record {
+    there = pages_there sum t.page_size t.full_pages d e tail.there fewer;
+    full = full_still sum t.page_size t.full_pages d e tail.there fewer tail.full;
+    is = still_told tail.there ∙ tail.is;
+  }
+
+  -- and can be read, where only pages behind it were put
+  pub reads_stay : (id : ℕ) (content : List ℕ) (cache behind : CacheState)
+      → CachesOnly id k content cache behind → CanRead t cache d → CanRead t behind e
+  reads_stay id content cache behind caches can = record {
+    there = pages_there (λ _. 0) t.page_size t.full_pages d e can.there fewer;
+    page_size = caches.settings.page_size ∙ can.page_size;
+    given = omega (arith, can.given, caches.settings.ids_given);
+    cached = subst (λ (held : List ℕ). IsTrueFor t.id held t.full_pages behind)
+        (sym (still_told can.there))
+        (caches_true id k content t.id (told t d.readable) t.full_pages cache behind caches
+        (inr below) can.cached);
+  }
+
+-- so each snapshot stands on
+pub tails_stay : (sum : List ℕ → ℕ) (P id k : ℕ) (content : List ℕ) (cache behind : CacheState)
+    (old new : Life) → cache.page_size ≡ P → PagesStay P k old new
+    → CachesOnly id k content cache behind → LeavesTails sum k cache behind old new
+tails_stay sum P id k content cache behind old new size stay caches t held below stands =
+    let same : SamePages t.page_size k old.present new.present =
+    subst (λ (n : ℕ). SamePages n k old.present new.present) (sym size ∙ stands.can.page_size)
+    (through_end (SamePages P k old.present) old new stay) in
+    record {
+      tail = tail_stays t k old.present new.present below same sum held stands.tail;
+      can = reads_stay t k old.present new.present below same id content cache behind caches
+          stands.can;
+    }
+
+-- another blob's call leaves what reads stand on, whatever it puts
+pub others_stay : (id from : ℕ) (content : List ℕ) (cache behind : CacheState)
+    → CachesOnly id from content cache behind → LeavesOthers id cache behind
+others_stay id from content cache behind caches t d apart can = record {
+  there = can.there;
+  page_size = caches.settings.page_size ∙ can.page_size;
+  given = omega (arith, can.given, caches.settings.ids_given);
+  cached = caches_true id from content t.id (told t d.readable) t.full_pages cache behind caches
+      (inl apart) can.cached;
+}
+
+-- ---- a read by one tail of a blob leaves each other that lies below it, or whose own bytes are
+-- less than a page
+
+module _ (sum : List ℕ → ℕ) (mine : Tail) (cache behind : CacheState) (old new : Life)
+    (can : CanRead mine cache old.present) (leaves : LeavesAll mine cache behind old new) where
+  -- a page that was put is one below the reading tail
+  abbrev IsWithin : Tail → Type 0
+  IsWithin t =
+      (page : ℕ) → page < t.full_pages → (page + 1) * mine.page_size ≤ size_of mine
+      → page < mine.full_pages
+
+  same_page : (t : Tail) → CanRead t cache old.present → (page : ℕ) → page < t.full_pages
+      → page < mine.full_pages
+      → page_of_content cache.page_size (told mine old.present.readable) page
+      ≡ page_of_content cache.page_size (told t old.present.readable) page
+  same_page t other page below within =
+      subst (λ (P : ℕ). page_of_content P (told mine old.present.readable) page
+      ≡ page_of_content P (told t old.present.readable) page) (sym other.page_size)
+      (ap (λ (P : ℕ). page_of_content P (told mine old.present.readable) page) one_size
+      ∙ sym (payload_told mine old.present.readable can.there page within)
+      ∙ ap (λ (P : ℕ). payload P page) (sym one_size)
+      ∙ payload_told t old.present.readable other.there page below)
+    where
+      payload : ℕ → ℕ → List ℕ
+      payload P page = take P (page_at P page old.present.readable)
+
+      one_size : t.page_size ≡ mine.page_size
+      one_size = sym other.page_size ∙ can.page_size
+
+  true_still : (t : Tail) → IsWithin t → CanRead t cache old.present
+      → IsTrueFor t.id (told t old.present.readable) t.full_pages behind
+  true_still t within other page bytes below there = elim (leaves.cached.each (t.id, page)) [
+    | inl stays ↦ other.cached page bytes below (sym stays ∙ there)
+        ∙ ap (λ (P : ℕ). page_of_content P (told t old.present.readable) page)
+        (sym leaves.cached.settings.page_size)
+    | inr (inl goes) ↦ absurd (cc (goes, there))
+    | inr (inr (same, behind_none, full, now)) ↦
+        let fits : (page + 1) * mine.page_size ≤ size_of mine =
+        subst (λ (P : ℕ). (page + 1) * P ≤ size_of mine) can.page_size
+        (omega (arith, full, length-told mine old.present.readable can.there)) in
+        same_Some bytes (page_of_content cache.page_size (told mine old.present.readable) page)
+        (sym there ∙ now) ∙ same_page t other page below (within page below fits)
+        ∙ ap (λ (P : ℕ). page_of_content P (told t old.present.readable) page)
+        (sym leaves.cached.settings.page_size)
+  ]
+
+  still : (t : Tail) (held : List ℕ) → IsWithin t → StandsOn sum t held cache old.present
+      → StandsOn sum t held behind new.present
+  still t held within stands =
+      let same = looked_readable old new leaves.looked in
+      record {
+        tail = record {
+          there = omega (arith, stands.can.there, ap length same);
+          full = subst (λ (l : List ℕ). AreFull sum t.page_size
+              (take t.full_pages (pages t.page_size l)))
+              (sym same) stands.tail.full;
+          is = ap (λ (l : List ℕ). told t l) same ∙ stands.tail.is;
+        };
+        can = record {
+          there = omega (arith, stands.can.there, ap length same);
+          page_size = leaves.cached.settings.page_size ∙ stands.can.page_size;
+          given = omega (arith, stands.can.given, leaves.cached.settings.ids_given);
+          cached = subst (λ (l : List ℕ). IsTrueFor t.id (told t l) t.full_pages behind)
+              (sym same) (true_still t within stands.can);
+        };
+      }
+
+  pub read_leaves_tails : LeavesTails sum mine.full_pages cache behind old new
+  read_leaves_tails t held below stands =
+      still t held (λ page under fits. omega (arith, under, below)) stands
+
+  pub read_leaves_all_tails : length mine.bytes < mine.page_size
+      → LeavesAllTails sum cache behind old new
+  read_leaves_all_tails short t held stands =
+      still t held (λ page under fits. fits_below page fits) stands
+    where
+      fits_below : (page : ℕ) → (page + 1) * mine.page_size ≤ size_of mine
+          → page < mine.full_pages
+      fits_below page fits =
+          elim (cases_lt page mine.full_pages) [
+            | inl less ↦ less
+            | inr more ↦
+                let up : (mine.full_pages + 1) * mine.page_size ≤ (page + 1) * mine.page_size =
+                mul-le-mul_right mine.page_size (omega (arith, more)) in
+                absurd (omega (arith, up, fits, short, suc-mul mine.full_pages mine.page_size))
+          ]
+
+  pub read_leaves_others : LeavesOthers mine.id cache behind
+  read_leaves_others = others_stay mine.id 0 (told mine old.present.readable) cache behind leaves.cached
+
+-- ---- a read leaves the blob's writer
+
+pub look_leaves_writers : (sum : List ℕ → ℕ) (old new : Life) → Looked old new
+    → LeavesWriters sum old new
+unfolding IsSound
+look_leaves_writers sum old new looked w sound =
+    let held = content w old.present.readable in
+    record {
+      sound = looked_sound sum w old new sound looked;
+      readable = looked_readable old new looked;
+      stays = through_then (SameButLog old.present) (Stays sum w.page_size held old.present) old new
+          (λ d same. stays_alike sum w.page_size held old.present old.present d
+          (ap (λ (x : Disk). x.base) same) (ap (λ (x : Disk). x.since) same)
+          (stays_itself sum w.page_size held old.present sound.truthful)) looked.through;
+      covers = through_then (SameButLog old.present)
+          (CoversStay sum w.page_size held old.present) old new
+          (λ d same. alike_covers sum w.page_size held old.present d
+          (ap (λ (x : Disk). x.base) same) (ap (λ (x : Disk). x.since) same)
+          (ap (λ (x : Disk). x.settled) same) (ap (λ (x : Disk). coverings x) same))
+          looked.through;
+    }
+
+-- ---- calls that change no byte, and calls that put nothing
+
+-- a call that leaves all bytes readable as they were
+pub alike_tails : (sum : List ℕ → ℕ) (cache : CacheState) (old new : Life)
+    → new.present.readable ≡ old.present.readable → LeavesAllTails sum cache cache old new
+alike_tails sum cache old new same t held stands = record {
+  tail = record {
+    there = omega (arith, stands.can.there, ap length same);
+    full = subst (λ (l : List ℕ). AreFull sum t.page_size (take t.full_pages (pages t.page_size l)))
+        (sym same) stands.tail.full;
+    is = ap (λ (l : List ℕ). told t l) same ∙ stands.tail.is;
+  };
+  can = record {
+    there = omega (arith, stands.can.there, ap length same);
+    page_size = stands.can.page_size;
+    given = stands.can.given;
+    cached = subst (λ (l : List ℕ). IsTrueFor t.id (told t l) t.full_pages cache) (sym same)
+        stands.can.cached;
+  };
+}
+
+-- one that takes an id
+pub given_reads : (cache behind : CacheState)
+    → (behind ≡ cache) ⊎ (behind ≡ record cache { ids_given = cache.ids_given + 1 })
+    → LeavesReads cache behind
+given_reads cache behind (inl same) t d can =
+    subst (λ (c : CacheState). CanRead t c d) (sym same) can
+given_reads cache behind (inr more) t d can =
+    subst (λ (c : CacheState). CanRead t c d) (sym more) (record {
+      there = can.there;
+      page_size = can.page_size;
+      given = omega (arith, can.given);
+      cached = can.cached;
+    })

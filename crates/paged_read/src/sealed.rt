@@ -1,0 +1,354 @@
+// Snapshots.
+ghost use Rattle.std.specs.Prelude.{◌≡◌, ◌≢◌, ◌+◌, ◌*◌, ◌<◌, ◌≤◌, ◌^◌, length, Err, IfOk, OnOk};
+ghost use Rattle.std.specs.Prelude.{IsErrOf, IsOkUnless, sum_by};
+ghost use Rattle.std.specs.Int.NonZero.{non_zero_u16_get, non_zero_usize_get};
+ghost use Rattle.std.specs.List.{concat};
+ghost use Rattle.disk.specs.Disk.{Disk};
+ghost use Rattle.page.specs.Geometry.{AreInOrder, EndWithin};
+ghost use Rattle.crash.specs.Looks.{Looked};
+ghost use Rattle.paged_read.specs.Batch.{ranges_of};
+ghost use Rattle.paged_read.specs.Ranges.{AsksForMissing, AsksOnce, HasServed, LeavesAll, Misses};
+ghost use Rattle.paged_read.specs.Ranges.{range_up_to, Reads, ReadsMany, ReadsUpTo, TriesRead};
+ghost use Rattle.paged_read.specs.Snapshots.{IsSealed, LeavesAllTails, LeavesOthers};
+ghost use Rattle.paged_read.specs.Snapshots.{LeavesWriters};
+ghost use Rattle.paged_read.specs.Tail.{CanRead, HasFullPages, IsView, size_of, Tail, tail_at};
+ghost use Rattle.paged_read.specs.Tail.{told};
+
+use crate::View;
+use cache::CacheRef;
+use disk::{Blob, Error, IoBufs};
+use page::{Buffer, Sum};
+use std::alloc::Global;
+use std::marker::{Model, PhantomData};
+use std::num::{NonZeroU16, NonZeroUsize};
+
+/// A snapshot of a blob of the type `B`, with pages under the checksum function `H`: how many full
+/// pages the blob had, and a copy of the bytes behind them, less than a page.
+///
+/// It doesn't move. Its reads give the content of the moment at which it was made, whatever the
+/// blob's writer does meanwhile and however that ends, until a crash, or a recovery of the blob
+/// that cuts it: the full pages of a blob are never written again. A snapshot borrows nothing and
+/// holds no page; the blob and the cache are lent to each read: always those of the blob's writer.
+#[derive(Drop)]
+pub struct Sealed<B, H> {
+    alloc: Global,
+    id: u64,
+    /// The bytes behind the full pages.
+    tip: Buffer,
+    page_size: NonZeroU16,
+    of: PhantomData<(B, H)>,
+}
+
+impl<B, H> Model for Sealed<B, H> {
+    ghost Value = { Tail };
+
+    ghost view = { λ s. tail_at s.page_size s.id s.tip };
+
+    ghost invariant = { λ s. IsSealed (non_zero_u16_get s.page_size) s.tip };
+}
+
+impl<B, H> Sealed<B, H> {
+    /// A snapshot of a blob whose full pages, of `page_size` logical bytes, end where the tip
+    /// begins, and whose pages the cache knows under `id`.
+    pub fn new(alloc: Global, page_size: NonZeroU16, id: u64, tip: Buffer) -> Self
+        requires { IsSealed (non_zero_u16_get page_size) tip }
+        ensures { result ≡ tail_at page_size id tip }
+    {
+        Sealed {
+            alloc,
+            id,
+            tip,
+            page_size,
+            of: PhantomData,
+        }
+    }
+
+    /// Another of the same: it copies the bytes behind the full pages. `OutOfMemory` alone.
+    pub fn try_clone(&self) -> Result<Self, Error>
+        ensures same { IfOk result (λ copy. copy ≡ self.now) }
+        ensures err { IsOkUnless result Error.OutOfMemory }
+    {
+        let size = self.tip.page_size();
+        let tip = Buffer::from(
+            self.alloc,
+            self.tip.offset(),
+            self.tip.partial(),
+            size,
+            size,
+        )?;
+        Ok(Sealed::new(self.alloc, self.page_size, self.id, tip))
+    }
+
+    /// The logical bytes.
+    pub fn size(&self) -> u64
+        ensures { result ≡ size_of self.now }
+    {
+        self.tip.size()
+    }
+
+    /// What reads of the snapshot stand on: it borrows the snapshot, and can be copied.
+    pub fn view(&self) -> View<'_, B, H>
+        ensures view { IsView (non_zero_u16_get result.page_size) result.tip.now }
+        ensures tail { tail_at result.page_size result.id result.tip.now ≡ self.now }
+        ensures short { length self.now.bytes < self.now.page_size }
+    {
+        View::new(self.alloc, self.page_size, self.id, &self.tip)
+    }
+
+    /// Copies the bytes from `offset` on into `buf`, as many as it has places for, where that needs
+    /// no device: where they are within the size, and the cache holds the pages of those below the
+    /// tip. It answers whether it did; where it didn't, what `buf` holds says nothing. It takes no
+    /// memory.
+    pub fn try_read_sync_into(&self, cache: &CacheRef, buf: &mut [u8], offset: u64) -> bool
+        requires page_size { cache.now.page_size ≡ self.now.page_size }
+        ensures tries { TriesRead self.now (offset, length buf.old) cache.now buf.new result }
+        ensures size { length buf.new ≡ length buf.old }
+    {
+        self.view().try_read_sync_into(cache, buf, offset)
+    }
+
+    /// Copies those of these ranges, each a place and a length, that need no device to their places
+    /// in `buf`, one range behind the other, and answers the numbers of the others, rising: of all
+    /// where one passes the end. The ranges are in order, don't overlap, and fill `buf`. Its only
+    /// error is `OutOfMemory`.
+    pub fn try_read_ranges_sync_into(
+        &self,
+        cache: &CacheRef,
+        buf: &mut [u8],
+        ranges: &[(u64, usize)],
+    ) -> Result<Vec<usize>, Error>
+        requires page_size { cache.now.page_size ≡ self.now.page_size }
+        requires in_order { AreInOrder ranges.now }
+        requires filled { length buf.old ≡ sum_by (λ range. range.1) ranges.now }
+        ensures missed { IfOk result (λ missed.
+            Misses self.now ranges.now cache.now missed.items) }
+        ensures served { let t = self.now in
+            OnOk result (EndWithin (size_of t) ranges.now → (d : Disk) → CanRead t cache.now d
+            → HasServed cache.now t ranges.now (told t d.readable) buf.new) }
+        ensures size { length buf.new ≡ length buf.old }
+        ensures err { IsOkUnless result Error.OutOfMemory }
+    {
+        self.view().try_read_ranges_sync_into(cache, buf, ranges)
+    }
+
+    /// The same of ranges of `len` bytes at these places.
+    pub fn try_read_many_sync_into(
+        &self,
+        cache: &CacheRef,
+        buf: &mut [u8],
+        offsets: &[u64],
+        len: NonZeroUsize,
+    ) -> Result<Vec<usize>, Error>
+        requires page_size { cache.now.page_size ≡ self.now.page_size }
+        requires in_order { AreInOrder (ranges_of (non_zero_usize_get len) offsets.now) }
+        requires filled { length buf.old ≡ length offsets.now * non_zero_usize_get len }
+        ensures missed { let ranges = ranges_of (non_zero_usize_get len) offsets.now in
+            IfOk result (λ missed. Misses self.now ranges cache.now missed.items) }
+        ensures served { let ranges = ranges_of (non_zero_usize_get len) offsets.now in
+            let t = self.now in
+            OnOk result (EndWithin (size_of t) ranges → (d : Disk) → CanRead t cache.now d
+            → HasServed cache.now t ranges (told t d.readable) buf.new) }
+        ensures size { length buf.new ≡ length buf.old }
+        ensures err { IsOkUnless result Error.OutOfMemory }
+    {
+        self.view()
+            .try_read_many_sync_into(cache, buf, offsets, len)
+    }
+}
+
+impl<B: Blob, H: Sum> Sealed<B, H> {
+    /// Copies the bytes from `offset` on into `buf`, as many as it has places for: those of full
+    /// pages from the cache, else from the blob, one read for each page, and the others from
+    /// memory. A read of held pages takes no memory and asks no device. Pages that are read are put
+    /// in the cache, also where the call fails behind them.
+    ///
+    /// `OffsetOverflow` where the range passes the greatest `u64`, else `BlobInsufficientLength`
+    /// where it passes the size: both before anything is asked for. `ReadFailed` where the device
+    /// failed, `InvalidChecksum` where a page isn't full, which it always is in a sound blob,
+    /// `OutOfMemory`; then what `buf` holds says nothing.
+    pub fn read_into(
+        &self,
+        blob: &mut B,
+        cache: &mut CacheRef,
+        buf: &mut [u8],
+        offset: u64,
+    ) -> Result<(), Error>
+        requires can { CanRead self.now cache.old (B.life blob.old).present }
+        ensures reads { let old = B.life blob.old in let new = B.life blob.new in
+            Reads H.sum_of self.now cache.old (offset, length buf.old) (λ _. buf.new) old new
+            result }
+        ensures overflow { 2 ^ 64 ≤ offset + length buf.old → result ≡ Err Error.OffsetOverflow }
+        ensures end { offset + length buf.old < 2 ^ 64 → size_of self.now < offset + length buf.old
+            → result ≡ Err Error.BlobInsufficientLength }
+        ensures asks { let old = B.life blob.old in let new = B.life blob.new in
+            AsksForMissing cache.old self.now (offset, length buf.old) old new }
+        ensures size { length buf.new ≡ length buf.old }
+        ensures leaves { let old = B.life blob.old in let new = B.life blob.new in
+            LeavesAll self.now cache.old cache.new old new }
+        ensures looked { Looked (B.life blob.old) (B.life blob.new) }
+
+        // Where its pages are full, as they are of a sound writer's blob.
+        ensures never { HasFullPages H.sum_of self.now (B.life blob.old).present
+            → IsErrOf result Error.InvalidChecksum → ⊥ }
+
+        // The blob's writer stays as it is, each snapshot stands as it stood, and what other blobs'
+        // reads stand on isn't touched.
+        ensures writers { LeavesWriters H.sum_of (B.life blob.old) (B.life blob.new) }
+        ensures tails { let old = B.life blob.old in let new = B.life blob.new in
+            LeavesAllTails H.sum_of cache.old cache.new old new }
+        ensures others { LeavesOthers self.now.id cache.old cache.new }
+    {
+        self.view().read_into(blob, cache, buf, offset)
+    }
+
+    /// The `len` bytes from `offset` on, read as [`Sealed::read_into`] reads them, and refused as
+    /// it refuses them.
+    pub fn read_at(
+        &self,
+        blob: &mut B,
+        cache: &mut CacheRef,
+        offset: u64,
+        len: usize,
+    ) -> Result<IoBufs, Error>
+        requires can { CanRead self.now cache.old (B.life blob.old).present }
+        ensures reads { let old = B.life blob.old in let new = B.life blob.new in
+            Reads H.sum_of self.now cache.old (offset, len) concat old new result }
+        ensures overflow { 2 ^ 64 ≤ offset + len → result ≡ Err Error.OffsetOverflow }
+        ensures end { offset + len < 2 ^ 64 → size_of self.now < offset + len
+            → result ≡ Err Error.BlobInsufficientLength }
+        ensures asks { let old = B.life blob.old in let new = B.life blob.new in
+            AsksForMissing cache.old self.now (offset, len) old new }
+        ensures leaves { let old = B.life blob.old in let new = B.life blob.new in
+            LeavesAll self.now cache.old cache.new old new }
+        ensures looked { Looked (B.life blob.old) (B.life blob.new) }
+
+        // Where its pages are full, as they are of a sound writer's blob.
+        ensures never { HasFullPages H.sum_of self.now (B.life blob.old).present
+            → IsErrOf result Error.InvalidChecksum → ⊥ }
+
+        // The blob's writer stays as it is, each snapshot stands as it stood, and what other blobs'
+        // reads stand on isn't touched.
+        ensures writers { LeavesWriters H.sum_of (B.life blob.old) (B.life blob.new) }
+        ensures tails { let old = B.life blob.old in let new = B.life blob.new in
+            LeavesAllTails H.sum_of cache.old cache.new old new }
+        ensures others { LeavesOthers self.now.id cache.old cache.new }
+    {
+        self.view().read_at(blob, cache, offset, len)
+    }
+
+    /// As many bytes from `offset` on as there are, at most `len`, in place of what `bytes` held,
+    /// and how many: at least one, unless none is asked for, which is answered at any place.
+    ///
+    /// `BlobInsufficientLength` at or behind the end, before anything is asked for; `ReadFailed`,
+    /// `InvalidChecksum`, `OutOfMemory`, as [`Sealed::read_into`] answers them.
+    pub fn read_up_to(
+        &self,
+        blob: &mut B,
+        cache: &mut CacheRef,
+        offset: u64,
+        len: usize,
+        bytes: Vec<u8>,
+    ) -> Result<(Vec<u8>, usize), Error>
+        requires can { CanRead self.now cache.old (B.life blob.old).present }
+        ensures reads { let old = B.life blob.old in let new = B.life blob.new in
+            ReadsUpTo H.sum_of self.now cache.old offset len old new result }
+        ensures end { len ≢ 0 → size_of self.now ≤ offset
+            → result ≡ Err Error.BlobInsufficientLength }
+        ensures asks { let old = B.life blob.old in let new = B.life blob.new in
+            AsksForMissing cache.old self.now (range_up_to self.now offset len) old new }
+        ensures leaves { let old = B.life blob.old in let new = B.life blob.new in
+            LeavesAll self.now cache.old cache.new old new }
+        ensures looked { Looked (B.life blob.old) (B.life blob.new) }
+
+        // Where its pages are full, as they are of a sound writer's blob.
+        ensures never { HasFullPages H.sum_of self.now (B.life blob.old).present
+            → IsErrOf result Error.InvalidChecksum → ⊥ }
+
+        // The blob's writer stays as it is, each snapshot stands as it stood, and what other blobs'
+        // reads stand on isn't touched.
+        ensures writers { LeavesWriters H.sum_of (B.life blob.old) (B.life blob.new) }
+        ensures tails { let old = B.life blob.old in let new = B.life blob.new in
+            LeavesAllTails H.sum_of cache.old cache.new old new }
+        ensures others { LeavesOthers self.now.id cache.old cache.new }
+    {
+        self.view().read_up_to(blob, cache, offset, len, bytes)
+    }
+
+    /// Reads these ranges, each a place and a length, to their places in `buf`, one behind the
+    /// other, and answers how many of them needed no device: empty ones count. The ranges are in
+    /// order, don't overlap, and fill `buf`. The pages that the cache lacks are read in one call of
+    /// the device, each once, and put in the cache as they are delivered.
+    ///
+    /// The first range that can't be read decides, before memory or the device is asked for:
+    /// `OffsetOverflow` where it passes the greatest `u64`, else `BlobInsufficientLength` where it
+    /// passes the size. `ReadFailed`, `InvalidChecksum`, `OutOfMemory`, as [`Sealed::read_into`]
+    /// answers them.
+    pub fn read_ranges_into(
+        &self,
+        blob: &mut B,
+        cache: &mut CacheRef,
+        buf: &mut [u8],
+        ranges: &[(u64, usize)],
+    ) -> Result<usize, Error>
+        requires can { CanRead self.now cache.old (B.life blob.old).present }
+        requires in_order { AreInOrder ranges.now }
+        requires filled { length buf.old ≡ sum_by (λ range. range.1) ranges.now }
+        ensures reads { let old = B.life blob.old in let new = B.life blob.new in
+            ReadsMany H.sum_of self.now cache.old ranges.now buf.new old new result }
+        ensures asks { let old = B.life blob.old in let new = B.life blob.new in
+            AsksOnce cache.old self.now ranges.now old new }
+        ensures size { length buf.new ≡ length buf.old }
+        ensures leaves { let old = B.life blob.old in let new = B.life blob.new in
+            LeavesAll self.now cache.old cache.new old new }
+        ensures looked { Looked (B.life blob.old) (B.life blob.new) }
+
+        // Where its pages are full, as they are of a sound writer's blob.
+        ensures never { HasFullPages H.sum_of self.now (B.life blob.old).present
+            → IsErrOf result Error.InvalidChecksum → ⊥ }
+
+        // The blob's writer stays as it is, each snapshot stands as it stood, and what other blobs'
+        // reads stand on isn't touched.
+        ensures writers { LeavesWriters H.sum_of (B.life blob.old) (B.life blob.new) }
+        ensures tails { let old = B.life blob.old in let new = B.life blob.new in
+            LeavesAllTails H.sum_of cache.old cache.new old new }
+        ensures others { LeavesOthers self.now.id cache.old cache.new }
+    {
+        self.view().read_ranges_into(blob, cache, buf, ranges)
+    }
+
+    /// The same of ranges of `len` bytes at these places.
+    pub fn read_many_into(
+        &self,
+        blob: &mut B,
+        cache: &mut CacheRef,
+        buf: &mut [u8],
+        offsets: &[u64],
+        len: NonZeroUsize,
+    ) -> Result<usize, Error>
+        requires can { CanRead self.now cache.old (B.life blob.old).present }
+        requires in_order { AreInOrder (ranges_of (non_zero_usize_get len) offsets.now) }
+        requires filled { length buf.old ≡ length offsets.now * non_zero_usize_get len }
+        ensures reads { let ranges = ranges_of (non_zero_usize_get len) offsets.now in
+            let old = B.life blob.old in let new = B.life blob.new in
+            ReadsMany H.sum_of self.now cache.old ranges buf.new old new result }
+        ensures asks { let ranges = ranges_of (non_zero_usize_get len) offsets.now in
+            AsksOnce cache.old self.now ranges (B.life blob.old) (B.life blob.new) }
+        ensures size { length buf.new ≡ length buf.old }
+        ensures leaves { let old = B.life blob.old in let new = B.life blob.new in
+            LeavesAll self.now cache.old cache.new old new }
+        ensures looked { Looked (B.life blob.old) (B.life blob.new) }
+
+        // Where its pages are full, as they are of a sound writer's blob.
+        ensures never { HasFullPages H.sum_of self.now (B.life blob.old).present
+            → IsErrOf result Error.InvalidChecksum → ⊥ }
+
+        // The blob's writer stays as it is, each snapshot stands as it stood, and what other blobs'
+        // reads stand on isn't touched.
+        ensures writers { LeavesWriters H.sum_of (B.life blob.old) (B.life blob.new) }
+        ensures tails { let old = B.life blob.old in let new = B.life blob.new in
+            LeavesAllTails H.sum_of cache.old cache.new old new }
+        ensures others { LeavesOthers self.now.id cache.old cache.new }
+    {
+        self.view().read_many_into(blob, cache, buf, offsets, len)
+    }
+}
