@@ -1,7 +1,8 @@
 // Snapshots of a writer's blob.
-ghost use Rattle.std.specs.Prelude.{◌≡◌, ◌≤◌, ◌<◌, ◌*◌, IfOk, OnOk, false, true, length};
+ghost use Rattle.std.specs.Prelude.{◌≡◌, ◌≤◌, ◌<◌, ◌*◌, Ok, IfOk, OnOk, false, true, length};
 ghost use Rattle.cache.specs.Pages.{CachesOnly, IsFresh};
 ghost use Rattle.crash.specs.Below.{PagesStay};
+ghost use Rattle.crash.specs.WriterState.SyncState.{Dirty};
 ghost use Rattle.crash.specs.Sound.{content, IsSound};
 ghost use Rattle.crash.specs.Started.{CoversThrough, StartsStand};
 ghost use Rattle.crash.specs.Stays.{KeepsAllFloors, LeavesOnly};
@@ -91,6 +92,7 @@ impl<B: Blob, H: Sum> Writer<B, H> {
         ensures calls { AsksAtMost (snapshot_calls self) (B.life blob.old) (B.life blob.new) }
         ensures idle { has_work self false ≡ false
             → CopiesTail self result × (B.life blob.new ≡ B.life blob.old) }
+        ensures dirty { has_work self false ≡ true → IfOk result (λ r. r.0.sync ≡ Dirty) }
         ensures completed { let old = B.life blob.old in let new = B.life blob.new in
             let held = content self old.present.readable in
             IfOk result (λ r. Completed H.sum_of self.page_size held self.sync r.0.sync old new) }
@@ -158,6 +160,7 @@ impl<B: Blob, H: Sum> Writer<B, H> {
         ensures idle { has_work self.old false ≡ false
             → CopiesTail self.old (paired self.new result)
             × (B.life blob.new ≡ B.life blob.old) }
+        ensures dirty { has_work self.old false ≡ true → OnOk result (self.new.sync ≡ Dirty) }
         ensures puts { CachesTo self.old self.new self.old.tip cache.old cache.new result }
         ensures refused { PutsOnceWaited cache.old cache.new result }
         ensures idle_cache { has_work self.old false ≡ false → cache.new ≡ cache.old }
@@ -187,6 +190,8 @@ impl<B: Blob, H: Sum> Writer<B, H> {
             SealsWriter H.sum_of self old new result }
         ensures calls { AsksAtMost (seal_calls self) (B.life blob.old) (B.life blob.new) }
         ensures answers { IfOk result (λ r. r.1 ≡ answer_of_seal self (B.life blob.old)) }
+        ensures idle { seal_calls self ≡ 0 → (result ≡ Ok (tail_of self, StartedSync.Done))
+            × (B.life blob.new ≡ B.life blob.old) }
 
         // What is started stands for the content, once it completed.
         ensures covered { let old = B.life blob.old in let new = B.life blob.new in
@@ -247,6 +252,8 @@ impl<B: Blob, H: Sum> Writer<B, H> {
             AsksAtMost (seal_calls self.old) old new }
         ensures answers { IfOk result (λ started.
             started ≡ answer_of_seal self.old (B.life blob.old)) }
+        ensures idle { seal_calls self.old ≡ 0 → (result ≡ Ok StartedSync.Done)
+            × (self.new ≡ self.old) × (B.life blob.new ≡ B.life blob.old) }
         ensures puts { CachesTo self.old self.new self.old.tip cache.old cache.new result }
         ensures idle_cache { has_work self.old true ≡ false → cache.new ≡ cache.old }
     {

@@ -23,7 +23,7 @@ use Rattle.page.specs.Page.{pages}
 use Rattle.paged_read.specs.Tail.{Tail, told, size_of, HasPages, CanRead}
 use Rattle.paged_read.specs.Ranges.{LeavesAll, page_at}
 use Rattle.paged_read.specs.Snapshots.{IsTailOf, StandsOn, LeavesTails, LeavesAllTails}
-use Rattle.paged_read.specs.Snapshots.{LeavesOthers, LeavesReads, LeavesWriters}
+use Rattle.paged_read.specs.Snapshots.{LeavesAllReads, LeavesOthers, LeavesReads, LeavesWriters}
 use Rattle.paged_read.proofs.Leaving.{length-told, payload_told}
 
 -- ---- a call that leaves the first pages
@@ -131,6 +131,18 @@ module _ (sum : List ℕ → ℕ) (mine : Tail) (cache behind : CacheState) (old
         (sym leaves.cached.settings.page_size)
   ]
 
+  reads_still : (t : Tail) → IsWithin t → CanRead t cache old.present
+      → CanRead t behind new.present
+  reads_still t within other =
+      let same = looked_readable old new leaves.looked in
+      record {
+        there = omega (arith, other.there, ap length same);
+        page_size = leaves.cached.settings.page_size ∙ other.page_size;
+        given = omega (arith, other.given, leaves.cached.settings.ids_given);
+        cached = subst (λ (l : List ℕ). IsTrueFor t.id (told t l) t.full_pages behind)
+            (sym same) (true_still t within other);
+      }
+
   still : (t : Tail) (held : List ℕ) → IsWithin t → StandsOn sum t held cache old.present
       → StandsOn sum t held behind new.present
   still t held within stands =
@@ -143,34 +155,30 @@ module _ (sum : List ℕ → ℕ) (mine : Tail) (cache behind : CacheState) (old
               (sym same) stands.tail.full;
           is = ap (λ (l : List ℕ). told t l) same ∙ stands.tail.is;
         };
-        can = record {
-          there = omega (arith, stands.can.there, ap length same);
-          page_size = leaves.cached.settings.page_size ∙ stands.can.page_size;
-          given = omega (arith, stands.can.given, leaves.cached.settings.ids_given);
-          cached = subst (λ (l : List ℕ). IsTrueFor t.id (told t l) t.full_pages behind)
-              (sym same) (true_still t within stands.can);
-        };
+        can = reads_still t within stands.can;
       }
 
   pub read_leaves_tails : LeavesTails sum mine.full_pages cache behind old new
   read_leaves_tails t held below stands =
       still t held (λ page under fits. omega (arith, under, below)) stands
 
+  fits_below : length mine.bytes < mine.page_size → (t : Tail) → IsWithin t
+  fits_below short t page under fits =
+      elim (cases_lt page mine.full_pages) [
+        | inl less ↦ less
+        | inr more ↦
+            let up : (mine.full_pages + 1) * mine.page_size ≤ (page + 1) * mine.page_size =
+            mul-le-mul_right mine.page_size (omega (arith, more)) in
+            absurd (omega (arith, up, fits, short, suc-mul mine.full_pages mine.page_size))
+      ]
+
   pub read_leaves_all_tails : length mine.bytes < mine.page_size
       → LeavesAllTails sum cache behind old new
-  read_leaves_all_tails short t held stands =
-      still t held (λ page under fits. fits_below page fits) stands
-    where
-      fits_below : (page : ℕ) → (page + 1) * mine.page_size ≤ size_of mine
-          → page < mine.full_pages
-      fits_below page fits =
-          elim (cases_lt page mine.full_pages) [
-            | inl less ↦ less
-            | inr more ↦
-                let up : (mine.full_pages + 1) * mine.page_size ≤ (page + 1) * mine.page_size =
-                mul-le-mul_right mine.page_size (omega (arith, more)) in
-                absurd (omega (arith, up, fits, short, suc-mul mine.full_pages mine.page_size))
-          ]
+  read_leaves_all_tails short t held stands = still t held (fits_below short t) stands
+
+  pub read_leaves_all_reads : length mine.bytes < mine.page_size
+      → LeavesAllReads cache behind old new
+  read_leaves_all_reads short t other = reads_still t (fits_below short t) other
 
   pub read_leaves_others : LeavesOthers mine.id cache behind
   read_leaves_others = others_stay mine.id 0 (told mine old.present.readable) cache behind leaves.cached

@@ -44,6 +44,11 @@ LeavesAllTails sum cache behind old new =
     (t : Tail) (content : List ℕ)
     → StandsOn sum t content cache old.present → StandsOn sum t content behind new.present
 
+-- and whatever reads of the blob stand on, its writer's among them
+abbrev pub LeavesAllReads : CacheState → CacheState → Life → Life → Type 0
+LeavesAllReads cache behind old new =
+    (t : Tail) → CanRead t cache old.present → CanRead t behind new.present
+
 -- a call of the blob of this id leaves whatever reads of another blob stand on, which has a disk of
 -- its own
 abbrev pub LeavesOthers : (id : ℕ) → CacheState → CacheState → Type 0

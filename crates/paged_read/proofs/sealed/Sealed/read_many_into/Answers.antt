@@ -5,7 +5,7 @@ use Rattle.paged_read.specs.Tail.{Tail}
 use Rattle.paged_read.specs.Ranges.{LeavesAll, ReadsMany}
 use Rattle.paged_read.proofs.FullReads.{full_reads_many}
 use Rattle.paged_read.proofs.Outliving.{look_leaves_writers, read_leaves_all_tails}
-use Rattle.paged_read.proofs.Outliving.{read_leaves_others}
+use Rattle.paged_read.proofs.Outliving.{read_leaves_all_reads, read_leaves_others}
 use Rattle.paged_read.proofs.sealed.Sealed.read_many_into.Goals as goal
 
 pub returns-clause-never : goal.returns-clause-never
@@ -23,6 +23,15 @@ returns-clause-writers g c =
 pub returns-clause-tails : goal.returns-clause-tails
 returns-clause-tails g c =
     read_leaves_all_tails g.H.Sum.sum_of c.args.self.now c.args.cache.now c.read_many_into.new.cache
+    (g.B.Blob.life c.args.blob.now) (g.B.Blob.life c.read_many_into.new.blob) c.requires.can
+    (subst (λ (t : Tail). LeavesAll t c.args.cache.now c.read_many_into.new.cache
+    (g.B.Blob.life c.args.blob.now) (g.B.Blob.life c.read_many_into.new.blob))
+    c.view.ensures.tail c.read_many_into.ensures.leaves)
+    c.view.ensures.short
+
+pub returns-clause-can_read : goal.returns-clause-can_read
+returns-clause-can_read g c =
+    read_leaves_all_reads g.H.Sum.sum_of c.args.self.now c.args.cache.now c.read_many_into.new.cache
     (g.B.Blob.life c.args.blob.now) (g.B.Blob.life c.read_many_into.new.blob) c.requires.can
     (subst (λ (t : Tail). LeavesAll t c.args.cache.now c.read_many_into.new.cache
     (g.B.Blob.life c.args.blob.now) (g.B.Blob.life c.read_many_into.new.blob))
