@@ -22,7 +22,9 @@ fn a_to_k<H: Sum>(alloc: Global) -> Result<Store<H>, Error> {
 }
 
 // A place, a number of bytes, what a read of them answers, and how many pages are read.
-const READS: [(u64, usize, Result<&[u8], Error>, usize); 14] = [
+type Read = (u64, usize, Result<&'static [u8], Error>, usize);
+
+const READS: [Read; 14] = [
     (0, 11, Ok(b"abcdefghijk"), 2),
     (4, 4, Ok(b"efgh"), 1),
     (2, 4, Ok(b"cdef"), 2),
@@ -39,23 +41,36 @@ const READS: [(u64, usize, Result<&[u8], Error>, usize); 14] = [
     (1, usize::MAX, Err(Error::OffsetOverflow), 0),
 ];
 
+fn read_across(rt: &impl Abort, alloc: Global, read: &Read) -> Result<(), Error> {
+    let (place, len, want, pages) = *read;
+    let mut store = a_to_k::<AddSum>(alloc)?;
+    assert_eq!(rt; store.blob().len(), 32);
+    // Nothing is held of a blob that was just recovered.
+    store.sync()?;
+    store.recover(CAPACITY)?;
+    let before = store.blob().calls().len();
+    let got = store.read(place, len);
+    assert!(rt; answers(&got, want), "{len} bytes at {place}");
+    assert_eq!(rt;
+        store.calls_from(before)?.len(),
+        pages,
+        "{len} bytes at {place}"
+    );
+    Ok(())
+}
+
+// Here and in the other files a loop over a table stands in a function that is lent the table: in
+// the test's own body the prover unfolds all of it at each step.
+fn read_each(rt: &impl Abort, alloc: Global, reads: &[Read]) -> Result<(), Error> {
+    for read in reads {
+        read_across(rt, alloc, read)?;
+    }
+    Ok(())
+}
+
 #[test]
 fn reads_cross_pages_and_the_buffer(rt: HostRuntime) -> Result<(), Fail> {
-    for (place, len, want, pages) in READS {
-        let mut store = a_to_k::<AddSum>(rt.alloc())?;
-        assert_eq!(rt; store.blob().len(), 32);
-        // Nothing is held of a blob that was just recovered.
-        store.sync()?;
-        store.recover(CAPACITY)?;
-        let before = store.blob().calls().len();
-        let got = store.read(place, len);
-        assert!(rt; answers(&got, want), "{len} bytes at {place}");
-        assert_eq!(rt;
-            store.calls_from(before)?.len(),
-            pages,
-            "{len} bytes at {place}"
-        );
-    }
+    read_each(&rt, rt.alloc(), &READS)?;
     Ok(())
 }
 
@@ -74,16 +89,19 @@ fn a_failed_read_is_told(rt: HostRuntime) -> Result<(), Fail> {
     Ok(())
 }
 
-#[test]
-fn an_append_may_pass_the_buffer(rt: HostRuntime) -> Result<(), Fail> {
-    let mut store = Store::<AddSum>::empty(rt.alloc())?;
+/// A store of 21 bytes, which were appended at once.
+fn a_to_u(rt: &impl Abort, alloc: Global) -> Result<Store<AddSum>, Error> {
+    let mut store = Store::empty(alloc)?;
     let before = store.blob().calls().len();
     assert_eq!(rt; store.append(b"abcdefghijklmnopqrstu"), Ok(0));
     assert_eq!(rt; store.size(), 21);
-    assert_eq!(rt;
-        store.calls_from(before)?.as_slice(),
-        [Call::WriteAt(0, 80, false)].as_slice()
-    );
+    assert!(rt; store.asks(before, &[Call::WriteAt(0, 80, false)])?);
+    Ok(store)
+}
+
+#[test]
+fn an_append_may_pass_the_buffer(rt: HostRuntime) -> Result<(), Fail> {
+    let mut store = a_to_u(&rt, rt.alloc())?;
     assert_eq!(rt; store.append(b""), Ok(21));
     store.append(b"vwx")?;
     store.sync()?;
@@ -98,7 +116,7 @@ fn an_append_may_pass_the_buffer(rt: HostRuntime) -> Result<(), Fail> {
 struct Row {
     bytes: &'static [u8],
     sync: bool,
-    calls: &'static [Call<'static>],
+    calls: &'static [Call],
     error: Error,
     readable: &'static [u8],
 }
@@ -183,13 +201,18 @@ fn refused(rt: &impl Abort, alloc: Global, row: &Row) -> Result<Store<AddSum>, E
     Ok(store)
 }
 
-#[test]
-fn a_failed_call_is_told(rt: HostRuntime) -> Result<(), Fail> {
-    for row in &ROWS {
-        let mut store = refused(&rt, rt.alloc(), row)?;
+fn crash_each(rt: &impl Abort, alloc: Global, rows: &[Row]) -> Result<(), Error> {
+    for row in rows {
+        let mut store = refused(rt, alloc, row)?;
         store.crash(&[])?;
         assert!(rt; store.holds(b"abc")?);
     }
+    Ok(())
+}
+
+#[test]
+fn a_failed_call_is_told(rt: HostRuntime) -> Result<(), Fail> {
+    crash_each(&rt, rt.alloc(), &ROWS)?;
     Ok(())
 }
 
@@ -202,14 +225,28 @@ fn recover_at_once(rt: &impl Abort, alloc: Global, row: &Row, keep: bool) -> Res
     Ok(())
 }
 
+fn recover_each_at_once(rt: &impl Abort, alloc: Global, rows: &[Row]) -> Result<(), Error> {
+    for row in rows {
+        recover_at_once(rt, alloc, row, false)?;
+        recover_at_once(rt, alloc, row, true)?;
+    }
+    Ok(())
+}
+
 // What the blob holds is there, and a crash behind the recovery keeps that and no more, whatever it
 // would have left of the refused call.
 #[test]
 fn a_refused_call_is_recovered_at_once(rt: HostRuntime) -> Result<(), Fail> {
-    for row in &ROWS {
-        recover_at_once(&rt, rt.alloc(), row, false)?;
-        recover_at_once(&rt, rt.alloc(), row, true)?;
-    }
+    recover_each_at_once(&rt, rt.alloc(), &ROWS)?;
+    Ok(())
+}
+
+/// The store holds these bytes and "yz".
+fn ends_in_yz(rt: &impl Abort, store: &mut Store<AddSum>, bytes: &[u8]) -> Result<(), Error> {
+    let end = bytes.len();
+    assert_eq!(rt; store.size(), (end as u64).saturating_add(2));
+    assert!(rt; store.read(0, end)?.as_ref() == bytes);
+    assert!(rt; store.read(end as u64, 2)?.as_ref() == b"yz".as_slice());
     Ok(())
 }
 
@@ -217,21 +254,22 @@ fn a_refused_call_is_recovered_at_once(rt: HostRuntime) -> Result<(), Fail> {
 fn go_on(rt: &impl Abort, alloc: Global, row: &Row) -> Result<(), Error> {
     let mut store = refused(rt, alloc, row)?;
     assert!(rt; store.holds(row.readable)?);
-    let end = row.readable.len();
-    assert_eq!(rt; store.append(b"yz"), Ok(end as u64));
+    assert_eq!(rt; store.append(b"yz"), Ok(row.readable.len() as u64));
     store.sync()?;
     store.crash(&[])?;
     store.recover(CAPACITY)?;
-    assert_eq!(rt; store.size(), (end as u64).saturating_add(2));
-    assert!(rt; store.read(0, end)?.as_ref() == row.readable);
-    assert!(rt; store.read(end as u64, 2)?.as_ref() == b"yz".as_slice());
+    ends_in_yz(rt, &mut store, row.readable)
+}
+
+fn go_on_behind_each(rt: &impl Abort, alloc: Global, rows: &[Row]) -> Result<(), Error> {
+    for row in rows {
+        go_on(rt, alloc, row)?;
+    }
     Ok(())
 }
 
 #[test]
 fn appends_go_on_behind_a_refused_call(rt: HostRuntime) -> Result<(), Fail> {
-    for row in &ROWS {
-        go_on(&rt, rt.alloc(), row)?;
-    }
+    go_on_behind_each(&rt, rt.alloc(), &ROWS)?;
     Ok(())
 }

@@ -12,13 +12,19 @@ const WRITE: usize = 16;
 // The bytes of page 0, before it.
 const PAGE: usize = 16;
 
-/// Syncs "abcdef", and then "g", whose write fails, and crashes with these flags for the write's
-/// bytes.
-fn torn<H: Sum>(rt: &impl Abort, alloc: Global, keep: &[bool]) -> Result<Store<H>, Error> {
+/// A store in which "abcdef" is synced, and "g" is appended.
+fn abcdef_and_g<H: Sum>(alloc: Global) -> Result<Store<H>, Error> {
     let mut store = Store::<H>::empty(alloc)?;
     store.append(b"abcdef")?;
     store.sync()?;
     store.append(b"g")?;
+    Ok(store)
+}
+
+/// Syncs "abcdef", and then "g", whose write fails, and crashes with these flags for the write's
+/// bytes.
+fn torn<H: Sum>(rt: &impl Abort, alloc: Global, keep: &[bool]) -> Result<Store<H>, Error> {
+    let mut store = abcdef_and_g::<H>(alloc)?;
     store.fail_at(1);
     assert_eq!(rt; store.sync(), Err(Error::WriteFailed));
     store.crash(keep)?;
@@ -31,10 +37,7 @@ fn torn_behind_a_start<H: Sum>(
     alloc: Global,
     keep: &[bool],
 ) -> Result<Store<H>, Error> {
-    let mut store = Store::<H>::empty(alloc)?;
-    store.append(b"abcdef")?;
-    store.sync()?;
-    store.append(b"g")?;
+    let mut store = abcdef_and_g::<H>(alloc)?;
     assert_eq!(rt; store.start_sync(), Ok(StartedSync::Named(0)));
     store.crash(keep)?;
     Ok(store)
@@ -99,17 +102,28 @@ fn a_constant_sum_lets_a_zero_in(rt: HostRuntime) -> Result<(), Fail> {
     Ok(())
 }
 
+/// So much is recovered behind that crash, which is the one with this number.
+fn recovers<H: Sum>(
+    rt: &impl Abort,
+    alloc: Global,
+    keep: &[bool],
+    want: u64,
+    number: usize,
+) -> Result<(), Error> {
+    let mut store = torn::<H>(rt, alloc, keep)?;
+    let size = recovered_size(rt, &mut store)?;
+    assert_eq!(rt; size, want, "at {number}");
+    Ok(())
+}
+
 #[test]
 fn the_first_bytes_of_a_write(rt: HostRuntime) -> Result<(), Fail> {
     for count in 0..=WRITE {
         let keep = first_flags(count);
-        let mut store = torn::<AddSum>(&rt, rt.alloc(), &keep)?;
-        let size = recovered_size(&rt, &mut store)?;
-        assert_eq!(rt; size, if count < 16 { 6 } else { 7 }, "with {count}");
-
-        let mut store = torn::<ConstSum>(&rt, rt.alloc(), &keep)?;
-        let size = recovered_size(&rt, &mut store)?;
-        assert_eq!(rt; size, if count < 12 { 6 } else { 7 }, "with {count}");
+        let want = if count < 16 { 6 } else { 7 };
+        recovers::<AddSum>(&rt, rt.alloc(), &keep, want, count)?;
+        let want = if count < 12 { 6 } else { 7 };
+        recovers::<ConstSum>(&rt, rt.alloc(), &keep, want, count)?;
     }
     Ok(())
 }
@@ -119,14 +133,10 @@ fn one_byte_of_a_write(rt: HostRuntime) -> Result<(), Fail> {
     for byte in 0..WRITE {
         let mut keep = [false; WRITE];
         keep[byte] = true;
-        let mut store = torn::<AddSum>(&rt, rt.alloc(), &keep)?;
-        let size = recovered_size(&rt, &mut store)?;
-        assert_eq!(rt; size, 6, "at {byte}");
-
+        recovers::<AddSum>(&rt, rt.alloc(), &keep, 6, byte)?;
         // Byte 11 is the second slot's length.
-        let mut store = torn::<ConstSum>(&rt, rt.alloc(), &keep)?;
-        let size = recovered_size(&rt, &mut store)?;
-        assert_eq!(rt; size, if byte == 11 { 7 } else { 6 }, "at {byte}");
+        let want = if byte == 11 { 7 } else { 6 };
+        recovers::<ConstSum>(&rt, rt.alloc(), &keep, want, byte)?;
     }
     Ok(())
 }

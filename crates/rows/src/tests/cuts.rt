@@ -37,7 +37,7 @@ const IJ: Page = [
 struct Row {
     pages: &'static [Page],
     size: u64,
-    calls: &'static [Call<'static>],
+    calls: &'static [Call],
     answer: Result<u64, Error>,
     left: &'static [Page],
 }
@@ -159,20 +159,29 @@ fn is_made_of(alloc: Global, blob: &MemBlob, pages: &[Page]) -> Result<bool, Err
     Ok(blob.bytes() == want.as_slice())
 }
 
+fn cut_row(rt: &impl Abort, alloc: Global, row: &Row, number: usize) -> Result<(), Error> {
+    let mut blob = blob_of(alloc, row.pages)?;
+    let answer = open_and_truncate(&mut blob, alloc, row.size);
+    assert_eq!(rt; answer, row.answer, "row {number}");
+    assert_eq!(rt;
+        calls_from(alloc, &blob, 0)?.as_slice(),
+        row.calls,
+        "row {number}"
+    );
+    assert!(rt; is_made_of(alloc, &blob, row.left)?, "row {number}");
+    Ok(())
+}
+
+fn cut_each(rt: &impl Abort, alloc: Global, rows: &[Row]) -> Result<(), Error> {
+    for (number, row) in rows.iter().enumerate() {
+        cut_row(rt, alloc, row, number)?;
+    }
+    Ok(())
+}
+
 #[test]
 fn a_cut_asks_this_of_the_device(rt: HostRuntime) -> Result<(), Fail> {
-    let alloc = rt.alloc();
-    for (number, row) in ROWS.iter().enumerate() {
-        let mut blob = blob_of(alloc, row.pages)?;
-        let answer = open_and_truncate(&mut blob, alloc, row.size);
-        assert_eq!(rt; answer, row.answer, "row {number}");
-        assert_eq!(rt;
-            calls_from(alloc, &blob, 0)?.as_slice(),
-            row.calls,
-            "row {number}"
-        );
-        assert!(rt; is_made_of(alloc, &blob, row.left)?, "row {number}");
-    }
+    cut_each(&rt, rt.alloc(), &ROWS)?;
     Ok(())
 }
 
@@ -187,13 +196,18 @@ fn fail_a_cut(rt: &impl Abort, alloc: Global, row: &Row, done: usize) -> Result<
     Ok(())
 }
 
-#[test]
-fn a_failed_call_of_a_cut_is_told(rt: HostRuntime) -> Result<(), Fail> {
-    for row in &ROWS {
+fn fail_each_cut(rt: &impl Abort, alloc: Global, rows: &[Row]) -> Result<(), Error> {
+    for row in rows {
         for done in 0..row.calls.len() {
-            fail_a_cut(&rt, rt.alloc(), row, done)?;
+            fail_a_cut(rt, alloc, row, done)?;
         }
     }
+    Ok(())
+}
+
+#[test]
+fn a_failed_call_of_a_cut_is_told(rt: HostRuntime) -> Result<(), Fail> {
+    fail_each_cut(&rt, rt.alloc(), &ROWS)?;
     Ok(())
 }
 
@@ -207,6 +221,15 @@ fn abcdefgh<H: Sum>(alloc: Global) -> Result<Store<H>, Error> {
     Ok(store)
 }
 
+/// Recovered again, it begins with the first six of the eight, and has no other bytes.
+fn begins_with_six<H: Sum>(rt: &impl Abort, store: &mut Store<H>, call: u64) -> Result<(), Error> {
+    store.recover(CAPACITY)?;
+    let content = store.content()?;
+    assert!(rt; content.as_ref().starts_with(b"abcdef"), "at call {call}");
+    assert!(rt; b"abcdefgh".starts_with(content.as_ref()), "at call {call}");
+    Ok(())
+}
+
 /// The blob of a cut to six bytes, whose device call with this number fails, after a crash that
 /// keeps these of its bytes: recovered again, it begins with the six.
 fn cut_torn<H: Sum>(rt: &impl Abort, alloc: Global, call: u64, keep: &[bool]) -> Result<(), Error> {
@@ -215,11 +238,7 @@ fn cut_torn<H: Sum>(rt: &impl Abort, alloc: Global, call: u64, keep: &[bool]) ->
     let answer = store.recover_and_truncate(6);
     assert_eq!(rt; answer, Err(Error::WriteFailed), "at call {call}");
     store.crash(keep)?;
-    store.recover(CAPACITY)?;
-    let content = store.content()?;
-    assert!(rt; content.as_ref().starts_with(b"abcdef"), "at call {call}");
-    assert!(rt; b"abcdefgh".starts_with(content.as_ref()), "at call {call}");
-    Ok(())
+    begins_with_six(rt, &mut store, call)
 }
 
 // The recovery makes four device calls, and the cut reads before it writes: six bytes, two, and
@@ -388,7 +407,7 @@ const AB_KEPT: Page = [
     0x61, 0x62, 0x00, 0x00, 0x00, 0x00, 0x00, 0x00, 0x00, 0x00, 0x00, 0x02, 0x00, 0x00, 0x00, 0xC3,
 ];
 
-const RECOVERY: [Call<'static>; 9] = [
+const RECOVERY: [Call; 9] = [
     Call::ReadAt(16, 16),
     Call::ReadAt(0, 32),
     Call::Sync,
@@ -420,7 +439,7 @@ fn ab_stopped(
     rt: &impl Abort,
     alloc: Global,
     done: usize,
-    call: Call<'_>,
+    call: Call,
     keep: bool,
 ) -> Result<(), Error> {
     let mut store = store_of_ab(alloc)?;
@@ -432,11 +451,16 @@ fn ab_stopped(
     Ok(())
 }
 
+fn ab_stopped_at_each(rt: &impl Abort, alloc: Global, calls: &[Call]) -> Result<(), Error> {
+    for (done, call) in calls.iter().enumerate() {
+        ab_stopped(rt, alloc, done, *call, false)?;
+        ab_stopped(rt, alloc, done, *call, true)?;
+    }
+    Ok(())
+}
+
 #[test]
 fn a_recovery_that_cuts_may_be_stopped(rt: HostRuntime) -> Result<(), Fail> {
-    for (done, call) in RECOVERY.iter().enumerate() {
-        ab_stopped(&rt, rt.alloc(), done, *call, false)?;
-        ab_stopped(&rt, rt.alloc(), done, *call, true)?;
-    }
+    ab_stopped_at_each(&rt, rt.alloc(), &RECOVERY)?;
     Ok(())
 }

@@ -25,7 +25,7 @@ struct Row {
     before: &'static [u8],
     starts: bool,
     bytes: &'static [u8],
-    calls: &'static [Call<'static>],
+    calls: &'static [Call],
     pages: &'static [Page],
 }
 
@@ -104,8 +104,6 @@ enum Way {
     Owned,
 }
 
-const WAYS: [Way; 2] = [Way::Lent, Way::Owned];
-
 impl Way {
     fn append(self, store: &mut Store<AddSum>, bytes: &[u8]) -> Result<u64, Error> {
         match self {
@@ -131,9 +129,9 @@ fn content_of(alloc: Global, row: &Row) -> Result<Vec<u8>, Error> {
     Ok(content)
 }
 
-fn append(rt: &impl Abort, alloc: Global, row: &Row, way: Way) -> Result<(), Error> {
+// A store in which they were appended.
+fn appended(rt: &impl Abort, alloc: Global, row: &Row, way: Way) -> Result<Store<AddSum>, Error> {
     let mut store = store_before(alloc, row)?;
-    let content = content_of(alloc, row)?;
     let before = store.blob().calls().len();
     assert_eq!(rt;
         way.append(&mut store, row.bytes),
@@ -141,6 +139,12 @@ fn append(rt: &impl Abort, alloc: Global, row: &Row, way: Way) -> Result<(), Err
     );
     assert!(rt; store.asks(before, row.calls)?);
     assert!(rt; row.pages.is_empty() || store.is_made_of(row.pages)?);
+    Ok(store)
+}
+
+fn append(rt: &impl Abort, alloc: Global, row: &Row, way: Way) -> Result<(), Error> {
+    let mut store = appended(rt, alloc, row, way)?;
+    let content = content_of(alloc, row)?;
     assert_eq!(rt; store.size(), content.len() as u64);
     assert!(rt; store.has(&content)?);
     store.sync()?;
@@ -149,14 +153,35 @@ fn append(rt: &impl Abort, alloc: Global, row: &Row, way: Way) -> Result<(), Err
     Ok(())
 }
 
-#[test]
-fn a_big_append_goes_past_the_buffer(rt: HostRuntime) -> Result<(), Fail> {
-    for row in &ROWS {
-        for way in WAYS {
-            append(&rt, rt.alloc(), row, way)?;
-        }
+fn append_each(rt: &impl Abort, alloc: Global, rows: &[Row]) -> Result<(), Error> {
+    for row in rows {
+        append(rt, alloc, row, Way::Lent)?;
+        append(rt, alloc, row, Way::Owned)?;
     }
     Ok(())
+}
+
+#[test]
+fn a_big_append_goes_past_the_buffer(rt: HostRuntime) -> Result<(), Fail> {
+    append_each(&rt, rt.alloc(), &ROWS)?;
+    Ok(())
+}
+
+// A store in which the append's call behind so many failed.
+fn failed(
+    rt: &impl Abort,
+    alloc: Global,
+    row: &Row,
+    way: Way,
+    done: usize,
+) -> Result<Store<AddSum>, Error> {
+    let mut store = store_before(alloc, row)?;
+    let before = store.blob().calls().len();
+    store.fail_at((done as u64).saturating_add(1));
+    let error = row.calls.get(done).map(|call| error_of(*call));
+    assert_eq!(rt; way.append(&mut store, row.bytes).err(), error);
+    assert_eq!(rt; store.calls_from(before)?.len(), done.saturating_add(1));
+    Ok(store)
 }
 
 // The append's call behind so many fails. A crash that keeps nothing leaves what was durable: what
@@ -169,13 +194,8 @@ fn fail(
     done: usize,
     keep: bool,
 ) -> Result<(), Error> {
-    let mut store = store_before(alloc, row)?;
+    let mut store = failed(rt, alloc, row, way, done)?;
     let content = content_of(alloc, row)?;
-    let before = store.blob().calls().len();
-    store.fail_at((done as u64).saturating_add(1));
-    let error = row.calls.get(done).map(|call| error_of(*call));
-    assert_eq!(rt; way.append(&mut store, row.bytes).err(), error);
-    assert_eq!(rt; store.calls_from(before)?.len(), done.saturating_add(1));
     store.crash(&[keep; 64])?;
     store.recover(8)?;
     let left = store.content()?;
@@ -189,15 +209,24 @@ fn fail(
     Ok(())
 }
 
+fn fail_each_call(rt: &impl Abort, alloc: Global, row: &Row, way: Way) -> Result<(), Error> {
+    for done in 0..row.calls.len() {
+        fail(rt, alloc, row, way, done, false)?;
+        fail(rt, alloc, row, way, done, true)?;
+    }
+    Ok(())
+}
+
+fn fail_each(rt: &impl Abort, alloc: Global, rows: &[Row]) -> Result<(), Error> {
+    for row in rows {
+        fail_each_call(rt, alloc, row, Way::Lent)?;
+        fail_each_call(rt, alloc, row, Way::Owned)?;
+    }
+    Ok(())
+}
+
 #[test]
 fn each_call_of_a_big_append_may_fail(rt: HostRuntime) -> Result<(), Fail> {
-    for row in &ROWS {
-        for way in WAYS {
-            for done in 0..row.calls.len() {
-                fail(&rt, rt.alloc(), row, way, done, false)?;
-                fail(&rt, rt.alloc(), row, way, done, true)?;
-            }
-        }
-    }
+    fail_each(&rt, rt.alloc(), &ROWS)?;
     Ok(())
 }

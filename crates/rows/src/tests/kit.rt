@@ -327,22 +327,23 @@ impl<H: Sum> Store<H> {
     }
 
     /// Whether the device was asked for just this since so many calls.
-    pub fn asks(&self, first: usize, calls: &[Call<'static>]) -> Result<bool, Error> {
+    pub fn asks(&self, first: usize, calls: &[Call]) -> Result<bool, Error> {
         Ok(self.calls_from(first)?.as_slice() == calls)
     }
 
     /// The device calls from one on.
-    pub fn calls_from(&self, first: usize) -> Result<Vec<Call<'_>>, Error> {
+    pub fn calls_from(&self, first: usize) -> Result<Vec<Call>, Error> {
         calls_from(self.alloc, &self.blob, first)
     }
 }
 
 /// A device call as a table of a test writes it: a blob's own has a vector of ranges, and isn't
-/// copied.
+/// copied. The ranges are left out here, since a type with no lifetime is cheaper to prove: a test
+/// of them asks `reads_many`.
 #[derive(Clone, Copy, Debug, PartialEq, Eq)]
-pub enum Call<'a> {
+pub enum Call {
     ReadAt(u64, usize),
-    ReadMany(&'a [(u64, usize)]),
+    ReadMany,
     WriteAt(u64, usize, bool),
     Resize(u64),
     Sync,
@@ -350,10 +351,10 @@ pub enum Call<'a> {
     WaitSync(u64),
 }
 
-fn as_written(call: &disk::Call) -> Call<'_> {
+fn as_written(call: &disk::Call) -> Call {
     match call {
         disk::Call::ReadAt(place, len) => Call::ReadAt(*place, *len),
-        disk::Call::ReadMany(ranges) => Call::ReadMany(ranges),
+        disk::Call::ReadMany(_) => Call::ReadMany,
         disk::Call::WriteAt(place, len, sync) => Call::WriteAt(*place, *len, *sync),
         disk::Call::Resize(len) => Call::Resize(*len),
         disk::Call::Sync => Call::Sync,
@@ -363,7 +364,7 @@ fn as_written(call: &disk::Call) -> Call<'_> {
 }
 
 /// The device calls of a blob from one on.
-pub fn calls_from(alloc: Global, blob: &MemBlob, first: usize) -> Result<Vec<Call<'_>>, Error> {
+pub fn calls_from(alloc: Global, blob: &MemBlob, first: usize) -> Result<Vec<Call>, Error> {
     let mut calls = Vec::new(alloc);
     for call in blob.calls().iter().skip(first) {
         calls.push(as_written(call))?;
@@ -371,10 +372,29 @@ pub fn calls_from(alloc: Global, blob: &MemBlob, first: usize) -> Result<Vec<Cal
     Ok(calls)
 }
 
+/// Whether the device calls of a blob from one on are reads of just these lists of ranges.
+pub fn reads_many(blob: &MemBlob, first: usize, lists: &[&[(u64, usize)]]) -> bool {
+    let calls = blob.calls();
+    if calls.len() != first.saturating_add(lists.len()) {
+        return false;
+    }
+    for (call, list) in calls.iter().skip(first).zip(lists) {
+        match call {
+            disk::Call::ReadMany(ranges) => {
+                if ranges.as_slice() != *list {
+                    return false;
+                }
+            }
+            _ => return false,
+        }
+    }
+    true
+}
+
 /// The error with which a call of this kind fails.
-pub fn error_of(call: Call<'_>) -> Error {
+pub fn error_of(call: Call) -> Error {
     match call {
-        Call::ReadAt(_, _) | Call::ReadMany(_) => Error::ReadFailed,
+        Call::ReadAt(_, _) | Call::ReadMany => Error::ReadFailed,
         Call::WriteAt(_, _, _) => Error::WriteFailed,
         Call::Resize(_) => Error::ResizeFailed,
         Call::Sync | Call::StartSync | Call::WaitSync(_) => Error::SyncFailed,

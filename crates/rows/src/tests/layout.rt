@@ -2,6 +2,7 @@
 use super::kit::{ABCD, Call, EF, Page, Store};
 use disk::Error;
 use page::AddSum;
+use std::alloc::Global;
 use std::process::Abort;
 use std::test::Fail;
 
@@ -41,29 +42,19 @@ fn each_sync_takes_the_other_slot(rt: HostRuntime) -> Result<(), Fail> {
     let before = store.blob().calls().len();
     append_and_sync(&rt, &mut store, b"abcdef", 0, &[ABCD, EF])?;
     assert_eq!(rt; store.size(), 6);
-    assert_eq!(rt;
-        store.calls_from(before)?.as_slice(),
-        [Call::WriteAt(0, 32, true)].as_slice()
-    );
+    assert!(rt; store.asks(before, &[Call::WriteAt(0, 32, true)])?);
 
     let before = store.blob().calls().len();
     append_and_sync(&rt, &mut store, b"g", 6, &[ABCD, EFG])?;
     append_and_sync(&rt, &mut store, b"h", 7, &[ABCD, EFGH])?;
     assert_eq!(rt; store.size(), 8);
     let write = Call::WriteAt(16, 16, true);
-    assert_eq!(rt;
-        store.calls_from(before)?.as_slice(),
-        [write, write].as_slice()
-    );
+    assert!(rt; store.asks(before, &[write, write])?);
     Ok(())
 }
 
 /// Syncs, which makes these device calls; the blob is made of the pages that nine bytes fill then.
-fn sync_nine(
-    rt: &impl Abort,
-    store: &mut Store<AddSum>,
-    calls: &[Call<'static>],
-) -> Result<(), Error> {
+fn sync_nine(rt: &impl Abort, store: &mut Store<AddSum>, calls: &[Call]) -> Result<(), Error> {
     let before = store.blob().calls().len();
     store.sync()?;
     assert!(rt; store.asks(before, calls)?);
@@ -72,20 +63,23 @@ fn sync_nine(
     Ok(())
 }
 
-#[test]
-fn a_full_buffer_is_written_without_a_sync(rt: HostRuntime) -> Result<(), Fail> {
-    let mut store = Store::<AddSum>::empty(rt.alloc())?;
+/// A store of eight bytes, which are all in the buffer.
+fn a_to_h(rt: &impl Abort, alloc: Global) -> Result<Store<AddSum>, Error> {
+    let mut store = Store::empty(alloc)?;
     let before = store.blob().calls().len();
     assert_eq!(rt; store.append(b"abcdefgh"), Ok(0));
-    assert_eq!(rt; store.calls_from(before)?.as_slice(), [].as_slice());
+    assert!(rt; store.asks(before, &[])?);
     assert_eq!(rt; store.blob().len(), 0);
+    Ok(store)
+}
 
+#[test]
+fn a_full_buffer_is_written_without_a_sync(rt: HostRuntime) -> Result<(), Fail> {
+    let mut store = a_to_h(&rt, rt.alloc())?;
+    let before = store.blob().calls().len();
     assert_eq!(rt; store.append(b"i"), Ok(8));
     assert_eq!(rt; store.size(), 9);
-    assert_eq!(rt;
-        store.calls_from(before)?.as_slice(),
-        [Call::WriteAt(0, 32, false)].as_slice()
-    );
+    assert!(rt; store.asks(before, &[Call::WriteAt(0, 32, false)])?);
     assert!(rt; store.is_made_of(&[ABCD, EFGH_AT_ONCE])?);
 
     // Something is unsynced, so that the sync is a call of its own. Then all is durable.

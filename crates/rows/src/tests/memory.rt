@@ -2,6 +2,7 @@
 use super::kit::{Call, calls_from};
 use disk::{Blob, Error, IoBuf, IoBufs, MemBlob, ReadOptions, StartedSync, VecBlob, WriteOptions};
 use std::alloc::Global;
+use std::process::Abort;
 use std::test::Fail;
 
 const PLAIN: WriteOptions = WriteOptions {
@@ -295,15 +296,18 @@ fn a_sync_settles_what_was_started(rt: HostRuntime) -> Result<(), Fail> {
     Ok(())
 }
 
-#[test]
-fn a_plain_blob_keeps_its_bytes(rt: HostRuntime) -> Result<(), Fail> {
-    let alloc = rt.alloc();
-    let mut blob = VecBlob::new(alloc);
-    assert_eq!(rt; blob.len(), 0);
+fn two_parts(alloc: Global) -> Result<IoBufs, Error> {
     let mut parts = bufs(alloc, b"ab")?;
     parts.append(IoBuf::copy_from_slice(alloc, b"cde")?)?;
+    Ok(parts)
+}
+
+// A plain blob that was written and resized.
+fn plain_blob(rt: &impl Abort, alloc: Global) -> Result<VecBlob, Error> {
+    let mut blob = VecBlob::new(alloc);
+    assert_eq!(rt; blob.len(), 0);
     // Behind the end the gap is filled with zeros, and each buffer stands behind the one before.
-    blob.write_at(2, &parts, PLAIN)?;
+    blob.write_at(2, &two_parts(alloc)?, PLAIN)?;
     assert_eq!(rt; blob.bytes(), b"\0\0abcde".as_slice());
     blob.write_at(1, &bufs(alloc, b"xy")?, DURABLE)?;
     assert_eq!(rt; blob.bytes(), b"\0xybcde".as_slice());
@@ -311,11 +315,18 @@ fn a_plain_blob_keeps_its_bytes(rt: HostRuntime) -> Result<(), Fail> {
     blob.resize(5)?;
     blob.sync()?;
     assert_eq!(rt; blob.bytes(), b"\0xy\0\0".as_slice());
+    Ok(blob)
+}
+
+#[test]
+fn a_plain_blob_keeps_its_bytes(rt: HostRuntime) -> Result<(), Fail> {
+    let alloc = rt.alloc();
+    let mut blob = plain_blob(&rt, alloc)?;
     let read = blob.read_at(alloc, 1, 3, ReadOptions::default());
     assert!(rt; read_as(&read, Ok(b"xy\0")));
     let past = blob.read_at(alloc, 3, 3, ReadOptions::default());
     assert!(rt; read_as(&past, Err(Error::BlobInsufficientLength)));
-    let refused = blob.write_at(u64::MAX, &parts, PLAIN);
+    let refused = blob.write_at(u64::MAX, &two_parts(alloc)?, PLAIN);
     assert_eq!(rt; refused, Err(Error::OffsetOverflow));
     assert_eq!(rt; blob.len(), 5);
     let begun = VecBlob::from_vec(Vec::from_slice(alloc, b"abc")?);

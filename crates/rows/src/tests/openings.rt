@@ -13,7 +13,7 @@ use std::test::Fail;
 struct Row {
     pages: &'static [Page],
     stray: &'static [u8],
-    calls: &'static [Call<'static>],
+    calls: &'static [Call],
     size: u64,
 }
 
@@ -61,13 +61,18 @@ fn blob_of(alloc: Global, pages: &[Page], stray: &[u8]) -> Result<MemBlob, Error
     MemBlob::from_bytes(alloc, &bytes)
 }
 
+fn open_each(rt: &impl Abort, alloc: Global, rows: &[Row]) -> Result<(), Error> {
+    for row in rows {
+        let mut blob = blob_of(alloc, row.pages, row.stray)?;
+        assert_eq!(rt; open(&mut blob, alloc, CAPACITY), Ok(row.size));
+        assert_eq!(rt; calls_from(alloc, &blob, 0)?.as_slice(), row.calls);
+    }
+    Ok(())
+}
+
 #[test]
 fn an_opening_cuts_what_has_no_value(rt: HostRuntime) -> Result<(), Fail> {
-    for row in &ROWS {
-        let mut blob = blob_of(rt.alloc(), row.pages, row.stray)?;
-        assert_eq!(rt; open(&mut blob, rt.alloc(), CAPACITY), Ok(row.size));
-        assert_eq!(rt; calls_from(rt.alloc(), &blob, 0)?.as_slice(), row.calls);
-    }
+    open_each(&rt, rt.alloc(), &ROWS)?;
     Ok(())
 }
 
@@ -77,7 +82,7 @@ fn fail_an_opening(
     alloc: Global,
     row: &Row,
     done: usize,
-    call: Call<'_>,
+    call: Call,
 ) -> Result<(), Error> {
     let mut blob = blob_of(alloc, row.pages, row.stray)?;
     blob.fail_at((done as u64).saturating_add(1));
@@ -87,13 +92,18 @@ fn fail_an_opening(
     Ok(())
 }
 
-#[test]
-fn a_failed_call_of_an_opening_is_told(rt: HostRuntime) -> Result<(), Fail> {
-    for row in &ROWS {
+fn fail_each_opening(rt: &impl Abort, alloc: Global, rows: &[Row]) -> Result<(), Error> {
+    for row in rows {
         for (done, call) in row.calls.iter().enumerate() {
-            fail_an_opening(&rt, rt.alloc(), row, done, *call)?;
+            fail_an_opening(rt, alloc, row, done, *call)?;
         }
     }
+    Ok(())
+}
+
+#[test]
+fn a_failed_call_of_an_opening_is_told(rt: HostRuntime) -> Result<(), Fail> {
+    fail_each_opening(&rt, rt.alloc(), &ROWS)?;
     Ok(())
 }
 
@@ -106,22 +116,29 @@ fn a_capacity_may_be_too_great(rt: HostRuntime) -> Result<(), Fail> {
     Ok(())
 }
 
+fn recover_by(rt: &impl Abort, alloc: Global, buffer_size: usize) -> Result<(), Error> {
+    let bytes = blob_bytes(alloc, &[ABCD, ABCD, ABCD, EF, NO_VALUE], &[1])?;
+    let mut store = Store::<AddSum>::of_bytes(alloc, &bytes)?;
+    store.recover(buffer_size)?;
+    assert!(rt; store.has(b"abcdabcdabcdef")?, "by {buffer_size}");
+    assert_eq!(rt; store.blob().len(), 64);
+    Ok(())
+}
+
 // Less than a page, a page, two and some bytes, and all at once.
 #[test]
 fn a_recovery_reads_by_any_number_of_pages(rt: HostRuntime) -> Result<(), Fail> {
     for buffer_size in [1, 16, 33, usize::MAX] {
-        let bytes = blob_bytes(rt.alloc(), &[ABCD, ABCD, ABCD, EF, NO_VALUE], &[1])?;
-        let mut store = Store::<AddSum>::of_bytes(rt.alloc(), &bytes)?;
-        store.recover(buffer_size)?;
-        assert!(rt; store.has(b"abcdabcdabcdef")?, "by {buffer_size}");
-        assert_eq!(rt; store.blob().len(), 64);
+        recover_by(&rt, rt.alloc(), buffer_size)?;
     }
     Ok(())
 }
 
 // The bytes that a recovery of four pages reads at a time, and its device calls: the opening reads
 // the last page, then the scan reads all of them in order, and then what was there is made durable.
-const SCANS: [(usize, &[Call<'static>]); 5] = [
+type Scan = (usize, &'static [Call]);
+
+const SCANS: [Scan; 5] = [
     (
         1,
         &[
@@ -168,14 +185,25 @@ const SCANS: [(usize, &[Call<'static>]); 5] = [
     ),
 ];
 
+fn scan(rt: &impl Abort, alloc: Global, scan: &Scan) -> Result<(), Error> {
+    let (buffer_size, calls) = *scan;
+    let bytes = blob_bytes(alloc, &[ABCD, ABCD, ABCD, EF], &[])?;
+    let mut store = Store::<AddSum>::of_bytes(alloc, &bytes)?;
+    store.recover(buffer_size)?;
+    assert!(rt; store.asks(0, calls)?, "by {buffer_size}");
+    assert_eq!(rt; store.size(), 14);
+    Ok(())
+}
+
+fn scan_each(rt: &impl Abort, alloc: Global, scans: &[Scan]) -> Result<(), Error> {
+    for row in scans {
+        scan(rt, alloc, row)?;
+    }
+    Ok(())
+}
+
 #[test]
 fn a_scan_reads_no_more_than_asked(rt: HostRuntime) -> Result<(), Fail> {
-    for (buffer_size, calls) in SCANS {
-        let bytes = blob_bytes(rt.alloc(), &[ABCD, ABCD, ABCD, EF], &[])?;
-        let mut store = Store::<AddSum>::of_bytes(rt.alloc(), &bytes)?;
-        store.recover(buffer_size)?;
-        assert_eq!(rt; store.calls_from(0)?.as_slice(), calls, "by {buffer_size}");
-        assert_eq!(rt; store.size(), 14);
-    }
+    scan_each(&rt, rt.alloc(), &SCANS)?;
     Ok(())
 }

@@ -1,7 +1,8 @@
 // Reads of several ranges in one device call.
-use super::kit::{Call, calls_from};
+use super::kit::reads_many;
 use disk::{Blob, Counted, Error, IoBuf, MemBlob, ReadOptions, VecBlob};
 use std::alloc::Global;
+use std::process::Abort;
 use std::test::Fail;
 
 const LETTERS: &[u8] = b"abcdef";
@@ -61,8 +62,7 @@ fn each_range_is_delivered_once(rt: HostRuntime) -> Result<(), Fail> {
     assert!(rt; reads(alloc, &mut blob, RANGES, Ok(FALLING))?);
     blob.deliver_backwards(false);
     assert!(rt; reads(alloc, &mut blob, RANGES, Ok(RISING))?);
-    let calls = [Call::ReadMany(RANGES); 3];
-    assert_eq!(rt; calls_from(alloc, &blob, 0)?.as_slice(), calls.as_slice());
+    assert!(rt; reads_many(&blob, 0, &[RANGES; 3]));
     assert_eq!(rt; blob.bytes(), LETTERS);
     Ok(())
 }
@@ -73,8 +73,20 @@ fn no_range_is_a_call_too(rt: HostRuntime) -> Result<(), Fail> {
     let mut blob = MemBlob::from_bytes(alloc, LETTERS)?;
     assert!(rt; reads(alloc, &mut blob, &[], Ok(&[]))?);
     assert!(rt; reads(alloc, &mut blob, &[(2, 0)], Ok(&[(0, b"")]))?);
-    let calls = [Call::ReadMany(&[]), Call::ReadMany(&[(2, 0)])];
-    assert_eq!(rt; calls_from(alloc, &blob, 0)?.as_slice(), calls.as_slice());
+    assert!(rt; reads_many(&blob, 0, &[&[], &[(2, 0)]]));
+    Ok(())
+}
+
+fn refuse_each<B: Blob>(
+    rt: &impl Abort,
+    alloc: Global,
+    blob: &mut B,
+    lists: &[&[(u64, usize)]],
+) -> Result<(), Error> {
+    for ranges in lists {
+        let want = Err(Error::BlobInsufficientLength);
+        assert!(rt; reads(alloc, blob, ranges, want)?);
+    }
     Ok(())
 }
 
@@ -83,11 +95,8 @@ fn a_range_past_the_end_asks_no_device(rt: HostRuntime) -> Result<(), Fail> {
     let alloc = rt.alloc();
     let mut blob = MemBlob::from_bytes(alloc, LETTERS)?;
     let mut plain = VecBlob::from_vec(Vec::from_slice(alloc, LETTERS)?);
-    let want = Err(Error::BlobInsufficientLength);
-    for ranges in PAST {
-        assert!(rt; reads(alloc, &mut blob, ranges, want)?);
-        assert!(rt; reads(alloc, &mut plain, ranges, want)?);
-    }
+    refuse_each(&rt, alloc, &mut blob, &PAST)?;
+    refuse_each(&rt, alloc, &mut plain, &PAST)?;
     assert_eq!(rt; blob.calls().len(), 0);
     Ok(())
 }
@@ -102,12 +111,11 @@ fn a_failed_read_of_ranges_is_told(rt: HostRuntime) -> Result<(), Fail> {
     assert!(rt; reads(alloc, &mut blob, &[(6, 1)], past)?);
     assert!(rt; reads(alloc, &mut blob, RANGES, Err(Error::ReadFailed))?);
     assert!(rt; reads(alloc, &mut blob, RANGES, Ok(RISING))?);
-    let calls = [Call::ReadMany(RANGES); 2];
-    assert_eq!(rt; calls_from(alloc, &blob, 0)?.as_slice(), calls.as_slice());
+    assert!(rt; reads_many(&blob, 0, &[RANGES; 2]));
     assert_eq!(rt; blob.failures(), 1);
     // The log goes on over a crash, with the ranges.
     blob.crash(&[])?;
-    assert_eq!(rt; calls_from(alloc, &blob, 0)?.as_slice(), calls.as_slice());
+    assert!(rt; reads_many(&blob, 0, &[RANGES; 2]));
     Ok(())
 }
 

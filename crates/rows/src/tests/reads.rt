@@ -1,11 +1,13 @@
 // Reads of every kind, through the cache.
 use super::kit::{
-    ABCD, CAPACITY, Call, EF, Page, Store, blob_bytes, cache_of, calls_from, new_cache,
+    ABCD, CAPACITY, Call, EF, Page, Store, blob_bytes, cache_of, new_cache, reads_many,
 };
 use disk::{Error, IoBuf, MemBlob};
 use page::AddSum;
 use paged::Writer;
+use std::alloc::Global;
 use std::num::NonZeroUsize;
+use std::process::Abort;
 
 // The page of "efgh", whose first byte was 65: the slot has the sum of the letters.
 const CHANGED: Page = [
@@ -16,50 +18,57 @@ const IJ: Page = [
     0x69, 0x6A, 0x00, 0x00, 0x00, 0x02, 0x00, 0x00, 0x00, 0xD3, 0x00, 0x00, 0x00, 0x00, 0x00, 0x00,
 ];
 
-#[test]
-fn appended_pages_are_read_from_the_cache(rt: HostRuntime) -> Result<(), Error> {
-    let mut store: Store<AddSum> = Store::caching(rt.alloc(), 4)?;
-    let before = store.blob().calls().len();
-    store.append(b"abcdefghij")?;
-    let calls = [Call::WriteAt(0, 32, false)];
-    assert_eq!(rt; store.calls_from(before)?.as_slice(), calls.as_slice());
+/// Both kinds of reads of all ten bytes.
+fn reads_a_to_j(rt: &impl Abort, store: &mut Store<AddSum>) -> Result<(), Error> {
     let mut buf = [0u8; 10];
     assert_eq!(rt; store.try_read_sync_into(&mut buf, 0), Some(true));
     assert_eq!(rt; buf, *b"abcdefghij");
     let mut buf = [0u8; 10];
     store.read_into(&mut buf, 0)?;
     assert_eq!(rt; buf, *b"abcdefghij");
-    assert_eq!(rt; store.calls_from(before)?.as_slice(), calls.as_slice());
     Ok(())
 }
 
 #[test]
-fn a_page_makes_place_for_another(rt: HostRuntime) -> Result<(), Error> {
-    let mut store: Store<AddSum> = Store::empty(rt.alloc())?;
+fn appended_pages_are_read_from_the_cache(rt: HostRuntime) -> Result<(), Error> {
+    let mut store: Store<AddSum> = Store::caching(rt.alloc(), 4)?;
+    let before = store.blob().calls().len();
+    store.append(b"abcdefghij")?;
+    let calls = [Call::WriteAt(0, 32, false)];
+    assert!(rt; store.asks(before, &calls)?);
+    reads_a_to_j(&rt, &mut store)?;
+    assert!(rt; store.asks(before, &calls)?);
+    Ok(())
+}
+
+/// A store of ten bytes, whose cache has place for one page: it holds the second.
+fn a_to_j(rt: &impl Abort, alloc: Global) -> Result<Store<AddSum>, Error> {
+    let mut store = Store::empty(alloc)?;
     store.append(b"abcdefghij")?;
     let mut buf = [0u8; 10];
     assert_eq!(rt; store.try_read_sync_into(&mut buf, 0), Some(false));
     let mut six = [0u8; 6];
     assert_eq!(rt; store.try_read_sync_into(&mut six, 4), Some(true));
     assert_eq!(rt; six, *b"efghij");
+    Ok(store)
+}
+
+#[test]
+fn a_page_makes_place_for_another(rt: HostRuntime) -> Result<(), Error> {
+    let mut store = a_to_j(&rt, rt.alloc())?;
     let before = store.blob().calls().len();
     let mut four = [0u8; 4];
     store.read_into(&mut four, 0)?;
     assert_eq!(rt; four, *b"abcd");
     let calls = [Call::ReadAt(0, 16)];
-    assert_eq!(rt; store.calls_from(before)?.as_slice(), calls.as_slice());
+    assert!(rt; store.asks(before, &calls)?);
     assert_eq!(rt; store.try_read_sync_into(&mut [0u8; 1], 4), Some(false));
     assert_eq!(rt; store.try_read_sync_into(&mut four, 0), Some(true));
     Ok(())
 }
 
-#[test]
-fn nothing_is_read_up_to_the_end(rt: HostRuntime) -> Result<(), Error> {
-    let mut store: Store<AddSum> = Store::empty(rt.alloc())?;
-    store.append(b"abcdef")?;
-    store.sync()?;
-    let (bytes, count) = store.read_up_to(9, 0)?;
-    assert_eq!(rt; (bytes.len(), count), (0, 0));
+/// Reads of no byte, and past the end, of a store of six bytes.
+fn reads_nothing(rt: &impl Abort, store: &mut Store<AddSum>) {
     let refused = Err(Error::BlobInsufficientLength);
     assert_eq!(rt; store.read_into(&mut [], 7), refused);
     assert_eq!(rt; store.read_into(&mut [], 6), Ok(()));
@@ -69,6 +78,16 @@ fn nothing_is_read_up_to_the_end(rt: HostRuntime) -> Result<(), Error> {
         store.read_into(&mut [0u8; 2], u64::MAX),
         Err(Error::OffsetOverflow)
     );
+}
+
+#[test]
+fn nothing_is_read_up_to_the_end(rt: HostRuntime) -> Result<(), Error> {
+    let mut store: Store<AddSum> = Store::empty(rt.alloc())?;
+    store.append(b"abcdef")?;
+    store.sync()?;
+    let (bytes, count) = store.read_up_to(9, 0)?;
+    assert_eq!(rt; (bytes.len(), count), (0, 0));
+    reads_nothing(&rt, &mut store);
     Ok(())
 }
 
@@ -87,12 +106,7 @@ fn many_are_read_at_once(rt: HostRuntime) -> Result<(), Error> {
         Ok(1)
     );
     assert_eq!(rt; buf, *b"abef");
-    let pages = [(0, 16)];
-    let calls = [Call::ReadMany(&pages)];
-    assert_eq!(rt;
-        calls_from(alloc, &blob, before)?.as_slice(),
-        calls.as_slice()
-    );
+    assert!(rt; reads_many(&blob, before, &[&[(0, 16)]]));
     let missed = writer.try_read_many_sync_into(&cache, &mut buf, &[0, 4], two)?;
     assert_eq!(rt; missed.len(), 0);
     Ok(())

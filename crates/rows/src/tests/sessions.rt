@@ -62,20 +62,26 @@ fn expect(
     Ok(())
 }
 
-#[test]
-fn a_session_comes_back(rt: HostRuntime) -> Result<(), Fail> {
-    let alloc = rt.alloc();
-    let mut blob = MemBlob::new(alloc);
-    let mut cache = new_cache(alloc)?;
-    let mut session = begun(alloc, &mut blob, &mut cache)?;
-    let steps = [
+// The vectors of steps and replies are made in functions of their own: each allocation may be
+// refused, and at that exit little is to be let go there.
+fn steps_that_come_back(alloc: Global) -> Result<[Step; 6], Error> {
+    Ok([
         Step::TryAppend(Vec::from_slice(alloc, b"abcdef")?),
         Step::Sync,
         Step::Append(Vec::from_slice(alloc, b"ghij")?),
         Step::TryAppend(Vec::from_slice(alloc, b"klm")?),
         Step::Read(4, 4),
         Step::Size,
-    ];
+    ])
+}
+
+#[test]
+fn a_session_comes_back(rt: HostRuntime) -> Result<(), Fail> {
+    let alloc = rt.alloc();
+    let mut blob = MemBlob::new(alloc);
+    let mut cache = new_cache(alloc)?;
+    let mut session = begun(alloc, &mut blob, &mut cache)?;
+    let steps = steps_that_come_back(alloc)?;
     let replies = [
         Reply::At(0),
         Reply::Done,
@@ -123,17 +129,21 @@ fn a_writer_begins_a_session(rt: HostRuntime) -> Result<(), Fail> {
     Ok(())
 }
 
+fn steps_before_a_refusal(alloc: Global) -> Result<[Step; 3], Error> {
+    Ok([
+        Step::Append(Vec::from_slice(alloc, b"abcdef")?),
+        Step::Sync,
+        Step::Append(Vec::from_slice(alloc, b"g")?),
+    ])
+}
+
 #[test]
 fn a_refused_sync_is_recovered_at_once(rt: HostRuntime) -> Result<(), Fail> {
     let alloc = rt.alloc();
     let mut blob = MemBlob::new(alloc);
     let mut cache = new_cache(alloc)?;
     let mut session = begun(alloc, &mut blob, &mut cache)?;
-    let steps = [
-        Step::Append(Vec::from_slice(alloc, b"abcdef")?),
-        Step::Sync,
-        Step::Append(Vec::from_slice(alloc, b"g")?),
-    ];
+    let steps = steps_before_a_refusal(alloc)?;
     let replies = [Reply::At(0), Reply::Done, Reply::At(6)];
     expect(
         &rt,
@@ -160,6 +170,15 @@ fn a_refused_sync_is_recovered_at_once(rt: HostRuntime) -> Result<(), Fail> {
     Ok(())
 }
 
+fn steps_that_start_a_sync(alloc: Global) -> Result<[Step; 4], Error> {
+    Ok([
+        Step::Append(Vec::from_slice(alloc, b"ab")?),
+        Step::StartSync,
+        Step::Append(Vec::from_slice(alloc, b"c")?),
+        Step::Sync,
+    ])
+}
+
 #[test]
 fn a_started_sync_is_waited_for_by_the_next(rt: HostRuntime) -> Result<(), Fail> {
     let alloc = rt.alloc();
@@ -167,12 +186,7 @@ fn a_started_sync_is_waited_for_by_the_next(rt: HostRuntime) -> Result<(), Fail>
     let mut cache = new_cache(alloc)?;
     let mut session = begun(alloc, &mut blob, &mut cache)?;
     let before = blob.calls().len();
-    let steps = [
-        Step::Append(Vec::from_slice(alloc, b"ab")?),
-        Step::StartSync,
-        Step::Append(Vec::from_slice(alloc, b"c")?),
-        Step::Sync,
-    ];
+    let steps = steps_that_start_a_sync(alloc)?;
     let replies = [
         Reply::At(0),
         Reply::Started(StartedSync::Named(0)),

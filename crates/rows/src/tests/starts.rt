@@ -29,7 +29,7 @@ enum Step {
 // that keeps nothing of what isn't durable, and after one that keeps all.
 struct Row {
     steps: &'static [Step],
-    calls: &'static [Call<'static>],
+    calls: &'static [Call],
     none: &'static [u8],
     all: &'static [u8],
 }
@@ -234,16 +234,32 @@ fn taken(rt: &impl Abort, alloc: Global, row: &Row, number: usize) -> Result<Sto
     Ok(store)
 }
 
+// The steps are taken, and a crash keeps these of what isn't durable: what is held then.
+fn take_and_crash(
+    rt: &impl Abort,
+    alloc: Global,
+    row: &Row,
+    number: usize,
+    keep: &[bool],
+    held: &[u8],
+) -> Result<(), Error> {
+    let mut store = taken(rt, alloc, row, number)?;
+    store.crash(keep)?;
+    assert!(rt; store.holds(held)?, "row {number}");
+    Ok(())
+}
+
+fn take_each(rt: &impl Abort, alloc: Global, rows: &[Row]) -> Result<(), Error> {
+    for (number, row) in rows.iter().enumerate() {
+        take_and_crash(rt, alloc, row, number, &[], row.none)?;
+        take_and_crash(rt, alloc, row, number, &[true; 64], row.all)?;
+    }
+    Ok(())
+}
+
 #[test]
 fn started_syncs_are_waited_for(rt: HostRuntime) -> Result<(), Fail> {
-    for (number, row) in ROWS.iter().enumerate() {
-        let mut store = taken(&rt, rt.alloc(), row, number)?;
-        store.crash(&[])?;
-        assert!(rt; store.holds(row.none)?, "row {number}");
-        let mut store = taken(&rt, rt.alloc(), row, number)?;
-        store.crash(&[true; 64])?;
-        assert!(rt; store.holds(row.all)?, "row {number}");
-    }
+    take_each(&rt, rt.alloc(), &ROWS)?;
     Ok(())
 }
 

@@ -1,5 +1,5 @@
 // Recoveries that stop at one of their device calls.
-use super::kit::{ABCD, CAPACITY, EF, NO_VALUE, Page, Store, blob_bytes, error_of};
+use super::kit::{ABCD, CAPACITY, Call, EF, NO_VALUE, Page, Store, blob_bytes, error_of};
 use disk::Error;
 use page::AddSum;
 use std::alloc::Global;
@@ -63,14 +63,19 @@ fn store_of(alloc: Global, row: &Row) -> Result<Store<AddSum>, Error> {
     Store::of_bytes(alloc, &bytes)
 }
 
+fn errors_in(alloc: Global, calls: &[Call]) -> Result<Vec<Error>, Error> {
+    let mut errors = Vec::new(alloc);
+    for call in calls {
+        errors.push(error_of(*call))?;
+    }
+    Ok(errors)
+}
+
 // With which error each device call of a recovery fails.
 fn errors_of(rt: &impl Abort, alloc: Global, row: &Row) -> Result<Vec<Error>, Error> {
     let mut store = store_of(alloc, row)?;
     store.recover(CAPACITY)?;
-    let mut errors = Vec::new(alloc);
-    for call in &store.calls_from(0)? {
-        errors.push(error_of(*call))?;
-    }
+    let errors = errors_in(alloc, &store.calls_from(0)?)?;
     assert!(rt; store.has(row.content)?);
     Ok(errors)
 }
@@ -127,13 +132,18 @@ fn stop_at_each_call(rt: &impl Abort, alloc: Global, row: &Row) -> Result<(), Er
     Ok(())
 }
 
+fn stop_each(rt: &impl Abort, alloc: Global, rows: &[Row]) -> Result<(), Error> {
+    for row in rows {
+        stop_at_each_call(rt, alloc, row)?;
+    }
+    Ok(())
+}
+
 // Each row is recovered whole, and then with each of the device calls of that recovery failing:
 // with a crash behind it that keeps nothing, or all; and with none, where the blob is recovered
 // again at once, and a crash keeps that.
 #[test]
 fn a_recovery_may_be_stopped(rt: HostRuntime) -> Result<(), Fail> {
-    for row in &ROWS {
-        stop_at_each_call(&rt, rt.alloc(), row)?;
-    }
+    stop_each(&rt, rt.alloc(), &ROWS)?;
     Ok(())
 }

@@ -47,10 +47,8 @@ fn tried_bytes_are_synced(rt: HostRuntime) -> Result<(), Fail> {
     store.sync()?;
     assert_eq!(rt; store.try_append_value(&Pair(0x6768, 0x696A)), Ok(Some(6)));
     store.sync()?;
-    assert_eq!(rt;
-        store.calls_from(before)?.as_slice(),
-        [Call::WriteAt(0, 32, true), Call::WriteAt(16, 32, true)].as_slice()
-    );
+    let calls = [Call::WriteAt(0, 32, true), Call::WriteAt(16, 32, true)];
+    assert!(rt; store.asks(before, &calls)?);
     assert!(rt; store.has(b"abcdefghij")?);
     store.crash(&[])?;
     assert!(rt; store.holds(b"abcdefghij")?);
