@@ -6,14 +6,12 @@ use Rattle.std.specs.declared.alloc.Global.{Global}
 use Rattle.std.proofs.lemmas.List.{append_assoc, take-append-le, take-take, take_all, drop_at}
 use Rattle.std.proofs.lemmas.Bool.{cases_lt}
 use Rattle.std.proofs.Math.Seq.{take-length}
-use Rattle.disk.specs.Disk.{Disk, Life, IsImage, LeavesNoMore}
+use Rattle.disk.specs.Disk.{Disk, Life, IsImage, LeavesNoMore, Entry, SomeFailed, HasFailed, LogGrows}
 use Rattle.disk.specs.declared.error.Error.{Error}
 use Rattle.disk.specs.declared.error.Error.TheVariants.{ReadFailed, WriteFailed, ResizeFailed, SyncFailed, InvalidChecksum, BlobInsufficientLength, OffsetOverflow, OutOfMemory, IdsExhausted}
 use Rattle.page.specs.Page.{text}
-use Rattle.disk.proofs.Logs.{failed_later}
 use Rattle.cache.specs.CacheState.{CacheState}
-use Rattle.cache.specs.Pages.{CachesOnly, IsFresh}
-use Rattle.cache.proofs.CacheLaws.{caches_true, fresh_stays, fresh_given}
+use Rattle.cache.specs.Pages.{IsFresh}
 use Rattle.crash.specs.Kept.{AllKeep, AllOnly, Through}
 use Rattle.crash.specs.Stays.{KeepsAllFloors, LeavesOnly, KeepsAll}
 use Rattle.crash.specs.Looks.{Looked, looked_start, looked_joins}
@@ -21,19 +19,20 @@ use Rattle.crash.specs.Sound.{IsSound, LeavesItsContent, content}
 use Rattle.crash.specs.WriterState.{WriterState}
 use Rattle.crash.specs.WriterState.SyncState.{Clean}
 use Rattle.crash.specs.Moments.{through_start, through_then, through_joins, through_end}
+use Rattle.paged_read.specs.Snapshots.{LeavesOthers, LeavesReads, LeavesTails}
 use Rattle.paged_read.specs.Tail.{Tail, CanRead, told}
 use Rattle.paged_read.specs.Ranges.{Reads, LeavesAll}
 use Rattle.paged.specs.Caches.{tail_of}
 use Rattle.paged.specs.Calls.{GoesOn, Appends, Syncs}
 use Rattle.paged.specs.Flush.{synced}
 use Rattle.paged.specs.Reads.{size_of}
-use Rattle.paged.specs.Recovers.{Recovers, GivesId, opened_bytes}
+use Rattle.paged.specs.Recovers.{Recovers, opened_bytes}
 use Rattle.paged.specs.Recovery.{opened_writer}
 use Rattle.paged.specs.Truncate.{Truncates, KeepsFloorsWithin, cut_writer, shortened_writer}
 use Rattle.paged.specs.Writer.{physical_size}
 use Rattle.journal.specs.declared.frame.Found.{Found}
 use Rattle.journal.specs.Frame.{frame, record_len, frame_len, listed, record_of, records, whole_frames, IsWhole, IsPrefix}
-use Rattle.journal.specs.Journal.{IsReady, IsJournal, OthersStay, AllStay, OnlyReads, LeavesContent, Commits, OnlyRecords, KeepsCommitted, LeavesRecords, CommitsAll, IsAppended, AppendsRecord, IsCommitted, CommitGoes, BringsBack, BringsOnly, ReadRefused, ReadsBytes, ReadsFrame, ReadsRecord, IsFound, IsTrimmed, Trims, ReadsAll, HasRecovered, RecoversJournal}
+use Rattle.journal.specs.Journal.{IsReady, IsJournal, IsNewId, OthersStay, AllStay, OnlyReads, LeavesContent, Commits, OnlyRecords, KeepsCommitted, LeavesRecords, CommitsAll, IsAppended, AppendsRecord, IsCommitted, CommitGoes, BringsBack, BringsOnly, ReadRefused, ReadsBytes, ReadsFrame, ReadsRecord, IsFound, IsTrimmed, Trims, ReadsAll, HasRecovered, RecoversJournal}
 use Rattle.journal.proofs.Frames.{records-append, records-take, whole_more, whole_is_whole, records-whole, whole_first, length-whole, frame_is_whole, records-frame, record_of-frame, length-frame, record_len-front, record_of-front, records-from}
 
 -- the first of the first are the first
@@ -104,58 +103,45 @@ commits_all sum own P content d keeps = record {
 
 -- ---- the cache
 
+-- what a journal stands on
+pub ready_of : (sum : List ℕ → ℕ) (w : WriterState) (cache : CacheState) (life : Life) → IsJournal sum w cache life → IsReady sum w cache life
+unfolding IsJournal
+ready_of sum w cache life journal = journal.ready
+
+pub whole_of : (sum : List ℕ → ℕ) (w : WriterState) (cache : CacheState) (life : Life) → IsJournal sum w cache life → IsWhole (content w life.present.readable)
+unfolding IsJournal
+whole_of sum w cache life journal = journal.whole
+
+pub is_journal : (sum : List ℕ → ℕ) (w : WriterState) (cache : CacheState) (life : Life) → IsReady sum w cache life → IsWhole (content w life.present.readable) → IsJournal sum w cache life
+unfolding IsJournal
+is_journal sum w cache life ready whole = record { ready = ready; whole = whole }
+
+-- a journal that can still be read stays one
+stays_journal : (sum : List ℕ → ℕ) (w : WriterState) (cache behind : CacheState) (life : Life) → CanRead (tail_of w) behind life.present → (IsFresh cache → IsFresh behind) → IsJournal sum w cache life → IsJournal sum w behind life
+unfolding IsJournal
+stays_journal sum w cache behind life can fresh journal = record {
+  ready = record { sound = journal.ready.sound; can = can; fresh = fresh journal.ready.fresh; size = journal.ready.size; only = journal.ready.only };
+  whole = journal.whole;
+}
+
 -- a call of another blob leaves a journal one
-pub others_stay : (id from : ℕ) (content : List ℕ) (cache behind : CacheState) → id < cache.ids_given → CachesOnly id from content cache behind → OthersStay id cache behind
-others_stay id from content cache behind given caches = λ sum w life apart journal.
-    let can = journal.ready.can in
-    record {
-      ready = record {
-        sound = journal.ready.sound;
-        can = record {
-          there = can.there;
-          page_size = caches.settings.page_size ∙ can.page_size;
-          given = omega (arith, can.given, caches.settings.ids_given);
-          cached = λ page bytes below there. caches_true id from content w.id (told (tail_of w) life.present.readable) w.full_pages cache behind caches (inl apart) can.cached page bytes below there;
-        };
-        fresh = fresh_stays id from content cache behind given caches journal.ready.fresh;
-        size = journal.ready.size;
-        only = journal.ready.only;
-      };
-      whole = journal.whole;
-    }
+pub others_stay : (id : ℕ) (cache behind : CacheState) → LeavesOthers id cache behind → (IsFresh cache → IsFresh behind) → OthersStay id cache behind
+others_stay id cache behind leaves fresh = λ sum w life apart journal.
+    stays_journal sum w cache behind life (leaves (tail_of w) life.present apart (ready_of sum w cache life journal).can) fresh journal
 
--- so does one call after another
-pub others_join : (id : ℕ) (cache mid behind : CacheState) → OthersStay id cache mid → OthersStay id mid behind → OthersStay id cache behind
-others_join id cache mid behind first second = λ sum w life apart journal. second sum w life apart (first sum w life apart journal)
+-- so does a call that leaves the reads of each blob
+pub recovery_stays : (cache behind : CacheState) → LeavesReads cache behind → (IsFresh cache → IsFresh behind) → AllStay cache behind
+recovery_stays cache behind leaves fresh = λ sum w life journal.
+    stays_journal sum w cache behind life (leaves (tail_of w) life.present (ready_of sum w cache life journal).can) fresh journal
 
--- and so does giving an id
-given_stays : (cache : CacheState) → AllStay cache (record cache { ids_given = cache.ids_given + 1 })
-given_stays cache = λ sum w life journal.
-    let can = journal.ready.can in
-    record {
-      ready = record {
-        sound = journal.ready.sound;
-        can = record { there = can.there; page_size = can.page_size; given = omega (arith, can.given); cached = can.cached };
-        fresh = fresh_given cache journal.ready.fresh;
-        size = journal.ready.size;
-        only = journal.ready.only;
-      };
-      whole = journal.whole;
-    }
+-- no journal has an id that is still to come
+pub new_id : (id : ℕ) (cache : CacheState) → id ≡ cache.ids_given → IsNewId id cache
+new_id id cache is = λ sum w life journal same. omega (arith, is, same, (ready_of sum w cache life journal).can.given)
 
-same_stays : (cache behind : CacheState) → behind ≡ cache → AllStay cache behind
-same_stays cache behind is = subst (λ (c : CacheState). AllStay cache c) (sym is) (λ sum w life journal. journal)
-
--- a recovery of a blob
-pub recovery_stays : (result : Result WriterState Error) (cache behind : CacheState) → GivesId result cache behind → AllStay cache behind
-recovery_stays (Ok w) cache behind is = subst (λ (c : CacheState). AllStay cache c) (sym is) (given_stays cache)
-recovery_stays (Err e) cache behind (inl is) = same_stays cache behind is
-recovery_stays (Err e) cache behind (inr is) = subst (λ (c : CacheState). AllStay cache c) (sym is) (given_stays cache)
-
--- and what follows it: no journal has its id
+-- what follows a recovery leaves each journal: none has its id
 pub all_stay : (id : ℕ) (cache mid behind : CacheState) → id ≡ cache.ids_given → AllStay cache mid → OthersStay id mid behind → AllStay cache behind
 all_stay id cache mid behind is first second = λ sum w life journal.
-    second sum w life (λ same. omega (arith, is, same, journal.ready.can.given)) (first sum w life journal)
+    second sum w life (new_id id cache is sum w life journal) (first sum w life journal)
 
 -- a cut keeps the id
 cut_id : (sum : List ℕ → ℕ) (w : WriterState) (n : ℕ) (bytes : List ℕ) (is_less : Bool) → (cond is_less (shortened_writer sum w n bytes) (synced w)).id ≡ w.id
@@ -174,7 +160,7 @@ recovered_id sum cache capacity old new w recovers =
 -- ---- the calls
 
 -- a writer that went on is ready
-gone_on : (sum : List ℕ → ℕ) (w : WriterState) (old : Life) (more : List ℕ) (now : WriterState) (behind : CacheState) (new : Life) → GoesOn sum w old more now new → CanRead (tail_of now) behind new.present → IsFresh behind
+pub gone_on : (sum : List ℕ → ℕ) (w : WriterState) (old : Life) (more : List ℕ) (now : WriterState) (behind : CacheState) (new : Life) → GoesOn sum w old more now new → CanRead (tail_of now) behind new.present → IsFresh behind
     → IsReady sum now behind new
 gone_on sum w old more now behind new goes can fresh = record { sound = goes.sound; can = can; fresh = fresh; size = goes.size; only = goes.only }
 
@@ -188,10 +174,8 @@ appended sum own w bytes behind old new now place short small whole can fresh (a
     let stood : drop place (before ++ framed) ≡ framed ++ [] = ap (λ n. drop n (before ++ framed)) at ∙ drop_at before framed (length before) refl ∙ sym (append-nil framed) in
     record {
       at = at;
-      journal = record {
-        ready = gone_on sum w old framed now behind new goes can fresh;
-        whole = subst (λ (l : List ℕ). IsWhole l) (sym goes.content) (whole_more before framed whole (frame_is_whole own bytes fits));
-      };
+      journal = is_journal sum now behind new (gone_on sum w old framed now behind new goes can fresh)
+          (subst (λ (l : List ℕ). IsWhole l) (sym goes.content) (whole_more before framed whole (frame_is_whole own bytes fits)));
       holds = goes.content;
       added = ap (λ (l : List ℕ). records own l) goes.content ∙ records-append own before framed whole ∙ ap (λ rs. records own before ++ rs) (records-frame own bytes fits small);
       there = ap (λ (l : List ℕ). record_of own (drop place l)) goes.content ∙ ap (λ (l : List ℕ). record_of own l) stood ∙ record_of-frame own bytes [] fits small;
@@ -228,7 +212,7 @@ pub committed : (sum own : List ℕ → ℕ) (w : WriterState) (behind : CacheSt
 committed sum own w behind old new now whole can fresh (goes, settled) keeps =
     let same : content now new.present.readable ≡ content w old.present.readable = goes.content ∙ append-nil (content w old.present.readable) in
     record {
-      journal = record { ready = gone_on sum w old [] now behind new goes can fresh; whole = subst (λ (l : List ℕ). IsWhole l) (sym same) whole };
+      journal = is_journal sum now behind new (gone_on sum w old [] now behind new goes can fresh) (subst (λ (l : List ℕ). IsWhole l) (sym same) whole);
       holds = same;
       same = goes.same;
       all = subst (λ (P : ℕ). CommitsAll sum own P (content now new.present.readable) new.present) (sym goes.same.page_size)
@@ -278,17 +262,26 @@ commit_gives sum own w behind old new (Ok now) is = is.journal
 commit_gives sum own w behind old new (Err e) is = tt
 
 -- a read within the content is refused only where the device failed, or memory was refused
-pub read_refused : {A : Type 0} (sum : List ℕ → ℕ) (w : WriterState) (cache : CacheState) (place len : ℕ) (bytes : A → List ℕ) (old new : Life) (e : Error) → place + len ≤ size_of w → place + len < 2 ^ 64
-    → Reads sum (tail_of w) cache (place, len) bytes old new (Err e) → (e ≡ InvalidChecksum → ⊥) → ReadRefused old new e
-read_refused sum w cache place len bytes old new ReadFailed within fits reads never = reads
-read_refused sum w cache place len bytes old new OutOfMemory within fits reads never = tt
-read_refused sum w cache place len bytes old new InvalidChecksum within fits reads never = never refl
-read_refused sum w cache place len bytes old new OffsetOverflow within fits reads never = omega (arith, fits, reads.1)
-read_refused sum w cache place len bytes old new BlobInsufficientLength within fits reads never = omega (arith, within, reads.2)
-read_refused sum w cache place len bytes old new WriteFailed within fits reads never = reads
-read_refused sum w cache place len bytes old new ResizeFailed within fits reads never = reads
-read_refused sum w cache place len bytes old new SyncFailed within fits reads never = reads
-read_refused sum w cache place len bytes old new IdsExhausted within fits reads never = reads
+pub read_refused : {A : Type 0} (sum : List ℕ → ℕ) (t : Tail) (cache : CacheState) (place len : ℕ) (bytes : A → List ℕ) (old new : Life) (e : Error) → place + len ≤ t.full_pages * t.page_size + length t.bytes → place + len < 2 ^ 64
+    → Reads sum t cache (place, len) bytes old new (Err e) → (e ≡ InvalidChecksum → ⊥) → ReadRefused old new e
+read_refused sum t cache place len bytes old new ReadFailed within fits reads never = reads
+read_refused sum t cache place len bytes old new OutOfMemory within fits reads never = tt
+read_refused sum t cache place len bytes old new InvalidChecksum within fits reads never = never refl
+read_refused sum t cache place len bytes old new OffsetOverflow within fits reads never = omega (arith, fits, reads.1)
+read_refused sum t cache place len bytes old new BlobInsufficientLength within fits reads never = omega (arith, within, reads.2)
+read_refused sum t cache place len bytes old new WriteFailed within fits reads never = reads
+read_refused sum t cache place len bytes old new ResizeFailed within fits reads never = reads
+read_refused sum t cache place len bytes old new SyncFailed within fits reads never = reads
+read_refused sum t cache place len bytes old new IdsExhausted within fits reads never = reads
+
+-- what failed in a later part of a log failed in all of it
+some_behind : (e : Error) (xs ys : List Entry) → SomeFailed e ys → SomeFailed e (xs ++ ys)
+some_behind e [] ys some = some
+some_behind e (x ∷ xs) ys some = inr (some_behind e xs ys some)
+
+failed_later : (e : Error) (a b c : Disk) → LogGrows a b → HasFailed e b c → HasFailed e a c
+failed_later e a b c (first, one) (second, two, some) =
+    (first ++ second, two ∙ ap (λ l. l ++ second) one ∙ append_assoc a.log first second, some_behind e first second some)
 
 -- so is one behind another
 pub refused_later : (old mid new : Life) (e : Error) → Looked old mid → ReadRefused mid new e → ReadRefused old new e
@@ -303,15 +296,15 @@ refused_later old mid new SyncFailed looked refused = refused
 refused_later old mid new IdsExhausted looked refused = refused
 
 -- a frame is read in two reads: how long it is, and all of it
-pub frame_read : (sum : List ℕ → ℕ) (w : WriterState) (cache between : CacheState) (place rest len : ℕ) (head : List ℕ) (old mid new : Life) (result : Result (List ℕ) Error) → OnlyReads sum w cache between old mid
-    → length (drop place (content w old.present.readable)) ≡ rest → ReadsBytes w place (min rest 2) old mid (Ok head) → len ≡ min rest (record_len head + 7) → ReadsBytes w place len mid new result
-    → ReadsFrame w place rest old new result
-frame_read sum w cache between place rest len head old mid new (Ok bytes) left long first is second =
-    let behind = drop place (content w old.present.readable) in
+pub frame_read : (held again : List ℕ) (place rest len : ℕ) (head : List ℕ) (old mid new : Life) (result : Result (List ℕ) Error) → Looked old mid → again ≡ held
+    → length (drop place held) ≡ rest → ReadsBytes held place (min rest 2) old mid (Ok head) → len ≡ min rest (record_len head + 7) → ReadsBytes again place len mid new result
+    → ReadsFrame held place rest old new result
+frame_read held again place rest len head old mid new (Ok bytes) looked same long first is second =
+    let behind = drop place held in
     let said : record_len head ≡ record_len behind = ap record_len first ∙ record_len-front (min rest 2) behind (omega (arith, long)) in
     let n : len ≡ min (frame_len behind) rest = omega arith in
-    second ∙ ap₂ (λ k (l : List ℕ). take k (drop place l)) n left.holds
-frame_read sum w cache between place rest len head old mid new (Err e) left long first is second = refused_later old mid new e left.looked second
+    second ∙ ap₂ (λ k (l : List ℕ). take k (drop place l)) n same
+frame_read held again place rest len head old mid new (Err e) looked same long first is second = refused_later old mid new e looked second
 
 -- the frame at a place
 pub found : (own : List ℕ → ℕ) (content : List ℕ) (place rest : ℕ) (framed : List ℕ) (bytes : Option (List ℕ)) (end : ℕ) → place + rest ≡ length content → 0 < rest
@@ -332,9 +325,9 @@ found own content place rest framed bytes end within some is held behind =
     }
 
 -- a read of the writer's content
-pub read_leaves : (sum : List ℕ → ℕ) (w : WriterState) (cache behind : CacheState) (old new : Life) → IsReady sum w cache old → LeavesAll (tail_of w) cache behind old new → (IsSound sum w old.present → IsSound sum w new.present)
+pub read_leaves : (sum : List ℕ → ℕ) (w : WriterState) (cache behind : CacheState) (old new : Life) → IsReady sum w cache old → LeavesAll (tail_of w) cache behind old new → LeavesTails sum w.full_pages cache behind old new → LeavesOthers w.id cache behind → (IsSound sum w old.present → IsSound sum w new.present)
     → (IsSound sum w old.present → KeepsAllFloors sum w.page_size old new) → (IsSound sum w old.present → LeavesContent sum w.page_size (content w old.present.readable) old new) → OnlyReads sum w cache behind old new
-read_leaves sum w cache behind old new ready leaves sound kept only =
+read_leaves sum w cache behind old new ready leaves tails others sound kept only =
     let held = content w old.present.readable in
     let same : new.present.readable ≡ old.present.readable = ap (λ (d : Disk). d.readable) leaves.looked.same in
     let holds : content w new.present.readable ≡ held = ap (λ (l : List ℕ). content w l) same in
@@ -346,7 +339,8 @@ read_leaves sum w cache behind old new ready leaves sound kept only =
         size = ready.size ∙ ap length (sym holds);
         only = subst (λ (l : List ℕ). AllOnly sum w.page_size l l new.present) (sym holds) (through_end (AllOnly sum w.page_size held held) old new (only ready.sound));
       };
-      others = others_stay w.id 0 held cache behind ready.can.given leaves.cached;
+      tails = tails;
+      others = others;
       holds = holds;
       looked = leaves.looked;
       kept = kept ready.sound;
@@ -359,7 +353,8 @@ reads_start sum w cache life ready =
     let held = content w life.present.readable in
     record {
       ready = ready;
-      others = λ sum w life apart journal. journal;
+      tails = λ t held below stands. stands;
+      others = λ t d apart can. can;
       holds = refl;
       looked = looked_start life;
       kept = λ content floor enough kept. through_start (AllKeep sum w.page_size content floor) life kept;
@@ -372,7 +367,8 @@ reads_join sum w cache between behind old mid new first second =
     let held = content w old.present.readable in
     record {
       ready = second.ready;
-      others = others_join w.id cache between behind first.others second.others;
+      tails = λ t held below stands. second.tails t held below (first.tails t held below stands);
+      others = λ t d apart can. second.others t d apart (first.others t d apart can);
       holds = second.holds ∙ first.holds;
       looked = looked_joins old mid new first.looked second.looked;
       kept = floors_join sum w.page_size old mid new first.kept second.kept;
@@ -453,10 +449,10 @@ trim_refused sum own w cache between behind end old mid new e left is more refus
     inr (mid, left.looked, less, subst (λ (n : ℕ). Truncates sum n w mid new (Err e)) is refused)
 
 -- no frame was read
-pub not_found : (own : List ℕ → ℕ) (w : WriterState) (place rest : ℕ) (old new : Life) (e : Error) (result : Result (Option Found) Error) → IsErrAnd result (λ x. x ≡ e)
-    → ReadsFrame w place rest old new (Err e) → ReadsRecord own w place old new result
-not_found own w place rest old new e (Ok f) is refused = absurd is
-not_found own w place rest old new e (Err x) is refused = subst (λ (y : Error). ReadRefused old new y) (sym is) refused
+pub not_found : (own : List ℕ → ℕ) (held : List ℕ) (place rest : ℕ) (old new : Life) (e : Error) (result : Result (Option Found) Error) → IsErrAnd result (λ x. x ≡ e)
+    → ReadsFrame held place rest old new (Err e) → ReadsRecord own held place old new result
+not_found own held place rest old new e (Ok f) is refused = absurd is
+not_found own held place rest old new e (Err x) is refused = subst (λ (y : Error). ReadRefused old new y) (sym is) refused
 
 -- a floor is one of less, too
 less_kept : (sum : List ℕ → ℕ) (P : ℕ) (content : List ℕ) (floor less : ℕ) (d : Disk) → less ≤ floor → AllKeep sum P content floor d → AllKeep sum P content less d
@@ -562,7 +558,7 @@ recovery_goes sum own cache behind capacity old mid new w now found recovers all
     record {
       page_size = trims.page_size ∙ recovers.page_size;
       id = trims.id ∙ recovered_id sum cache capacity old mid w recovers;
-      journal = record { ready = trims.ready; whole = subst (λ (l : List ℕ). IsWhole l) (sym holds) (whole_is_whole T) };
+      journal = is_journal sum now behind new trims.ready (subst (λ (l : List ℕ). IsWhole l) (sym holds) (whole_is_whole T));
       holds = holds;
       given = given;
       same = given ∙ sym (ap (λ (l : List ℕ). records own l) holds ∙ records-whole own T);

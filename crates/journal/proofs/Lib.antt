@@ -1,3 +1,4 @@
 pub mod Frames
 pub mod Journals
+pub mod Readers
 pub mod Examples

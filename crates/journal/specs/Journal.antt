@@ -15,6 +15,7 @@ use Rattle.crash.specs.Looks.{Looked}
 use Rattle.crash.specs.Sound.{IsSound, LeavesItsContent, content}
 use Rattle.crash.specs.Stays.{KeepsAllFloors, LeavesOnly}
 use Rattle.crash.specs.WriterState.{WriterState}
+use Rattle.paged_read.specs.Snapshots.{LeavesOthers, LeavesTails}
 use Rattle.paged_read.specs.Tail.{CanRead}
 use Rattle.paged.specs.Caches.{tail_of}
 use Rattle.paged.specs.Calls.{IsSameWriter, HasCause}
@@ -38,11 +39,16 @@ pub record IsReady (sum : List ℕ → ℕ) (w : WriterState) (cache : CacheStat
   pub size : size_of w ≡ length (content w life.present.readable)
   pub only : LeavesItsContent sum w life.present
 
--- a journal between two calls: its writer is ready, and its content is whole frames
-pub record IsJournal (sum : List ℕ → ℕ) (w : WriterState) (cache : CacheState) (life : Life)
+-- its writer is ready, and its content is whole frames
+pub record StandsAsJournal (sum : List ℕ → ℕ) (w : WriterState) (cache : CacheState) (life : Life)
     : Type 0 where
   pub ready : IsReady sum w cache life
   pub whole : IsWhole (content w life.present.readable)
+
+-- a journal between two calls. The word for it in contracts: a caller hands it from call to call,
+-- and has no need to see into it
+unfoldable pub IsJournal : (List ℕ → ℕ) → WriterState → CacheState → Life → Type 0
+IsJournal sum w cache life = StandsAsJournal sum w cache life
 
 -- a call over the blob with this id: every other journal that has this cache stays one
 abbrev pub OthersStay : ℕ → CacheState → CacheState → Type 0
@@ -56,16 +62,23 @@ AllStay cache behind =
     (sum : List ℕ → ℕ) (w : WriterState) (life : Life)
     → IsJournal sum w cache life → IsJournal sum w behind life
 
+-- no journal that has this cache has this id
+abbrev pub IsNewId : ℕ → CacheState → Type 0
+IsNewId id cache =
+    (sum : List ℕ → ℕ) (w : WriterState) (life : Life) → IsJournal sum w cache life → w.id ≢ id
+
 -- chance aside, a crash at any moment since leaves of this content a beginning
 abbrev pub LeavesContent : (List ℕ → ℕ) → ℕ → List ℕ → Life → Life → Type 0
 LeavesContent sum P content old new = LeavesOnly sum P content content old new
 
--- reads: the writer is ready again, the content is the same, and a crash at any moment since keeps
--- and leaves what one before them did
+-- reads: the writer is ready again, the content is the same, snapshots and whoever reads other
+-- blobs stand as they stood, and a crash at any moment since keeps and leaves what one before them
+-- did
 pub record OnlyReads (sum : List ℕ → ℕ) (w : WriterState) (cache behind : CacheState)
     (old new : Life) : Type 0 where
   pub ready : IsReady sum w behind new
-  pub others : OthersStay w.id cache behind
+  pub tails : LeavesTails sum w.full_pages cache behind old new
+  pub others : LeavesOthers w.id cache behind
   pub holds : content w new.present.readable ≡ content w old.present.readable
   pub looked : Looked old new
   pub kept : KeepsAllFloors sum w.page_size old new
@@ -155,20 +168,16 @@ ReadRefused old new ReadFailed = HasFailed ReadFailed old.present new.present
 ReadRefused old new OutOfMemory = Unit {0}
 ReadRefused old new _ = ⊥
 
--- a read of bytes within the content
-abbrev pub ReadsBytes : WriterState → (place len : ℕ) → Life → Life → Result (List ℕ) Error
-    → Type 0
-ReadsBytes w place len old new (Ok bytes) =
-    bytes ≡ take len (drop place (content w old.present.readable))
-ReadsBytes w place len old new (Err e) = ReadRefused old new e
+-- a read of bytes within a content
+abbrev pub ReadsBytes : List ℕ → (place len : ℕ) → Life → Life → Result (List ℕ) Error → Type 0
+ReadsBytes content place len old new (Ok bytes) = bytes ≡ take len (drop place content)
+ReadsBytes content place len old new (Err e) = ReadRefused old new e
 
 -- a read of the frame at a place behind which so many bytes stand, where it may be cut short
-abbrev pub ReadsFrame : WriterState → (place rest : ℕ) → Life → Life → Result (List ℕ) Error
-    → Type 0
-ReadsFrame w place rest old new (Ok bytes) =
-    let behind = drop place (content w old.present.readable) in
-    bytes ≡ take (min (frame_len behind) rest) behind
-ReadsFrame w place rest old new (Err e) = ReadRefused old new e
+abbrev pub ReadsFrame : List ℕ → (place rest : ℕ) → Life → Life → Result (List ℕ) Error → Type 0
+ReadsFrame content place rest old new (Ok bytes) =
+    let behind = drop place content in bytes ≡ take (min (frame_len behind) rest) behind
+ReadsFrame content place rest old new (Err e) = ReadRefused old new e
 
 -- the frame that begins at a place of a content: its record, if it is one, the place behind it, and
 -- the records from there on
@@ -180,12 +189,11 @@ pub record IsFound (own : List ℕ → ℕ) (content : List ℕ) (place : ℕ) (
   pub rest : records own (drop place content) ≡ listed bytes ++ records own (drop end content)
 
 -- a read of the frame at a place: none begins at the end or behind it
-abbrev pub ReadsRecord : (own : List ℕ → ℕ) → WriterState → ℕ → Life → Life
+abbrev pub ReadsRecord : (own : List ℕ → ℕ) → List ℕ → ℕ → Life → Life
     → Result (Option Found) Error → Type 0
-ReadsRecord own w place old new (Ok None) = length (content w old.present.readable) ≤ place
-ReadsRecord own w place old new (Ok (Some f)) =
-    IsFound own (content w old.present.readable) place f.bytes f.end
-ReadsRecord own w place old new (Err e) = ReadRefused old new e
+ReadsRecord own content place old new (Ok None) = length content ≤ place
+ReadsRecord own content place old new (Ok (Some f)) = IsFound own content place f.bytes f.end
+ReadsRecord own content place old new (Err e) = ReadRefused old new e
 
 -- a read of all records, and of how many bytes the whole frames have
 abbrev pub ReadsAll : (own : List ℕ → ℕ) → WriterState → Life → Life

@@ -5,6 +5,7 @@ ghost use Rattle.disk.specs.Torn.{torn};
 ghost use Rattle.cache.specs.Pages.{IsFresh};
 ghost use Rattle.journal.specs.Journal.{IsJournal, AllStay};
 ghost use Rattle.journal.specs.Journal.{BringsBack, BringsOnly, StaysCommitted};
+ghost use Rattle.journal.specs.Reader.{EachReaderStays};
 
 use crate::journal::Journal;
 use cache::CacheRef;
@@ -32,6 +33,7 @@ pub fn crash_and_recover<H: Sum, R: Sum>(
     ensures journal { IfOk result (λ r. IsJournal H.sum_of r.0 cache.new (life_of blob.new)) }
     ensures fresh { IsFresh cache.new }
     ensures others { AllStay cache.old cache.new }
+    ensures their_readers { EachReaderStays cache.old cache.new }
     ensures stays { let was = (life_of blob.old).present in let is = (life_of blob.new).present in
         StaysCommitted H.sum_of R.sum_of cache.old.page_size was is }
     ensures kept { let was = (life_of blob.old).present in

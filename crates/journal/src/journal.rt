@@ -11,19 +11,25 @@ ghost use Rattle.paged.specs.Reads.{size_of};
 ghost use Rattle.paged.specs.Truncate.{KeepsFloorsWithin};
 ghost use Rattle.journal.specs.Frame.{whole_frames};
 ghost use Rattle.paged.specs.Caches.{tail_of};
+ghost use Rattle.paged.specs.Snapshots.{MakesSnapshot};
+ghost use Rattle.paged_read.specs.Snapshots.{LeavesOthers, LeavesTails, StandsOn};
 ghost use Rattle.paged_read.specs.Tail.{CanRead};
-ghost use Rattle.journal.specs.Journal.{IsJournal, OthersStay, AllStay};
+ghost use Rattle.journal.specs.Journal.{IsJournal, IsNewId, OthersStay, AllStay};
 ghost use Rattle.journal.specs.Journal.{AppendsRecord, CommitGoes, ReadsBytes};
 ghost use Rattle.journal.specs.Journal.{ReadsFrame, ReadsRecord, ReadsAll, Trims};
 ghost use Rattle.journal.specs.Journal.{RecoversJournal, IsReady, OnlyReads, KeepsCommitted};
 ghost use Rattle.journal.specs.Journal.{LeavesItsRecords, LeavesOneMore, KeepsAllRecords};
 ghost use Rattle.journal.specs.Journal.{LeavesAllRecords, BringsBack};
+ghost use Rattle.journal.specs.Reader.{EachReaderStays, IsNewToReaders, IsReader, MakesReader};
+ghost use Rattle.journal.specs.Reader.{OtherReadersStay, ReadersStay};
 
 use crate::frame::{Found, frame_of, record_at, record_len_of, records_of};
+use crate::reader::Reader;
 use cache::CacheRef;
 use disk::{Blob, Error, IoBuf};
 use page::Sum;
 use paged::{Recovery, Writer};
+use paged_read::Sealed;
 use std::alloc::Global;
 use std::marker::{Model, PhantomData};
 use std::num::NonZeroUsize;
@@ -61,7 +67,7 @@ fn read_bytes<B: Blob, H: Sum, Phase>(
     requires within { place + len ≤ size_of writer.now }
     requires fits { place + len < 2 ^ 64 }
     ensures reads { let old = B.life blob.old in let new = B.life blob.new in
-        ReadsBytes writer.now place len old new result }
+        ReadsBytes (content writer.now old.present.readable) place len old new result }
     ensures leaves { let old = B.life blob.old in let new = B.life blob.new in
         OnlyReads H.sum_of writer.now cache.old cache.new old new }
 {
@@ -99,7 +105,7 @@ fn trim<B: Blob, H: Sum, R: Sum>(
     ensures trims { let old = B.life blob.old in let new = B.life blob.new in
         Trims H.sum_of R.sum_of recovery cache.new old new result }
     ensures fresh { IsFresh cache.new }
-    ensures others { OthersStay recovery.id cache.old cache.new }
+    ensures others { LeavesOthers recovery.id cache.old cache.new }
     ensures kept { let old = B.life blob.old in
         let whole = whole_frames (content recovery old.present.readable) in
         KeepsFloorsWithin (length whole) H.sum_of recovery.page_size old (B.life blob.new) }
@@ -156,7 +162,12 @@ impl<B: Blob, H: Sum, R: Sum> Journal<B, H, R> {
             AppendsRecord H.sum_of R.sum_of self bytes.now cache.new old new result }
         ensures journal { IfOk result (λ r. IsJournal H.sum_of r.0 cache.new (B.life blob.new)) }
         ensures fresh { IsFresh cache.new }
+
+        // The blob's readers go on, and the journals and readers of other blobs.
+        ensures readers { let old = B.life blob.old in let new = B.life blob.new in
+            ReadersStay H.sum_of self cache.old cache.new old new }
         ensures others { OthersStay self.id cache.old cache.new }
+        ensures their_readers { OtherReadersStay self.id cache.old cache.new }
 
         // At each moment since the call began, and at every answer.
         ensures kept { let old = B.life blob.old in let new = B.life blob.new in
@@ -176,7 +187,9 @@ impl<B: Blob, H: Sum, R: Sum> Journal<B, H, R> {
         ensures can { let new = B.life blob.new in
             IfOk result (λ r. CanRead (tail_of r.0) cache.new new.present) }
         ensures fresh { IsFresh cache.new }
-        ensures others { OthersStay self.id cache.old cache.new }
+        ensures tails { let old = B.life blob.old in let new = B.life blob.new in
+            LeavesTails H.sum_of self.full_pages cache.old cache.new old new }
+        ensures others { LeavesOthers self.id cache.old cache.new }
         ensures kept { KeepsAllFloors H.sum_of self.page_size (B.life blob.old) (B.life blob.new) }
         ensures only { let old = B.life blob.old in
             let held = content self old.present.readable in
@@ -199,7 +212,12 @@ impl<B: Blob, H: Sum, R: Sum> Journal<B, H, R> {
             CommitGoes H.sum_of R.sum_of self cache.new old new result }
         ensures journal { IfOk result (λ j. IsJournal H.sum_of j cache.new (B.life blob.new)) }
         ensures fresh { IsFresh cache.new }
+
+        // The blob's readers go on, and the journals and readers of other blobs.
+        ensures readers { let old = B.life blob.old in let new = B.life blob.new in
+            ReadersStay H.sum_of self cache.old cache.new old new }
         ensures others { OthersStay self.id cache.old cache.new }
+        ensures their_readers { OtherReadersStay self.id cache.old cache.new }
 
         // At each moment since the call began, and at every answer.
         ensures kept { let old = B.life blob.old in let new = B.life blob.new in
@@ -216,7 +234,9 @@ impl<B: Blob, H: Sum, R: Sum> Journal<B, H, R> {
         ensures can { let new = B.life blob.new in
             IfOk result (λ w. CanRead (tail_of w) cache.new new.present) }
         ensures fresh { IsFresh cache.new }
-        ensures others { OthersStay self.id cache.old cache.new }
+        ensures tails { let old = B.life blob.old in let new = B.life blob.new in
+            LeavesTails H.sum_of self.full_pages cache.old cache.new old new }
+        ensures others { LeavesOthers self.id cache.old cache.new }
         ensures durable { let held = content self (B.life blob.old).present.readable in
             OnOk result (KeepsAll H.sum_of self.page_size held (B.life blob.new)) }
         ensures kept { KeepsAllFloors H.sum_of self.page_size (B.life blob.old) (B.life blob.new) }
@@ -226,6 +246,61 @@ impl<B: Blob, H: Sum, R: Sum> Journal<B, H, R> {
         let alloc = self.alloc;
         match self.writer.sync(blob, cache) {
             Ok(writer) => Ok(Journal::new(alloc, writer)),
+            Err(error) => Err(error),
+        }
+    }
+
+    /// A reader of the records that the journal has now, and the journal, which goes on. What is
+    /// buffered of whole pages is written for it, without a sync; so nothing is committed by it.
+    ///
+    /// `WriteFailed` where the device failed, `OutOfMemory`. The journal is gone then.
+    pub fn reader(
+        self,
+        blob: &mut B,
+        cache: &mut CacheRef,
+    ) -> Result<(Self, Reader<B, H, R>), Error>
+        requires journal { IsJournal H.sum_of self cache.old (B.life blob.old) }
+        ensures makes { let old = B.life blob.old in let new = B.life blob.new in
+            MakesReader H.sum_of R.sum_of self cache.new old new result }
+        ensures journal { IfOk result (λ r. IsJournal H.sum_of r.0 cache.new (B.life blob.new)) }
+        ensures reader { IfOk result (λ r. IsReader H.sum_of r.1 cache.new (B.life blob.new)) }
+        ensures fresh { IsFresh cache.new }
+
+        // The blob's readers go on, and the journals and readers of other blobs.
+        ensures readers { let old = B.life blob.old in let new = B.life blob.new in
+            ReadersStay H.sum_of self cache.old cache.new old new }
+        ensures others { OthersStay self.id cache.old cache.new }
+        ensures their_readers { OtherReadersStay self.id cache.old cache.new }
+
+        // At each moment since the call began, and at every answer.
+        ensures kept { let old = B.life blob.old in let new = B.life blob.new in
+            KeepsCommitted H.sum_of R.sum_of self.page_size old new }
+        ensures only { LeavesItsRecords H.sum_of R.sum_of self (B.life blob.old) (B.life blob.new) }
+    {
+        let (journal, snapshot) = self.snapshot(blob, cache)?;
+        Ok((journal, Reader::new(snapshot)))
+    }
+
+    // A snapshot of the content.
+    fn snapshot(self, blob: &mut B, cache: &mut CacheRef) -> Result<(Self, Sealed<B, H>), Error>
+        requires ready { IsReady H.sum_of self cache.old (B.life blob.old) }
+        ensures makes { let old = B.life blob.old in let new = B.life blob.new in
+            MakesSnapshot H.sum_of self old new result }
+        ensures can { let new = B.life blob.new in
+            IfOk result (λ r. CanRead (tail_of r.0) cache.new new.present) }
+        ensures stands { let held = content self (B.life blob.old).present.readable in
+            IfOk result (λ r. StandsOn H.sum_of r.1 held cache.new (B.life blob.new).present) }
+        ensures fresh { IsFresh cache.new }
+        ensures tails { let old = B.life blob.old in let new = B.life blob.new in
+            LeavesTails H.sum_of self.full_pages cache.old cache.new old new }
+        ensures others { LeavesOthers self.id cache.old cache.new }
+        ensures kept { KeepsAllFloors H.sum_of self.page_size (B.life blob.old) (B.life blob.new) }
+        ensures only { let held = content self (B.life blob.old).present.readable in
+            LeavesOnly H.sum_of self.page_size held held (B.life blob.old) (B.life blob.new) }
+    {
+        let alloc = self.alloc;
+        match self.writer.snapshot(blob, cache) {
+            Ok((writer, snapshot)) => Ok((Journal::new(alloc, writer), snapshot)),
             Err(error) => Err(error),
         }
     }
@@ -242,7 +317,7 @@ impl<B: Blob, H: Sum, R: Sum> Journal<B, H, R> {
         requires within { place + len ≤ size_of self.now }
         requires fits { place + len < 2 ^ 64 }
         ensures reads { let old = B.life blob.old in let new = B.life blob.new in
-            ReadsBytes self.now place len old new result }
+            ReadsBytes (content self.now old.present.readable) place len old new result }
         ensures leaves { let old = B.life blob.old in let new = B.life blob.new in
             OnlyReads H.sum_of self.now cache.old cache.new old new }
     {
@@ -271,7 +346,12 @@ impl<B: Blob, H: Sum, R: Sum> Journal<B, H, R> {
             RecoversJournal H.sum_of R.sum_of cache.old cache.new capacity old new result }
         ensures journal { IfOk result (λ r. IsJournal H.sum_of r.0 cache.new (B.life blob.new)) }
         ensures fresh { IsFresh cache.new }
+
+        // The journals and readers of other blobs go on, and the id is none of theirs.
         ensures others { AllStay cache.old cache.new }
+        ensures their_readers { EachReaderStays cache.old cache.new }
+        ensures apart { IfOk result (λ r. IsNewId r.0.id cache.old) }
+        ensures readers_apart { IfOk result (λ r. IsNewToReaders r.0.id cache.old) }
 
         ensures back { let was = (B.life blob.old).present in
             IfOk result (λ r. BringsBack H.sum_of R.sum_of cache.old.page_size was r.1.items) }
@@ -303,7 +383,7 @@ impl<B: Blob, H: Sum, R: Sum> Journal<B, H, R> {
         requires within { place + rest ≡ size_of self.now }
         requires fits { place + rest < 2 ^ 64 }
         ensures reads { let old = B.life blob.old in let new = B.life blob.new in
-            ReadsFrame self.now place rest old new result }
+            ReadsFrame (content self.now old.present.readable) place rest old new result }
         ensures leaves { let old = B.life blob.old in let new = B.life blob.new in
             OnlyReads H.sum_of self.now cache.old cache.new old new }
     {
@@ -316,7 +396,7 @@ impl<B: Blob, H: Sum, R: Sum> Journal<B, H, R> {
     fn find(&self, blob: &mut B, cache: &mut CacheRef, place: u64) -> Result<Option<Found>, Error>
         requires ready { IsReady H.sum_of self.now cache.old (B.life blob.old) }
         ensures reads { let old = B.life blob.old in let new = B.life blob.new in
-            ReadsRecord R.sum_of self.now place old new result }
+            ReadsRecord R.sum_of (content self.now old.present.readable) place old new result }
         ensures leaves { let old = B.life blob.old in let new = B.life blob.new in
             OnlyReads H.sum_of self.now cache.old cache.new old new }
     {
@@ -346,10 +426,16 @@ impl<B: Blob, H: Sum, R: Sum> Journal<B, H, R> {
     ) -> Result<Option<Found>, Error>
         requires journal { IsJournal H.sum_of self.now cache.old (B.life blob.old) }
         ensures reads { let old = B.life blob.old in let new = B.life blob.new in
-            ReadsRecord R.sum_of self.now place old new result }
+            ReadsRecord R.sum_of (content self.now old.present.readable) place old new result }
         ensures looked { Looked (B.life blob.old) (B.life blob.new) }
         ensures journal { IsJournal H.sum_of self.now cache.new (B.life blob.new) }
+        ensures fresh { IsFresh cache.new }
+
+        // The blob's readers go on, and the journals and readers of other blobs.
+        ensures readers { let old = B.life blob.old in let new = B.life blob.new in
+            ReadersStay H.sum_of self.now cache.old cache.new old new }
         ensures others { OthersStay self.now.id cache.old cache.new }
+        ensures their_readers { OtherReadersStay self.now.id cache.old cache.new }
 
         // At each moment since the call began, and at every answer.
         ensures kept { let old = B.life blob.old in let new = B.life blob.new in

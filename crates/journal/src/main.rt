@@ -11,6 +11,7 @@ ghost use Rattle.cache.specs.Pages.{IsFresh};
 mod crashes;
 mod frame;
 mod journal;
+mod reader;
 #[cfg(test)]
 mod tests;
 

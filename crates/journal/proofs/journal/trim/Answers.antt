@@ -2,7 +2,7 @@ use Rattle.std.proofs.Common.{◌≡◌, ◌+◌, ◌*◌, length, subst, ℕ, a
 use Rattle.crash.specs.Sound.{content}
 use Rattle.paged.specs.Truncate.{KeepsFloorsWithin}
 use Rattle.journal.specs.Frame.{whole_frames}
-use Rattle.journal.proofs.Journals.{others_stay, others_join, leaves_or, floors_within, within_join, trim_leaves, trim_goes, trim_stays, trim_refused}
+use Rattle.journal.proofs.Journals.{leaves_or, floors_within, within_join, trim_leaves, trim_goes, trim_stays, trim_refused}
 use Rattle.journal.proofs.journal.trim.Goals as goal
 
 pub returns-in_err-found-clause-only : goal.returns-in_err-found-clause-only
@@ -79,12 +79,8 @@ returns-in-Ok-clause-fresh g c =
     c.truncate.ensures.fresh_ids ready.can.given ready.fresh
 
 pub returns-in-Ok-clause-others : goal.returns-in-Ok-clause-others
-returns-in-Ok-clause-others g c =
-    let left = c.read_all.ensures.leaves in
-    let w = c.args.recovery in
-    let held = content w (g.B.Blob.life c.read_all.new.blob).present.readable in
-    others_join w.id c.args.cache.now c.read_all.new.cache c.truncate.new.cache left.others
-    (others_stay w.id w.full_pages held c.read_all.new.cache c.truncate.new.cache left.ready.can.given (c.truncate.ensures.caches left.ready.sound))
+returns-in-Ok-clause-others g c = λ t d apart can.
+    c.truncate.ensures.others t d apart (c.read_all.ensures.leaves.others t d apart can)
 
 pub returns-in-Err-clause-fresh : goal.returns-in-Err-clause-fresh
 returns-in-Err-clause-fresh g c =
@@ -92,9 +88,5 @@ returns-in-Err-clause-fresh g c =
     c.truncate.ensures.fresh_ids ready.can.given ready.fresh
 
 pub returns-in-Err-clause-others : goal.returns-in-Err-clause-others
-returns-in-Err-clause-others g c =
-    let left = c.read_all.ensures.leaves in
-    let w = c.args.recovery in
-    let held = content w (g.B.Blob.life c.read_all.new.blob).present.readable in
-    others_join w.id c.args.cache.now c.read_all.new.cache c.truncate.new.cache left.others
-    (others_stay w.id w.full_pages held c.read_all.new.cache c.truncate.new.cache left.ready.can.given (c.truncate.ensures.caches left.ready.sound))
+returns-in-Err-clause-others g c = λ t d apart can.
+    c.truncate.ensures.others t d apart (c.read_all.ensures.leaves.others t d apart can)

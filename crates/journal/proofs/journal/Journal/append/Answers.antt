@@ -3,8 +3,7 @@ use Rattle.crash.specs.Sound.{content}
 use Rattle.crash.specs.Stays.{KeepsAllFloors}
 use Rattle.crash.specs.WriterState.{WriterState}
 use Rattle.paged.specs.Calls.{Appends}
-use Rattle.journal.specs.Journal.{OthersStay}
-use Rattle.journal.proofs.Journals.{others_stay}
+use Rattle.paged_read.specs.Snapshots.{LeavesOthers, LeavesTails}
 use Rattle.journal.proofs.journal.Journal.append.Goals as goal
 
 pub returns-in-Ok-clause-kept : goal.returns-in-Ok-clause-kept
@@ -22,16 +21,16 @@ returns-in-Err-clause-kept g c =
     let old = g.B.Blob.life c.args.blob.now in
     subst (λ (w : WriterState). KeepsAllFloors g.H.Sum.sum_of w.page_size old (g.B.Blob.life c.append.new.blob)) c.self.view_is c.append.ensures.kept
 
+pub returns-in-Ok-clause-tails : goal.returns-in-Ok-clause-tails
+returns-in-Ok-clause-tails g c =
+    subst (λ (v : WriterState). LeavesTails g.H.Sum.sum_of v.full_pages c.args.cache.now c.append.new.cache (g.B.Blob.life c.args.blob.now) (g.B.Blob.life c.append.new.blob)) c.self.view_is c.append.ensures.tails
+
+pub returns-in-Err-clause-tails : goal.returns-in-Err-clause-tails
+returns-in-Err-clause-tails g c =
+    subst (λ (v : WriterState). LeavesTails g.H.Sum.sum_of v.full_pages c.args.cache.now c.append.new.cache (g.B.Blob.life c.args.blob.now) (g.B.Blob.life c.append.new.blob)) c.self.view_is c.append.ensures.tails
+
 pub returns-in-Ok-clause-others : goal.returns-in-Ok-clause-others
-returns-in-Ok-clause-others g c =
-    let w = c.self.inside.writer in
-    let all = content w (g.B.Blob.life c.args.blob.now).present.readable ++ c.args.bytes.now in
-    let given : w.id < c.args.cache.now.ids_given = omega (arith, c.requires.ready.can.given, ap (λ (v : WriterState). v.id) c.self.view_is) in
-    subst (λ (v : WriterState). OthersStay v.id c.args.cache.now c.append.new.cache) c.self.view_is (others_stay w.id w.full_pages all c.args.cache.now c.append.new.cache given c.append.ensures.caches)
+returns-in-Ok-clause-others g c = subst (λ (v : WriterState). LeavesOthers v.id c.args.cache.now c.append.new.cache) c.self.view_is c.append.ensures.others
 
 pub returns-in-Err-clause-others : goal.returns-in-Err-clause-others
-returns-in-Err-clause-others g c =
-    let w = c.self.inside.writer in
-    let all = content w (g.B.Blob.life c.args.blob.now).present.readable ++ c.args.bytes.now in
-    let given : w.id < c.args.cache.now.ids_given = omega (arith, c.requires.ready.can.given, ap (λ (v : WriterState). v.id) c.self.view_is) in
-    subst (λ (v : WriterState). OthersStay v.id c.args.cache.now c.append.new.cache) c.self.view_is (others_stay w.id w.full_pages all c.args.cache.now c.append.new.cache given c.append.ensures.caches)
+returns-in-Err-clause-others g c = subst (λ (v : WriterState). LeavesOthers v.id c.args.cache.now c.append.new.cache) c.self.view_is c.append.ensures.others

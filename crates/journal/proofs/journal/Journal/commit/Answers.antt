@@ -1,11 +1,12 @@
 use Rattle.crash.specs.Sound.{content}
 use Rattle.journal.specs.Frame.{records}
-use Rattle.journal.proofs.Journals.{commit_goes, commit_gives, keeps_committed, leaves_records, prefix_of_itself}
+use Rattle.journal.proofs.Journals.{commit_goes, commit_gives, keeps_committed, leaves_records, prefix_of_itself, others_stay, ready_of, whole_of}
+use Rattle.journal.proofs.Readers.{other_readers_stay, readers_stay}
 use Rattle.journal.proofs.journal.Journal.commit.Goals as goal
 
 pub returns-clause-commits : goal.returns-clause-commits
 returns-clause-commits g c =
-    commit_goes g.H.Sum.sum_of g.R.Sum.sum_of c.args.self c.sync.new.cache (g.B.Blob.life c.args.blob.now) (g.B.Blob.life c.sync.new.blob) c.sync.result c.requires.journal.whole
+    commit_goes g.H.Sum.sum_of g.R.Sum.sum_of c.args.self c.sync.new.cache (g.B.Blob.life c.args.blob.now) (g.B.Blob.life c.sync.new.blob) c.sync.result (whole_of g.H.Sum.sum_of c.args.self c.args.cache.now (g.B.Blob.life c.args.blob.now) c.requires.journal)
     c.sync.ensures.syncs c.sync.ensures.can c.sync.ensures.fresh c.sync.ensures.durable
 
 pub returns-clause-journal : goal.returns-clause-journal
@@ -23,3 +24,16 @@ returns-clause-only g c =
     let held = content c.args.self old.present.readable in
     leaves_records g.H.Sum.sum_of own c.args.self.page_size held held (records own held) old (g.B.Blob.life c.sync.new.blob)
     (prefix_of_itself (records own held)) (prefix_of_itself (records own held)) c.sync.ensures.only
+
+pub sync-requires : goal.sync-requires
+sync-requires g c = record { ready = ready_of g.H.Sum.sum_of c.args.self c.args.cache.now (g.B.Blob.life c.args.blob.now) c.requires.journal }
+
+pub returns-clause-readers : goal.returns-clause-readers
+returns-clause-readers g c =
+    readers_stay g.H.Sum.sum_of c.args.self c.args.cache.now c.sync.new.cache (g.B.Blob.life c.args.blob.now) (g.B.Blob.life c.sync.new.blob) c.sync.ensures.tails
+
+pub returns-clause-others : goal.returns-clause-others
+returns-clause-others g c = others_stay c.args.self.id c.args.cache.now c.sync.new.cache c.sync.ensures.others (λ fresh. c.sync.ensures.fresh)
+
+pub returns-clause-their_readers : goal.returns-clause-their_readers
+returns-clause-their_readers g c = other_readers_stay c.args.self.id c.args.cache.now c.sync.new.cache c.sync.ensures.others

@@ -22,5 +22,5 @@ returns-clause-reads g c =
 
 pub returns-in_err-framed-clause-reads : goal.returns-in_err-framed-clause-reads
 returns-in_err-framed-clause-reads g c =
-    not_found g.R.Sum.sum_of c.args.self.now c.args.place (c.size-size.result - c.args.place) (g.B.Blob.life c.args.blob.now) (g.B.Blob.life c.read_frame.new.blob)
+    not_found g.R.Sum.sum_of (content c.args.self.now (g.B.Blob.life c.args.blob.now).present.readable) c.args.place (c.size-size.result - c.args.place) (g.B.Blob.life c.args.blob.now) (g.B.Blob.life c.read_frame.new.blob)
     c.in_err-framed.field-0.0 c.from_residual.result c.from_residual.ensures.1 c.in_err-framed.ensures.reads

@@ -14,8 +14,9 @@ returns-clause-reads g c =
     let head = c.in_ok-head.ensures.reads in
     let said : c.min-len.result ≡ min c.args.rest (record_len c.in_ok-head.head + 7) =
     c.min-len.ensures ∙ ap (λ n. min c.args.rest (n + 7)) (c.record_len_of.ensures.len ∙ ap record_len c.as_ref.ensures) in
-    frame_read g.H.Sum.sum_of w c.args.cache.now c.read.new.cache c.args.place c.args.rest c.min-len.result c.in_ok-head.head old (g.B.Blob.life c.read.new.blob) (g.B.Blob.life c.read-2.new.blob) c.read-2.result
-    c.read.ensures.leaves long (head ∙ ap (λ n. take n (drop c.args.place held)) c.min.ensures) said c.read-2.ensures.reads
+    let left = c.read.ensures.leaves in
+    frame_read held (content w (g.B.Blob.life c.read.new.blob).present.readable) c.args.place c.args.rest c.min-len.result c.in_ok-head.head old (g.B.Blob.life c.read.new.blob) (g.B.Blob.life c.read-2.new.blob) c.read-2.result
+    left.looked left.holds long (head ∙ ap (λ n. take n (drop c.args.place held)) c.min.ensures) said c.read-2.ensures.reads
 
 pub returns-clause-leaves : goal.returns-clause-leaves
 returns-clause-leaves g c =

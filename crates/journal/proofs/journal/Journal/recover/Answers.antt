@@ -3,8 +3,10 @@ use Rattle.page.specs.Page.{text}
 use Rattle.crash.specs.WriterState.{WriterState}
 use Rattle.paged.specs.Truncate.{KeepsFloorsWithin}
 use Rattle.journal.specs.Frame.{records, whole_frames}
-use Rattle.journal.specs.Journal.{AllStay, HasRecovered, KeepsCommitted, KeepsAllRecords, LeavesAllRecords, BringsBack}
-use Rattle.journal.proofs.Journals.{recovery_stays, all_stay, recovered_id, recovery_goes, recovery_refused, recovered_keeps, recovered_leaves, commits_through, keeps_committed, trim_commits, brings_back, leaves_records, prefix_of_itself}
+use Rattle.journal.specs.Journal.{AllStay, OthersStay, HasRecovered, KeepsCommitted, KeepsAllRecords, LeavesAllRecords, BringsBack}
+use Rattle.journal.proofs.Journals.{recovery_stays, all_stay, new_id, others_stay, recovered_id, recovery_goes, recovery_refused, recovered_keeps, recovered_leaves, commits_through, keeps_committed, trim_commits, brings_back, leaves_records, prefix_of_itself}
+use Rattle.journal.specs.Reader.{EachReaderStays}
+use Rattle.journal.proofs.Readers.{each_reader_stays, each_reader_still, new_to_readers, other_readers_stay}
 use Rattle.journal.proofs.journal.Journal.recover.Given.{Over}
 use Rattle.journal.proofs.journal.Journal.recover.Goals as goal
 use Rattle.journal.proofs.journal.Journal.recover.Goals.{After-trim}
@@ -118,7 +120,10 @@ returns-clause-back g c =
 
 pub returns-in_err-recovery-clause-others : goal.returns-in_err-recovery-clause-others
 returns-in_err-recovery-clause-others g c =
-    recovery_stays c.recover.result c.args.cache.now c.recover.new.cache c.recover.ensures.ids
+    recovery_stays c.args.cache.now c.recover.new.cache c.recover.ensures.others c.recover.ensures.fresh_ids
+
+pub returns-in_err-recovery-clause-their_readers : goal.returns-in_err-recovery-clause-their_readers
+returns-in_err-recovery-clause-their_readers g c = each_reader_stays c.args.cache.now c.recover.new.cache c.recover.ensures.others
 
 -- the recovered writer is ready to be read
 pub trim-requires : goal.trim-requires
@@ -134,18 +139,40 @@ trim-requires g c =
       };
     }
 
--- the other journals stay
+-- the other journals stay, and the readers of other blobs
+recovered-id : (g : Over) (c : After-trim g) → c.in_ok-recovery.recovery.id ≡ c.args.cache.now.ids_given
+recovered-id g c =
+    recovered_id g.H.Sum.sum_of c.args.cache.now c.args.capacity (g.B.Blob.life c.args.blob.now) (g.B.Blob.life c.recover.new.blob) c.in_ok-recovery.recovery c.in_ok-recovery.ensures.recovers
+
 trim-others : (g : Over) (c : After-trim g) → AllStay c.args.cache.now c.trim.new.cache
 trim-others g c =
     let was = c.args.cache.now in
-    let w = c.in_ok-recovery.recovery in
-    let old = g.B.Blob.life c.args.blob.now in
-    let mid = g.B.Blob.life c.recover.new.blob in
-    let first : AllStay was c.recover.new.cache = recovery_stays c.recover.result was c.recover.new.cache c.recover.ensures.ids in
-    all_stay w.id was c.recover.new.cache c.trim.new.cache (recovered_id g.H.Sum.sum_of was c.args.capacity old mid w c.in_ok-recovery.ensures.recovers) first c.trim.ensures.others
+    let id = c.in_ok-recovery.recovery.id in
+    let first : AllStay was c.recover.new.cache = recovery_stays was c.recover.new.cache c.recover.ensures.others c.recover.ensures.fresh_ids in
+    let then_stays : OthersStay id c.recover.new.cache c.trim.new.cache = others_stay id c.recover.new.cache c.trim.new.cache c.trim.ensures.others (λ fresh. c.trim.ensures.fresh) in
+    all_stay id was c.recover.new.cache c.trim.new.cache (recovered-id g c) first then_stays
+
+trim-readers : (g : Over) (c : After-trim g) → EachReaderStays c.args.cache.now c.trim.new.cache
+trim-readers g c =
+    let was = c.args.cache.now in
+    let id = c.in_ok-recovery.recovery.id in
+    let first : EachReaderStays was c.recover.new.cache = each_reader_stays was c.recover.new.cache c.recover.ensures.others in
+    each_reader_still id was c.recover.new.cache c.trim.new.cache (recovered-id g c) first (other_readers_stay id c.recover.new.cache c.trim.new.cache c.trim.ensures.others)
 
 pub returns-in_err-recovery-2-clause-others : goal.returns-in_err-recovery-2-clause-others
 returns-in_err-recovery-2-clause-others g c = trim-others g (goal.at.returns-in_err-recovery-2-clause-others g c).After-trim
 
+pub returns-in_err-recovery-2-clause-their_readers : goal.returns-in_err-recovery-2-clause-their_readers
+returns-in_err-recovery-2-clause-their_readers g c = trim-readers g (goal.at.returns-in_err-recovery-2-clause-their_readers g c).After-trim
+
 pub returns-clause-others : goal.returns-clause-others
 returns-clause-others g c = trim-others g (goal.at.returns-clause-others g c).After-trim
+
+pub returns-clause-their_readers : goal.returns-clause-their_readers
+returns-clause-their_readers g c = trim-readers g (goal.at.returns-clause-their_readers g c).After-trim
+
+pub returns-clause-apart : goal.returns-clause-apart
+returns-clause-apart g c = new_id c.new.result.id c.args.cache.now (returns-clause-recovers g c).id
+
+pub returns-clause-readers_apart : goal.returns-clause-readers_apart
+returns-clause-readers_apart g c = new_to_readers c.new.result.id c.args.cache.now (returns-clause-recovers g c).id

@@ -1,0 +1,246 @@
+-- What a journal's calls leave to readers, and what a reader's reads do.
+use Rattle.std.proofs.Common.{◌≡◌, ◌≢◌, ℕ, ◌+◌, ◌-◌, ◌^◌, ◌<◌, ◌≤◌, List, [], ◌∷◌, ◌++◌, length, take, drop, refl, sym, ap, ◌∙◌, subst, append-nil, arith, Ok, Err, Result}
+use Rattle.std.specs.Prelude.{Option, Some, None, is_some, false, IfOk}
+use Rattle.std.specs.Result.{IsErrAnd}
+use Rattle.std.proofs.lemmas.List.{drop_all}
+use Rattle.disk.specs.Disk.{Disk, Life, IsImage}
+use Rattle.disk.specs.declared.error.Error.{Error}
+use Rattle.cache.specs.CacheState.{CacheState}
+use Rattle.cache.specs.Pages.{IsFresh}
+use Rattle.crash.specs.Guard.{IsChanceFree}
+use Rattle.crash.specs.Kept.{AllKeep, AllOnly, Through}
+use Rattle.crash.specs.Looks.{Looked, SameButLog, looked_start, looked_joins}
+use Rattle.crash.specs.Moments.{through_then}
+use Rattle.crash.specs.Sound.{IsSound, content}
+use Rattle.crash.specs.Stays.{KeepsAllFloors, LeavesOnly}
+use Rattle.crash.specs.WriterState.{WriterState}
+use Rattle.paged_read.specs.Ranges.{LeavesAll}
+use Rattle.paged_read.specs.Snapshots.{LeavesAllTails, LeavesOthers, LeavesReads, LeavesTails, LeavesWriters, StandsOn}
+use Rattle.paged_read.specs.Tail.{Tail, CanRead, HasFullPages, told, size_of}
+use Rattle.paged.specs.Caches.{tail_of}
+use Rattle.paged.specs.Calls.{GoesOn}
+use Rattle.journal.specs.declared.frame.Found.{Found}
+use Rattle.journal.specs.Frame.{IsWhole, listed, records}
+use Rattle.journal.specs.Journal.{IsFound, IsJournal, ReadRefused}
+use Rattle.journal.specs.Reader.{ReaderState, AllReadersStay, EachReaderStays, FindsNext, IsNewToReaders, IsNext, IsOpen, HasReader, IsReader, JournalsStay, LeavesTheirRecords, OnlyLooks, OtherReadersStay, ReadersStay, left, read_over}
+use Rattle.journal.proofs.Frames.{records-none}
+use Rattle.journal.proofs.Journals.{gone_on, is_journal, leaves_records, prefix_of_itself, ready_of, refused_later, whole_of}
+
+-- what a reader stands on
+pub opened_by : (sum : List ℕ → ℕ) (r : ReaderState) (cache : CacheState) (life : Life) → IsReader sum r cache life → IsOpen sum r.tail cache life
+unfolding IsReader
+opened_by sum r cache life reader = reader
+
+pub is_reader : (sum : List ℕ → ℕ) (r : ReaderState) (cache : CacheState) (life : Life) → IsOpen sum r.tail cache life → IsReader sum r cache life
+unfolding IsReader
+is_reader sum r cache life opened = opened
+
+-- ---- what stays
+
+-- a snapshot that stands where it stood tells what it told
+module _ (sum : List ℕ → ℕ) (t : Tail) (cache behind : CacheState) (old new : Life) (opened : IsOpen sum t cache old)
+    (stands : StandsOn sum t (told t old.present.readable) behind new.present) where
+  pub still_tells : told t new.present.readable ≡ told t old.present.readable
+  still_tells = stands.tail.is
+
+  pub still_open : IsOpen sum t behind new
+  still_open = record {
+    stands = subst (λ (l : List ℕ). StandsOn sum t l behind new.present) (sym still_tells) stands;
+    size = opened.size ∙ sym (ap length still_tells);
+  }
+
+-- a call of a journal leaves the readers of its blob
+pub readers_stay : (sum : List ℕ → ℕ) (w : WriterState) (cache behind : CacheState) (old new : Life) → LeavesTails sum w.full_pages cache behind old new → ReadersStay sum w cache behind old new
+readers_stay sum w cache behind old new leaves = λ r below reader.
+    let opened = opened_by sum r cache old reader in
+    let stands = leaves r.tail (read_over r old) below opened.stands in
+    record {
+      reader = is_reader sum r behind new (still_open sum r.tail cache behind old new opened stands);
+      holds = still_tells sum r.tail cache behind old new opened stands;
+    }
+
+-- a read leaves all of them
+pub all_readers_stay : (sum : List ℕ → ℕ) (cache behind : CacheState) (old new : Life) → LeavesAllTails sum cache behind old new → AllReadersStay sum cache behind old new
+all_readers_stay sum cache behind old new leaves = λ r reader.
+    let opened = opened_by sum r cache old reader in
+    let stands = leaves r.tail (read_over r old) opened.stands in
+    record {
+      reader = is_reader sum r behind new (still_open sum r.tail cache behind old new opened stands);
+      holds = still_tells sum r.tail cache behind old new opened stands;
+    }
+
+-- a call of another blob leaves a reader
+pub other_readers_stay : (id : ℕ) (cache behind : CacheState) → LeavesOthers id cache behind → OtherReadersStay id cache behind
+unfolding IsReader
+other_readers_stay id cache behind leaves = λ sum r life apart reader. record {
+  stands = record { tail = reader.stands.tail; can = leaves r.tail life.present apart reader.stands.can };
+  size = reader.size;
+}
+
+-- so does a call that leaves the reads of each blob
+pub each_reader_stays : (cache behind : CacheState) → LeavesReads cache behind → EachReaderStays cache behind
+unfolding IsReader
+each_reader_stays cache behind leaves = λ sum r life reader. record {
+  stands = record { tail = reader.stands.tail; can = leaves r.tail life.present reader.stands.can };
+  size = reader.size;
+}
+
+-- no reader is of a blob whose id is still to come
+pub new_to_readers : (id : ℕ) (cache : CacheState) → id ≡ cache.ids_given → IsNewToReaders id cache
+new_to_readers id cache is = λ sum r life reader same. omega (arith, is, same, (opened_by sum r cache life reader).stands.can.given)
+
+-- what follows a recovery leaves each reader: none is of its blob
+pub each_reader_still : (id : ℕ) (cache mid behind : CacheState) → id ≡ cache.ids_given → EachReaderStays cache mid → OtherReadersStay id mid behind → EachReaderStays cache behind
+each_reader_still id cache mid behind is first second = λ sum r life reader.
+    second sum r life (new_to_readers id cache is sum r life reader) (first sum r life reader)
+
+-- ---- reads of a snapshot
+
+-- a read
+pub read_looks : (sum : List ℕ → ℕ) (t : Tail) (cache behind : CacheState) (old new : Life) → IsOpen sum t cache old → LeavesAll t cache behind old new → LeavesWriters sum old new → LeavesAllTails sum cache behind old new
+    → LeavesOthers t.id cache behind → OnlyLooks sum t cache behind old new
+read_looks sum t cache behind old new opened leaves writers tails others =
+    let stands = tails t (told t old.present.readable) opened.stands in
+    record {
+      opened = still_open sum t cache behind old new opened stands;
+      holds = still_tells sum t cache behind old new opened stands;
+      looked = leaves.looked;
+      sound = λ w sound. (writers w sound).sound;
+      tails = tails;
+      others = others;
+      fresh = leaves.fresh;
+    }
+
+-- no read
+pub looks_start : (sum : List ℕ → ℕ) (t : Tail) (cache : CacheState) (life : Life) → IsOpen sum t cache life → OnlyLooks sum t cache cache life life
+looks_start sum t cache life opened = record {
+  opened = opened;
+  holds = refl;
+  looked = looked_start life;
+  sound = λ w sound. sound;
+  tails = λ u held stands. stands;
+  others = λ u d apart can. can;
+  fresh = λ fresh. fresh;
+}
+
+-- one after another
+pub looks_join : (sum : List ℕ → ℕ) (t : Tail) (cache between behind : CacheState) (old mid new : Life) → OnlyLooks sum t cache between old mid → OnlyLooks sum t between behind mid new → OnlyLooks sum t cache behind old new
+looks_join sum t cache between behind old mid new first second = record {
+  opened = second.opened;
+  holds = second.holds ∙ first.holds;
+  looked = looked_joins old mid new first.looked second.looked;
+  sound = λ w sound. second.sound w (first.sound w sound);
+  tails = λ u held stands. second.tails u held (first.tails u held stands);
+  others = λ u d apart can. second.others u d apart (first.others u d apart can);
+  fresh = λ fresh. second.fresh (first.fresh fresh);
+}
+
+-- ---- a crash behind such reads
+
+-- a disk that is the same but for its log has the same images
+image_before : (d e : Disk) (image : List ℕ) → SameButLog d e → IsImage e image → IsImage d image
+image_before d e image same is =
+    let i : IsImage (record d { log = e.log }) image = subst (λ (x : Disk). IsImage x image) same is in
+    record { no_shorter = i.no_shorter; no_longer = i.no_longer; each = i.each }
+
+pub looked_keeps : (sum : List ℕ → ℕ) (P : ℕ) (old new : Life) → Looked old new → KeepsAllFloors sum P old new
+looked_keeps sum P old new looked = λ content floor enough kept.
+    through_then (SameButLog old.present) (AllKeep sum P content floor) old new (λ d same image is. kept image (image_before old.present d image same is)) looked.through
+
+-- nor are other texts left
+only_later : (sum : List ℕ → ℕ) (P : ℕ) (held : List ℕ) (d e : Disk) → SameButLog d e → AllOnly sum P held held d → AllOnly sum P held held e
+only_later sum P held d e same only = λ image is free.
+    only image (image_before d e image same is) (subst (λ (x : Disk). IsChanceFree sum P x image) same free)
+
+looked_leaves : (sum : List ℕ → ℕ) (P : ℕ) (held : List ℕ) (old new : Life) → Looked old new → AllOnly sum P held held old.present → LeavesOnly sum P held held old new
+looked_leaves sum P held old new looked only =
+    through_then (SameButLog old.present) (AllOnly sum P held held) old new (λ d same. only_later sum P held old.present d same only) looked.through
+
+-- so only the records of the blob's journal
+pub looked_records : (sum own : List ℕ → ℕ) (cache : CacheState) (old new : Life) → Looked old new → LeavesTheirRecords sum own cache old new
+looked_records sum own cache old new looked = λ w journal.
+    let held = content w old.present.readable in
+    let itself = prefix_of_itself (records own held) in
+    leaves_records sum own w.page_size held held (records own held) old new itself itself
+    (looked_leaves sum w.page_size held old new looked (ready_of sum w cache old journal).only)
+
+-- ---- the blob's journal
+
+-- the pages of a sound writer's blob are full
+pages_full : (sum : List ℕ → ℕ) (w : WriterState) (d : Disk) → IsSound sum w d → HasFullPages sum (tail_of w) d
+unfolding IsSound
+pages_full sum w d sound = sound.stands.full
+
+-- so it stays a journal
+pub journals_stay : (sum : List ℕ → ℕ) (t : Tail) (cache behind : CacheState) (old new : Life) → OnlyLooks sum t cache behind old new → JournalsStay sum cache behind old new
+journals_stay sum t cache behind old new looks = λ w journal.
+    let ready = ready_of sum w cache old journal in
+    let held = content w old.present.readable in
+    let stood : StandsOn sum (tail_of w) held cache old.present = record {
+      tail = record { there = ready.can.there; full = pages_full sum w old.present ready.sound; is = refl };
+      can = ready.can;
+    } in
+    let stands = looks.tails (tail_of w) held stood in
+    let same : content w new.present.readable ≡ held = stands.tail.is in
+    let left_only : AllOnly sum w.page_size held held new.present = only_later sum w.page_size held old.present new.present looks.looked.same ready.only in
+    record {
+      journal = is_journal sum w behind new (record {
+        sound = looks.sound w ready.sound;
+        can = stands.can;
+        fresh = looks.fresh ready.fresh;
+        size = ready.size ∙ sym (ap length same);
+        only = subst (λ (l : List ℕ). AllOnly sum w.page_size l l new.present) (sym same) left_only;
+      }) (subst (λ (l : List ℕ). IsWhole l) (sym same) (whole_of sum w cache old journal));
+      holds = same;
+    }
+
+-- ---- the next record
+
+-- none is left at the end
+pub next_none : (own : List ℕ → ℕ) (held : List ℕ) (from place : ℕ) → records own (drop from held) ≡ records own (drop place held) → length held ≤ place → IsNext own held from None place
+next_none own held from place so_far end =
+    record { goes = so_far; ends = λ none. ap (λ (l : List ℕ). records own l) (drop_all place held end) ∙ records-none own }
+
+-- the frame that was found is it
+pub next_some : (own : List ℕ → ℕ) (held : List ℕ) (from place : ℕ) (bytes : Option (List ℕ)) (end : ℕ) → records own (drop from held) ≡ records own (drop place held)
+    → IsFound own held place bytes end → (bytes ≡ None → ⊥) → IsNext own held from bytes end
+next_some own held from place bytes end so_far found some = record { goes = so_far ∙ found.rest; ends = λ none. absurd (some none) }
+
+-- it is no record, and is passed over
+pub next_later : (own : List ℕ → ℕ) (held : List ℕ) (from place : ℕ) (bytes : Option (List ℕ)) (end : ℕ) → records own (drop from held) ≡ records own (drop place held)
+    → IsFound own held place bytes end → bytes ≡ None → records own (drop from held) ≡ records own (drop end held)
+next_later own held from place bytes end so_far found none =
+    so_far ∙ found.rest ∙ ap (λ (b : Option (List ℕ)). listed b ++ records own (drop end held)) none
+
+-- it wasn't read
+pub next_refused : (own : List ℕ → ℕ) (held : List ℕ) (place : ℕ) (old mid new : Life) (e : Error) (result : Result Found Error) → IsErrAnd result (λ x. x ≡ e) → Looked old mid → ReadRefused mid new e
+    → FindsNext own held place old new result
+next_refused own held place old mid new e (Ok f) is looked refused = absurd is
+next_refused own held place old mid new e (Err x) is looked refused = refused_later old mid new x looked (subst (λ (y : Error). ReadRefused mid new y) (sym is) refused)
+
+-- nothing that is found is nothing
+pub not_some : (o : Option (List ℕ)) → is_some o ≡ false → o ≡ None
+not_some None is = refl
+not_some (Some bytes) is = cc
+
+-- ---- a reader that was made
+
+pub reader_made : (sum own : List ℕ → ℕ) (w : WriterState) (behind : CacheState) (old new : Life) (now : WriterState) (t : Tail) → IsWhole (content w old.present.readable) → GoesOn sum w old [] now new → t ≡ tail_of now
+    → CanRead (tail_of now) behind new.present → IsFresh behind → StandsOn sum t (content w old.present.readable) behind new.present → HasReader sum own w behind old new now (record { tail = t; place = 0 })
+reader_made sum own w behind old new now t whole goes is can fresh stands =
+    let held = content w old.present.readable in
+    let same : content now new.present.readable ≡ held = goes.content ∙ append-nil held in
+    let over : told t new.present.readable ≡ held = stands.tail.is in
+    let long : size_of t ≡ length (told t new.present.readable) =
+    ap (λ (u : Tail). size_of u) is ∙ goes.size ∙ ap length same ∙ sym (ap length over) in
+    record {
+      journal = is_journal sum now behind new (gone_on sum w old [] now behind new goes can fresh) (subst (λ (l : List ℕ). IsWhole l) (sym same) whole);
+      holds = same;
+      same = goes.same;
+      reader = is_reader sum (record { tail = t; place = 0 }) behind new
+          (record { stands = subst (λ (l : List ℕ). StandsOn sum t l behind new.present) (sym over) stands; size = long });
+      id = ap (λ (u : Tail). u.id) is ∙ goes.same.id;
+      below = (let pages : t.full_pages ≡ now.full_pages = ap (λ (u : Tail). u.full_pages) is in omega arith);
+      over = over;
+      all = ap (λ (l : List ℕ). records own l) over;
+    }

@@ -1,0 +1,62 @@
+use Rattle.std.proofs.Common.{◌≡◌, ◌≤◌, ◌∙◌, List, ℕ, Ok, length, refl, sym, ap, arith, subst}
+use Rattle.std.specs.Prelude.{Option, Some, None}
+use Rattle.paged_read.specs.Tail.{told}
+use Rattle.journal.specs.declared.frame.Found.{Found}
+use Rattle.journal.specs.Journal.{IsFound, ReadsRecord}
+use Rattle.journal.specs.Reader.{OnlyLooks}
+use Rattle.journal.proofs.Readers.{looks_start, looks_join, next_later, next_none, next_refused, not_some}
+use Rattle.journal.proofs.reader.find_record.Given.{Over}
+use Rattle.journal.proofs.reader.find_record.Goals as goal
+use Rattle.journal.proofs.reader.find_record.Goals.{After-find}
+
+pub frames-init : goal.frames-init
+frames-init g c = record {
+  looks = looks_start g.H.Sum.sum_of c.args.snapshot.now c.args.cache.now (g.B.Blob.life c.args.blob.now) c.requires.opened;
+  so_far = refl;
+}
+
+-- the reads until now, and this one
+looks : (g : Over) (c : After-find g) → OnlyLooks g.H.Sum.sum_of c.args.snapshot.now c.args.cache.now c.find.new.cache (g.B.Blob.life c.args.blob.now) (g.B.Blob.life c.find.new.blob)
+looks g c =
+    looks_join g.H.Sum.sum_of c.args.snapshot.now c.args.cache.now c.frames.cache c.find.new.cache (g.B.Blob.life c.args.blob.now) (g.B.Blob.life c.frames.blob) (g.B.Blob.life c.find.new.blob)
+    c.frames.invariant.looks c.find.ensures.leaves
+
+pub returns-in_err-found-clause-finds : goal.returns-in_err-found-clause-finds
+returns-in_err-found-clause-finds g c =
+    next_refused g.R.Sum.sum_of (told c.args.snapshot.now (g.B.Blob.life c.args.blob.now).present.readable) c.args.from (g.B.Blob.life c.args.blob.now) (g.B.Blob.life c.frames.blob) (g.B.Blob.life c.find.new.blob)
+    c.in_err-found.field-0.0 c.from_residual.result c.from_residual.ensures.1 c.frames.invariant.looks.looked c.in_err-found.ensures.reads
+
+pub returns-in_err-found-clause-leaves : goal.returns-in_err-found-clause-leaves
+returns-in_err-found-clause-leaves g c = looks g (goal.at.returns-in_err-found-clause-leaves g c).After-find
+
+pub returns-in_default-clause-finds : goal.returns-in_default-clause-finds
+returns-in_default-clause-finds g c =
+    let own = g.R.Sum.sum_of in
+    let t = c.args.snapshot.now in
+    let mid = g.B.Blob.life c.frames.blob in
+    let held = told t (g.B.Blob.life c.args.blob.now).present.readable in
+    let here : length (told t mid.present.readable) ≤ c.frames.place =
+    subst (λ (o : Option Found). ReadsRecord own (told t mid.present.readable) c.frames.place mid (g.B.Blob.life c.find.new.blob) (Ok o)) c.in_default.is c.in_ok-found.ensures.reads in
+    let end : length held ≤ c.frames.place = omega (arith, here, ap length c.frames.invariant.looks.holds) in
+    next_none own held c.args.from c.frames.place c.frames.invariant.so_far end
+
+pub returns-in_default-clause-leaves : goal.returns-in_default-clause-leaves
+returns-in_default-clause-leaves g c = looks g (goal.at.returns-in_default-clause-leaves g c).After-find
+
+pub returns-then-is_some-clause-leaves : goal.returns-then-is_some-clause-leaves
+returns-then-is_some-clause-leaves g c = looks g (goal.at.returns-then-is_some-clause-leaves g c).After-find
+
+pub frames-preserved : goal.frames-preserved
+frames-preserved g c =
+    let own = g.R.Sum.sum_of in
+    let t = c.args.snapshot.now in
+    let mid = g.B.Blob.life c.frames.blob in
+    let f = c.in-Some.found in
+    let place = c.frames.place in
+    let here = subst (λ (o : Option Found). ReadsRecord own (told t mid.present.readable) place mid (g.B.Blob.life c.find.new.blob) (Ok o)) c.in-Some.is c.in_ok-found.ensures.reads in
+    let there = subst (λ (l : List ℕ). IsFound own l place f.bytes f.end) c.frames.invariant.looks.holds here in
+    record {
+      looks = looks g (goal.at.frames-preserved g c).After-find;
+      so_far = next_later own (told t (g.B.Blob.life c.args.blob.now).present.readable) c.args.from place f.bytes f.end c.frames.invariant.so_far there
+          (not_some f.bytes (sym c.is_some.ensures ∙ c.if-is_some.false));
+    }
