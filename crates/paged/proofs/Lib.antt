@@ -36,3 +36,5 @@ pub mod CachedCuts
 pub mod OpenedReads
 pub mod Serves
 pub mod Snapshotting
+pub mod LaterCalls
+pub mod LaterExamples

@@ -8,3 +8,4 @@ pub mod Truncate
 pub mod Recovers
 pub mod Caches
 pub mod Snapshots
+pub mod LaterCalls

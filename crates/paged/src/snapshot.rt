@@ -139,11 +139,7 @@ impl<B: Blob, H: Sum> Writer<B, H> {
     }
 
     /// The same. After an error of the device the writer is of no use.
-    fn snapshot_all(
-        &mut self,
-        blob: &mut B,
-        cache: &mut CacheRef,
-    ) -> Result<Sealed<B, H>, Error>
+    fn snapshot_all(&mut self, blob: &mut B, cache: &mut CacheRef) -> Result<Sealed<B, H>, Error>
         requires cached { cache.old.page_size ≡ self.old.page_size }
         requires sound { IsSound H.sum_of self.old (B.life blob.old).present }
         ensures makes { let old = B.life blob.old in let new = B.life blob.new in

@@ -101,7 +101,11 @@ impl<B: Blob, H: Sum, Phase> Writer<B, H, Phase> {
     }
 
     /// The same. After an error the writer is of no use.
-    pub(crate) fn start_all(&mut self, blob: &mut B, cache: &mut CacheRef) -> Result<StartedSync, Error>
+    pub(crate) fn start_all(
+        &mut self,
+        blob: &mut B,
+        cache: &mut CacheRef,
+    ) -> Result<StartedSync, Error>
         requires cached { cache.old.page_size ≡ self.old.page_size }
         requires sound { IsSound H.sum_of self.old (B.life blob.old).present }
         ensures starts_sync { let old = B.life blob.old in let new = B.life blob.new in
