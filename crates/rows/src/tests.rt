@@ -10,6 +10,7 @@ mod openings;
 mod ranges;
 mod reads;
 mod sessions;
+mod snapshots;
 mod starts;
 mod stops;
 mod sums;

@@ -2,6 +2,7 @@
 ghost use Rattle.std.specs.Prelude.{IfOk};
 ghost use Rattle.cache.specs.Pages.{IsFresh};
 
+use super::snapshots::{Sealing, read_when_sealed};
 use cache::CacheRef;
 use disk::{Error, IoBuf, MemBlob, StartedSync};
 use page::{EncodeSize, Sum, Write};
@@ -233,6 +234,15 @@ impl<H: Sum> Store<H> {
     /// Waits for the started sync of this name, behind the writer's back.
     pub fn wait_sync(&mut self, name: u64) -> Result<(), Error> {
         wait_sync::<MemBlob, H>(&mut self.blob, StartedSync::Named(name))
+    }
+
+    /// Ends the writer, waits for what that started, and reads its first `len` bytes before the
+    /// wait and behind it.
+    pub fn seal(&mut self, len: usize) -> Result<Sealing, Error> {
+        let Some(writer) = self.writer.take() else {
+            return Err(NO_WRITER);
+        };
+        read_when_sealed(writer, &mut self.blob, &mut self.cache, len)
     }
 
     /// Whether a sync has something to do.

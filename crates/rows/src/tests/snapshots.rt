@@ -1,0 +1,450 @@
+// Snapshots and sealing.
+ghost use Rattle.std.specs.Prelude.{◌≡◌, IfOk, take, drop};
+ghost use Rattle.std.specs.List.{concat};
+ghost use Rattle.cache.specs.Pages.{IsFresh};
+ghost use Rattle.disk.specs.History.{life_of};
+ghost use Rattle.crash.specs.Sound.{IsSound, content};
+ghost use Rattle.paged.specs.Caches.{tail_of};
+ghost use Rattle.paged_read.specs.Tail.{CanRead};
+
+use super::kit::{CAPACITY, Call, Store, cache_of, calls_from};
+use cache::CacheRef;
+use disk::{Blob, Error, IoBufs, MemBlob, StartedSync};
+use page::{AddSum, Sum};
+use paged::{Writer, recover, wait_sync};
+use std::alloc::Global;
+use std::num::NonZeroUsize;
+use std::process::Abort;
+use std::test::Fail;
+
+// A writer on a blob that is recovered.
+fn recovered<H: Sum>(
+    alloc: Global,
+    blob: &mut MemBlob,
+    cache: &mut CacheRef,
+) -> Result<Writer<MemBlob, H>, Error>
+    requires fresh { IsFresh cache.old }
+    ensures sound { IfOk result (λ w. IsSound H.sum_of w (life_of blob.new).present) }
+    ensures can { IfOk result (λ w. CanRead (tail_of w) cache.new (life_of blob.new).present) }
+    ensures fresh { IfOk result (λ _. IsFresh cache.new) }
+{
+    let size = blob.len();
+    let buffer_size = NonZeroUsize::MIN;
+    let recovery = recover::<MemBlob, H>(alloc, blob, size, CAPACITY, cache, buffer_size)?;
+    Ok(Writer::from(recovery))
+}
+
+// What a call answered behind a snapshot, the snapshot's size, and what it then reads.
+#[derive(Drop)]
+struct Behind {
+    answer: Result<u64, Error>,
+    size: u64,
+    read: IoBufs,
+}
+
+// A snapshot is made, bytes are appended, and the snapshot is read, whatever the append answered:
+// it gives what there was before.
+fn read_behind_an_append<B: Blob, H: Sum>(
+    writer: Writer<B, H>,
+    blob: &mut B,
+    cache: &mut CacheRef,
+    bytes: &[u8],
+    range: (u64, usize),
+) -> Result<Behind, Error>
+    requires sound { IsSound H.sum_of writer (B.life blob.old).present }
+    requires can { CanRead (tail_of writer) cache.old (B.life blob.old).present }
+    ensures reads { let held = content writer (B.life blob.old).present.readable in
+        IfOk result (λ b. concat b.read ≡ take range.1 (drop range.0 held)) }
+{
+    let (writer, sealed) = writer.snapshot(blob, cache)?;
+    let answer = match writer.append(blob, cache, bytes) {
+        Ok((writer, _)) => Ok(writer.size()),
+        Err(error) => Err(error),
+    };
+    let read = sealed.read_at(blob, cache, range.0, range.1)?;
+    Ok(Behind {
+        answer,
+        size: sealed.size(),
+        read,
+    })
+}
+
+// The same behind a sync.
+fn read_behind_a_sync<B: Blob, H: Sum>(
+    writer: Writer<B, H>,
+    blob: &mut B,
+    cache: &mut CacheRef,
+    range: (u64, usize),
+) -> Result<Behind, Error>
+    requires sound { IsSound H.sum_of writer (B.life blob.old).present }
+    requires can { CanRead (tail_of writer) cache.old (B.life blob.old).present }
+    ensures reads { let held = content writer (B.life blob.old).present.readable in
+        IfOk result (λ b. concat b.read ≡ take range.1 (drop range.0 held)) }
+{
+    let (writer, sealed) = writer.snapshot(blob, cache)?;
+    let answer = match writer.sync(blob, cache) {
+        Ok(writer) => Ok(writer.size()),
+        Err(error) => Err(error),
+    };
+    let read = sealed.read_at(blob, cache, range.0, range.1)?;
+    Ok(Behind {
+        answer,
+        size: sealed.size(),
+        read,
+    })
+}
+
+// What a writer that ended started, what the wait for it answered, and the bytes before that and
+// behind it.
+#[derive(Drop)]
+pub struct Sealing {
+    pub started: StartedSync,
+    pub waited: Result<(), Error>,
+    pub before: IoBufs,
+    pub behind: IoBufs,
+}
+
+// Ends a writer, and reads its first bytes on both sides of the wait.
+pub fn read_when_sealed<B: Blob, H: Sum>(
+    writer: Writer<B, H>,
+    blob: &mut B,
+    cache: &mut CacheRef,
+    len: usize,
+) -> Result<Sealing, Error>
+    requires sound { IsSound H.sum_of writer (B.life blob.old).present }
+    requires can { CanRead (tail_of writer) cache.old (B.life blob.old).present }
+    ensures before { let held = content writer (B.life blob.old).present.readable in
+        IfOk result (λ s. concat s.before ≡ take len held) }
+    ensures behind { let held = content writer (B.life blob.old).present.readable in
+        IfOk result (λ s. concat s.behind ≡ take len held) }
+    ensures fresh { IsFresh cache.old → IsFresh cache.new }
+{
+    let (sealed, started) = writer.seal(blob, cache)?;
+    let before = sealed.read_at(blob, cache, 0, len)?;
+    let waited = wait_sync::<B, H>(blob, started);
+    let behind = sealed.read_at(blob, cache, 0, len)?;
+    Ok(Sealing {
+        started,
+        waited,
+        before,
+        behind,
+    })
+}
+
+fn is_made_of(bufs: IoBufs, want: &[u8]) -> Result<bool, Error> {
+    Ok(bufs.coalesce()?.as_ref() == want)
+}
+
+const WRITE: Call = Call::WriteAt(0, 16, false);
+
+const NEXT: Call = Call::WriteAt(16, 16, false);
+
+// Behind a snapshot of "abcde" bytes are appended, or all is synced, and the nth call of the
+// device fails, of which the first is the snapshot's own; a cache of so many pages.
+struct Row {
+    append: Option<&'static [u8]>,
+    fail: u64,
+    pages: usize,
+    answer: Result<u64, Error>,
+    calls: &'static [Call],
+}
+
+const ROWS: [Row; 6] = [
+    Row {
+        append: Some(b"f"),
+        fail: 100,
+        pages: 1,
+        answer: Ok(6),
+        calls: &[WRITE],
+    },
+    // The page that is put last takes the place of the snapshot's in a cache of one page.
+    Row {
+        append: Some(b"fghijklm"),
+        fail: 2,
+        pages: 1,
+        answer: Err(Error::WriteFailed),
+        calls: &[WRITE, NEXT, Call::ReadAt(0, 16)],
+    },
+    Row {
+        append: Some(b"fghijklm"),
+        fail: 2,
+        pages: 4,
+        answer: Err(Error::WriteFailed),
+        calls: &[WRITE, NEXT],
+    },
+    Row {
+        append: None,
+        fail: 100,
+        pages: 1,
+        answer: Ok(5),
+        calls: &[WRITE, NEXT, Call::Sync],
+    },
+    Row {
+        append: None,
+        fail: 2,
+        pages: 1,
+        answer: Err(Error::WriteFailed),
+        calls: &[WRITE, NEXT],
+    },
+    Row {
+        append: None,
+        fail: 3,
+        pages: 1,
+        answer: Err(Error::SyncFailed),
+        calls: &[WRITE, NEXT, Call::Sync],
+    },
+];
+
+fn goes(rt: &impl Abort, alloc: Global, row: &Row, number: usize) -> Result<(), Error> {
+    let mut blob = MemBlob::new(alloc);
+    let mut cache = cache_of(alloc, 4, row.pages)?;
+    let writer = recovered::<AddSum>(alloc, &mut blob, &mut cache)?;
+    let (writer, _) = writer.append(&mut blob, &mut cache, b"abcde")?;
+    assert!(rt; writer.try_snapshot()?.is_none(), "row {number}");
+    let before = blob.calls().len();
+    blob.fail_at(row.fail.max(1));
+    let behind = match row.append {
+        Some(bytes) => read_behind_an_append(writer, &mut blob, &mut cache, bytes, (0, 5))?,
+        None => read_behind_a_sync(writer, &mut blob, &mut cache, (0, 5))?,
+    };
+    assert_eq!(rt; behind.answer, row.answer, "row {number}");
+    assert_eq!(rt; behind.size, 5, "row {number}");
+    assert!(rt; is_made_of(behind.read, b"abcde")?, "row {number}");
+    assert!(rt;
+        calls_from(alloc, &blob, before)?.as_slice() == row.calls,
+        "row {number}"
+    );
+    Ok(())
+}
+
+#[test]
+fn snapshots_stay(rt: HostRuntime) -> Result<(), Fail> {
+    for (number, row) in ROWS.iter().enumerate() {
+        goes(&rt, rt.alloc(), row, number)?;
+    }
+    Ok(())
+}
+
+#[test]
+fn a_snapshot_is_read_in_part(rt: HostRuntime) -> Result<(), Fail> {
+    let alloc = rt.alloc();
+    let mut blob = MemBlob::new(alloc);
+    let mut cache = cache_of(alloc, 4, 1)?;
+    let writer = recovered::<AddSum>(alloc, &mut blob, &mut cache)?;
+    let (writer, _) = writer.append(&mut blob, &mut cache, b"abcde")?;
+    let behind = read_behind_an_append(writer, &mut blob, &mut cache, b"f", (3, 2))?;
+    assert!(rt; is_made_of(behind.read, b"de")?);
+    Ok(())
+}
+
+// Appends bytes, and syncs.
+fn stored<B: Blob, H: Sum>(
+    writer: Writer<B, H>,
+    blob: &mut B,
+    cache: &mut CacheRef,
+    bytes: &[u8],
+) -> Result<Writer<B, H>, Error>
+    requires sound { IsSound H.sum_of writer (B.life blob.old).present }
+    requires can { CanRead (tail_of writer) cache.old (B.life blob.old).present }
+    ensures sound { IfOk result (λ w. IsSound H.sum_of w (B.life blob.new).present) }
+    ensures can { IfOk result (λ w. CanRead (tail_of w) cache.new (B.life blob.new).present) }
+{
+    let (writer, _) = writer.append(blob, cache, bytes)?;
+    writer.sync(blob, cache)
+}
+
+#[test]
+fn a_reopened_blob_is_snapshot(rt: HostRuntime) -> Result<(), Fail> {
+    let alloc = rt.alloc();
+    let mut blob = MemBlob::new(alloc);
+    let mut cache = cache_of(alloc, 4, 1)?;
+    let writer = recovered::<AddSum>(alloc, &mut blob, &mut cache)?;
+    stored(writer, &mut blob, &mut cache, b"abcdef")?;
+    let mut cache = cache_of(alloc, 4, 1)?;
+    let writer = recovered::<AddSum>(alloc, &mut blob, &mut cache)?;
+    let (writer, _) = writer.append(&mut blob, &mut cache, b"gh")?;
+    let writer = stored(writer, &mut blob, &mut cache, b"ij")?;
+    let sealed = writer.try_snapshot()?.ok_or(Error::IdsExhausted)?;
+    assert_eq!(rt; sealed.size(), 10);
+    let copy = sealed.try_clone()?;
+    let read = copy.read_at(&mut blob, &mut cache, 5, 3)?;
+    assert!(rt; is_made_of(read, b"fgh")?);
+    Ok(())
+}
+
+// A step on the writer that is to be ended.
+enum Step {
+    Append(&'static [u8]),
+    Start,
+    Sync,
+    // The nth device call from now on fails.
+    Fail(u64),
+}
+
+// The steps, what ending the writer answers and the wait for it, all device calls, and the bytes:
+// what the snapshot reads, and what the blob holds after a crash that keeps nothing of what isn't
+// durable.
+struct End {
+    steps: &'static [Step],
+    started: Result<StartedSync, Error>,
+    waited: Result<(), Error>,
+    calls: &'static [Call],
+    read: &'static [u8],
+    kept: &'static [u8],
+}
+
+const DONE: Result<StartedSync, Error> = Ok(StartedSync::Done);
+
+const FIRST: Result<StartedSync, Error> = Ok(StartedSync::Named(0));
+
+const ENDS: [End; 10] = [
+    // Nothing was ever written.
+    End {
+        steps: &[],
+        started: DONE,
+        waited: Ok(()),
+        calls: &[],
+        read: b"",
+        kept: b"",
+    },
+    // All is durable, and there is work.
+    End {
+        steps: &[Step::Append(b"ab")],
+        started: FIRST,
+        waited: Ok(()),
+        calls: &[WRITE, Call::StartSync, Call::WaitSync(0)],
+        read: b"ab",
+        kept: b"ab",
+    },
+    // All is durable, and there is none.
+    End {
+        steps: &[Step::Append(b"ab"), Step::Sync],
+        started: DONE,
+        waited: Ok(()),
+        calls: &[Call::WriteAt(0, 16, true)],
+        read: b"ab",
+        kept: b"ab",
+    },
+    // Three pages are written and not durable, and there is no work.
+    End {
+        steps: &[Step::Append(b"abcdefghijkl")],
+        started: FIRST,
+        waited: Ok(()),
+        calls: &[
+            Call::WriteAt(0, 48, false),
+            Call::StartSync,
+            Call::WaitSync(0),
+        ],
+        read: b"abcdefghijkl",
+        kept: b"abcdefghijkl",
+    },
+    // The same with work.
+    End {
+        steps: &[Step::Append(b"abcdefghijklm")],
+        started: FIRST,
+        waited: Ok(()),
+        calls: &[
+            Call::WriteAt(0, 48, false),
+            Call::WriteAt(48, 16, false),
+            Call::StartSync,
+            Call::WaitSync(0),
+        ],
+        read: b"abcdefghijklm",
+        kept: b"abcdefghijklm",
+    },
+    // A sync is pending, and there is no work: the end waits for it.
+    End {
+        steps: &[Step::Append(b"ab"), Step::Start],
+        started: DONE,
+        waited: Ok(()),
+        calls: &[WRITE, Call::StartSync, Call::WaitSync(0)],
+        read: b"ab",
+        kept: b"ab",
+    },
+    // The same with work.
+    End {
+        steps: &[Step::Append(b"ab"), Step::Start, Step::Append(b"c")],
+        started: Ok(StartedSync::Named(1)),
+        waited: Ok(()),
+        calls: &[
+            WRITE,
+            Call::StartSync,
+            Call::WaitSync(0),
+            WRITE,
+            Call::StartSync,
+            Call::WaitSync(1),
+        ],
+        read: b"abc",
+        kept: b"abc",
+    },
+    // The start fails, which shows at the wait: the snapshot reads on.
+    End {
+        steps: &[Step::Append(b"ab"), Step::Fail(2)],
+        started: FIRST,
+        waited: Err(Error::SyncFailed),
+        calls: &[WRITE, Call::StartSync, Call::WaitSync(0)],
+        read: b"ab",
+        kept: b"",
+    },
+    // The write fails.
+    End {
+        steps: &[Step::Append(b"ab"), Step::Fail(1)],
+        started: Err(Error::WriteFailed),
+        waited: Ok(()),
+        calls: &[WRITE],
+        read: b"",
+        kept: b"",
+    },
+    // The pending sync fails.
+    End {
+        steps: &[Step::Append(b"ab"), Step::Start, Step::Fail(1)],
+        started: Err(Error::SyncFailed),
+        waited: Ok(()),
+        calls: &[WRITE, Call::StartSync, Call::WaitSync(0)],
+        read: b"",
+        kept: b"",
+    },
+];
+
+fn take(store: &mut Store<AddSum>, step: &Step) -> Result<(), Error> {
+    match step {
+        Step::Append(bytes) => {
+            store.append(bytes)?;
+        }
+        Step::Start => {
+            store.start_sync()?;
+        }
+        Step::Sync => store.sync()?,
+        Step::Fail(n) => store.fail_at(*n),
+    }
+    Ok(())
+}
+
+fn ends(rt: &impl Abort, alloc: Global, end: &End, number: usize) -> Result<(), Error> {
+    let mut store = Store::<AddSum>::caching(alloc, 4)?;
+    let before = store.blob().calls().len();
+    for step in end.steps {
+        take(&mut store, step)?;
+    }
+    match store.seal(end.read.len()) {
+        Ok(sealing) => {
+            assert_eq!(rt; Ok(sealing.started), end.started, "row {number}");
+            assert_eq!(rt; sealing.waited, end.waited, "row {number}");
+            assert!(rt; is_made_of(sealing.before, end.read)?, "row {number}");
+            assert!(rt; is_made_of(sealing.behind, end.read)?, "row {number}");
+        }
+        Err(error) => assert_eq!(rt; Err(error), end.started, "row {number}"),
+    }
+    assert!(rt; store.asks(before, end.calls)?, "row {number}");
+    store.crash(&[])?;
+    assert!(rt; store.holds(end.kept)?, "row {number}");
+    Ok(())
+}
+
+#[test]
+fn writers_end(rt: HostRuntime) -> Result<(), Fail> {
+    for (number, end) in ENDS.iter().enumerate() {
+        ends(&rt, rt.alloc(), end, number)?;
+    }
+    Ok(())
+}
