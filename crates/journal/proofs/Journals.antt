@@ -143,20 +143,6 @@ pub all_stay : (id : ℕ) (cache mid behind : CacheState) → id ≡ cache.ids_g
 all_stay id cache mid behind is first second = λ sum w life journal.
     second sum w life (new_id id cache is sum w life journal) (first sum w life journal)
 
--- a cut keeps the id
-cut_id : (sum : List ℕ → ℕ) (w : WriterState) (n : ℕ) (bytes : List ℕ) (is_less : Bool) → (cond is_less (shortened_writer sum w n bytes) (synced w)).id ≡ w.id
-cut_id sum w n bytes true = refl
-cut_id sum w n bytes false = refl
-
--- so a recovered writer has the cache's next one
-pub recovered_id : (sum : List ℕ → ℕ) (cache : CacheState) (capacity : ℕ) (old new : Life) (w : WriterState) → Recovers sum cache capacity old new (Ok w) → w.id ≡ cache.ids_given
-recovered_id sum cache capacity old new w recovers =
-    let P = cache.page_size in
-    let bytes = old.present.readable in
-    let opened = opened_writer sum cache capacity bytes Clean in
-    let n = length (text sum P bytes) in
-    ap (λ (x : WriterState). x.id) recovers.state ∙ cut_id sum opened n (opened_bytes sum P bytes) (nat_lt n (size_of opened))
-
 -- ---- the calls
 
 -- a writer that went on is ready
@@ -542,9 +528,9 @@ all_read own w bytes old new (Err e) is found whole err = subst (λ (x : Error).
 
 -- a recovery, from that of the blob and the rest
 pub recovery_goes : (sum own : List ℕ → ℕ) (cache behind : CacheState) (capacity : ℕ) (old mid new : Life) (w now : WriterState) (found : List (List ℕ))
-    → Recovers sum cache capacity old mid (Ok w) → KeepsAll sum cache.page_size (text sum cache.page_size old.present.readable) mid
+    → Recovers sum cache capacity old mid (Ok w) → w.id ≡ cache.ids_given → KeepsAll sum cache.page_size (text sum cache.page_size old.present.readable) mid
     → KeepsFloorsWithin (length (whole_frames (text sum cache.page_size old.present.readable))) sum cache.page_size mid new → IsTrimmed sum own w behind mid new now found → HasRecovered sum own cache behind old new now found
-recovery_goes sum own cache behind capacity old mid new w now found recovers all keeps trims =
+recovery_goes sum own cache behind capacity old mid new w now found recovers id all keeps trims =
     let P = cache.page_size in
     let T = text sum P old.present.readable in
     let whole = whole_frames T in
@@ -557,7 +543,7 @@ recovery_goes sum own cache behind capacity old mid new w now found recovers all
     let given : found ≡ records own T = trims.given ∙ ap (λ (l : List ℕ). records own l) recovers.content in
     record {
       page_size = trims.page_size ∙ recovers.page_size;
-      id = trims.id ∙ recovered_id sum cache capacity old mid w recovers;
+      id = trims.id ∙ id;
       journal = is_journal sum now behind new trims.ready (subst (λ (l : List ℕ). IsWhole l) (sym holds) (whole_is_whole T));
       holds = holds;
       given = given;

@@ -1,11 +1,13 @@
 // Frames by hand, and what comes back of journals that were cut short. Pages have 16 bytes, 28 with
 // their footer, and a buffer has 32.
 ghost use Rattle.std.specs.Prelude.{◌≤◌, length};
+ghost use Rattle.cache.specs.Pages.{IsFresh};
 
 use crate::crashes::crash_and_recover;
 use crate::frame::{Found, frame_of, records_of};
 use crate::journal::Journal;
 use crate::new_cache;
+use cache::CacheRef;
 use disk::{Error, IoBuf, MemBlob};
 use page::{AddSum, ConstSum, Sum};
 use paged::Writer;
@@ -190,5 +192,65 @@ fn a_whole_frame_stays(rt: HostRuntime) -> Result<(), Fail> {
     let (is_record, place) = told(journal.read_record(&mut blob, &mut cache, place)?);
     assert!(rt; is_record);
     assert_eq!(rt; place, 24);
+    Ok(())
+}
+
+/// Whether this record was found, and no other.
+fn is_record(found: Option<Found>, bytes: &[u8]) -> bool {
+    match found.and_then(|found| found.bytes) {
+        None => false,
+        Some(record) => record.as_ref() == bytes,
+    }
+}
+
+const FIRST: &[u8] = b"the first journal holds thirty";
+
+const SECOND: &[u8] = b"the other one holds thirty too";
+
+// The first frame of each journal has 37 bytes: pages 0 and 1, for which the cache has one place,
+// and five more. The device of the first fails as its next pages are written, behind their being
+// put in the cache; the second reads on what it holds, and goes on.
+fn take_turns<H: Sum, R: Sum>(
+    rt: &impl Abort,
+    alloc: Global,
+    first_blob: &mut MemBlob,
+    second_blob: &mut MemBlob,
+    cache: &mut CacheRef,
+) -> Result<(), Error>
+    requires fresh { IsFresh cache.old }
+{
+    let one = NonZeroUsize::MIN;
+    let size = first_blob.len();
+    let (first, _) =
+        Journal::<MemBlob, H, R>::recover(alloc, first_blob, size, CAPACITY, cache, one)?;
+    let size = second_blob.len();
+    let (second, _) =
+        Journal::<MemBlob, H, R>::recover(alloc, second_blob, size, CAPACITY, cache, one)?;
+    let (first, _) = first.append_record(first_blob, cache, FIRST)?;
+    let (second, _) = second.append_record(second_blob, cache, SECOND)?;
+    let found = first.read_record(first_blob, cache, 0)?;
+    assert!(rt; is_record(found, FIRST));
+    let found = second.read_record(second_blob, cache, 0)?;
+    assert!(rt; is_record(found, SECOND));
+    first_blob.fail_at(1);
+    let refused = first.append_record(first_blob, cache, FIRST);
+    assert!(rt; matches!(refused, Err(Error::WriteFailed)));
+    let found = second.read_record(second_blob, cache, 0)?;
+    assert!(rt; is_record(found, SECOND));
+    let (second, place) = second.append_record(second_blob, cache, b"more")?;
+    assert_eq!(rt; place, 37);
+    let found = second.read_record(second_blob, cache, 37)?;
+    assert!(rt; is_record(found, b"more"));
+    assert!(rt; second.read_record(second_blob, cache, 48)?.is_none());
+    Ok(())
+}
+
+#[test]
+fn two_journals_have_one_cache(rt: HostRuntime) -> Result<(), Fail> {
+    let alloc = rt.alloc();
+    let mut cache = new_cache(alloc)?;
+    let mut first = MemBlob::new(alloc);
+    let mut second = MemBlob::new(alloc);
+    take_turns::<AddSum, AddSum>(&rt, alloc, &mut first, &mut second, &mut cache)?;
     Ok(())
 }

@@ -1,16 +1,20 @@
--- What a new writer can read: nothing is held under its id.
-use Rattle.std.proofs.Common.{◌≡◌, ◌∙◌, inl, inr, ℕ, ◌+◌, ◌*◌, ◌<◌, ◌≤◌, List, length, sym, ap, subst, arith}
-use Rattle.std.specs.Prelude.{Result, Ok, Err, IfOk}
+-- What a new writer can read: nothing is held under its id, which is the cache's next one.
+use Rattle.std.proofs.Common.{◌≡◌, ◌∙◌, inl, inr, ℕ, ◌+◌, ◌*◌, ◌<◌, ◌≤◌, cond, List, length, refl, sym, ap, subst, arith}
+use Rattle.std.specs.Prelude.{Result, Ok, Err, IfOk, Bool, true, false, nat_lt}
 use Rattle.disk.specs.Disk.{Disk, Life}
 use Rattle.disk.specs.declared.error.Error.{Error}
 use Rattle.cache.specs.CacheState.{CacheState}
 use Rattle.cache.specs.Pages.{IsTrueFor, IsFresh}
 use Rattle.cache.proofs.CacheLaws.{fresh_true}
+use Rattle.page.specs.Page.{text}
 use Rattle.crash.specs.WriterState.{WriterState}
+use Rattle.crash.specs.WriterState.SyncState.{Clean}
 use Rattle.crash.specs.Looks.{Looked}
-use Rattle.paged.specs.Reads.{HasPages}
-use Rattle.paged.specs.Recovery.{Opens, cache_after}
-use Rattle.paged.specs.Recovers.{GivesId}
+use Rattle.paged.specs.Flush.{synced}
+use Rattle.paged.specs.Reads.{HasPages, size_of}
+use Rattle.paged.specs.Recovery.{Opens, cache_after, opened_writer}
+use Rattle.paged.specs.Recovers.{GivesId, Recovers, opened_bytes}
+use Rattle.paged.specs.Truncate.{shortened_writer}
 use Rattle.paged.specs.Caches.{ReadsOn, tail_of}
 use Rattle.paged_read.specs.Snapshots.{LeavesReads}
 use Rattle.paged_read.specs.Tail.{Tail, CanRead, told}
@@ -85,3 +89,22 @@ pub gives_others : (result : Result WriterState Error) (cache behind : CacheStat
     → GivesId result cache behind → LeavesReads cache behind
 gives_others (Ok w) cache behind gives = given_reads cache behind (inr gives)
 gives_others (Err e) cache behind gives = given_reads cache behind gives
+
+-- a cut keeps the id
+cut_id : (sum : List ℕ → ℕ) (w : WriterState) (n : ℕ) (bytes : List ℕ) (is_less : Bool)
+    → (cond is_less (shortened_writer sum w n bytes) (synced w)).id ≡ w.id
+cut_id sum w n bytes true = refl
+cut_id sum w n bytes false = refl
+
+-- so a writer that was recovered has the cache's next one
+pub recovered_id : (sum : List ℕ → ℕ) (cache : CacheState) (capacity : ℕ) (old new : Life)
+    (result : Result WriterState Error) → Recovers sum cache capacity old new result
+    → IfOk result (λ w. w.id ≡ cache.ids_given)
+recovered_id sum cache capacity old new (Ok w) recovers =
+    let P = cache.page_size in
+    let bytes = old.present.readable in
+    let opened = opened_writer sum cache capacity bytes Clean in
+    let n = length (text sum P bytes) in
+    ap (λ (v : WriterState). v.id) recovers.state
+    ∙ cut_id sum opened n (opened_bytes sum P bytes) (nat_lt n (size_of opened))
+recovered_id sum cache capacity old new (Err e) refused = tt

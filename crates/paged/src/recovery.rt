@@ -254,6 +254,7 @@ pub fn recover<B: Blob, H: Sum>(
     ensures sound { IfOk result (λ w. IsSound H.sum_of w (B.life blob.new).present) }
     ensures there { IfOk result (λ w. HasPages w (B.life blob.new)) }
     ensures within { IfOk result (λ w. HoldsWithin w) }
+    ensures id { IfOk result (λ w. w.id ≡ cache.old.ids_given) }
     ensures ids { GivesId result cache.old cache.new }
 
     // Nothing is held under a new id, so reads may begin.

@@ -4,12 +4,12 @@ use Rattle.std.specs.Prelude.{Option, Some}
 use Rattle.disk.specs.Disk.{Disk}
 use Rattle.cache.specs.CacheState.{CacheState, empty_cache}
 use Rattle.cache.specs.Pages.{IsFresh}
-use Rattle.crash.specs.WriterState.{WriterState}
+use Rattle.session.specs.Run.{SessionState}
 use Rattle.pagedctl.specs.Stage.{IsCacheSet}
 
 -- the one that stands there
-pub fresh_here : (o : Option CacheState) (cache : CacheState) (writer : Option WriterState) (d : Disk) → o ≡ Some cache → IsCacheSet o writer d → IsFresh cache
-fresh_here o cache writer d is set = (subst (λ (x : Option CacheState). IsCacheSet x writer d) is set).1
+pub fresh_here : (o : Option CacheState) (cache : CacheState) (session : SessionState) (d : Disk) → o ≡ Some cache → IsCacheSet o session d → IsFresh cache
+fresh_here o cache session d is set = (subst (λ (x : Option CacheState). IsCacheSet x session d) is set).1
 
 -- a new one
 pub fresh_empty : (page_size capacity : ℕ) (cache : CacheState) → cache ≡ empty_cache page_size capacity → IsFresh cache

@@ -8,7 +8,7 @@ use Rattle.std.specs.Int.NonZero.{non_zero_u64_get}
 use Rattle.std.proofs.lemmas.Fmt.{decimal_injective}
 use Rattle.pagedctl.specs.declared.script.Line.{Line}
 use Rattle.pagedctl.specs.declared.script.Line.TheVariants.{Step, Fail, Crash, Recover, Dump}
-use Rattle.session.specs.declared.steps.Step.TheVariants.{Append, Owned, TryAppend, Sync, StartSync, Wait, WaitSync, Needs, Size, Read, ReadUpTo, TryRead, ReadRanges, TryReadRanges, Begin, Truncate}
+use Rattle.session.specs.declared.steps.Step.TheVariants.{Append, Owned, TryAppend, Sync, StartSync, Wait, WaitSync, Needs, Size, Read, ReadUpTo, TryRead, ReadRanges, TryReadRanges, Begin, Truncate, Snapshot, TrySnapshot, Snap, Seal}
 use Rattle.pagedctl.specs.Script.{IsLine, AreRanges, line_words, parts_of, ranges_words}
 
 -- no line fails the call of number 0
@@ -29,6 +29,10 @@ no_fail_zero word n written zero (Step (ReadUpTo offset len)) is same = cc
 no_fail_zero word n written zero (Step (TryRead offset len)) is same = cc
 no_fail_zero word n written zero (Step (ReadRanges ranges)) is same = cc
 no_fail_zero word n written zero (Step (TryReadRanges ranges)) is same = cc
+no_fail_zero word n written zero (Step Snapshot) is same = cc
+no_fail_zero word n written zero (Step TrySnapshot) is same = cc
+no_fail_zero word n written zero (Step (Snap index offset len)) is same = cc
+no_fail_zero word n written zero (Step Seal) is same = cc
 no_fail_zero word n written zero (Fail number) is same =
     let e : decimal n ≡ decimal (non_zero_u64_get number) = cc in
     let same_number = decimal_injective n (non_zero_u64_get number) (omega arith) is.1 e in
@@ -44,27 +48,31 @@ no_name_alone (range ∷ ranges) name other are same = cc
 
 -- a line of one word is one of these
 pub no_one_word : (name : List ℕ) → name ≢ codes "sync" → name ≢ codes "start-sync" → name ≢ codes "wait" → name ≢ codes "needs" → name ≢ codes "size" → name ≢ codes "begin" → name ≢ codes "recover" → name ≢ codes "dump"
-    → (v : Line) → IsLine v → name ∷ [] ≢ line_words v
-no_one_word name a b c d e f g h (Step Sync) is same = a cc
-no_one_word name a b c d e f g h (Step StartSync) is same = b cc
-no_one_word name a b c d e f g h (Step Wait) is same = c cc
-no_one_word name a b c d e f g h (Step Needs) is same = d cc
-no_one_word name a b c d e f g h (Step Size) is same = e cc
-no_one_word name a b c d e f g h (Step Begin) is same = f cc
-no_one_word name a b c d e f g h Recover is same = g cc
-no_one_word name a b c d e f g h Dump is same = h cc
-no_one_word name a b c d e f g h (Step (Append bytes)) is same = cc
-no_one_word name a b c d e f g h (Step (Owned bytes)) is same = cc
-no_one_word name a b c d e f g h (Step (TryAppend bytes)) is same = cc
-no_one_word name a b c d e f g h (Step (WaitSync n)) is same = cc
-no_one_word name a b c d e f g h (Step (Truncate n)) is same = cc
-no_one_word name a b c d e f g h (Fail n) is same = cc
-no_one_word name a b c d e f g h (Crash keep) is same = cc
-no_one_word name a b c d e f g h (Step (Read offset len)) is same = cc
-no_one_word name a b c d e f g h (Step (ReadUpTo offset len)) is same = cc
-no_one_word name a b c d e f g h (Step (TryRead offset len)) is same = cc
-no_one_word name a b c d e f g h (Step (ReadRanges ranges)) is same = no_name_alone ranges.items _ _ is same
-no_one_word name a b c d e f g h (Step (TryReadRanges ranges)) is same = no_name_alone ranges.items _ _ is same
+    → name ≢ codes "snapshot" → name ≢ codes "try-snapshot" → name ≢ codes "seal" → (v : Line) → IsLine v → name ∷ [] ≢ line_words v
+no_one_word name a b c d e f g h i j k (Step Sync) is same = a cc
+no_one_word name a b c d e f g h i j k (Step StartSync) is same = b cc
+no_one_word name a b c d e f g h i j k (Step Wait) is same = c cc
+no_one_word name a b c d e f g h i j k (Step Needs) is same = d cc
+no_one_word name a b c d e f g h i j k (Step Size) is same = e cc
+no_one_word name a b c d e f g h i j k (Step Begin) is same = f cc
+no_one_word name a b c d e f g h i j k Recover is same = g cc
+no_one_word name a b c d e f g h i j k Dump is same = h cc
+no_one_word name a b c d e f g h i j k (Step Snapshot) is same = i cc
+no_one_word name a b c d e f g h i j k (Step TrySnapshot) is same = j cc
+no_one_word name a b c d e f g h i j k (Step Seal) is same = k cc
+no_one_word name a b c d e f g h i j k (Step (Append bytes)) is same = cc
+no_one_word name a b c d e f g h i j k (Step (Owned bytes)) is same = cc
+no_one_word name a b c d e f g h i j k (Step (TryAppend bytes)) is same = cc
+no_one_word name a b c d e f g h i j k (Step (WaitSync n)) is same = cc
+no_one_word name a b c d e f g h i j k (Step (Truncate n)) is same = cc
+no_one_word name a b c d e f g h i j k (Fail n) is same = cc
+no_one_word name a b c d e f g h i j k (Crash keep) is same = cc
+no_one_word name a b c d e f g h i j k (Step (Read offset len)) is same = cc
+no_one_word name a b c d e f g h i j k (Step (ReadUpTo offset len)) is same = cc
+no_one_word name a b c d e f g h i j k (Step (TryRead offset len)) is same = cc
+no_one_word name a b c d e f g h i j k (Step (Snap index offset len)) is same = cc
+no_one_word name a b c d e f g h i j k (Step (ReadRanges ranges)) is same = no_name_alone ranges.items _ _ is same
+no_one_word name a b c d e f g h i j k (Step (TryReadRanges ranges)) is same = no_name_alone ranges.items _ _ is same
 
 -- one of two words begins with one of these
 pub no_two_words : (name word : List ℕ) → name ≢ codes "ranges" → name ≢ codes "cached-ranges" → name ≢ codes "append" → name ≢ codes "owned" → name ≢ codes "try" → name ≢ codes "wait-sync" → name ≢ codes "truncate" → name ≢ codes "fail" → name ≢ codes "crash"
@@ -89,6 +97,10 @@ no_two_words name word x y a b c d e f g (Step (ReadUpTo offset len)) is same = 
 no_two_words name word x y a b c d e f g (Step (TryRead offset len)) is same = cc
 no_two_words name word x y a b c d e f g (Step (ReadRanges ranges)) is same = x cc
 no_two_words name word x y a b c d e f g (Step (TryReadRanges ranges)) is same = y cc
+no_two_words name word x y a b c d e f g (Step Snapshot) is same = cc
+no_two_words name word x y a b c d e f g (Step TrySnapshot) is same = cc
+no_two_words name word x y a b c d e f g (Step (Snap index offset len)) is same = cc
+no_two_words name word x y a b c d e f g (Step Seal) is same = cc
 
 -- one of three words begins with one of these
 pub no_three_words : (name first second : List ℕ) → name ≢ codes "ranges" → name ≢ codes "cached-ranges" → name ≢ codes "read" → name ≢ codes "upto" → name ≢ codes "cached" → (v : Line) → IsLine v → name ∷ first ∷ second ∷ [] ≢ line_words v
@@ -112,6 +124,37 @@ no_three_words name first second x y a b c (Step Size) is same = cc
 no_three_words name first second x y a b c (Step Begin) is same = cc
 no_three_words name first second x y a b c Recover is same = cc
 no_three_words name first second x y a b c Dump is same = cc
+no_three_words name first second x y a b c (Step Snapshot) is same = cc
+no_three_words name first second x y a b c (Step TrySnapshot) is same = cc
+no_three_words name first second x y a b c (Step (Snap index offset len)) is same = cc
+no_three_words name first second x y a b c (Step Seal) is same = cc
+
+-- one of four words begins with one of these
+pub no_four_words : (name first second third : List ℕ) → name ≢ codes "ranges" → name ≢ codes "cached-ranges" → name ≢ codes "snap" → (v : Line) → IsLine v → name ∷ first ∷ second ∷ third ∷ [] ≢ line_words v
+no_four_words name first second third x y a (Step (Snap index offset len)) is same = a cc
+no_four_words name first second third x y a (Step (ReadRanges ranges)) is same = x cc
+no_four_words name first second third x y a (Step (TryReadRanges ranges)) is same = y cc
+no_four_words name first second third x y a (Step (Append bytes)) is same = cc
+no_four_words name first second third x y a (Step (Owned bytes)) is same = cc
+no_four_words name first second third x y a (Step (TryAppend bytes)) is same = cc
+no_four_words name first second third x y a (Step (WaitSync n)) is same = cc
+no_four_words name first second third x y a (Step (Truncate n)) is same = cc
+no_four_words name first second third x y a (Fail n) is same = cc
+no_four_words name first second third x y a (Crash keep) is same = cc
+no_four_words name first second third x y a (Step (Read offset len)) is same = cc
+no_four_words name first second third x y a (Step (ReadUpTo offset len)) is same = cc
+no_four_words name first second third x y a (Step (TryRead offset len)) is same = cc
+no_four_words name first second third x y a (Step Sync) is same = cc
+no_four_words name first second third x y a (Step StartSync) is same = cc
+no_four_words name first second third x y a (Step Wait) is same = cc
+no_four_words name first second third x y a (Step Needs) is same = cc
+no_four_words name first second third x y a (Step Size) is same = cc
+no_four_words name first second third x y a (Step Begin) is same = cc
+no_four_words name first second third x y a (Step Snapshot) is same = cc
+no_four_words name first second third x y a (Step TrySnapshot) is same = cc
+no_four_words name first second third x y a (Step Seal) is same = cc
+no_four_words name first second third x y a Recover is same = cc
+no_four_words name first second third x y a Dump is same = cc
 
 -- there is a part, if only an empty one
 pub some_parts : {E : Type 0} (at : ℕ) (bytes : List ℕ) (r : Result (Vec (Bor (List ℕ)) Global) E) → IfOk r (λ parts. map (λ part. part.now) parts.items ≡ parts_of at bytes) → IfOk r (λ parts. 0 < vec_len parts)

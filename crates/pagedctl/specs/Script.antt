@@ -22,6 +22,7 @@ use Rattle.session.specs.declared.steps.Step.TheVariants.{Append, Owned, TryAppe
 use Rattle.session.specs.declared.steps.Step.TheVariants.{Wait, WaitSync, Needs, Size, Read, Begin}
 use Rattle.session.specs.declared.steps.Step.TheVariants.{ReadUpTo, TryRead, Truncate}
 use Rattle.session.specs.declared.steps.Step.TheVariants.{ReadRanges, TryReadRanges}
+use Rattle.session.specs.declared.steps.Step.TheVariants.{Snapshot, TrySnapshot, Snap, Seal}
 use Rattle.pagedctl.specs.Text.{hex_of}
 
 -- what reading answers, where each value has a text: the value of which this is the text, or that
@@ -113,6 +114,11 @@ step_words (ReadRanges ranges) = codes "ranges" ∷ ranges_words ranges.items
 step_words (TryReadRanges ranges) = codes "cached-ranges" ∷ ranges_words ranges.items
 step_words Begin = codes "begin" ∷ []
 step_words (Truncate size) = codes "truncate" ∷ decimal size ∷ []
+step_words Snapshot = codes "snapshot" ∷ []
+step_words TrySnapshot = codes "try-snapshot" ∷ []
+step_words (Snap index offset len) =
+    codes "snap" ∷ decimal index ∷ decimal offset ∷ decimal len ∷ []
+step_words Seal = codes "seal" ∷ []
 
 -- the words of a line behind the first
 abbrev pub line_words : Line → List (List ℕ)
@@ -142,6 +148,7 @@ IsLine (Step (ReadUpTo offset len)) = IsU64 offset × IsU64 len
 IsLine (Step (TryRead offset len)) = IsU64 offset × IsU64 len
 IsLine (Step (ReadRanges ranges)) = AreRanges ranges.items
 IsLine (Step (TryReadRanges ranges)) = AreRanges ranges.items
+IsLine (Step (Snap index offset len)) = IsU64 index × IsU64 offset × IsU64 len
 IsLine (Fail number) = (0 < non_zero_u64_get number) × IsU64 (non_zero_u64_get number)
 IsLine _ = Unit {0}
 

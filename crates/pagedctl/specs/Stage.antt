@@ -3,7 +3,6 @@ use Rattle.std.specs.Prelude.{◌≡◌, ℕ, List, Bool, true, Option, Some, No
 use Rattle.disk.specs.Disk.{Disk}
 use Rattle.cache.specs.CacheState.{CacheState}
 use Rattle.cache.specs.Pages.{IsFresh}
-use Rattle.crash.specs.WriterState.{WriterState}
 use Rattle.paged.specs.Recovery.{IsDurable}
 use Rattle.session.specs.Run.{SessionState, IsReady, CacheFits}
 
@@ -14,13 +13,13 @@ pub record StageState : Type 0 where
   pub crashed : Bool
   pub disk : Disk
 
--- the cache, if there is one, fits the session's writer, and a recovery
-abbrev pub IsCacheSet : Option CacheState → Option WriterState → Disk → Type 0
-IsCacheSet None writer d = Unit {0}
-IsCacheSet (Some cache) writer d = CacheFits writer cache d × IsFresh cache
+-- the cache, if there is one, fits the session, and a recovery
+abbrev pub IsCacheSet : Option CacheState → SessionState → Disk → Type 0
+IsCacheSet None session d = Unit {0}
+IsCacheSet (Some cache) session d = CacheFits session cache d × IsFresh cache
 
 -- the session is ready, and where a recovery may follow, all that a crash left is durable
 pub record IsSet (sum : List ℕ → ℕ) (s : StageState) : Type 0 where
   pub ready : IsReady sum s.session s.disk
-  pub cached : IsCacheSet s.cache s.session.writer s.disk
+  pub cached : IsCacheSet s.cache s.session s.disk
   pub rests : s.crashed ≡ true → IsDurable s.disk

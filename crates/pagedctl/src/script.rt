@@ -204,7 +204,7 @@ fn parse_named(alloc: Global, name: &[u8], others: &[&[u8]]) -> Result<Line, Rea
     }
 }
 
-// A line of at most three words.
+// A line of at most four words.
 fn parse_few_words(alloc: Global, name: &[u8], others: &[&[u8]]) -> Result<Line, ReadError>
     requires read { name.now ≢ codes "ranges" }
     requires cached { name.now ≢ codes "cached-ranges" }
@@ -215,6 +215,7 @@ fn parse_few_words(alloc: Global, name: &[u8], others: &[&[u8]]) -> Result<Line,
         [] => parse_one_word(name),
         [word] => parse_two_words(alloc, name, word),
         [first, second] => parse_three_words(name, first, second),
+        [first, second, third] => parse_four_words(name, first, second, third),
         _ => Err(ReadError::Unreadable),
     }
 }
@@ -230,6 +231,9 @@ fn parse_one_word(name: &[u8]) -> Result<Line, ReadError>
         b"needs" => Ok(Line::Step(Step::Needs)),
         b"size" => Ok(Line::Step(Step::Size)),
         b"begin" => Ok(Line::Step(Step::Begin)),
+        b"snapshot" => Ok(Line::Step(Step::Snapshot)),
+        b"try-snapshot" => Ok(Line::Step(Step::TrySnapshot)),
+        b"seal" => Ok(Line::Step(Step::Seal)),
         b"recover" => Ok(Line::Recover),
         b"dump" => Ok(Line::Dump),
         _ => Err(ReadError::Unreadable),
@@ -264,6 +268,24 @@ fn parse_three_words(name: &[u8], first: &[u8], second: &[u8]) -> Result<Line, R
         b"read" => parse_read(first, second),
         b"upto" => parse_read_up_to(first, second),
         b"cached" => parse_try_read(first, second),
+        _ => Err(ReadError::Unreadable),
+    }
+}
+
+// A line of four words.
+fn parse_four_words(
+    name: &[u8],
+    first: &[u8],
+    second: &[u8],
+    third: &[u8],
+) -> Result<Line, ReadError>
+    requires read { name.now ≢ codes "ranges" }
+    requires cached { name.now ≢ codes "cached-ranges" }
+    ensures reads { Reads line_words IsLine
+        (name.now ∷ first.now ∷ second.now ∷ third.now ∷ []) result }
+{
+    match name {
+        b"snap" => parse_snap(first, second, third),
         _ => Err(ReadError::Unreadable),
     }
 }
@@ -341,6 +363,16 @@ fn parse_try_read(offset: &[u8], len: &[u8]) -> Result<Line, ReadError>
     let offset = parse_number(offset)?;
     let len = parse_number(len)? as usize;
     Ok(Line::Step(Step::TryRead(offset, len)))
+}
+
+fn parse_snap(index: &[u8], offset: &[u8], len: &[u8]) -> Result<Line, ReadError>
+    ensures reads { Reads line_words IsLine
+        (codes "snap" ∷ index.now ∷ offset.now ∷ len.now ∷ []) result }
+{
+    let index = parse_number(index)? as usize;
+    let offset = parse_number(offset)?;
+    let len = parse_number(len)? as usize;
+    Ok(Line::Step(Step::Snap(index, offset, len)))
 }
 
 fn parse_read_ranges(alloc: Global, words: &[&[u8]]) -> Result<Line, ReadError>

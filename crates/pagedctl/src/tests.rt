@@ -533,7 +533,7 @@ fn a_bad_first_line_is_named(rt: HostRuntime) -> Result<(), Fail> {
 }
 
 // Lines that can't be read, also behind a first one that can.
-const BAD_LINES: [&[u8]; 56] = [
+const BAD_LINES: [&[u8]; 72] = [
     b"",
     b" ",
     b"append",
@@ -590,6 +590,22 @@ const BAD_LINES: [&[u8]; 56] = [
     b"ranges 0:1 2",
     b"cached-ranges",
     b"cached-ranges 0:1 2",
+    b"snapshot 0",
+    b"snapshot ",
+    b"try-snapshot -",
+    b"Try-snapshot",
+    b"seal 0",
+    b"seal ",
+    b"snap",
+    b"snap 0",
+    b"snap 0 0",
+    b"snap 0 0 ",
+    b"snap 0 0 1 1",
+    b"snap 00 0 1",
+    b"snap -1 0 1",
+    b"snap 0 +0 1",
+    b"snap 0 0 01",
+    b"snap 18446744073709551616 0 1",
 ];
 
 #[test]
@@ -788,4 +804,173 @@ closed
 closed
 ";
     plays(&rt, rt.alloc(), script, out)
+}
+
+#[test]
+fn a_seal_leaves_a_snapshot_and_a_started_sync(rt: HostRuntime) -> Result<(), Fail> {
+    let script = "\
+start 4 8 4 add
+append 6162636465
+seal
+begin
+seal
+append 66
+snap 0 3 2
+wait-sync 0
+snapshot
+try-snapshot
+seal
+crash -
+recover
+read 0 5
+";
+    let out = "\
+recovered 0
+at 0
+not-appending
+ok
+sealed 0 named 0
+closed
+bytes 6465
+ok
+closed
+closed
+closed
+crashed 32
+recovered 5
+bytes 6162636465
+";
+    plays(&rt, rt.alloc(), script, out)
+}
+
+#[test]
+fn a_seal_with_nothing_to_write_is_done(rt: HostRuntime) -> Result<(), Fail> {
+    let script = "\
+start 4 8 4 add
+append 61
+sync
+begin
+snapshot
+seal
+snap 1 0 1
+wait-sync 0
+";
+    let out = "\
+recovered 0
+at 0
+ok
+ok
+snapshot 0
+sealed 1 done
+bytes 61
+no-such
+";
+    plays(&rt, rt.alloc(), script, out)
+}
+
+#[test]
+fn a_snapshot_stays_where_appends_go_on(rt: HostRuntime) -> Result<(), Fail> {
+    let script = "\
+start 4 8 4 add
+snapshot
+try-snapshot
+begin
+append 6162636465
+try-snapshot
+snapshot
+append 66
+snap 0 3 2
+snap 1 0 1
+size
+try-snapshot
+snap 0 0 6
+snap 1 0 6
+snap 1 6 0
+snap 1 18446744073709551615 1
+snap 18446744073709551615 18446744073709551615 18446744073709551615
+";
+    let out = "\
+recovered 0
+not-appending
+not-appending
+ok
+at 0
+none
+snapshot 0
+at 5
+bytes 6465
+no-such
+size 6
+snapshot 1
+fault E6 BlobInsufficientLength
+bytes 616263646566
+bytes -
+fault E7 OffsetOverflow
+no-such
+";
+    plays(&rt, rt.alloc(), script, out)
+}
+
+#[test]
+fn a_snapshot_stays_where_the_writer_is_gone(rt: HostRuntime) -> Result<(), Fail> {
+    let script = "\
+start 4 8 1 add
+begin
+append 616263646566676869
+snapshot
+fail 1
+append 6a6b6c6d6e6f7071
+size
+snap 0 0 9
+fail 1
+snap 0 0 1
+snap 0 0 1
+crash -
+snap 0 0 1
+";
+    let out = "\
+recovered 0
+ok
+at 0
+snapshot 0
+ok
+fault E2 WriteFailed
+closed
+bytes 616263646566676869
+ok
+fault E1 ReadFailed
+bytes 61
+crashed 0
+no-such
+";
+    plays(&rt, rt.alloc(), script, out)
+}
+
+#[test]
+fn a_refused_snapshot_or_seal_closes(rt: HostRuntime) -> Result<(), Fail> {
+    let alloc = rt.alloc();
+    for step in ["snapshot", "seal"] {
+        let script = format!(in alloc;
+            "\
+start 4 8 4 add
+begin
+append 6162636465
+fail 1
+{step}
+snap 0 0 1
+size
+"
+        )?;
+        let out = "\
+recovered 0
+ok
+at 0
+ok
+fault E2 WriteFailed
+no-such
+closed
+";
+        plays(&rt, alloc, &script, out)?;
+    }
+    Ok(())
 }

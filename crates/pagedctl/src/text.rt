@@ -67,6 +67,12 @@ impl fmt::Display for Said<'_> {
             Reply::NotRecovering => write!(f, "not-recovering"),
             Reply::NoSuch => write!(f, "no-such"),
             Reply::BadRanges => write!(f, "bad-ranges"),
+            Reply::Taken(index) => write!(f, "snapshot {index}"),
+            Reply::Sealed(index, StartedSync::Done) => write!(f, "sealed {index} done"),
+            Reply::Sealed(index, StartedSync::Named(name)) => {
+                write!(f, "sealed {index} named {name}")
+            }
+            Reply::NotAppending => write!(f, "not-appending"),
         }
     }
 }

@@ -18,9 +18,9 @@ use Rattle.crash.proofs.Disks.{base_is_image, base_is_whole}
 use Rattle.crash.proofs.Promise.{whole_is_chance_free}
 use Rattle.crash.proofs.Examples.{durable, six, all_keep}
 use Rattle.session.specs.declared.steps.Step.{Step}
-use Rattle.session.specs.declared.steps.Step.TheVariants.{Append, Owned, TryAppend, Sync, StartSync, Wait, WaitSync, Needs, Size, Read, ReadUpTo, TryRead, ReadRanges, TryReadRanges, Begin, Truncate}
-use Rattle.session.specs.declared.steps.Reply.TheVariants.{At, Nothing, Done, Length, Bytes, Fault, Closed, NotRecovering, NoSuch, Served, Missed, BadRanges}
-use Rattle.session.specs.Run.{Standing, buffered_after, awaited_after, appended, synced, starting, truncated, waited, begun, needs_sync, raised, started_by, ended, fit_together, turned_away, Accepts, faults, HasCause, Allocates, waits_for, Refuses, Takes, Foretells, RiseBelow, Answers, touch, Ran}
+use Rattle.session.specs.declared.steps.Step.TheVariants.{Append, Owned, TryAppend, Sync, StartSync, Wait, WaitSync, Needs, Size, Read, ReadUpTo, TryRead, ReadRanges, TryReadRanges, Begin, Truncate, Snapshot, TrySnapshot, Snap, Seal}
+use Rattle.session.specs.declared.steps.Reply.TheVariants.{At, Nothing, Done, Length, Bytes, Fault, Closed, NotRecovering, NoSuch, Served, Missed, BadRanges, Taken, Sealed, NotAppending}
+use Rattle.session.specs.Run.{Standing, buffered_after, awaited_after, appended, synced, starting, truncated, noted, flushed, left_by_seal, sealed_by, snapshot_at, waited, begun, needs_sync, raised, started_by, ended, fit_together, turned_away, Accepts, faults, HasCause, Allocates, waits_for, Refuses, Takes, Foretells, RiseBelow, Answers, touch, Ran}
 use Rattle.session.specs.Run.Touch.{Leaves, Looks, Changes}
 use Rattle.session.specs.Promise.{Crashes, fresh}
 
@@ -37,6 +37,7 @@ six_stand = record {
   written = true;
   awaited = None;
   covers = [];
+  snapshots = [];
 }
 
 -- the same, with nothing synced yet, and all of it buffered
@@ -96,10 +97,10 @@ pub a_byte_to_sync : (appended 4 (103 ∷ []) six_stand).written ≡ false
 a_byte_to_sync = refl
 
 -- with nothing to sync, a sync asks the device nothing
-pub an_idle_sync : touch Sync six_stand ≡ Leaves
+pub an_idle_sync : touch 4 Sync six_stand ≡ Leaves
 an_idle_sync = refl
 
-pub a_busy_sync : touch Sync none_synced ≡ Changes 2
+pub a_busy_sync : touch 4 Sync none_synced ≡ Changes 2
 a_busy_sync = refl
 
 -- so it isn't refused
@@ -133,7 +134,7 @@ pub started_anew : started_by none_synced durable ≡ Named 0
 started_anew = refl
 
 -- then a sync has something to do, and waits; and nothing once it was waited for
-pub a_sync_that_waits : touch Sync six_started ≡ Changes 1
+pub a_sync_that_waits : touch 4 Sync six_started ≡ Changes 1
 a_sync_that_waits = refl
 
 pub needs_a_sync : needs_sync six_started ≡ true
@@ -143,17 +144,17 @@ pub needs_none : needs_sync (waited six_started) ≡ false
 needs_none = refl
 
 -- a start where nothing was appended since asks the device nothing
-pub an_idle_start : touch StartSync six_started ≡ Leaves
+pub an_idle_start : touch 4 StartSync six_started ≡ Leaves
 an_idle_start = refl
 
-pub a_busy_start : touch StartSync none_synced ≡ Changes 3
+pub a_busy_start : touch 4 StartSync none_synced ≡ Changes 3
 a_busy_start = refl
 
 -- so does a wait where nothing is awaited
-pub an_idle_wait : touch Wait none_synced ≡ Leaves
+pub an_idle_wait : touch 4 Wait none_synced ≡ Leaves
 an_idle_wait = refl
 
-pub a_busy_wait : touch Wait six_started ≡ Changes 1
+pub a_busy_wait : touch 4 Wait six_started ≡ Changes 1
 a_busy_wait = refl
 
 -- an append that is buffered waits for nothing, and another for the started sync
@@ -163,10 +164,10 @@ no_wait_to_buffer = refl
 pub a_wait_to_flush : awaited_after six_started 7 ≡ None
 a_wait_to_flush = refl
 
-pub nothing_awaited : (bytes : Vec ℕ Global) → bytes.items ≡ 103 ∷ [] → waits_for (Append bytes) six_started ≡ None
+pub nothing_awaited : (bytes : Vec ℕ Global) → bytes.items ≡ 103 ∷ [] → waits_for 4 (Append bytes) six_started ≡ None
 nothing_awaited bytes is = rw is refl
 
-pub a_name_awaited : waits_for (WaitSync 0) six_stand ≡ Some 0
+pub a_name_awaited : waits_for 4 (WaitSync 0) six_stand ≡ Some 0
 a_name_awaited = refl
 
 -- before it has completed the floor is as it was, and then it is what it covers
@@ -264,10 +265,10 @@ pub closed_first : turned_away (Truncate 2) (record six_stand { has_writer = fal
 closed_first = refl
 
 -- a cut may ask for eight calls, and a truncate that is none for those of a sync
-pub a_busy_truncate : touch (Truncate 2) six_stand ≡ Changes 8
+pub a_busy_truncate : touch 4 (Truncate 2) six_stand ≡ Changes 8
 a_busy_truncate = refl
 
-pub a_truncate_that_syncs : touch (Truncate 6) six_stand ≡ Changes 2
+pub a_truncate_that_syncs : touch 4 (Truncate 6) six_stand ≡ Changes 2
 a_truncate_that_syncs = refl
 
 -- ---- replies
@@ -299,10 +300,15 @@ a_try_that_does_not_fit bytes long = let passes : 8 < 2 + length bytes.items = o
 pub no_nothing_that_fits : (bytes : Vec ℕ Global) (behind : Standing) → length bytes.items ≡ 6 → Accepts 4 (TryAppend bytes) Nothing durable durable six_stand behind → ⊥
 no_nothing_that_fits bytes behind long accepts = absurd (false≢true (sym accepts.0 ∙ le-leb (2 + length bytes.items) 8 (omega (arith, long))))
 
--- no other step is answered so, but a read that asks no device
-pub nothing_is_of_a_try : (P : ℕ) (step : Step) (from to : Disk) (before behind : Standing) → Accepts P step Nothing from to before behind → ((bytes : Vec ℕ Global) × (step ≡ TryAppend bytes)) ⊎ ((offset len : ℕ) × (step ≡ TryRead offset len))
+-- no other step is answered so, but a read that asks no device, and a snapshot that writes nothing
+pub nothing_is_of_a_try : (P : ℕ) (step : Step) (from to : Disk) (before behind : Standing) → Accepts P step Nothing from to before behind
+    → ((bytes : Vec ℕ Global) × (step ≡ TryAppend bytes)) ⊎ (((offset len : ℕ) × (step ≡ TryRead offset len)) ⊎ (step ≡ TrySnapshot))
 nothing_is_of_a_try P (TryAppend bytes) from to before behind accepts = inl (bytes, refl)
-nothing_is_of_a_try P (TryRead offset len) from to before behind accepts = inr (offset, len, refl)
+nothing_is_of_a_try P (TryRead offset len) from to before behind accepts = inr (inl (offset, len, refl))
+nothing_is_of_a_try P TrySnapshot from to before behind accepts = inr (inr refl)
+nothing_is_of_a_try P Snapshot from to before behind accepts = absurd accepts
+nothing_is_of_a_try P (Snap index offset len) from to before behind accepts = absurd accepts
+nothing_is_of_a_try P Seal from to before behind accepts = absurd accepts
 nothing_is_of_a_try P (Append bytes) from to before behind accepts = absurd accepts
 nothing_is_of_a_try P (Owned bytes) from to before behind accepts = absurd accepts
 nothing_is_of_a_try P Sync from to before behind accepts = absurd accepts
@@ -330,7 +336,7 @@ pub some_up_to_at_the_end : HasCause 4 (ReadUpTo 6 1) six_stand durable durable 
 some_up_to_at_the_end = (λ is. cc is, omega arith)
 
 -- a read that asks no device leaves it alone, and only memory is refused
-pub a_try_read_asks_nothing : touch (TryRead 0 4) six_stand ≡ Leaves
+pub a_try_read_asks_nothing : touch 4 (TryRead 0 4) six_stand ≡ Leaves
 a_try_read_asks_nothing = refl
 
 -- ranges that touch can be read in one call, and an empty one at the end of the last
@@ -398,10 +404,10 @@ pub no_number_of_none : (ranges : Vec (ℕ × ℕ) Global) (numbers : Vec ℕ Gl
 no_number_of_none ranges numbers is are accepts = let rise = subst (λ (ns : List ℕ). RiseBelow 0 (length ranges.items) ns) are accepts.0.0 in omega (arith, rise.1, ap length is)
 
 -- a read of ranges only reads, and a question for them leaves the device alone
-pub a_read_of_ranges_looks : (ranges : Vec (ℕ × ℕ) Global) → touch (ReadRanges ranges) six_stand ≡ Looks
+pub a_read_of_ranges_looks : (ranges : Vec (ℕ × ℕ) Global) → touch 4 (ReadRanges ranges) six_stand ≡ Looks
 a_read_of_ranges_looks ranges = refl
 
-pub a_question_leaves : (ranges : Vec (ℕ × ℕ) Global) → touch (TryReadRanges ranges) six_stand ≡ Leaves
+pub a_question_leaves : (ranges : Vec (ℕ × ℕ) Global) → touch 4 (TryReadRanges ranges) six_stand ≡ Leaves
 a_question_leaves ranges = refl
 
 -- a size has no error
@@ -443,6 +449,74 @@ a_run_of_one = (
 -- another size isn't answered
 pub no_other_size : Accepts 4 Size (Length 7) durable durable six_stand six_stand → ⊥
 no_other_size accepts = omega (arith, accepts.0)
+
+-- ---- snapshots
+
+-- with a snapshot, of a writer that appends
+abbrev six_noted : Standing
+six_noted = noted (record six_stand { recovering = false })
+
+pub a_snapshot_tells_the_content : six_noted.snapshots ≡ six ∷ []
+a_snapshot_tells_the_content = refl
+
+-- another has the next number
+pub a_second_snapshot : Accepts 4 TrySnapshot (Taken 1) durable durable six_noted (noted six_noted)
+a_second_snapshot = (omega arith, refl, refl)
+
+-- none is made without a write while a full page is buffered, and with one "ef" is left buffered
+pub none_while_a_page_is_buffered : Accepts 4 TrySnapshot Nothing durable durable none_synced none_synced
+none_while_a_page_is_buffered = (omega arith, refl)
+
+pub a_flushed_snapshot : noted (flushed 4 none_synced) ≡ record none_synced { buffered = 2; snapshots = six ∷ [] }
+a_flushed_snapshot = refl
+
+pub a_snapshot_that_writes : touch 4 Snapshot none_synced ≡ Changes 2
+a_snapshot_that_writes = refl
+
+pub a_snapshot_that_does_not : touch 4 Snapshot six_stand ≡ Leaves
+a_snapshot_that_does_not = refl
+
+-- it isn't made in recovery, nor where there is no writer
+pub no_snapshot_recovering : turned_away Snapshot six_stand ≡ Some NotAppending
+no_snapshot_recovering = refl
+
+pub no_seal_recovering : turned_away Seal six_stand ≡ Some NotAppending
+no_seal_recovering = refl
+
+pub no_seal_closed : turned_away Seal (ended six six_stand) ≡ Some Closed
+no_seal_closed = refl
+
+-- a seal of what is written has nothing to start, and closes the session
+pub an_idle_seal : Accepts 4 Seal (Sealed 1 AllDone) durable durable six_noted (record six_noted { has_writer = false; snapshots = six ∷ six ∷ [] })
+an_idle_seal = (refl, refl, refl)
+
+pub a_seal_that_leaves_the_disk : touch 4 Seal six_noted ≡ Leaves
+a_seal_that_leaves_the_disk = refl
+
+-- of what isn't it starts a sync of its own, which covers all
+pub a_busy_seal : left_by_seal 4 (Named 0) none_synced ≡ record six_started { has_writer = false; snapshots = six ∷ [] }
+a_busy_seal = refl
+
+pub a_seal_that_starts : touch 4 Seal none_synced ≡ Changes 3
+a_seal_that_starts = refl
+
+pub it_is_named : sealed_by none_synced durable ≡ Named 0
+it_is_named = refl
+
+-- a snapshot is read in a closed session too: of "abcdef" two bytes from the fourth on are "de"
+pub a_snap_closed : (bytes : Vec ℕ Global) → bytes.items ≡ 100 ∷ 101 ∷ [] → Accepts 4 (Snap 0 3 2) (Bytes bytes) durable durable (ended six six_noted) (ended six six_noted)
+a_snap_closed bytes is = ((omega arith, is), refl)
+
+pub a_snap_is_taken : turned_away (Snap 0 3 2) (ended six six_noted) ≡ None
+a_snap_is_taken = refl
+
+-- and none of another number
+pub no_such_snapshot : turned_away (Snap 1 3 2) six_noted ≡ Some NoSuch
+no_such_snapshot = refl
+
+-- what is appended behind it isn't in it
+pub it_does_not_move : snapshot_at (appended 4 (103 ∷ []) six_noted) 0 ≡ six
+it_does_not_move = refl
 
 -- a crash of a blob in which all is durable may leave it as it is, and that is fair
 pub a_crash : Crashes add_sum 4 true durable durable

@@ -1,8 +1,12 @@
+pub mod Apart
+pub mod Below
 pub mod StepLaws
 pub mod ReadLaws
 pub mod RangeLaws
 pub mod StartLaws
 pub mod TruncateLaws
+pub mod SnapshotLaws
+pub mod WholeLaws
 pub mod RunLaws
 pub mod PromiseLaws
 pub mod Examples

@@ -25,6 +25,7 @@ use Rattle.session.specs.declared.steps.Reply.{Reply}
 use Rattle.session.specs.Run.{Standing, SessionState, raised, begun as begun_with, other_content, last, Ran, StandsFor, RunsAlways}
 use Rattle.session.specs.Promise.{IsMoment, HasCrashed, Crashes, Attempts, HasRecovered, ComesBack, Begins, Survives, Tells, Promises, session_of, fresh, KeepsFloor, LeavesContent, IsBegun, AttemptsThrough, opened, StandsWhereSound, RecoversFrom, GivesBack, GivesBackLeft, LeadsOn}
 use Rattle.session.specs.Promise.ComesBack.{recovered, crashed, attempted}
+use Rattle.session.proofs.Apart.{whole}
 use Rattle.session.proofs.StepLaws.{same_moments, begun_within, stands_now, settled_started, settled_awaits}
 use Rattle.paged.proofs.Flushes.{size_is_length}
 use Rattle.std.proofs.Math.Nat.{mul-add-mod_self_right, mod-eq_of_lt}
@@ -183,7 +184,7 @@ unfolding IsSound
 stands_where_sound sum w = λ d floor sound within enough keeps.
     let s : Standing = opened w floor d.readable in
     let life : Life = record { present = d; past = [] } in
-    stands_now sum w.page_size (session_of w) w life life s
+    whole sum w.page_size (session_of w) s d refl (stands_now sum w.page_size (session_of w) w life life s
     (record {
       page_size = refl;
       has_writer = refl;
@@ -195,7 +196,7 @@ stands_where_sound sum w = λ d floor sound within enough keeps.
       written = refl;
       awaited = refl;
     })
-    refl (λ name. refl) enough (λ k x lt. absurd (omega (arith, lt))) keeps (λ k x lt. absurd (omega (arith, lt))) (stays_itself sum w.page_size (content_of w d.readable) d sound.truthful)
+    refl (λ name. refl) enough (λ k x lt. absurd (omega (arith, lt))) keeps (λ k x lt. absurd (omega (arith, lt))) (stays_itself sum w.page_size (content_of w d.readable) d sound.truthful))
 
 -- the size of a content is that of full pages and of a tip that is less
 pub tip_is : (sum : List ℕ → ℕ) (w : WriterState) (life : Life) → IsSound sum w life.present → length w.tip < w.page_size → length w.tip ≡ length (content_of w life.present.readable) % w.page_size
@@ -218,7 +219,7 @@ fresh_stands sum w cache capacity old new recovers within durable =
     let stays : Stays sum P T new.present new.present =
     subst (λ (n : ℕ). Stays sum n T new.present new.present) size
     (subst (λ (l : List ℕ). Stays sum w.page_size l new.present new.present) holds (stays_itself sum w.page_size (content_of w new.present.readable) new.present recovers.sound.truthful)) in
-    stands_now sum P (session_of w) w new new (fresh P (adjusted capacity P) T)
+    whole sum P (session_of w) (fresh P (adjusted capacity P) T) new.present refl (stands_now sum P (session_of w) w new new (fresh P (adjusted capacity P) T)
     (record {
       page_size = size;
       has_writer = refl;
@@ -230,7 +231,7 @@ fresh_stands sum w cache capacity old new recovers within durable =
       written = settled_started w recovers.settled;
       awaited = settled_awaits w recovers.settled;
     })
-    refl (λ name. refl) (omega arith) (λ k x lt. absurd (omega (arith, lt))) durable (λ k x lt. absurd (omega (arith, lt))) stays
+    refl (λ name. refl) (omega arith) (λ k x lt. absurd (omega (arith, lt))) durable (λ k x lt. absurd (omega (arith, lt))) stays)
 
 -- nothing is asked of what isn't fair
 pub unfair : {A : Type 0} → false ≡ true → A

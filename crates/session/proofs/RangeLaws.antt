@@ -25,10 +25,11 @@ use Rattle.paged.proofs.There.{reads_keep_sound}
 use Rattle.session.specs.declared.steps.Step.{Step}
 use Rattle.session.specs.declared.steps.Step.TheVariants.{ReadRanges, TryReadRanges}
 use Rattle.session.specs.declared.steps.Reply.{Reply}
-use Rattle.session.specs.declared.steps.Reply.TheVariants.{At, Nothing, Done, Started, Answer, Length, Bytes, Fault, Closed, NotRecovering, NoSuch, Served, Missed, BadRanges}
-use Rattle.session.specs.Run.{Standing, SessionState, in_order_from, fit_together, turned_away, content_after, faults, HasCause, Takes, Foretells, RiseBelow, NumbersSome, touch, StandsFor, IsReady}
-use Rattle.session.specs.Calls.{ReadsRanges, ReadRangesSays, DidReadRanges, TriedRanges, DidTryReadRanges, StepsAlways, Steps}
+use Rattle.session.specs.declared.steps.Reply.TheVariants.{At, Nothing, Done, Started, Answer, Length, Bytes, Fault, Closed, NotRecovering, NoSuch, Served, Missed, BadRanges, Taken, Sealed, NotAppending}
+use Rattle.session.specs.Run.{Standing, SessionState, in_order_from, fit_together, turned_away, content_after, faults, HasCause, Takes, Foretells, RiseBelow, NumbersSome, touch}
+use Rattle.session.specs.Calls.{ReadsRanges, ReadRangesSays, DidReadRanges, TriedRanges, DidTryReadRanges}
 use Rattle.session.proofs.StepLaws.{held, answers_away, leaves, begun_keeps, begun_covers, only_there, raised_within, unasked, looked_steps, alike_stays_started, closed_takes, held_takes, sound_of, same_rest}
+use Rattle.session.proofs.Apart.{AlwaysApart, IsReadyApart, StandsApart, StepsApart}
 
 -- ---- ranges that one call can take
 
@@ -108,6 +109,9 @@ overflow_told sum w cache ranges old new (Missed numbers) small reads goes = abs
 overflow_told sum w cache ranges old new Closed small reads goes = absurd reads
 overflow_told sum w cache ranges old new NotRecovering small reads goes = absurd reads
 overflow_told sum w cache ranges old new BadRanges small reads goes = absurd reads
+overflow_told sum w cache ranges old new (Taken index) small reads goes = absurd reads
+overflow_told sum w cache ranges old new (Sealed index sync) small reads goes = absurd reads
+overflow_told sum w cache ranges old new NotAppending small reads goes = absurd reads
 overflow_told sum w cache ranges old new NoSuch small reads goes = absurd reads
 
 end_told : (sum : List ℕ → ℕ) (w : WriterState) (cache : CacheState) (ranges : List (ℕ × ℕ)) (old new : Life) (reply : Reply) → size_of w < 2 ^ 64 → ReadsRanges sum w cache ranges old new reply → RangesGo (size_of w) ranges (Err BlobInsufficientLength) → reply ≡ Fault BlobInsufficientLength
@@ -132,6 +136,9 @@ end_told sum w cache ranges old new (Missed numbers) small reads goes = absurd r
 end_told sum w cache ranges old new Closed small reads goes = absurd reads
 end_told sum w cache ranges old new NotRecovering small reads goes = absurd reads
 end_told sum w cache ranges old new BadRanges small reads goes = absurd reads
+end_told sum w cache ranges old new (Taken index) small reads goes = absurd reads
+end_told sum w cache ranges old new (Sealed index sync) small reads goes = absurd reads
+end_told sum w cache ranges old new NotAppending small reads goes = absurd reads
 end_told sum w cache ranges old new NoSuch small reads goes = absurd reads
 
 -- ---- what a read of them says
@@ -234,8 +241,8 @@ turned_fit false fit has fits = absurd (false≢true has)
 turned_fit true false has fits = absurd (false≢true fits)
 
 -- a step that is turned away though there is a writer
-away_steps : (sum : List ℕ → ℕ) (step : Step) (reply : Reply) (was : SessionState) (w : WriterState) (life : Life) → ((before : Standing) → before.has_writer ≡ true → turned_away step before ≡ Some reply) → ((content : List ℕ) → content_after step content ≡ content)
-    → StepsAlways sum step reply (held was (Some w)) (held was (Some w)) life life
+pub away_steps : (sum : List ℕ → ℕ) (step : Step) (reply : Reply) (was : SessionState) (w : WriterState) (life : Life) → ((before : Standing) → before.has_writer ≡ true → was.recovering ≡ before.recovering → turned_away step before ≡ Some reply) → ((content : List ℕ) → content_after step content ≡ content)
+    → AlwaysApart sum step reply (held was (Some w)) (held was (Some w)) life life
 away_steps sum step reply was w life away same = λ P before stands.
     let only : AllOnly sum P before.content (if before.has_writer then content_after step before.content else before.otherwise) life.present =
     subst (λ (l : List ℕ). AllOnly sum P before.content (if before.has_writer then l else before.otherwise) life.present) (sym (same before.content)) (only_there sum P (Some w) before life.present life.present stands.fits stands.only) in
@@ -244,8 +251,8 @@ away_steps sum step reply was w life away same = λ P before stands.
       goes = refl;
       behind = before;
       did = record {
-        answer = answers_away P step reply life.present life.present before (away before stands.fits.has_writer);
-        touches = leaves (touch step before) life.present;
+        answer = answers_away P step reply life.present life.present before (away before stands.fits.has_writer stands.phase);
+        touches = leaves (touch P step before) life.present;
         stopped = λ gone. refl;
         kept = (begun_keeps sum P step before life.present stands.kept, tt);
         covered = (begun_covers sum P step before life.present stands.covered, tt);
@@ -253,15 +260,16 @@ away_steps sum step reply was w life away same = λ P before stands.
         within = raised_within sum P (held was (Some w)) life life before [] refl stands;
       };
       stands = stands;
+      same = refl;
     }
 
 -- of a session with a writer
 bad_takes : (sum : List ℕ → ℕ) (step : Step) (was : SessionState) (w : WriterState) (old new : Life) (reply : Reply) → ((before : Standing) → before.has_writer ≡ true → turned_away step before ≡ Some BadRanges) → ((content : List ℕ) → content_after step content ≡ content)
-    → was.writer ≡ Some w → IsReady sum was old.present → reply ≡ BadRanges → new ≡ old → Steps sum step reply was was old new
+    → was.writer ≡ Some w → IsReadyApart sum was old.present → reply ≡ BadRanges → new ≡ old → StepsApart sum step reply was was old new
 bad_takes sum step was w old new reply away stays at ready replied same =
-    subst (λ (r : Reply). Steps sum step r was was old new) (sym replied)
-    (subst (λ (life : Life). Steps sum step BadRanges was was old life) (sym same)
-    (held_takes sum step BadRanges was was w (Some w) old old at (same_rest was) at (sound_of sum was w old.present at ready) ready.starts (away_steps sum step BadRanges was w old away stays)))
+    subst (λ (r : Reply). StepsApart sum step r was was old new) (sym replied)
+    (subst (λ (life : Life). StepsApart sum step BadRanges was was old life) (sym same)
+    (held_takes sum step BadRanges was was w (Some w) old old at (same_rest was) at (sound_of sum was w old.present at ready) ready.starts (away_steps sum step BadRanges was w old (λ before has phase. away before has) stays)))
 
 -- why a read of ranges is refused
 ranges_cause : (sum : List ℕ → ℕ) (P : ℕ) (w : WriterState) (cache : CacheState) (ranges : Vec (ℕ × ℕ) Global) (before : Standing) (old new : Life) (e : Error) → size_of w ≡ length before.content → (e ≡ InvalidChecksum → ⊥) → ReadsMany sum (tail_of w) cache ranges.items [] old new (Err e)
@@ -287,7 +295,7 @@ filter_few p (x ∷ xs) = by_test (p x) (filter_few p xs)
 
 -- a read of ranges that one call can take
 read_ranges_steps : (sum : List ℕ → ℕ) (was : SessionState) (w : WriterState) (cache : CacheState) (ranges : Vec (ℕ × ℕ) Global) (old new : Life) (reply : Reply) → fit_together ranges.items ≡ true → IsSound sum w old.present → ReadRangesSays sum w cache ranges.items old new reply
-    → StepsAlways sum (ReadRanges ranges) reply (held was (Some w)) (held was (Some w)) old new
+    → AlwaysApart sum (ReadRanges ranges) reply (held was (Some w)) (held was (Some w)) old new
 unfolding Through
 read_ranges_steps sum was w cache ranges old new reply fits sound says = λ P before stands.
     let size : size_of w ≡ length before.content = size_is_length sum w old sound ∙ ap length (sym stands.fits.content) in
@@ -297,7 +305,7 @@ read_ranges_steps sum was w cache ranges old new reply fits sound says = λ P be
     ) in
     looked_steps sum was P w (ReadRanges ranges) reply old new before refl refl (turned_fit before.has_writer (fit_together ranges.items) stands.fits.has_writer fits) sound says.looked says.looked.through says.looked.through.each stands (taken reply P before stands size says.full says.reads) foretold
   where
-    taken : (r : Reply) (P : ℕ) (before : Standing) → StandsFor sum P (held was (Some w)) before old.present → size_of w ≡ length before.content → (r ≡ Fault InvalidChecksum → ⊥) → ReadsRanges sum w cache ranges.items old new r → Takes P (ReadRanges ranges) r old.present new.present before before
+    taken : (r : Reply) (P : ℕ) (before : Standing) → StandsApart sum P (held was (Some w)) before old.present → size_of w ≡ length before.content → (r ≡ Fault InvalidChecksum → ⊥) → ReadsRanges sum w cache ranges.items old new r → Takes P (ReadRanges ranges) r old.present new.present before before
     taken (Served count bytes) P before stands size full reads =
         let few : count ≤ length ranges.items = omega (arith, reads.1, filter_few (is_served cache (tail_of w)) ranges.items) in (
           (subst (λ (n : ℕ). EndWithin n ranges.items) size reads.0, reads.2 ∙ ap (λ (l : List ℕ). flat_map (λ (range : ℕ × ℕ). take range.1 (drop range.0 l)) ranges.items) (sym stands.fits.content)),
@@ -315,15 +323,18 @@ read_ranges_steps sum was w cache ranges old new reply fits sound says = λ P be
     taken Closed P before stands size full reads = absurd reads
     taken NotRecovering P before stands size full reads = absurd reads
     taken BadRanges P before stands size full reads = absurd reads
+    taken (Taken index) P before stands size full reads = absurd reads
+    taken (Sealed index sync) P before stands size full reads = absurd reads
+    taken NotAppending P before stands size full reads = absurd reads
     taken NoSuch P before stands size full reads = absurd reads
     taken (Missed numbers) P before stands size full reads = absurd reads
 
 -- by a session
-pub read_ranges_takes : (sum : List ℕ → ℕ) (was : SessionState) (cache : CacheState) (ranges : Vec (ℕ × ℕ) Global) (old new : Life) (reply : Reply) → IsReady sum was old.present → DidReadRanges sum was.writer (fit_together ranges.items) cache ranges.items old new reply
-    → Steps sum (ReadRanges ranges) reply was was old new
+pub read_ranges_takes : (sum : List ℕ → ℕ) (was : SessionState) (cache : CacheState) (ranges : Vec (ℕ × ℕ) Global) (old new : Life) (reply : Reply) → IsReadyApart sum was old.present → DidReadRanges sum was.writer (fit_together ranges.items) cache ranges.items old new reply
+    → StepsApart sum (ReadRanges ranges) reply was was old new
 read_ranges_takes sum was cache ranges old new reply ready goes = by_writer was.writer refl (fit_together ranges.items) refl goes
   where
-    by_writer : (o : Option WriterState) → was.writer ≡ o → (fit : Bool) → fit_together ranges.items ≡ fit → DidReadRanges sum o fit cache ranges.items old new reply → Steps sum (ReadRanges ranges) reply was was old new
+    by_writer : (o : Option WriterState) → was.writer ≡ o → (fit : Bool) → fit_together ranges.items ≡ fit → DidReadRanges sum o fit cache ranges.items old new reply → StepsApart sum (ReadRanges ranges) reply was was old new
     by_writer None at fit is goes = closed_takes sum (ReadRanges ranges) was was old new reply (λ before none. turned_none before.has_writer (fit_together ranges.items) none) at ready goes.0 refl goes.1
     by_writer (Some w) at false is goes = bad_takes sum (ReadRanges ranges) was w old new reply (λ before has. turned_bad before.has_writer (fit_together ranges.items) has is) (λ content. refl) at ready goes.0 goes.1
     by_writer (Some w) at true is says =
@@ -360,7 +371,7 @@ numbers_some w cache ranges content numbers size (inr (passes, is)) =
     (subst (λ (ns : List ℕ). RiseBelow 0 (length ranges) ns) (sym is) (all_rise 0 (length ranges) (length ranges) (omega arith)), inr is)
 
 try_read_ranges_steps : (sum : List ℕ → ℕ) (was : SessionState) (w : WriterState) (cache : CacheState) (ranges : Vec (ℕ × ℕ) Global) (life : Life) (reply : Reply) → fit_together ranges.items ≡ true → IsSound sum w life.present → TriedRanges w cache ranges.items reply
-    → StepsAlways sum (TryReadRanges ranges) reply (held was (Some w)) (held was (Some w)) life life
+    → AlwaysApart sum (TryReadRanges ranges) reply (held was (Some w)) (held was (Some w)) life life
 try_read_ranges_steps sum was w cache ranges life reply fits sound tried = λ P before stands.
     let size : size_of w ≡ length before.content = size_is_length sum w life sound ∙ ap length (sym stands.fits.content) in
     unasked sum P was w (TryReadRanges ranges) reply (held was (Some w)) life before before (turned_fit before.has_writer (fit_together ranges.items) stands.fits.has_writer fits) stands (taken reply P before size tried) (λ none. absurd none, λ none. absurd none) stands
@@ -378,15 +389,18 @@ try_read_ranges_steps sum was w cache ranges life reply fits sound tried = λ P 
     taken Closed P before size tried = absurd tried
     taken NotRecovering P before size tried = absurd tried
     taken BadRanges P before size tried = absurd tried
+    taken (Taken index) P before size tried = absurd tried
+    taken (Sealed index sync) P before size tried = absurd tried
+    taken NotAppending P before size tried = absurd tried
     taken NoSuch P before size tried = absurd tried
     taken (Served count bytes) P before size tried = absurd tried
 
 -- by a session
-pub try_read_ranges_takes : (sum : List ℕ → ℕ) (was : SessionState) (cache : CacheState) (ranges : Vec (ℕ × ℕ) Global) (life : Life) (reply : Reply) → IsReady sum was life.present → DidTryReadRanges was.writer (fit_together ranges.items) cache ranges.items reply
-    → Steps sum (TryReadRanges ranges) reply was was life life
+pub try_read_ranges_takes : (sum : List ℕ → ℕ) (was : SessionState) (cache : CacheState) (ranges : Vec (ℕ × ℕ) Global) (life : Life) (reply : Reply) → IsReadyApart sum was life.present → DidTryReadRanges was.writer (fit_together ranges.items) cache ranges.items reply
+    → StepsApart sum (TryReadRanges ranges) reply was was life life
 try_read_ranges_takes sum was cache ranges life reply ready goes = by_writer was.writer refl (fit_together ranges.items) refl goes
   where
-    by_writer : (o : Option WriterState) → was.writer ≡ o → (fit : Bool) → fit_together ranges.items ≡ fit → DidTryReadRanges o fit cache ranges.items reply → Steps sum (TryReadRanges ranges) reply was was life life
+    by_writer : (o : Option WriterState) → was.writer ≡ o → (fit : Bool) → fit_together ranges.items ≡ fit → DidTryReadRanges o fit cache ranges.items reply → StepsApart sum (TryReadRanges ranges) reply was was life life
     by_writer None at fit is goes = closed_takes sum (TryReadRanges ranges) was was life life reply (λ before none. turned_none before.has_writer (fit_together ranges.items) none) at ready goes refl refl
     by_writer (Some w) at false is goes = bad_takes sum (TryReadRanges ranges) was w life life reply (λ before has. turned_bad before.has_writer (fit_together ranges.items) has is) (λ content. refl) at ready goes refl
     by_writer (Some w) at true is tried =

@@ -20,10 +20,11 @@ use Rattle.paged.proofs.Flushes.{size_is_length}
 use Rattle.paged.proofs.There.{reads_keep_sound}
 use Rattle.session.specs.declared.steps.Step.TheVariants.{ReadUpTo, TryRead}
 use Rattle.session.specs.declared.steps.Reply.{Reply}
-use Rattle.session.specs.declared.steps.Reply.TheVariants.{At, Nothing, Done, Started, Answer, Length, Bytes, Fault, Closed, NotRecovering, NoSuch, Served, Missed, BadRanges}
-use Rattle.session.specs.Run.{Standing, SessionState, faults, HasCause, Takes, Foretells, StandsFor, IsReady, CacheFits}
-use Rattle.session.specs.Calls.{ReadsBytesUpTo, ReadUpToSays, DidReadUpTo, TriedBytes, DidTryRead, StepsAlways, Steps}
+use Rattle.session.specs.declared.steps.Reply.TheVariants.{At, Nothing, Done, Started, Answer, Length, Bytes, Fault, Closed, NotRecovering, NoSuch, Served, Missed, BadRanges, Taken, Sealed, NotAppending}
+use Rattle.session.specs.Run.{Standing, SessionState, faults, HasCause, Takes, Foretells, FitsWriter}
+use Rattle.session.specs.Calls.{ReadsBytesUpTo, ReadUpToSays, DidReadUpTo, TriedBytes, DidTryRead}
 use Rattle.session.proofs.StepLaws.{held, turned_here, turned_closed, unasked, looked_steps, alike_stays_started, closed_takes, held_takes, sound_of, can_of, same_rest}
+use Rattle.session.proofs.Apart.{AlwaysApart, IsReadyApart, StandsApart, StepsApart}
 
 -- ---- at most so many bytes
 
@@ -51,7 +52,7 @@ up_to_cause sum P w cache offset len before old new IdsExhausted size full goes 
 
 -- such a read
 read_up_to_steps : (sum : List ℕ → ℕ) (was : SessionState) (w : WriterState) (cache : CacheState) (offset len : ℕ) (old new : Life) (reply : Reply) → IsSound sum w old.present → ReadUpToSays sum w cache offset len old new reply
-    → StepsAlways sum (ReadUpTo offset len) reply (held was (Some w)) (held was (Some w)) old new
+    → AlwaysApart sum (ReadUpTo offset len) reply (held was (Some w)) (held was (Some w)) old new
 unfolding Through
 read_up_to_steps sum was w cache offset len old new reply sound says = λ P before stands.
     let size : size_of w ≡ length before.content = size_is_length sum w old sound ∙ ap length (sym stands.fits.content) in
@@ -62,7 +63,7 @@ read_up_to_steps sum was w cache offset len old new reply sound says = λ P befo
     some P before size (inl none) = inl none
     some P before size (inr there) = inr (omega (arith, size, there))
 
-    taken : (r : Reply) (P : ℕ) (before : Standing) → StandsFor sum P (held was (Some w)) before old.present → size_of w ≡ length before.content → (r ≡ Fault InvalidChecksum → ⊥) → ReadsBytesUpTo sum w cache offset len old new r → Takes P (ReadUpTo offset len) r old.present new.present before before
+    taken : (r : Reply) (P : ℕ) (before : Standing) → StandsApart sum P (held was (Some w)) before old.present → size_of w ≡ length before.content → (r ≡ Fault InvalidChecksum → ⊥) → ReadsBytesUpTo sum w cache offset len old new r → Takes P (ReadUpTo offset len) r old.present new.present before before
     taken (Bytes bytes) P before stands size full (count, reads) =
         let is : bytes.items ≡ take (min len (size_of w - offset)) (drop offset before.content) = reads.1 ∙ ap (λ (l : List ℕ). take (min len (size_of w - offset)) (drop offset l)) (sym stands.fits.content) in
         ((some P before size reads.0, is ∙ take_up_to before.content offset len (size_of w) size), refl)
@@ -77,15 +78,18 @@ read_up_to_steps sum was w cache offset len old new reply sound says = λ P befo
     taken (Served count read) P before stands size full reads = absurd reads
     taken (Missed numbers) P before stands size full reads = absurd reads
     taken BadRanges P before stands size full reads = absurd reads
+    taken (Taken index) P before stands size full reads = absurd reads
+    taken (Sealed index sync) P before stands size full reads = absurd reads
+    taken NotAppending P before stands size full reads = absurd reads
     taken (Length n) P before stands size full reads = absurd reads
     taken Closed P before stands size full reads = absurd reads
 
 -- by a session
-pub read_up_to_takes : (sum : List ℕ → ℕ) (was : SessionState) (cache : CacheState) (offset len : ℕ) (old new : Life) (reply : Reply) → IsReady sum was old.present → DidReadUpTo sum was.writer cache offset len old new reply
-    → Steps sum (ReadUpTo offset len) reply was was old new
+pub read_up_to_takes : (sum : List ℕ → ℕ) (was : SessionState) (cache : CacheState) (offset len : ℕ) (old new : Life) (reply : Reply) → IsReadyApart sum was old.present → DidReadUpTo sum was.writer cache offset len old new reply
+    → StepsApart sum (ReadUpTo offset len) reply was was old new
 read_up_to_takes sum was cache offset len old new reply ready goes = by_writer was.writer refl goes
   where
-    by_writer : (o : Option WriterState) → was.writer ≡ o → DidReadUpTo sum o cache offset len old new reply → Steps sum (ReadUpTo offset len) reply was was old new
+    by_writer : (o : Option WriterState) → was.writer ≡ o → DidReadUpTo sum o cache offset len old new reply → StepsApart sum (ReadUpTo offset len) reply was was old new
     by_writer None at goes = closed_takes sum (ReadUpTo offset len) was was old new reply (λ before none. turned_closed before.has_writer none) at ready goes.0 refl goes.1
     by_writer (Some w) at says =
         let sound = sound_of sum was w old.present at ready in
@@ -95,12 +99,12 @@ read_up_to_takes sum was cache offset len old new reply ready goes = by_writer w
 -- ---- bytes that need no device
 
 try_read_steps : (sum : List ℕ → ℕ) (was : SessionState) (w : WriterState) (cache : CacheState) (offset len : ℕ) (life : Life) (reply : Reply) → IsSound sum w life.present → CanRead (tail_of w) cache life.present → TriedBytes w cache offset len reply
-    → StepsAlways sum (TryRead offset len) reply (held was (Some w)) (held was (Some w)) life life
+    → AlwaysApart sum (TryRead offset len) reply (held was (Some w)) (held was (Some w)) life life
 try_read_steps sum was w cache offset len life reply sound can tried = λ P before stands.
     let size : size_of w ≡ length before.content = size_is_length sum w life sound ∙ ap length (sym stands.fits.content) in
     unasked sum P was w (TryRead offset len) reply (held was (Some w)) life before before (turned_here before.has_writer stands.fits.has_writer) stands (taken reply P before stands size tried) (λ none. absurd none, λ none. absurd none) stands
   where
-    taken : (r : Reply) (P : ℕ) (before : Standing) → StandsFor sum P (held was (Some w)) before life.present → size_of w ≡ length before.content → TriedBytes w cache offset len r → Takes P (TryRead offset len) r life.present life.present before before
+    taken : (r : Reply) (P : ℕ) (before : Standing) → StandsApart sum P (held was (Some w)) before life.present → size_of w ≡ length before.content → TriedBytes w cache offset len r → Takes P (TryRead offset len) r life.present life.present before before
     taken (Bytes bytes) P before stands size tries =
         let within : offset + len ≤ size_of w = leb-true (offset + len) (size_of w) (and_parts (nat_le (offset + len) (size_of w)) (is_served cache (tail_of w) (offset, len)) (sym tries.0)).0 in
         ((omega (arith, size, within), tries.1 refl life.present can ∙ ap (λ (l : List ℕ). take len (drop offset l)) (sym stands.fits.content)), refl)
@@ -118,19 +122,22 @@ try_read_steps sum was w cache offset len life reply sound can tried = λ P befo
     taken (Served count read) P before stands size tried = absurd tried
     taken (Missed numbers) P before stands size tried = absurd tried
     taken BadRanges P before stands size tried = absurd tried
+    taken (Taken index) P before stands size tried = absurd tried
+    taken (Sealed index sync) P before stands size tried = absurd tried
+    taken NotAppending P before stands size tried = absurd tried
 
 -- by a session
-pub try_read_takes : (sum : List ℕ → ℕ) (was : SessionState) (cache : CacheState) (offset len : ℕ) (life : Life) (reply : Reply) → IsReady sum was life.present → CacheFits was.writer cache life.present → DidTryRead was.writer cache offset len reply
-    → Steps sum (TryRead offset len) reply was was life life
+pub try_read_takes : (sum : List ℕ → ℕ) (was : SessionState) (cache : CacheState) (offset len : ℕ) (life : Life) (reply : Reply) → IsReadyApart sum was life.present → FitsWriter was.writer cache life.present → DidTryRead was.writer cache offset len reply
+    → StepsApart sum (TryRead offset len) reply was was life life
 try_read_takes sum was cache offset len life reply ready fits goes = by_writer was.writer refl goes
   where
-    by_writer : (o : Option WriterState) → was.writer ≡ o → DidTryRead o cache offset len reply → Steps sum (TryRead offset len) reply was was life life
+    by_writer : (o : Option WriterState) → was.writer ≡ o → DidTryRead o cache offset len reply → StepsApart sum (TryRead offset len) reply was was life life
     by_writer None at is = closed_takes sum (TryRead offset len) was was life life reply (λ before none. turned_closed before.has_writer none) at ready is refl refl
     by_writer (Some w) at tried =
         let sound = sound_of sum was w life.present at ready in
         held_takes sum (TryRead offset len) reply was was w (Some w) life life at (same_rest was) at sound ready.starts (try_read_steps sum was w cache offset len life reply sound (can_of was w cache life.present at fits) tried)
 
 -- the cache's page size is the writer's
-pub page_size_fits : (o : Option WriterState) (cache : CacheState) (d : Disk) → CacheFits o cache d → IfSome o (λ w. cache.page_size ≡ w.page_size)
+pub page_size_fits : (o : Option WriterState) (cache : CacheState) (d : Disk) → FitsWriter o cache d → IfSome o (λ w. cache.page_size ≡ w.page_size)
 page_size_fits None cache d fits = tt
 page_size_fits (Some w) cache d fits = fits.page_size

@@ -74,6 +74,7 @@ raised_stands sum P session s d stands = record {
   kept = raised_keeps sum P s.content s.covers s.floor d stands.covered stands.kept;
   covered = stands.covered;
   only = stands.only;
+  snapshots = stands.snapshots;
 }
 
 -- ---- a run
@@ -109,6 +110,15 @@ ran_more sum P (x ∷ xs) (r ∷ rs) step reply from to moments more before mid 
 )
 ran_more sum P [] (r ∷ rs) step reply from to moments more before mid behind ran reaches did kept only = absurd ran
 ran_more sum P (x ∷ xs) [] step reply from to moments more before mid behind ran reaches did kept only = absurd ran
+
+-- a run of no step
+pub runs_none : (sum : List ℕ → ℕ) (was : SessionState) (life : Life) (replies : List Reply) → RunsAlways sum [] was was life life replies replies
+runs_none sum was life replies = record {
+  added = [];
+  adds = sym (append-nil replies);
+  count = refl;
+  runs = λ P before stands. record { moments = []; goes = refl; behind = before; ran = (refl, refl, stands.kept, stands.only); stands = stands };
+}
 
 -- and one step more
 pub runs_more : (sum : List ℕ → ℕ) (steps : List Step) (step : Step) (reply : Reply) (was mid now : SessionState) (old between new : Life) (earlier replies more : List Reply)

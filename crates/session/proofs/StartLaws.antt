@@ -23,22 +23,23 @@ use Rattle.paged.specs.Flush.{has_work}
 use Rattle.paged.specs.Calls.{HasCause as CallCause, GoesOn, Refuses as CallRefuses, IsSettled, started_already, started_state, sync_calls, start_calls, wait_calls, unstarted_calls, waited_state, waited as waited_writer, SettlesBy}
 use Rattle.session.specs.declared.steps.Step.TheVariants.{StartSync, Wait, WaitSync, Needs, Begin}
 use Rattle.session.specs.declared.steps.Reply.{Reply}
-use Rattle.session.specs.declared.steps.Reply.TheVariants.{At, Nothing, Done, Started, Answer, Length, Bytes, Fault, Closed, NotRecovering, NoSuch, Served, Missed, BadRanges}
-use Rattle.session.specs.Run.{Standing, SessionState, ended, starting, waited, started_by, is_complete, HasCompleted, turned_away, Answers, faults, HasCause, HadFailed, Takes, wait_touch, last, Touches, AllCover, pending_in, WriterStandsFor, WriterFits, NamesFit, StandsFor, HasSoundWriter, IsReady}
+use Rattle.session.specs.declared.steps.Reply.TheVariants.{At, Nothing, Done, Started, Answer, Length, Bytes, Fault, Closed, NotRecovering, NoSuch, Served, Missed, BadRanges, Taken, Sealed, NotAppending}
+use Rattle.session.specs.Run.{Standing, SessionState, ended, starting, waited, started_by, is_complete, HasCompleted, turned_away, Answers, faults, HasCause, HadFailed, Takes, wait_touch, last, Touches, AllCover, pending_in, WriterStandsFor, WriterFits, NamesFit, HasSoundWriter}
 use Rattle.session.specs.Run.Touch.{Leaves, Changes}
-use Rattle.session.specs.Calls.{KeepsRest, StartSays, names_after, Starts, WaitSays, Waits, WaitsFor, is_given, Needs as SaysNeeds, Begins, StepsAlways, Steps}
+use Rattle.session.specs.Calls.{KeepsRest, StartSays, names_after, Starts, WaitSays, Waits, WaitsFor, is_given, NeedsSync as SaysNeeds, Begins, KeepsSnapshots}
 use Rattle.session.proofs.StepLaws.{held, held_same, last_is, no_moments, answers_away, answers_here, turned_here, turned_closed, leaves, few_calls, raised_within, only_there, Halves, each_end, stepped, unasked, stands_now, stands_ended, written_no_work, needs_is, had_failed_as, wait_none, wait_one, owed_starts, same_halves, left_buffered, synced_stands, closed_takes, held_takes, sound_of, same_rest}
+use Rattle.session.proofs.Apart.{AlwaysApart, IsReadyApart, StandsApart, SteppedApart, StepsApart}
 
 -- ---- what the calls owe
 
 -- what each moment of a call owes that leaves the content
-goes_through : (sum : List ℕ → ℕ) (P : ℕ) (was : SessionState) (w v : WriterState) (old new : Life) (before : Standing) → StandsFor sum P (held was (Some w)) before old.present → GoesOn sum w old [] v new → StaysThrough sum P before.content old new
+pub goes_through : (sum : List ℕ → ℕ) (P : ℕ) (was : SessionState) (w v : WriterState) (old new : Life) (before : Standing) → StandsApart sum P (held was (Some w)) before old.present → GoesOn sum w old [] v new → StaysThrough sum P before.content old new
 goes_through sum P was w v old new before stands goes =
     subst (λ (n : ℕ). StaysThrough sum n before.content old new) stands.fits.page_size
     (subst (λ (l : List ℕ). StaysThrough sum w.page_size l old new) (append-nil (content_of w old.present.readable) ∙ sym stands.fits.content) goes.stays)
 
 -- also where it is refused
-refused_through : (sum : List ℕ → ℕ) (P : ℕ) (was : SessionState) (w : WriterState) (old new : Life) (e : Error) (before : Standing) → StandsFor sum P (held was (Some w)) before old.present → CallRefuses sum w (content_of w old.present.readable) old new e
+pub refused_through : (sum : List ℕ → ℕ) (P : ℕ) (was : SessionState) (w : WriterState) (old new : Life) (e : Error) (before : Standing) → StandsApart sum P (held was (Some w)) before old.present → CallRefuses sum w (content_of w old.present.readable) old new e
     → StaysThrough sum P before.content old new
 refused_through sum P was w old new e before stands refuses =
     subst (λ (n : ℕ). StaysThrough sum n before.content old new) stands.fits.page_size
@@ -53,7 +54,7 @@ answer_is Dirty awaited is = ap (λ (o : Option ℕ). elim o [ None ↦ AllDone 
 answer_is (Pending name) awaited is = ap (λ (o : Option ℕ). elim o [ None ↦ AllDone | Some name ↦ Named name ]) (sym is)
 
 -- no call, or some
-no_start : (n : ℕ) → true ≡ nat_eq n 0 → n ≡ 0
+pub no_start : (n : ℕ) → true ≡ nat_eq n 0 → n ≡ 0
 no_start n is = grind (arith, nat_tests, is)
 
 some_start : (n : ℕ) → false ≡ nat_eq n 0 → 0 < n
@@ -74,7 +75,7 @@ written_started false AllDone state idle is = sym (ap (λ (s : SyncState). nat_e
 written_started false (Named name) state idle is = sym (ap (λ (s : SyncState). nat_eq (unstarted_calls s) 0) is)
 
 -- one name more
-name_more : (names : List ℕ) (covers : List (ℕ × ℕ)) (name cover : ℕ) → NamesFit names covers → NamesFit (names ++ name ∷ []) ((name, cover) ∷ covers)
+pub name_more : (names : List ℕ) (covers : List (ℕ × ℕ)) (name cover : ℕ) → NamesFit names covers → NamesFit (names ++ name ∷ []) ((name, cover) ∷ covers)
 name_more names covers name cover fits = λ asked. list_any-append (λ (n : ℕ). nat_eq n asked) names (name ∷ []) ∙ ap (λ (b : Bool). b || (nat_eq name asked || false)) (fits asked) ∙ turned (list_any (λ (c : ℕ × ℕ). nat_eq c.0 asked) covers) (nat_eq name asked)
   where
     turned : (a b : Bool) → (a || (b || false)) ≡ (b || a)
@@ -103,10 +104,15 @@ start_answer sum w v sync P before old new fits says = by_written before.written
     by_written true is = second (Ok (v, sync)) (says.idle (no_start (start_calls w) is)).0 ∙ answer_is w.sync before.awaited fits.awaited
     by_written false is = says.fresh (some_start (start_calls w) is)
 
+-- what holds of one more
+pub all_more : (Q : ℕ × ℕ → Type 0) (c : ℕ × ℕ) (cs : List (ℕ × ℕ)) → Q c → All Q cs → All Q (c ∷ cs)
+all_more Q c cs one more zero d lt = one
+all_more Q c cs one more (suc k) d lt = more k d (omega (arith, lt))
+
 -- what a session stands for once a sync was started
-started_stands : (sum : List ℕ → ℕ) (P : ℕ) (was : SessionState) (w v : WriterState) (sync : StartedSync) (old new : Life) (before : Standing) (moments : List Disk) → IsSound sum w old.present → StandsFor sum P (held was (Some w)) before old.present
+started_stands : (sum : List ℕ → ℕ) (P : ℕ) (was : SessionState) (w v : WriterState) (sync : StartedSync) (old new : Life) (before : Standing) (moments : List Disk) → IsSound sum w old.present → StandsApart sum P (held was (Some w)) before old.present
     → StartSays sum w old new (Ok (v, sync)) → Halves sum P before.content before.content before.floor before.covers old new moments
-    → StandsFor sum P (record was { writer = Some v; names = names_after sync was.names }) (starting P sync before) new.present
+    → StandsApart sum P (record was { writer = Some v; names = names_after sync was.names }) (starting P sync before) new.present
 started_stands sum P was w v AllDone old new before moments sound stands says h =
     let s = says.starts_sync in
     let settled : IsSettled v = record { clean = s.2; short = s.1.short; flushed = s.1.flushed } in
@@ -135,23 +141,25 @@ started_stands sum P was w v (Named name) old new before moments sound stands sa
     stands.phase (name_more was.names before.covers name (length before.content) stands.names) stands.floor
     (all_more (λ (c : ℕ × ℕ). c.1 ≤ length before.content) (name, length before.content) before.covers (omega arith) stands.within) (each_end (AllKeep sum P before.content before.floor) old new moments h.goes h.kept)
     (all_more (λ (c : ℕ × ℕ). WouldKeep sum P before.content c.0 c.1 new.present) (name, length before.content) before.covers newest covered) h.stays
-  where
-    all_more : (Q : ℕ × ℕ → Type 0) (c : ℕ × ℕ) (cs : List (ℕ × ℕ)) → Q c → All Q cs → All Q (c ∷ cs)
-    all_more Q c cs one more zero d lt = one
-    all_more Q c cs one more (suc k) d lt = more k d (omega (arith, lt))
+
+-- starting a sync leaves the snapshots
+pub starting_same : (P : ℕ) (sync : StartedSync) (s : Standing) → (starting P sync s).snapshots ≡ s.snapshots
+starting_same P AllDone s = refl
+starting_same P (Named name) s = refl
 
 -- a sync that is started
 start_steps : (sum : List ℕ → ℕ) (was : SessionState) (w v : WriterState) (sync : StartedSync) (old new : Life) → IsSound sum w old.present → StartSays sum w old new (Ok (v, sync))
-    → StepsAlways sum StartSync (Started sync) (held was (Some w)) (record was { writer = Some v; names = names_after sync was.names }) old new
+    → AlwaysApart sum StartSync (Started sync) (held was (Some w)) (record was { writer = Some v; names = names_after sync was.names }) old new
 unfolding Through
 start_steps sum was w v sync old new sound says = λ P before stands.
     let fits = stands.fits in
     let through = goes_through sum P was w v old new before stands says.starts_sync.0 in
     let h = same_halves sum was P w old new before stands through (owed_starts sum P was w old new before stands says.owes) in
-    stepped sum P StartSync (Started sync) (record was { writer = Some v; names = names_after sync was.names }) old new before (starting P sync before) through.moments fits.has_writer (turned_here before.has_writer fits.has_writer) h
+    subst (λ (l : List (List ℕ)). SteppedApart sum P StartSync (Started sync) (record was { writer = Some v; names = names_after sync was.names }) old new before l) (starting_same P sync before)
+    (stepped sum P StartSync (Started sync) (record was { writer = Some v; names = names_after sync was.names }) old new before (starting P sync before) through.moments fits.has_writer (turned_here before.has_writer fits.has_writer) h
     (start_touch w P before old new through.moments fits h.goes says.calls (λ none. (says.idle none).1))
     (start_answer sum w v sync P before old new fits says, refl) (λ none. absurd none, λ none. absurd none)
-    (started_stands sum P was w v sync old new before through.moments sound stands says h)
+    (started_stands sum P was w v sync old new before through.moments sound stands says h))
 
 -- why one isn't
 start_cause : (P : ℕ) (w : WriterState) (before : Standing) (old new : Life) (e : Error) → before.written ≡ false → before.awaited ≡ pending_in w.sync → CallCause w.sync old new e
@@ -172,7 +180,7 @@ start_cause P w before old new OffsetOverflow some awaited cause = absurd cause
 start_cause P w before old new OutOfMemory some awaited cause = ((2, lit< tt, refl), tt)
 start_cause P w before old new IdsExhausted some awaited cause = absurd cause
 
-start_refused_steps : (sum : List ℕ → ℕ) (was : SessionState) (w : WriterState) (e : Error) (old new : Life) → StartSays sum w old new (Err e) → StepsAlways sum StartSync (Fault e) (held was (Some w)) (held was None) old new
+start_refused_steps : (sum : List ℕ → ℕ) (was : SessionState) (w : WriterState) (e : Error) (old new : Life) → StartSays sum w old new (Err e) → AlwaysApart sum StartSync (Fault e) (held was (Some w)) (held was None) old new
 unfolding Through
 start_refused_steps sum was w e old new says = λ P before stands.
     let fits = stands.fits in
@@ -189,7 +197,7 @@ start_refused_steps sum was w e old new says = λ P before stands.
     unwritten true is = absurd (cc (says.idle (no_start (start_calls w) is)).0)
 
 -- there is no memory for its name
-no_room_steps : (sum : List ℕ → ℕ) (was : SessionState) (w : WriterState) (life : Life) → StepsAlways sum StartSync (Fault OutOfMemory) (held was (Some w)) (held was (Some w)) life life
+no_room_steps : (sum : List ℕ → ℕ) (was : SessionState) (w : WriterState) (life : Life) → AlwaysApart sum StartSync (Fault OutOfMemory) (held was (Some w)) (held was (Some w)) life life
 no_room_steps sum was w life = λ P before stands.
     unasked sum P was w StartSync (Fault OutOfMemory) (held was (Some w)) life before before (turned_here before.has_writer stands.fits.has_writer) stands ((2, lit< tt, refl), tt, inr (refl, refl, refl)) (λ none. absurd none, λ none. absurd none) stands
 
@@ -254,7 +262,7 @@ waits_touch w P before old new moments fits goes few idle = by_awaited before.aw
     by_awaited (Some name) is = few_calls old new moments 1 goes (omega (arith, few, wait_one w.sync))
 
 -- a wait that is done
-wait_steps : (sum : List ℕ → ℕ) (was : SessionState) (w v : WriterState) (old new : Life) → WaitSays sum w old new (Ok v) → StepsAlways sum Wait Done (held was (Some w)) (held was (Some v)) old new
+wait_steps : (sum : List ℕ → ℕ) (was : SessionState) (w v : WriterState) (old new : Life) → WaitSays sum w old new (Ok v) → AlwaysApart sum Wait Done (held was (Some w)) (held was (Some v)) old new
 unfolding Through
 wait_steps sum was w v old new says = λ P before stands.
     let fits = stands.fits in
@@ -292,7 +300,7 @@ wait_cause P w before old new OffsetOverflow some awaited cause wrote = absurd c
 wait_cause P w before old new OutOfMemory some awaited cause wrote = ((1, lit< tt, refl), some)
 wait_cause P w before old new IdsExhausted some awaited cause wrote = absurd cause
 
-wait_refused_steps : (sum : List ℕ → ℕ) (was : SessionState) (w : WriterState) (e : Error) (old new : Life) → WaitSays sum w old new (Err e) → StepsAlways sum Wait (Fault e) (held was (Some w)) (held was None) old new
+wait_refused_steps : (sum : List ℕ → ℕ) (was : SessionState) (w : WriterState) (e : Error) (old new : Life) → WaitSays sum w old new (Err e) → AlwaysApart sum Wait (Fault e) (held was (Some w)) (held was None) old new
 unfolding Through
 wait_refused_steps sum was w e old new says = λ P before stands.
     let fits = stands.fits in
@@ -363,7 +371,7 @@ one_wait name old new (Err OutOfMemory) is = record {
 one_wait name old new (Err e) goes = absurd goes
 
 -- the session stands for the same behind it
-waited_fits : (P : ℕ) (o : Option WriterState) (s : Standing) (d e : Disk) → e.readable ≡ d.readable → WriterFits P o s d → WriterFits P o s e
+pub waited_fits : (P : ℕ) (o : Option WriterState) (s : Standing) (d e : Disk) → e.readable ≡ d.readable → WriterFits P o s d → WriterFits P o s e
 waited_fits P None s d e same fits = fits
 waited_fits P (Some w) s d e same fits = record {
   page_size = fits.page_size;
@@ -377,7 +385,7 @@ waited_fits P (Some w) s d e same fits = record {
   awaited = fits.awaited;
 }
 
-waited_stands : (sum : List ℕ → ℕ) (P : ℕ) (was : SessionState) (s : Standing) (d e : Disk) → e.readable ≡ d.readable → WaitKeeps sum P d e → StandsFor sum P was s d → StandsFor sum P was s e
+waited_stands : (sum : List ℕ → ℕ) (P : ℕ) (was : SessionState) (s : Standing) (d e : Disk) → e.readable ≡ d.readable → WaitKeeps sum P d e → StandsApart sum P was s d → StandsApart sum P was s e
 waited_stands sum P was s d e same keeps stands = record {
   fits = waited_fits P was.writer s d e same stands.fits;
   phase = stands.phase;
@@ -391,7 +399,7 @@ waited_stands sum P was s d e same keeps stands = record {
 
 -- a step that waits for a name that the session was given
 named_steps : (sum : List ℕ → ℕ) (was : SessionState) (name : ℕ) (reply : Reply) (old new : Life) (answer : Result (Unit {0}) Error) → is_given was.names name ≡ true → StartsStand old.present → WaitGoes name old new answer
-    → ((P : ℕ) (s : Standing) → Takes P (WaitSync name) reply old.present new.present s s) → StepsAlways sum (WaitSync name) reply was was old new
+    → ((P : ℕ) (s : Standing) → Takes P (WaitSync name) reply old.present new.present s s) → AlwaysApart sum (WaitSync name) reply was was old new
 named_steps sum was name reply old new answer given stand goes takes = λ P before stands.
     let keeps = wait_keeps sum P name old new answer stand goes in
     let one = one_wait name old new answer goes in
@@ -415,10 +423,11 @@ named_steps sum was name reply old new answer given stand goes takes = λ P befo
         within = raised_within sum P was old new before one.moments one.goes after_it;
       };
       stands = after_it;
+      same = refl;
     }
 
 -- one that it wasn't given
-unnamed_steps : (sum : List ℕ → ℕ) (was : SessionState) (name : ℕ) (life : Life) → is_given was.names name ≡ false → StepsAlways sum (WaitSync name) NoSuch was was life life
+unnamed_steps : (sum : List ℕ → ℕ) (was : SessionState) (name : ℕ) (life : Life) → is_given was.names name ≡ false → AlwaysApart sum (WaitSync name) NoSuch was was life life
 unnamed_steps sum was name life given = λ P before stands. record {
   moments = [];
   goes = refl;
@@ -433,6 +442,7 @@ unnamed_steps sum was name life given = λ P before stands. record {
     within = raised_within sum P was life life before [] refl stands;
   };
   stands = stands;
+  same = refl;
 }
 
 -- why one is refused
@@ -461,33 +471,43 @@ waited_sound sum (Some w) name old new answer small sound goes = (wait_leaves su
 
 -- ---- a step of a session
 
--- a start of a sync by a session
-pub started_takes : (sum : List ℕ → ℕ) (was now : SessionState) (old new : Life) (reply : Reply) → IsReady sum was old.present → Starts sum was.writer was now old new reply → Steps sum StartSync reply was now old new
-started_takes sum was now old new reply ready goes = by_writer was.writer refl reply goes
-  where
-    with_writer : (w : WriterState) → was.writer ≡ Some w → (r : Reply) (x : SessionState) (life : Life) → StepsAlways sum StartSync r (held was (Some w)) x old life → StepsAlways sum StartSync r was x old life
-    with_writer w at r x life always = subst (λ (y : SessionState). StepsAlways sum StartSync r y x old life) (sym (held_same was (Some w) at)) always
+-- the session whose writer and names stay
+pub both_same : (was : SessionState) (o : Option WriterState) (names : List ℕ) → o ≡ was.writer → names ≡ was.names → record was { writer = o; names = names } ≡ was
+both_same was o names writer same = ap (λ (x : Option WriterState). record was { writer = x; names = names }) writer ∙ ap (λ (l : List ℕ). record was { names = l }) same
 
-    by_writer : (o : Option WriterState) → was.writer ≡ o → (reply : Reply) → Starts sum o was now old new reply → Steps sum StartSync reply was now old new
-    by_writer None at reply (replied, same_session, same) = closed_takes sum StartSync was now old new reply (λ before none. turned_closed before.has_writer none) at ready replied same_session same
-    by_writer (Some w) at (Started sync) (v, is, says) =
+-- and one that has others
+both_are : (was now : SessionState) (o : Option WriterState) (names : List ℕ) → KeepsSnapshots was now → now.writer ≡ o → now.names ≡ names → now ≡ record was { writer = o; names = names }
+both_are was now o names rest writer same = rest ∙ ap (λ (x : Option WriterState). record was { writer = x; names = now.names }) writer ∙ ap (λ (l : List ℕ). record was { writer = o; names = l }) same
+
+-- a start of a sync by a session
+pub started_takes : (sum : List ℕ → ℕ) (was now : SessionState) (old new : Life) (reply : Reply) → IsReadyApart sum was old.present → KeepsSnapshots was now → Starts sum was.writer now.writer was.names now.names old new reply
+    → StepsApart sum StartSync reply was now old new
+started_takes sum was now old new reply ready rest goes = by_writer was.writer refl reply goes
+  where
+    with_writer : (w : WriterState) → was.writer ≡ Some w → (r : Reply) (x : SessionState) (life : Life) → AlwaysApart sum StartSync r (held was (Some w)) x old life → AlwaysApart sum StartSync r was x old life
+    with_writer w at r x life always = subst (λ (y : SessionState). AlwaysApart sum StartSync r y x old life) (sym (held_same was (Some w) at)) always
+
+    by_writer : (o : Option WriterState) → was.writer ≡ o → (reply : Reply) → Starts sum o now.writer was.names now.names old new reply → StepsApart sum StartSync reply was now old new
+    by_writer None at reply (closed, names) =
+        closed_takes sum StartSync was now old new reply (λ before none. turned_closed before.has_writer none) at ready closed.replied (rest ∙ both_same was now.writer now.names (closed.writer ∙ sym at) names) closed.life
+    by_writer (Some w) at (Started sync) (v, is, more, says) =
         let sound = sound_of sum was w old.present at ready in
-        subst (λ (x : SessionState). Steps sum StartSync (Started sync) was x old new) (sym is)
+        subst (λ (x : SessionState). StepsApart sum StartSync (Started sync) was x old new) (sym (both_are was now (Some v) (names_after sync was.names) rest is more))
         (record {
           ready = record { writer = says.starts_sync.0.sound; starts = inr says.owes.starts };
           always = with_writer w at (Started sync) (record was { writer = Some v; names = names_after sync was.names }) new (start_steps sum was w v sync old new sound says);
         })
     by_writer (Some w) at (Fault e) goes = elim goes [
-      | inl (is, says) ↦
-          subst (λ (x : SessionState). Steps sum StartSync (Fault e) was x old new) (sym is)
+      | inl (is, names, says) ↦
+          subst (λ (x : SessionState). StepsApart sum StartSync (Fault e) was x old new) (sym (both_are was now None was.names rest is names))
           (record { ready = record { writer = tt; starts = inr says.owes.starts }; always = with_writer w at (Fault e) (held was None) new (start_refused_steps sum was w e old new says) })
-      | inr (fault, same_session, same) ↦
-          subst (λ (x : Error). Steps sum StartSync (Fault x) was now old new) (sym fault)
-          (subst (λ (x : SessionState). Steps sum StartSync (Fault OutOfMemory) was x old new) (sym same_session)
-          (subst (λ (life : Life). Steps sum StartSync (Fault OutOfMemory) was was old life) (sym same)
+      | inr room ↦
+          subst (λ (x : Error). StepsApart sum StartSync (Fault x) was now old new) (sym room.fault)
+          (subst (λ (x : SessionState). StepsApart sum StartSync (Fault OutOfMemory) was x old new) (sym (rest ∙ both_same was now.writer now.names (room.writer ∙ sym at) room.given))
+          (subst (λ (life : Life). StepsApart sum StartSync (Fault OutOfMemory) was was old life) (sym room.life)
           (record {
             ready = ready;
-            always = subst (λ (y : SessionState). StepsAlways sum StartSync (Fault OutOfMemory) y y old old) (sym (held_same was (Some w) at)) (no_room_steps sum was w old);
+            always = subst (λ (y : SessionState). AlwaysApart sum StartSync (Fault OutOfMemory) y y old old) (sym (held_same was (Some w) at)) (no_room_steps sum was w old);
           })))
     ]
     by_writer (Some w) at (At n) goes = absurd goes
@@ -502,12 +522,15 @@ started_takes sum was now old new reply ready goes = by_writer was.writer refl r
     by_writer (Some w) at (Served count read) goes = absurd goes
     by_writer (Some w) at (Missed numbers) goes = absurd goes
     by_writer (Some w) at BadRanges goes = absurd goes
+    by_writer (Some w) at (Taken index) goes = absurd goes
+    by_writer (Some w) at (Sealed index sync) goes = absurd goes
+    by_writer (Some w) at NotAppending goes = absurd goes
 
 -- a wait by a session
-pub waited_takes : (sum : List ℕ → ℕ) (was now : SessionState) (old new : Life) (reply : Reply) → IsReady sum was old.present → KeepsRest was now → Waits sum was.writer now.writer old new reply → Steps sum Wait reply was now old new
+pub waited_takes : (sum : List ℕ → ℕ) (was now : SessionState) (old new : Life) (reply : Reply) → IsReadyApart sum was old.present → KeepsRest was now → Waits sum was.writer now.writer old new reply → StepsApart sum Wait reply was now old new
 waited_takes sum was now old new reply ready rest goes = by_writer was.writer refl reply goes
   where
-    by_writer : (o : Option WriterState) → was.writer ≡ o → (reply : Reply) → Waits sum o now.writer old new reply → Steps sum Wait reply was now old new
+    by_writer : (o : Option WriterState) → was.writer ≡ o → (reply : Reply) → Waits sum o now.writer old new reply → StepsApart sum Wait reply was now old new
     by_writer None at reply closed =
         closed_takes sum Wait was now old new reply (λ before none. turned_closed before.has_writer none) at ready closed.replied
         (rest ∙ ap (λ (o : Option WriterState). held was o) (closed.writer ∙ sym at) ∙ sym (held_same was was.writer refl)) closed.life
@@ -525,9 +548,12 @@ waited_takes sum was now old new reply ready rest goes = by_writer was.writer re
     by_writer (Some w) at (Served count read) goes = absurd goes
     by_writer (Some w) at (Missed numbers) goes = absurd goes
     by_writer (Some w) at BadRanges goes = absurd goes
+    by_writer (Some w) at (Taken index) goes = absurd goes
+    by_writer (Some w) at (Sealed index sync) goes = absurd goes
+    by_writer (Some w) at NotAppending goes = absurd goes
 
 -- a wait for a name, also where there is no writer
-pub named_takes : (sum : List ℕ → ℕ) (was : SessionState) (name : ℕ) (old new : Life) (reply : Reply) → IsSmall sum → IsReady sum was old.present → WaitsFor (is_given was.names name) name old new reply → Steps sum (WaitSync name) reply was was old new
+pub named_takes : (sum : List ℕ → ℕ) (was : SessionState) (name : ℕ) (old new : Life) (reply : Reply) → IsSmall sum → IsReadyApart sum was old.present → WaitsFor (is_given was.names name) name old new reply → StepsApart sum (WaitSync name) reply was was old new
 named_takes sum was name old new reply small ready goes = by_name (is_given was.names name) refl reply goes
   where
     some_name : is_given was.names name ≡ true → StartsStand old.present
@@ -536,16 +562,16 @@ named_takes sum was name old new reply small ready goes = by_name (is_given was.
       | inr stand ↦ stand
     ]
 
-    waits : (r : Reply) (answer : Result (Unit {0}) Error) → is_given was.names name ≡ true → WaitGoes name old new answer → ((P : ℕ) (s : Standing) → Takes P (WaitSync name) r old.present new.present s s) → Steps sum (WaitSync name) r was was old new
+    waits : (r : Reply) (answer : Result (Unit {0}) Error) → is_given was.names name ≡ true → WaitGoes name old new answer → ((P : ℕ) (s : Standing) → Takes P (WaitSync name) r old.present new.present s s) → StepsApart sum (WaitSync name) r was was old new
     waits r answer given goes takes = record {
       ready = record { writer = waited_sound sum was.writer name old new answer small ready.writer goes; starts = inr (wait_keeps sum 0 name old new answer (some_name given) goes).starts };
       always = named_steps sum was name r old new answer given (some_name given) goes takes;
     }
 
-    by_name : (given : Bool) → is_given was.names name ≡ given → (reply : Reply) → WaitsFor given name old new reply → Steps sum (WaitSync name) reply was was old new
+    by_name : (given : Bool) → is_given was.names name ≡ given → (reply : Reply) → WaitsFor given name old new reply → StepsApart sum (WaitSync name) reply was was old new
     by_name false is reply (replied, same) =
-        subst (λ (r : Reply). Steps sum (WaitSync name) r was was old new) (sym replied)
-        (subst (λ (life : Life). Steps sum (WaitSync name) NoSuch was was old life) (sym same) (record { ready = ready; always = unnamed_steps sum was name old is }))
+        subst (λ (r : Reply). StepsApart sum (WaitSync name) r was was old new) (sym replied)
+        (subst (λ (life : Life). StepsApart sum (WaitSync name) NoSuch was was old life) (sym same) (record { ready = ready; always = unnamed_steps sum was name old is }))
     by_name true is Done goes = waits Done (Ok tt) is goes (λ P s. (complete name old new tt goes, refl))
     by_name true is (Fault e) goes = waits (Fault e) (Err e) is goes (λ P s. let cause = named_cause P name s old new e goes in (cause.0, cause.1, refl))
     by_name true is (At n) goes = absurd goes
@@ -560,31 +586,34 @@ named_takes sum was name old new reply small ready goes = by_name (is_given was.
     by_name true is (Served count read) goes = absurd goes
     by_name true is (Missed numbers) goes = absurd goes
     by_name true is BadRanges goes = absurd goes
+    by_name true is (Taken index) goes = absurd goes
+    by_name true is (Sealed index sync) goes = absurd goes
+    by_name true is NotAppending goes = absurd goes
 
 -- whether a sync has something to do
-pub needed_takes : (sum : List ℕ → ℕ) (was : SessionState) (life : Life) (reply : Reply) → IsReady sum was life.present → SaysNeeds was.writer reply → Steps sum Needs reply was was life life
+pub needed_takes : (sum : List ℕ → ℕ) (was : SessionState) (life : Life) (reply : Reply) → IsReadyApart sum was life.present → SaysNeeds was.writer reply → StepsApart sum Needs reply was was life life
 needed_takes sum was life reply ready goes = by_writer was.writer refl goes
   where
-    by_writer : (o : Option WriterState) → was.writer ≡ o → SaysNeeds o reply → Steps sum Needs reply was was life life
+    by_writer : (o : Option WriterState) → was.writer ≡ o → SaysNeeds o reply → StepsApart sum Needs reply was was life life
     by_writer None at is = closed_takes sum Needs was was life life reply (λ before none. turned_closed before.has_writer none) at ready is refl refl
     by_writer (Some w) at is =
-        subst (λ (r : Reply). Steps sum Needs r was was life life) (sym is)
+        subst (λ (r : Reply). StepsApart sum Needs r was was life life) (sym is)
         (held_takes sum Needs (Answer (nat_lt 0 (sync_calls w))) was was w (Some w) life life at (same_rest was) at (sound_of sum was w life.present at ready) ready.starts
         (λ P before stands.
         unasked sum P was w Needs (Answer (nat_lt 0 (sync_calls w))) (held was (Some w)) life before before (turned_here before.has_writer stands.fits.has_writer) stands (needs_is w P before life.present stands.fits, refl) (λ none. absurd none, λ none. absurd none) stands))
 
 -- the end of a recovery
-pub begun_takes : (sum : List ℕ → ℕ) (was now : SessionState) (life : Life) (reply : Reply) → IsReady sum was life.present → Begins was.writer was now reply → Steps sum Begin reply was now life life
+pub begun_takes : (sum : List ℕ → ℕ) (was now : SessionState) (life : Life) (reply : Reply) → IsReadyApart sum was life.present → Begins was.writer was now reply → StepsApart sum Begin reply was now life life
 begun_takes sum was now life reply ready goes = by_writer was.writer refl goes
   where
-    by_writer : (o : Option WriterState) → was.writer ≡ o → Begins o was now reply → Steps sum Begin reply was now life life
+    by_writer : (o : Option WriterState) → was.writer ≡ o → Begins o was now reply → StepsApart sum Begin reply was now life life
     by_writer None at (replied, same_session) = closed_takes sum Begin was now life life reply (λ before none. turned_closed before.has_writer none) at ready replied same_session refl
     by_writer (Some w) at (replied, is) =
-        subst (λ (r : Reply). Steps sum Begin r was now life life) (sym replied)
-        (subst (λ (x : SessionState). Steps sum Begin Done was x life life) (sym is)
+        subst (λ (r : Reply). StepsApart sum Begin r was now life life) (sym replied)
+        (subst (λ (x : SessionState). StepsApart sum Begin Done was x life life) (sym is)
         (record {
           ready = record { writer = ready.writer; starts = ready.starts };
-          always = subst (λ (y : SessionState). StepsAlways sum Begin Done y (record y { recovering = false }) life life) (sym (held_same was (Some w) at)) (λ P before stands.
+          always = subst (λ (y : SessionState). AlwaysApart sum Begin Done y (record y { recovering = false }) life life) (sym (held_same was (Some w) at)) (λ P before stands.
               unasked sum P was w Begin Done (record was { writer = Some w; recovering = false }) life before (record before { recovering = false }) (turned_here before.has_writer stands.fits.has_writer) stands refl
               (λ none. absurd none, λ none. absurd none)
               (record {

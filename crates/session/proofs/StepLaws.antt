@@ -29,7 +29,7 @@ use Rattle.paged.specs.Calls.{HasCause as CallCause, HadFailed as CallHadFailed,
 use Rattle.paged.proofs.Flushes.{size_is_length}
 use Rattle.paged.proofs.Flushes.{begins}
 use Rattle.cache.specs.CacheState.{CacheState}
-use Rattle.paged_read.specs.Tail.{CanRead}
+use Rattle.paged_read.specs.Tail.{Tail, CanRead, size_of as size_of_tail}
 use Rattle.paged_read.specs.Ranges.{Reads}
 use Rattle.paged.specs.Caches.{tail_of}
 use Rattle.paged.specs.Reads.{size_of}
@@ -37,12 +37,13 @@ use Rattle.page.specs.Page.{text}
 use Rattle.paged.proofs.There.{reads_keep_sound}
 use Rattle.paged.proofs.Halves.{appends_stay, syncs_stay, sync_keeps_all}
 use Rattle.session.specs.declared.steps.Step.{Step}
-use Rattle.session.specs.declared.steps.Step.TheVariants.{Append, Owned, TryAppend, Sync, StartSync, Wait, WaitSync, Needs, Size, Read, ReadUpTo, TryRead, ReadRanges, TryReadRanges, Begin, Truncate}
+use Rattle.session.specs.declared.steps.Step.TheVariants.{Append, Owned, TryAppend, Sync, StartSync, Wait, WaitSync, Needs, Size, Read, ReadUpTo, TryRead, ReadRanges, TryReadRanges, Begin, Truncate, Snapshot, TrySnapshot, Snap, Seal}
 use Rattle.session.specs.declared.steps.Reply.{Reply}
-use Rattle.session.specs.declared.steps.Reply.TheVariants.{At, Nothing, Done, Started, Answer, Length, Bytes, Fault, Closed, NotRecovering, NoSuch, Served, Missed, BadRanges}
-use Rattle.session.specs.Run.{Standing, SessionState, has_room, buffered_after, written_after, awaited_after, appended, synced, ended, needs_sync, is_complete, raise, raised, lowered, begun, turned_away, faults, HasCause, HadFailed, content_after, Takes, Foretells, Answers, Touch, touch, wait_touch, last, Touches, AllCover, pending_in, WriterStandsFor, WriterFits, NamesFit, StandsFor, HasSoundWriter, IsReady, CacheFits}
+use Rattle.session.specs.declared.steps.Reply.TheVariants.{At, Nothing, Done, Started, Answer, Length, Bytes, Fault, Closed, NotRecovering, NoSuch, Served, Missed, BadRanges, Taken, Sealed, NotAppending}
+use Rattle.session.specs.Run.{Standing, SessionState, has_room, buffered_after, written_after, awaited_after, appended, synced, ended, needs_sync, is_complete, raise, raised, lowered, begun, turned_away, faults, HasCause, HadFailed, content_after, Takes, Foretells, Answers, Touch, touch, wait_touch, last, Touches, AllCover, pending_in, WriterStandsFor, WriterFits, NamesFit, HasSoundWriter, FitsWriter}
 use Rattle.session.specs.Run.Touch.{Leaves, Looks, Changes}
-use Rattle.session.specs.Calls.{IsClosed, KeepsRest, OwesStarts, AppendSays, Appended, TriedAppend, SyncSays, Synced, Sized, IsBytes, ReadsBytes, ReadSays, DidRead, Stepped, StepsAlways, Steps}
+use Rattle.session.specs.Calls.{IsClosed, KeepsRest, OwesStarts, AppendSays, Appended, TriedAppend, SyncSays, Synced, Sized, IsBytes, ReadsBytes, ReadSays, DidRead}
+use Rattle.session.proofs.Apart.{AlwaysApart, IsReadyApart, StandsApart, SteppedApart, StepsApart}
 
 -- a session with another writer, or none
 abbrev pub held : SessionState → Option WriterState → SessionState
@@ -204,6 +205,10 @@ begun_either Q (TryRead offset len) s same less = same
 begun_either Q (ReadRanges ranges) s same less = same
 begun_either Q (TryReadRanges ranges) s same less = same
 begun_either Q Begin s same less = same
+begun_either Q Snapshot s same less = same
+begun_either Q TrySnapshot s same less = same
+begun_either Q (Snap index offset len) s same less = same
+begun_either Q Seal s same less = same
 
 pub begun_keeps : (sum : List ℕ → ℕ) (P : ℕ) (step : Step) (s : Standing) (d : Disk) → AllKeep sum P s.content s.floor d → AllKeep sum P s.content (begun step s).floor d
 begun_keeps sum P step s d keeps = begun_either (λ x. AllKeep sum P s.content x.floor d) step s keeps (λ n. lowered_keeps sum P n s d keeps)
@@ -264,15 +269,15 @@ itself content = sym (take-length content)
 -- ---- steps
 
 -- the floor within the content once it is raised
-pub raised_within : (sum : List ℕ → ℕ) (P : ℕ) (now : SessionState) (old new : Life) (behind : Standing) (moments : List Disk) → new ≡ after old moments → StandsFor sum P now behind new.present
+pub raised_within : (sum : List ℕ → ℕ) (P : ℕ) (now : SessionState) (old new : Life) (behind : Standing) (moments : List Disk) → new ≡ after old moments → StandsApart sum P now behind new.present
     → (raised (last old.present moments) behind).floor ≤ length behind.content
 raised_within sum P now old new behind moments goes stands = raise_within (last old.present moments) behind.covers behind.floor (length behind.content) stands.floor stands.within
 
 -- a step by a session with a writer, from what each moment says and the answer
 pub stepped_by : (sum : List ℕ → ℕ) (P : ℕ) (step : Step) (reply : Reply) (now : SessionState) (old new : Life) (before behind : Standing) (moments : List Disk) → before.has_writer ≡ true → turned_away step before ≡ None
     → new ≡ after old moments → Each (AllKeep sum P before.content (begun step before).floor) (old.present ∷ moments) → Each (AllCover sum P before.content (begun step before).covers) (old.present ∷ moments)
-    → Each (AllOnly sum P before.content (content_after step before.content)) (old.present ∷ moments) → Touches (touch step before) old.present moments → Takes P step reply old.present new.present before behind → Foretells P step reply before
-    → StandsFor sum P now behind new.present → Stepped sum P step reply now old new before
+    → Each (AllOnly sum P before.content (content_after step before.content)) (old.present ∷ moments) → Touches (touch P step before) old.present moments → Takes P step reply old.present new.present before behind → Foretells P step reply before
+    → StandsApart sum P now behind new.present → SteppedApart sum P step reply now old new before behind.snapshots
 stepped_by sum P step reply now old new before behind moments has here goes kept covered only touches takes foretells stands = record {
   moments = moments;
   goes = goes;
@@ -287,12 +292,13 @@ stepped_by sum P step reply now old new before behind moments has here goes kept
     within = raised_within sum P now old new behind moments goes stands;
   };
   stands = stands;
+  same = refl;
 }
 
 -- from both halves
 pub stepped : (sum : List ℕ → ℕ) (P : ℕ) (step : Step) (reply : Reply) (now : SessionState) (old new : Life) (before behind : Standing) (moments : List Disk) → before.has_writer ≡ true → turned_away step before ≡ None
-    → Halves sum P before.content (content_after step before.content) (begun step before).floor (begun step before).covers old new moments → Touches (touch step before) old.present moments → Takes P step reply old.present new.present before behind
-    → Foretells P step reply before → StandsFor sum P now behind new.present → Stepped sum P step reply now old new before
+    → Halves sum P before.content (content_after step before.content) (begun step before).floor (begun step before).covers old new moments → Touches (touch P step before) old.present moments → Takes P step reply old.present new.present before behind
+    → Foretells P step reply before → StandsApart sum P now behind new.present → SteppedApart sum P step reply now old new before behind.snapshots
 stepped sum P step reply now old new before behind moments has here h touches takes foretells stands =
     stepped_by sum P step reply now old new before behind moments has here h.goes h.kept h.covered h.only touches takes foretells stands
 
@@ -306,16 +312,16 @@ only_there sum P (Some w) before d e fits only =
 
 -- a session that is closed stays so
 pub closed_steps : (sum : List ℕ → ℕ) (step : Step) (was now : SessionState) (old new : Life) (reply : Reply) → was.writer ≡ None → ((before : Standing) → before.has_writer ≡ false → turned_away step before ≡ Some Closed) → reply ≡ Closed → now ≡ was
-    → new ≡ old → StepsAlways sum step reply was now old new
+    → new ≡ old → AlwaysApart sum step reply was now old new
 closed_steps sum step was now old new reply none away replied same_session same = λ P before stands.
     let fits : WriterFits P None before old.present = subst (λ (o : Option WriterState). WriterFits P o before old.present) none stands.fits in
-    let is : Stepped sum P step Closed was old old before = record {
+    let is : SteppedApart sum P step Closed was old old before before.snapshots = record {
       moments = [];
       goes = refl;
       behind = before;
       did = record {
         answer = answers_away P step Closed old.present old.present before (away before fits);
-        touches = leaves (touch step before) old.present;
+        touches = leaves (touch P step before) old.present;
         stopped = λ gone. refl;
         kept = (begun_keeps sum P step before old.present stands.kept, tt);
         covered = (begun_covers sum P step before old.present stands.covered, tt);
@@ -323,14 +329,15 @@ closed_steps sum step was now old new reply none away replied same_session same 
         within = raised_within sum P was old old before [] refl stands;
       };
       stands = stands;
+      same = refl;
     } in
-    subst (λ (r : Reply). Stepped sum P step r now old new before) (sym replied)
-    (subst (λ (v : SessionState). Stepped sum P step Closed v old new before) (sym same_session)
-    (subst (λ (life : Life). Stepped sum P step Closed was old life before) (sym same) is))
+    subst (λ (r : Reply). SteppedApart sum P step r now old new before before.snapshots) (sym replied)
+    (subst (λ (v : SessionState). SteppedApart sum P step Closed v old new before before.snapshots) (sym same_session)
+    (subst (λ (life : Life). SteppedApart sum P step Closed was old life before before.snapshots) (sym same) is))
 
 -- a step by a session with a writer that asks the device nothing
-pub unasked : (sum : List ℕ → ℕ) (P : ℕ) (was : SessionState) (w : WriterState) (step : Step) (reply : Reply) (now : SessionState) (life : Life) (before behind : Standing) → turned_away step before ≡ None → StandsFor sum P (held was (Some w)) before life.present
-    → Takes P step reply life.present life.present before behind → Foretells P step reply before → StandsFor sum P now behind life.present → Stepped sum P step reply now life life before
+pub unasked : (sum : List ℕ → ℕ) (P : ℕ) (was : SessionState) (w : WriterState) (step : Step) (reply : Reply) (now : SessionState) (life : Life) (before behind : Standing) → turned_away step before ≡ None → StandsApart sum P (held was (Some w)) before life.present
+    → Takes P step reply life.present life.present before behind → Foretells P step reply before → StandsApart sum P now behind life.present → SteppedApart sum P step reply now life life before behind.snapshots
 unasked sum P was w step reply now life before behind here stands takes foretells after =
     let has = stands.fits.has_writer in
     let only : AllOnly sum P before.content (content_after step before.content) life.present = λ image is_image free.
@@ -344,7 +351,7 @@ unasked sum P was w step reply now life before behind here stands takes foretell
       behind = behind;
       did = record {
         answer = answers_here P step reply life.present life.present before behind here takes foretells;
-        touches = leaves (touch step before) life.present;
+        touches = leaves (touch P step before) life.present;
         stopped = λ away. refl;
         kept = (begun_keeps sum P step before life.present stands.kept, tt);
         covered = (begun_covers sum P step before life.present stands.covered, tt);
@@ -352,18 +359,19 @@ unasked sum P was w step reply now life before behind here stands takes foretell
         within = raised_within sum P now life life behind [] refl after;
       };
       stands = after;
+      same = refl;
     }
 
 -- the same, over a blob that stayed
 pub unasked_over : (sum : List ℕ → ℕ) (P : ℕ) (was : SessionState) (w : WriterState) (step : Step) (reply : Reply) (now : SessionState) (old new : Life) (before behind : Standing) → new ≡ old → turned_away step before ≡ None
-    → StandsFor sum P (held was (Some w)) before old.present → Takes P step reply old.present old.present before behind → Foretells P step reply before → StandsFor sum P now behind old.present → Stepped sum P step reply now old new before
+    → StandsApart sum P (held was (Some w)) before old.present → Takes P step reply old.present old.present before behind → Foretells P step reply before → StandsApart sum P now behind old.present → SteppedApart sum P step reply now old new before behind.snapshots
 unasked_over sum P was w step reply now old new before behind same here stands takes foretells after =
-    subst (λ (life : Life). Stepped sum P step reply now old life before) (sym same) (unasked sum P was w step reply now old before behind here stands takes foretells after)
+    subst (λ (life : Life). SteppedApart sum P step reply now old life before behind.snapshots) (sym same) (unasked sum P was w step reply now old before behind here stands takes foretells after)
 
 -- what a session with this writer stands for, once its call was done, or had not taken it
 pub stands_now : (sum : List ℕ → ℕ) (P : ℕ) (was : SessionState) (v : WriterState) (old new : Life) (behind : Standing) → WriterStandsFor P v behind new.present → was.recovering ≡ behind.recovering → NamesFit was.names behind.covers
     → behind.floor ≤ length behind.content → All (λ c. c.1 ≤ length behind.content) behind.covers → AllKeep sum P behind.content behind.floor new.present → AllCover sum P behind.content behind.covers new.present
-    → Stays sum P behind.content old.present new.present → StandsFor sum P (held was (Some v)) behind new.present
+    → Stays sum P behind.content old.present new.present → StandsApart sum P (held was (Some v)) behind new.present
 stands_now sum P was v old new behind fits phase names enough within kept covered stays = record {
   fits = fits;
   phase = phase;
@@ -376,8 +384,8 @@ stands_now sum P was v old new behind fits phase names enough within kept covere
 }
 
 -- and without one, once it was refused
-pub stands_ended : (sum : List ℕ → ℕ) (P : ℕ) (was : SessionState) (w : WriterState) (old new : Life) (before : Standing) (longer : List ℕ) (moments : List Disk) → StandsFor sum P (held was (Some w)) before old.present
-    → Halves sum P before.content longer before.floor before.covers old new moments → StandsFor sum P (held was None) (ended longer before) new.present
+pub stands_ended : (sum : List ℕ → ℕ) (P : ℕ) (was : SessionState) (w : WriterState) (old new : Life) (before : Standing) (longer : List ℕ) (moments : List Disk) → StandsApart sum P (held was (Some w)) before old.present
+    → Halves sum P before.content longer before.floor before.covers old new moments → StandsApart sum P (held was None) (ended longer before) new.present
 stands_ended sum P was w old new before longer moments stands h = record {
   fits = refl;
   phase = stands.phase;
@@ -423,7 +431,7 @@ no_work false true c below same = refl
 no_work false false true below same = refl
 no_work false false false below same = absurd (false≢true same)
 
-full_work : (a b c : Bool) → a ≡ true → (a || (true && (not b && not c))) ≡ true
+pub full_work : (a b c : Bool) → a ≡ true → (a || (true && (not b && not c))) ≡ true
 full_work true b c is = refl
 full_work false b c is = absurd (false≢true is)
 
@@ -466,13 +474,13 @@ buffered_work sum w bytes d sound some =
     ]
 
 -- the calls of starting a sync, by whether a flush has work
-start_work : (work : Bool) (state : SyncState) → work ≡ true → nat_eq (if work then wait_calls state + 2 else unstarted_calls state) 0 ≡ false
+pub start_work : (work : Bool) (state : SyncState) → work ≡ true → nat_eq (if work then wait_calls state + 2 else unstarted_calls state) 0 ≡ false
 start_work true Clean is = refl
 start_work true Dirty is = refl
 start_work true (Pending name) is = refl
 start_work false state is = absurd (false≢true is)
 
-start_dirty : (work : Bool) (state : SyncState) → state ≡ Dirty → nat_eq (if work then wait_calls state + 2 else unstarted_calls state) 0 ≡ false
+pub start_dirty : (work : Bool) (state : SyncState) → state ≡ Dirty → nat_eq (if work then wait_calls state + 2 else unstarted_calls state) 0 ≡ false
 start_dirty true Dirty is = refl
 start_dirty false Dirty is = refl
 start_dirty work Clean is = absurd (cc is)
@@ -558,30 +566,30 @@ buffered_written sum w v bytes d written sound is same =
 
 -- what each moment of an append owes
 append_through : (sum : List ℕ → ℕ) (was : SessionState) (P : ℕ) (w : WriterState) (bytes : List ℕ) (old new : Life) (result : Result (WriterState × ℕ) Error) (before : Standing) → IsSound sum w old.present
-    → Appends sum w bytes old new result → StandsFor sum P (held was (Some w)) before old.present → StaysThrough sum P (before.content ++ bytes) old new
+    → Appends sum w bytes old new result → StandsApart sum P (held was (Some w)) before old.present → StaysThrough sum P (before.content ++ bytes) old new
 unfolding IsSound
 append_through sum was P w bytes old new result before sound appends stands =
     subst (λ (n : ℕ). StaysThrough sum n (before.content ++ bytes) old new) stands.fits.page_size
     (subst (λ (l : List ℕ). StaysThrough sum w.page_size (l ++ bytes) old new) (sym stands.fits.content) (appends_stay sum w bytes old new result sound appends))
 
 -- what a call owes to the started syncs, in the words of the standing
-pub owed_starts : (sum : List ℕ → ℕ) (P : ℕ) (was : SessionState) (w : WriterState) (old new : Life) (before : Standing) → StandsFor sum P (held was (Some w)) before old.present → OwesStarts sum w old new → CoversThrough sum P before.content old new
+pub owed_starts : (sum : List ℕ → ℕ) (P : ℕ) (was : SessionState) (w : WriterState) (old new : Life) (before : Standing) → StandsApart sum P (held was (Some w)) before old.present → OwesStarts sum w old new → CoversThrough sum P before.content old new
 owed_starts sum P was w old new before stands owes =
     subst (λ (n : ℕ). CoversThrough sum n before.content old new) stands.fits.page_size
     (subst (λ (l : List ℕ). CoversThrough sum w.page_size l old new) (sym stands.fits.content) owes.covers)
 
 -- so both halves hold at each, and the covers
-append_halves : (sum : List ℕ → ℕ) (was : SessionState) (P : ℕ) (w : WriterState) (bytes : List ℕ) (old new : Life) (before : Standing) → StandsFor sum P (held was (Some w)) before old.present
+append_halves : (sum : List ℕ → ℕ) (was : SessionState) (P : ℕ) (w : WriterState) (bytes : List ℕ) (old new : Life) (before : Standing) → StandsApart sum P (held was (Some w)) before old.present
     → (through : Moments (Stays sum P (before.content ++ bytes) old.present) old new) → OwesStarts sum w old new → Halves sum P before.content (before.content ++ bytes) before.floor before.covers old new through.moments
 append_halves sum was P w bytes old new before stands through owes =
     halves sum P before.content (before.content ++ bytes) before.floor before.covers old new (begins before.content bytes) (omega (arith, length-append before.content bytes)) stands.floor stands.within through
     (owed_starts sum P was w old new before stands owes) stands.kept stands.covered
 
 -- what a session stands for once bytes are appended
-appended_stands : (sum : List ℕ → ℕ) (was : SessionState) (P : ℕ) (w v : WriterState) (bytes : List ℕ) (old new : Life) (before : Standing) → StandsFor sum P (held was (Some w)) before old.present → GoesOn sum w old bytes v new
+appended_stands : (sum : List ℕ → ℕ) (was : SessionState) (P : ℕ) (w v : WriterState) (bytes : List ℕ) (old new : Life) (before : Standing) → StandsApart sum P (held was (Some w)) before old.present → GoesOn sum w old bytes v new
     → HoldsWithin v → length v.tip ≡ buffered_after P before (length bytes) → written_after bytes before.written ≡ nat_eq (start_calls v) 0 → awaited_after before (length bytes) ≡ pending_in v.sync
     → AllKeep sum P before.content before.floor new.present → AllCover sum P before.content before.covers new.present → Stays sum P (before.content ++ bytes) old.present new.present
-    → StandsFor sum P (held was (Some v)) (appended P bytes before) new.present
+    → StandsApart sum P (held was (Some v)) (appended P bytes before) new.present
 appended_stands sum was P w v bytes old new before stands goes within buffered written awaited kept covered stays =
     let fits = stands.fits in
     let longer = before.content ++ bytes in
@@ -610,7 +618,7 @@ physical_by_size P full n some =
     ap (λ (pages : ℕ). pages * (P + 12)) (omega (arith, quotient, part))
 
 -- the places that the blob needs, of a writer and of what it stands for
-needed_places : (sum : List ℕ → ℕ) (was : SessionState) (P : ℕ) (w : WriterState) (more : ℕ) (life : Life) (before : Standing) → IsSound sum w life.present → StandsFor sum P (held was (Some w)) before life.present
+needed_places : (sum : List ℕ → ℕ) (was : SessionState) (P : ℕ) (w : WriterState) (more : ℕ) (life : Life) (before : Standing) → IsSound sum w life.present → StandsApart sum P (held was (Some w)) before life.present
     → physical_size w.page_size w.full_pages (length w.tip + more) ≡ physical_size P 0 (length before.content + more)
 unfolding IsSound
 needed_places sum was P w more life before sound stands =
@@ -620,24 +628,24 @@ needed_places sum was P w more life before sound stands =
     ∙ ap (λ (n : ℕ). physical_size n 0 (length before.content + more)) stands.fits.page_size
 
 -- an append that passes the greatest number is refused so
-append_foretold : (sum : List ℕ → ℕ) (was : SessionState) (P : ℕ) (w : WriterState) (bytes : Vec ℕ Global) (old new : Life) (result : Result (WriterState × ℕ) Error) (reply : Reply) (before : Standing) → IsSound sum w old.present → StandsFor sum P (held was (Some w)) before old.present
+append_foretold : (sum : List ℕ → ℕ) (was : SessionState) (P : ℕ) (w : WriterState) (bytes : Vec ℕ Global) (old new : Life) (result : Result (WriterState × ℕ) Error) (reply : Reply) (before : Standing) → IsSound sum w old.present → StandsApart sum P (held was (Some w)) before old.present
     → AppendSays sum w bytes.items old new result → (result ≡ Err OffsetOverflow → reply ≡ Fault OffsetOverflow) → Foretells P (Append bytes) reply before
 append_foretold sum was P w bytes old new result reply before sound stands says is =
     (λ overflows. is (says.overflow (omega (arith, overflows, needed_places sum was P w (length bytes.items) old before sound stands))), λ none. absurd none)
 
 -- an append that is done
 pub append_steps : (sum : List ℕ → ℕ) (was : SessionState) (w v : WriterState) (bytes : Vec ℕ Global) (n : ℕ) (old new : Life) → IsSound sum w old.present → AppendSays sum w bytes.items old new (Ok (v, n))
-    → StepsAlways sum (Append bytes) (At n) (held was (Some w)) (held was (Some v)) old new
+    → AlwaysApart sum (Append bytes) (At n) (held was (Some w)) (held was (Some v)) old new
 unfolding Through
 append_steps sum was w v bytes n old new sound says = λ P before stands. by_room P before stands (has_room before (length bytes.items)) refl
   where
-    place : (P : ℕ) (before : Standing) → StandsFor sum P (held was (Some w)) before old.present → n ≡ length before.content
+    place : (P : ℕ) (before : Standing) → StandsApart sum P (held was (Some w)) before old.present → n ≡ length before.content
     place P before stands = says.appends.0 ∙ ap length (sym stands.fits.content)
 
-    foretold : (P : ℕ) (before : Standing) → StandsFor sum P (held was (Some w)) before old.present → Foretells P (Append bytes) (At n) before
+    foretold : (P : ℕ) (before : Standing) → StandsApart sum P (held was (Some w)) before old.present → Foretells P (Append bytes) (At n) before
     foretold P before stands = append_foretold sum was P w bytes old new (Ok (v, n)) (At n) before sound stands says (λ is. absurd (cc is))
 
-    by_room : (P : ℕ) (before : Standing) → StandsFor sum P (held was (Some w)) before old.present → (room : Bool) → has_room before (length bytes.items) ≡ room → Stepped sum P (Append bytes) (At n) (held was (Some v)) old new before
+    by_room : (P : ℕ) (before : Standing) → StandsApart sum P (held was (Some w)) before old.present → (room : Bool) → has_room before (length bytes.items) ≡ room → SteppedApart sum P (Append bytes) (At n) (held was (Some v)) old new before before.snapshots
     by_room P before stands true is =
         let fits = stands.fits in
         let all : (v ≡ record w { tip = w.tip ++ bytes.items }) × (new ≡ old) = says.buffered (fit before w (length bytes.items) fits.buffered fits.capacity is) in
@@ -677,7 +685,7 @@ append_steps sum was w v bytes n old new sound says = λ P before stands. by_roo
         (appended_stands sum was P w v bytes.items old new before stands goes says.within buffered written awaited kept covered h.stays)
 
 -- an append that doesn't fit waits
-had_without_room : (awaited : Option ℕ) (d : Disk) (room : Bool) → (room ≡ true → ⊥) → HadFailed awaited d → HadFailed (if room then None else awaited) d
+pub had_without_room : (awaited : Option ℕ) (d : Disk) (room : Bool) → (room ≡ true → ⊥) → HadFailed awaited d → HadFailed (if room then None else awaited) d
 had_without_room awaited d true never had = absurd (never refl)
 had_without_room awaited d false never had = had
 
@@ -703,7 +711,7 @@ append_cause sum P w bytes old new IdsExhausted before places awaited room goes 
 
 -- an append that is refused
 pub append_refused_steps : (sum : List ℕ → ℕ) (was : SessionState) (w : WriterState) (bytes : Vec ℕ Global) (e : Error) (old new : Life) → IsSound sum w old.present → AppendSays sum w bytes.items old new (Err e)
-    → StepsAlways sum (Append bytes) (Fault e) (held was (Some w)) (held was None) old new
+    → AlwaysApart sum (Append bytes) (Fault e) (held was (Some w)) (held was None) old new
 unfolding Through
 append_refused_steps sum was w bytes e old new sound says = λ P before stands.
     let fits = stands.fits in
@@ -735,7 +743,7 @@ append_refused_steps sum was w bytes e old new sound says = λ P before stands.
 
 -- a try whose bytes are buffered
 try_steps : (sum : List ℕ → ℕ) (was : SessionState) (w v : WriterState) (bytes : Vec ℕ Global) (n : ℕ) (life : Life) → IsSound sum w life.present → TryAppends w bytes.items v (Ok (Some n)) → Appends sum w bytes.items life life (Ok (v, n))
-    → StepsAlways sum (TryAppend bytes) (At n) (held was (Some w)) (held was (Some v)) life life
+    → AlwaysApart sum (TryAppend bytes) (At n) (held was (Some w)) (held was (Some v)) life life
 unfolding Through
 try_steps sum was w v bytes n life sound tries appends = λ P before stands.
     let fits = stands.fits in
@@ -755,7 +763,7 @@ try_steps sum was w v bytes n life sound tries appends = λ P before stands.
     (appended_stands sum was P w v bytes.items life life before stands appends.1 within buffered written awaited stands.kept stands.covered through.start)
 
 -- a try whose bytes don't fit
-try_nothing_steps : (sum : List ℕ → ℕ) (was : SessionState) (w v : WriterState) (bytes : Vec ℕ Global) (life : Life) → IsSound sum w life.present → TryAppends w bytes.items v (Ok None) → StepsAlways sum (TryAppend bytes) Nothing (held was (Some w)) (held was (Some w)) life life
+try_nothing_steps : (sum : List ℕ → ℕ) (was : SessionState) (w v : WriterState) (bytes : Vec ℕ Global) (life : Life) → IsSound sum w life.present → TryAppends w bytes.items v (Ok None) → AlwaysApart sum (TryAppend bytes) Nothing (held was (Some w)) (held was (Some w)) life life
 try_nothing_steps sum was w v bytes life sound tries = λ P before stands.
     let fits = stands.fits in
     let passes : before.capacity < before.buffered + length bytes.items = omega (arith, tries.1, fits.buffered, fits.capacity) in
@@ -796,7 +804,7 @@ try_same w v bytes IdsExhausted tries = absurd tries
 
 -- a try that is refused
 try_refused_steps : (sum : List ℕ → ℕ) (was : SessionState) (w v : WriterState) (bytes : Vec ℕ Global) (e : Error) (life : Life) → IsSound sum w life.present → TryAppends w bytes.items v (Err e)
-    → StepsAlways sum (TryAppend bytes) (Fault e) (held was (Some w)) (held was (Some w)) life life
+    → AlwaysApart sum (TryAppend bytes) (Fault e) (held was (Some w)) (held was (Some w)) life life
 try_refused_steps sum was w v bytes e life sound tries = λ P before stands.
     let cause = try_cause P w v bytes before life.present life.present e stands.fits.buffered stands.fits.capacity (needed_places sum was P w (length bytes.items) life before sound stands) tries in
     unasked sum P was w (TryAppend bytes) (Fault e) (held was (Some w)) life before before (turned_here before.has_writer stands.fits.has_writer) stands (cause.0, cause.1, refl) cause.3 stands
@@ -804,28 +812,28 @@ try_refused_steps sum was w v bytes e life sound tries = λ P before stands.
 -- ---- syncs
 
 -- what each moment of a sync owes
-sync_through : (sum : List ℕ → ℕ) (was : SessionState) (P : ℕ) (w : WriterState) (old new : Life) (result : Result WriterState Error) (before : Standing) → Syncs sum w old new result → StandsFor sum P (held was (Some w)) before old.present
+sync_through : (sum : List ℕ → ℕ) (was : SessionState) (P : ℕ) (w : WriterState) (old new : Life) (result : Result WriterState Error) (before : Standing) → Syncs sum w old new result → StandsApart sum P (held was (Some w)) before old.present
     → StaysThrough sum P before.content old new
 sync_through sum was P w old new result before syncs stands =
     subst (λ (n : ℕ). StaysThrough sum n before.content old new) stands.fits.page_size
     (subst (λ (l : List ℕ). StaysThrough sum w.page_size l old new) (sym stands.fits.content) (syncs_stay sum w old new result syncs))
 
 -- what is buffered once all was written
-pub left_buffered : (sum : List ℕ → ℕ) (was : SessionState) (P : ℕ) (w v : WriterState) (old new : Life) (before : Standing) → IsSound sum w old.present → StandsFor sum P (held was (Some w)) before old.present → GoesOn sum w old [] v new
+pub left_buffered : (sum : List ℕ → ℕ) (was : SessionState) (P : ℕ) (w v : WriterState) (old new : Life) (before : Standing) → IsSound sum w old.present → StandsApart sum P (held was (Some w)) before old.present → GoesOn sum w old [] v new
     → length v.tip < v.page_size → length v.tip ≡ before.buffered % P
 left_buffered sum was P w v old new before sound stands goes short =
     rest_left sum w v old new [] sound goes short ∙ ap (λ (k : ℕ). k % w.page_size) (omega (arith, stands.fits.buffered)) ∙ ap (λ (k : ℕ). before.buffered % k) stands.fits.page_size
 
 -- so both halves hold at each, where the content stays, and the covers
-pub same_halves : (sum : List ℕ → ℕ) (was : SessionState) (P : ℕ) (w : WriterState) (old new : Life) (before : Standing) → StandsFor sum P (held was (Some w)) before old.present
+pub same_halves : (sum : List ℕ → ℕ) (was : SessionState) (P : ℕ) (w : WriterState) (old new : Life) (before : Standing) → StandsApart sum P (held was (Some w)) before old.present
     → (through : Moments (Stays sum P before.content old.present) old new) → CoversThrough sum P before.content old new → Halves sum P before.content before.content before.floor before.covers old new through.moments
 same_halves sum was P w old new before stands through covering =
     halves sum P before.content before.content before.floor before.covers old new (itself before.content) (omega arith) stands.floor stands.within through covering stands.kept stands.covered
 
 -- what a session stands for once all is durable
-pub synced_stands : (sum : List ℕ → ℕ) (was : SessionState) (P : ℕ) (w v : WriterState) (old new : Life) (before : Standing) → IsSound sum w old.present → StandsFor sum P (held was (Some w)) before old.present → GoesOn sum w old [] v new → IsSettled v
+pub synced_stands : (sum : List ℕ → ℕ) (was : SessionState) (P : ℕ) (w v : WriterState) (old new : Life) (before : Standing) → IsSound sum w old.present → StandsApart sum P (held was (Some w)) before old.present → GoesOn sum w old [] v new → IsSettled v
     → HoldsWithin v → AllKeep sum w.page_size (content_of w old.present.readable) (length (content_of w old.present.readable)) new.present → AllCover sum P before.content before.covers new.present → Stays sum P before.content old.present new.present
-    → StandsFor sum P (held was (Some v)) (synced P before) new.present
+    → StandsApart sum P (held was (Some v)) (synced P before) new.present
 synced_stands sum was P w v old new before sound stands goes settled within durable covered stays =
     let fits = stands.fits in
     let all : AllKeep sum P before.content (length before.content) new.present =
@@ -857,7 +865,7 @@ sync_touch w P before old new moments fits goes few idle = by_written before.wri
     by_written false awaited is some = few_calls old new moments 2 goes (omega (arith, few, calls_few (has_work w true) w.sync))
 
 -- a sync that is done
-pub sync_steps : (sum : List ℕ → ℕ) (was : SessionState) (w v : WriterState) (old new : Life) → IsSound sum w old.present → SyncSays sum w old new (Ok v) → StepsAlways sum Sync Done (held was (Some w)) (held was (Some v)) old new
+pub sync_steps : (sum : List ℕ → ℕ) (was : SessionState) (w v : WriterState) (old new : Life) → IsSound sum w old.present → SyncSays sum w old new (Ok v) → AlwaysApart sum Sync Done (held was (Some w)) (held was (Some v)) old new
 unfolding Through
 sync_steps sum was w v old new sound says = λ P before stands.
     let fits = stands.fits in
@@ -881,7 +889,7 @@ sync_cause P w before old new OutOfMemory work awaited cause = ((2, lit< tt, ref
 sync_cause P w before old new IdsExhausted work awaited cause = absurd cause
 
 -- a sync that is refused
-pub sync_refused_steps : (sum : List ℕ → ℕ) (was : SessionState) (w : WriterState) (e : Error) (old new : Life) → SyncSays sum w old new (Err e) → StepsAlways sum Sync (Fault e) (held was (Some w)) (held was None) old new
+pub sync_refused_steps : (sum : List ℕ → ℕ) (was : SessionState) (w : WriterState) (e : Error) (old new : Life) → SyncSays sum w old new (Err e) → AlwaysApart sum Sync (Fault e) (held was (Some w)) (held was None) old new
 unfolding Through
 sync_refused_steps sum was w e old new says = λ P before stands.
     let fits = stands.fits in
@@ -901,8 +909,8 @@ alike_stays_started d e alike stand = subst StartsStand (sym alike) stand
 
 -- a step that only reads and leaves the standing
 pub looked_steps : (sum : List ℕ → ℕ) (was : SessionState) (P : ℕ) (w : WriterState) (step : Step) (reply : Reply) (old new : Life) (before : Standing) → content_after step before.content ≡ before.content → begun step before ≡ before → turned_away step before ≡ None
-    → IsSound sum w old.present → Looked old new → (seen : Moments (SameButLog old.present) old new) → Touches (touch step before) old.present seen.moments → StandsFor sum P (held was (Some w)) before old.present → Takes P step reply old.present new.present before before → Foretells P step reply before
-    → Stepped sum P step reply (held was (Some w)) old new before
+    → IsSound sum w old.present → Looked old new → (seen : Moments (SameButLog old.present) old new) → Touches (touch P step before) old.present seen.moments → StandsApart sum P (held was (Some w)) before old.present → Takes P step reply old.present new.present before before → Foretells P step reply before
+    → SteppedApart sum P step reply (held was (Some w)) old new before before.snapshots
 unfolding Through IsSound
 looked_steps sum was P w step reply old new before same begins here sound looked seen touches stands takes foretells =
     let fits = stands.fits in
@@ -959,17 +967,17 @@ read_cause sum P w cache offset len before old new OutOfMemory size full goes = 
 read_cause sum P w cache offset len before old new IdsExhausted size full goes = absurd goes
 
 -- what was read is told, or that there was no memory for it
-pub read_says : (sum : List ℕ → ℕ) (w : WriterState) (cache : CacheState) (offset len : ℕ) (old new : Life) (bufs : List (List ℕ)) (reply : Reply) → Reads sum (tail_of w) cache (offset, len) concat old new (Ok bufs)
-    → (2 ^ 64 ≤ offset + len → Ok bufs ≡ Err OffsetOverflow) → (offset + len < 2 ^ 64 → size_of w < offset + len → Ok bufs ≡ Err BlobInsufficientLength) → Looked old new → IsBytes (concat bufs) reply → ReadSays sum w cache offset len old new reply
-read_says sum w cache offset len old new bufs (Bytes bytes) reads overflow end looked is = record {
+pub read_says : (sum : List ℕ → ℕ) (t : Tail) (cache : CacheState) (offset len : ℕ) (old new : Life) (bufs : List (List ℕ)) (reply : Reply) → Reads sum t cache (offset, len) concat old new (Ok bufs)
+    → (2 ^ 64 ≤ offset + len → Ok bufs ≡ Err OffsetOverflow) → (offset + len < 2 ^ 64 → size_of_tail t < offset + len → Ok bufs ≡ Err BlobInsufficientLength) → Looked old new → IsBytes (concat bufs) reply → ReadSays sum t cache offset len old new reply
+read_says sum t cache offset len old new bufs (Bytes bytes) reads overflow end looked is = record {
   reads = (bufs, is, reads);
   full = λ other. cc other;
   overflow = λ passes. absurd (cc (overflow passes));
   end = λ within passes. absurd (cc (end within passes));
   looked = looked;
 }
-read_says sum w cache offset len old new bufs (Fault e) reads overflow end looked is =
-    subst (λ (x : Error). ReadSays sum w cache offset len old new (Fault x)) (sym is)
+read_says sum t cache offset len old new bufs (Fault e) reads overflow end looked is =
+    subst (λ (x : Error). ReadSays sum t cache offset len old new (Fault x)) (sym is)
     (record {
       reads = tt;
       full = λ other. cc other;
@@ -977,29 +985,46 @@ read_says sum w cache offset len old new bufs (Fault e) reads overflow end looke
       end = λ within passes. absurd (cc (end within passes));
       looked = looked;
     })
-read_says sum w cache offset len old new bufs (At n) reads overflow end looked is = absurd is
-read_says sum w cache offset len old new bufs Nothing reads overflow end looked is = absurd is
-read_says sum w cache offset len old new bufs Done reads overflow end looked is = absurd is
-read_says sum w cache offset len old new bufs (Started sync) reads overflow end looked is = absurd is
-read_says sum w cache offset len old new bufs (Answer answer) reads overflow end looked is = absurd is
-read_says sum w cache offset len old new bufs (Length n) reads overflow end looked is = absurd is
-read_says sum w cache offset len old new bufs Closed reads overflow end looked is = absurd is
-read_says sum w cache offset len old new bufs NoSuch reads overflow end looked is = absurd is
-read_says sum w cache offset len old new bufs NotRecovering reads overflow end looked is = absurd is
-read_says sum w cache offset len old new bufs (Served count read) reads overflow end looked is = absurd is
-read_says sum w cache offset len old new bufs (Missed numbers) reads overflow end looked is = absurd is
-read_says sum w cache offset len old new bufs BadRanges reads overflow end looked is = absurd is
+read_says sum t cache offset len old new bufs (At n) reads overflow end looked is = absurd is
+read_says sum t cache offset len old new bufs Nothing reads overflow end looked is = absurd is
+read_says sum t cache offset len old new bufs Done reads overflow end looked is = absurd is
+read_says sum t cache offset len old new bufs (Started sync) reads overflow end looked is = absurd is
+read_says sum t cache offset len old new bufs (Answer answer) reads overflow end looked is = absurd is
+read_says sum t cache offset len old new bufs (Length n) reads overflow end looked is = absurd is
+read_says sum t cache offset len old new bufs Closed reads overflow end looked is = absurd is
+read_says sum t cache offset len old new bufs NoSuch reads overflow end looked is = absurd is
+read_says sum t cache offset len old new bufs NotRecovering reads overflow end looked is = absurd is
+read_says sum t cache offset len old new bufs (Served count read) reads overflow end looked is = absurd is
+read_says sum t cache offset len old new bufs (Missed numbers) reads overflow end looked is = absurd is
+read_says sum t cache offset len old new bufs BadRanges reads overflow end looked is = absurd is
+read_says sum t cache offset len old new bufs (Taken index) reads overflow end looked is = absurd is
+read_says sum t cache offset len old new bufs (Sealed index sync) reads overflow end looked is = absurd is
+read_says sum t cache offset len old new bufs NotAppending reads overflow end looked is = absurd is
+
+-- so is why none was
+abbrev pub no_bufs : Error → Result (List (List ℕ)) Error
+no_bufs e = Err e
+
+pub read_fails : (sum : List ℕ → ℕ) (t : Tail) (cache : CacheState) (offset len : ℕ) (old new : Life) (e : Error) → Reads sum t cache (offset, len) concat old new (no_bufs e) → (2 ^ 64 ≤ offset + len → no_bufs e ≡ no_bufs OffsetOverflow)
+    → (offset + len < 2 ^ 64 → size_of_tail t < offset + len → no_bufs e ≡ no_bufs BlobInsufficientLength) → (e ≡ InvalidChecksum → ⊥) → Looked old new → ReadSays sum t cache offset len old new (Fault e)
+read_fails sum t cache offset len old new e reads overflow end never looked = record {
+  reads = reads;
+  full = λ same. never (cc same);
+  overflow = λ passes. cc (overflow passes);
+  end = λ within passes. cc (end within passes);
+  looked = looked;
+}
 
 -- a read
-pub read_steps : (sum : List ℕ → ℕ) (was : SessionState) (w : WriterState) (cache : CacheState) (offset len : ℕ) (old new : Life) (reply : Reply) → IsSound sum w old.present → ReadSays sum w cache offset len old new reply
-    → StepsAlways sum (Read offset len) reply (held was (Some w)) (held was (Some w)) old new
+pub read_steps : (sum : List ℕ → ℕ) (was : SessionState) (w : WriterState) (cache : CacheState) (offset len : ℕ) (old new : Life) (reply : Reply) → IsSound sum w old.present → ReadSays sum (tail_of w) cache offset len old new reply
+    → AlwaysApart sum (Read offset len) reply (held was (Some w)) (held was (Some w)) old new
 unfolding Through
 read_steps sum was w cache offset len old new reply sound says = λ P before stands.
     let size : size_of w ≡ length before.content = size_is_length sum w old sound ∙ ap length (sym stands.fits.content) in
     let foretold : Foretells P (Read offset len) reply before = (says.overflow, λ passes. says.end passes.0 (omega (arith, size, passes.1))) in
     looked_steps sum was P w (Read offset len) reply old new before refl refl (turned_here before.has_writer stands.fits.has_writer) sound says.looked says.looked.through says.looked.through.each stands (taken reply P before stands size says.full says.reads) foretold
   where
-    taken : (r : Reply) (P : ℕ) (before : Standing) → StandsFor sum P (held was (Some w)) before old.present → size_of w ≡ length before.content → (r ≡ Fault InvalidChecksum → ⊥) → ReadsBytes sum w cache offset len old new r → Takes P (Read offset len) r old.present new.present before before
+    taken : (r : Reply) (P : ℕ) (before : Standing) → StandsApart sum P (held was (Some w)) before old.present → size_of w ≡ length before.content → (r ≡ Fault InvalidChecksum → ⊥) → ReadsBytes sum (tail_of w) cache offset len old new r → Takes P (Read offset len) r old.present new.present before before
     taken (Bytes bytes) P before stands size full (bufs, is, reads) = ((omega (arith, size, reads.0), is ∙ reads.1 ∙ ap (λ (l : List ℕ). take len (drop offset l)) (sym stands.fits.content)), refl)
     taken (Fault e) P before stands size full reads = let cause = read_cause sum P w cache offset len before old new e size (λ is. full (ap Fault is)) reads in (cause.0, cause.1, refl)
     taken (At n) P before stands size full reads = absurd reads
@@ -1012,55 +1037,58 @@ read_steps sum was w cache offset len old new reply sound says = λ P before sta
     taken (Served count read) P before stands size full reads = absurd reads
     taken (Missed numbers) P before stands size full reads = absurd reads
     taken BadRanges P before stands size full reads = absurd reads
+    taken (Taken index) P before stands size full reads = absurd reads
+    taken (Sealed index sync) P before stands size full reads = absurd reads
+    taken NotAppending P before stands size full reads = absurd reads
     taken (Length n) P before stands size full reads = absurd reads
     taken Closed P before stands size full reads = absurd reads
 
 -- the size
-pub size_steps : (sum : List ℕ → ℕ) (was : SessionState) (w : WriterState) (life : Life) → IsSound sum w life.present → StepsAlways sum Size (Length (size_of w)) (held was (Some w)) (held was (Some w)) life life
+pub size_steps : (sum : List ℕ → ℕ) (was : SessionState) (w : WriterState) (life : Life) → IsSound sum w life.present → AlwaysApart sum Size (Length (size_of w)) (held was (Some w)) (held was (Some w)) life life
 size_steps sum was w life sound = λ P before stands.
     unasked sum P was w Size (Length (size_of w)) (held was (Some w)) life before before (turned_here before.has_writer stands.fits.has_writer) stands (size_is_length sum w life sound ∙ ap length (sym stands.fits.content), refl) (λ none. absurd none, λ none. absurd none) stands
 
 -- ---- a step of a session
 
 -- a step of a session that is closed
-pub closed_takes : (sum : List ℕ → ℕ) (step : Step) (was now : SessionState) (old new : Life) (reply : Reply) → ((before : Standing) → before.has_writer ≡ false → turned_away step before ≡ Some Closed) → was.writer ≡ None → IsReady sum was old.present
-    → reply ≡ Closed → now ≡ was → new ≡ old → Steps sum step reply was now old new
+pub closed_takes : (sum : List ℕ → ℕ) (step : Step) (was now : SessionState) (old new : Life) (reply : Reply) → ((before : Standing) → before.has_writer ≡ false → turned_away step before ≡ Some Closed) → was.writer ≡ None → IsReadyApart sum was old.present
+    → reply ≡ Closed → now ≡ was → new ≡ old → StepsApart sum step reply was now old new
 closed_takes sum step was now old new reply away none ready replied same_session same = record {
-  ready = subst (λ (life : Life). IsReady sum now life.present) (sym same) (subst (λ (x : SessionState). IsReady sum x old.present) (sym same_session) ready);
+  ready = subst (λ (life : Life). IsReadyApart sum now life.present) (sym same) (subst (λ (x : SessionState). IsReadyApart sum x old.present) (sym same_session) ready);
   always = closed_steps sum step was now old new reply none away replied same_session same;
 }
 
 -- the same of a call that leaves the rest of the session
-closed_rest : (sum : List ℕ → ℕ) (step : Step) (was now : SessionState) (old new : Life) (reply : Reply) → ((before : Standing) → before.has_writer ≡ false → turned_away step before ≡ Some Closed) → was.writer ≡ None → IsReady sum was old.present
-    → KeepsRest was now → IsClosed now.writer old new reply → Steps sum step reply was now old new
+closed_rest : (sum : List ℕ → ℕ) (step : Step) (was now : SessionState) (old new : Life) (reply : Reply) → ((before : Standing) → before.has_writer ≡ false → turned_away step before ≡ Some Closed) → was.writer ≡ None → IsReadyApart sum was old.present
+    → KeepsRest was now → IsClosed now.writer old new reply → StepsApart sum step reply was now old new
 closed_rest sum step was now old new reply away none ready rest closed =
     closed_takes sum step was now old new reply away none ready closed.replied (rest ∙ ap (λ (o : Option WriterState). held was o) (closed.writer ∙ sym none) ∙ sym (held_same was was.writer refl)) closed.life
 
 -- a step of a session with a writer, in the words of that and of the rest
 pub held_takes : (sum : List ℕ → ℕ) (step : Step) (reply : Reply) (was now : SessionState) (w : WriterState) (o : Option WriterState) (old new : Life) → was.writer ≡ Some w → KeepsRest was now → now.writer ≡ o → HasSoundWriter sum o new.present
-    → (was.names ≡ []) ⊎ StartsStand new.present → StepsAlways sum step reply (held was (Some w)) (held was o) old new → Steps sum step reply was now old new
+    → (was.names ≡ []) ⊎ StartsStand new.present → AlwaysApart sum step reply (held was (Some w)) (held was o) old new → StepsApart sum step reply was now old new
 held_takes sum step reply was now w o old new at rest is sound starts always =
     let after_it : now ≡ held was o = rest ∙ ap (λ (x : Option WriterState). held was x) is in
-    subst (λ (x : SessionState). Steps sum step reply was x old new) (sym after_it)
+    subst (λ (x : SessionState). StepsApart sum step reply was x old new) (sym after_it)
     (record {
       ready = record { writer = sound; starts = starts };
-      always = subst (λ (x : SessionState). StepsAlways sum step reply x (held was o) old new) (sym (held_same was (Some w) at)) always;
+      always = subst (λ (x : SessionState). AlwaysApart sum step reply x (held was o) old new) (sym (held_same was (Some w) at)) always;
     })
 
 -- its writer is sound
-pub sound_of : (sum : List ℕ → ℕ) (was : SessionState) (w : WriterState) (d : Disk) → was.writer ≡ Some w → IsReady sum was d → IsSound sum w d
+pub sound_of : (sum : List ℕ → ℕ) (was : SessionState) (w : WriterState) (d : Disk) → was.writer ≡ Some w → IsReadyApart sum was d → IsSound sum w d
 sound_of sum was w d at ready = subst (λ (o : Option WriterState). HasSoundWriter sum o d) at ready.writer
 
 -- and can be read with the cache that fits it
-pub can_of : (was : SessionState) (w : WriterState) (cache : CacheState) (d : Disk) → was.writer ≡ Some w → CacheFits was.writer cache d → CanRead (tail_of w) cache d
-can_of was w cache d at fits = subst (λ (o : Option WriterState). CacheFits o cache d) at fits
+pub can_of : (was : SessionState) (w : WriterState) (cache : CacheState) (d : Disk) → was.writer ≡ Some w → FitsWriter was.writer cache d → CanRead (tail_of w) cache d
+can_of was w cache d at fits = subst (λ (o : Option WriterState). FitsWriter o cache d) at fits
 
 -- an append by a session
-pub appended_takes : (sum : List ℕ → ℕ) (was now : SessionState) (bytes : Vec ℕ Global) (old new : Life) (reply : Reply) → IsReady sum was old.present → KeepsRest was now → Appended sum was.writer now.writer bytes.items old new reply
-    → Steps sum (Append bytes) reply was now old new
+pub appended_takes : (sum : List ℕ → ℕ) (was now : SessionState) (bytes : Vec ℕ Global) (old new : Life) (reply : Reply) → IsReadyApart sum was old.present → KeepsRest was now → Appended sum was.writer now.writer bytes.items old new reply
+    → StepsApart sum (Append bytes) reply was now old new
 appended_takes sum was now bytes old new reply ready rest goes = by_writer was.writer refl reply goes
   where
-    by_writer : (o : Option WriterState) → was.writer ≡ o → (reply : Reply) → Appended sum o now.writer bytes.items old new reply → Steps sum (Append bytes) reply was now old new
+    by_writer : (o : Option WriterState) → was.writer ≡ o → (reply : Reply) → Appended sum o now.writer bytes.items old new reply → StepsApart sum (Append bytes) reply was now old new
     by_writer None at reply goes = closed_rest sum (Append bytes) was now old new reply (λ before none. turned_closed before.has_writer none) at ready rest goes
     by_writer (Some w) at (At n) (v, is, says) =
         held_takes sum (Append bytes) (At n) was now w (Some v) old new at rest is says.appends.1.sound (inr says.owes.starts) (append_steps sum was w v bytes n old new (sound_of sum was w old.present at ready) says)
@@ -1078,6 +1106,9 @@ appended_takes sum was now bytes old new reply ready rest goes = by_writer was.w
     by_writer (Some w) at (Served count read) goes = absurd goes
     by_writer (Some w) at (Missed numbers) goes = absurd goes
     by_writer (Some w) at BadRanges goes = absurd goes
+    by_writer (Some w) at (Taken index) goes = absurd goes
+    by_writer (Some w) at (Sealed index sync) goes = absurd goes
+    by_writer (Some w) at NotAppending goes = absurd goes
 
 -- a cause of an append is one of an append of a buffer
 owned_cause : (P : ℕ) (bytes : Vec ℕ Global) (s : Standing) (from to : Disk) (e : Error) → HasCause P (Append bytes) s from to e → HasCause P (Owned bytes) s from to e
@@ -1107,6 +1138,9 @@ owned_takes P bytes NotRecovering s behind from to takes = takes
 owned_takes P bytes (Served count read) s behind from to takes = takes
 owned_takes P bytes (Missed numbers) s behind from to takes = takes
 owned_takes P bytes BadRanges s behind from to takes = takes
+owned_takes P bytes (Taken index) s behind from to takes = takes
+owned_takes P bytes (Sealed index sync) s behind from to takes = takes
+owned_takes P bytes NotAppending s behind from to takes = takes
 
 owned_answers : (P : ℕ) (bytes : Vec ℕ Global) (reply : Reply) (s behind : Standing) (from to : Disk) → Answers P (Append bytes) reply from to s behind → Answers P (Owned bytes) reply from to s behind
 owned_answers P bytes reply s behind from to = by_turn (if s.has_writer then None else Some Closed)
@@ -1117,7 +1151,7 @@ owned_answers P bytes reply s behind from to = by_turn (if s.has_writer then Non
     by_turn (Some other) is = is
 
 -- an append of a buffer is an append
-pub owned_steps : (sum : List ℕ → ℕ) (was now : SessionState) (bytes : Vec ℕ Global) (old new : Life) (reply : Reply) → Steps sum (Append bytes) reply was now old new → Steps sum (Owned bytes) reply was now old new
+pub owned_steps : (sum : List ℕ → ℕ) (was now : SessionState) (bytes : Vec ℕ Global) (old new : Life) (reply : Reply) → StepsApart sum (Append bytes) reply was now old new → StepsApart sum (Owned bytes) reply was now old new
 owned_steps sum was now bytes old new reply steps = record {
   ready = steps.ready;
   always = λ P before stands.
@@ -1136,15 +1170,16 @@ owned_steps sum was now bytes old new reply steps = record {
           within = a.did.within;
         };
         stands = a.stands;
+        same = a.same;
       };
 }
 
 -- a try by a session
-pub tried_takes : (sum : List ℕ → ℕ) (was now : SessionState) (bytes : Vec ℕ Global) (life : Life) (reply : Reply) → IsReady sum was life.present → KeepsRest was now → TriedAppend sum was.writer now.writer bytes.items reply
-    → Steps sum (TryAppend bytes) reply was now life life
+pub tried_takes : (sum : List ℕ → ℕ) (was now : SessionState) (bytes : Vec ℕ Global) (life : Life) (reply : Reply) → IsReadyApart sum was life.present → KeepsRest was now → TriedAppend sum was.writer now.writer bytes.items reply
+    → StepsApart sum (TryAppend bytes) reply was now life life
 tried_takes sum was now bytes life reply ready rest goes = by_writer was.writer refl reply goes
   where
-    by_writer : (o : Option WriterState) → was.writer ≡ o → (reply : Reply) → TriedAppend sum o now.writer bytes.items reply → Steps sum (TryAppend bytes) reply was now life life
+    by_writer : (o : Option WriterState) → was.writer ≡ o → (reply : Reply) → TriedAppend sum o now.writer bytes.items reply → StepsApart sum (TryAppend bytes) reply was now life life
     by_writer None at reply (replied, is) = closed_rest sum (TryAppend bytes) was now life life reply (λ before none. turned_closed before.has_writer none) at ready rest (record { replied = replied; writer = is; life = refl })
     by_writer (Some w) at (At n) (v, is, tries, buffers) =
         let sound = sound_of sum was w life.present at ready in
@@ -1167,12 +1202,15 @@ tried_takes sum was now bytes life reply ready rest goes = by_writer was.writer 
     by_writer (Some w) at (Served count read) goes = absurd goes
     by_writer (Some w) at (Missed numbers) goes = absurd goes
     by_writer (Some w) at BadRanges goes = absurd goes
+    by_writer (Some w) at (Taken index) goes = absurd goes
+    by_writer (Some w) at (Sealed index sync) goes = absurd goes
+    by_writer (Some w) at NotAppending goes = absurd goes
 
 -- a sync by a session
-pub synced_takes : (sum : List ℕ → ℕ) (was now : SessionState) (old new : Life) (reply : Reply) → IsReady sum was old.present → KeepsRest was now → Synced sum was.writer now.writer old new reply → Steps sum Sync reply was now old new
+pub synced_takes : (sum : List ℕ → ℕ) (was now : SessionState) (old new : Life) (reply : Reply) → IsReadyApart sum was old.present → KeepsRest was now → Synced sum was.writer now.writer old new reply → StepsApart sum Sync reply was now old new
 synced_takes sum was now old new reply ready rest goes = by_writer was.writer refl reply goes
   where
-    by_writer : (o : Option WriterState) → was.writer ≡ o → (reply : Reply) → Synced sum o now.writer old new reply → Steps sum Sync reply was now old new
+    by_writer : (o : Option WriterState) → was.writer ≡ o → (reply : Reply) → Synced sum o now.writer old new reply → StepsApart sum Sync reply was now old new
     by_writer None at reply goes = closed_rest sum Sync was now old new reply (λ before none. turned_closed before.has_writer none) at ready rest goes
     by_writer (Some w) at Done (v, is, says) = held_takes sum Sync Done was now w (Some v) old new at rest is says.syncs.0.sound (inr says.owes.starts) (sync_steps sum was w v old new (sound_of sum was w old.present at ready) says)
     by_writer (Some w) at (Fault e) (is, says) = held_takes sum Sync (Fault e) was now w None old new at rest is tt (inr says.owes.starts) (sync_refused_steps sum was w e old new says)
@@ -1188,27 +1226,30 @@ synced_takes sum was now old new reply ready rest goes = by_writer was.writer re
     by_writer (Some w) at (Served count read) goes = absurd goes
     by_writer (Some w) at (Missed numbers) goes = absurd goes
     by_writer (Some w) at BadRanges goes = absurd goes
+    by_writer (Some w) at (Taken index) goes = absurd goes
+    by_writer (Some w) at (Sealed index sync) goes = absurd goes
+    by_writer (Some w) at NotAppending goes = absurd goes
 
 -- what is read of a session leaves all of it
 pub same_rest : (was : SessionState) → KeepsRest was was
 same_rest was = held_same was was.writer refl
 
 -- the size, of a session
-pub sized_takes : (sum : List ℕ → ℕ) (was : SessionState) (life : Life) (reply : Reply) → IsReady sum was life.present → Sized was.writer reply → Steps sum Size reply was was life life
+pub sized_takes : (sum : List ℕ → ℕ) (was : SessionState) (life : Life) (reply : Reply) → IsReadyApart sum was life.present → Sized was.writer reply → StepsApart sum Size reply was was life life
 sized_takes sum was life reply ready goes = by_writer was.writer refl goes
   where
-    by_writer : (o : Option WriterState) → was.writer ≡ o → Sized o reply → Steps sum Size reply was was life life
+    by_writer : (o : Option WriterState) → was.writer ≡ o → Sized o reply → StepsApart sum Size reply was was life life
     by_writer None at is = closed_takes sum Size was was life life reply (λ before none. turned_closed before.has_writer none) at ready is refl refl
     by_writer (Some w) at is =
         let sound = sound_of sum was w life.present at ready in
-        subst (λ (r : Reply). Steps sum Size r was was life life) (sym is) (held_takes sum Size (Length (size_of w)) was was w (Some w) life life at (same_rest was) at sound ready.starts (size_steps sum was w life sound))
+        subst (λ (r : Reply). StepsApart sum Size r was was life life) (sym is) (held_takes sum Size (Length (size_of w)) was was w (Some w) life life at (same_rest was) at sound ready.starts (size_steps sum was w life sound))
 
 -- a read by a session
-pub read_takes : (sum : List ℕ → ℕ) (was : SessionState) (cache : CacheState) (offset len : ℕ) (old new : Life) (reply : Reply) → IsReady sum was old.present → DidRead sum was.writer cache offset len old new reply
-    → Steps sum (Read offset len) reply was was old new
+pub read_takes : (sum : List ℕ → ℕ) (was : SessionState) (cache : CacheState) (offset len : ℕ) (old new : Life) (reply : Reply) → IsReadyApart sum was old.present → DidRead sum was.writer cache offset len old new reply
+    → StepsApart sum (Read offset len) reply was was old new
 read_takes sum was cache offset len old new reply ready goes = by_writer was.writer refl goes
   where
-    by_writer : (o : Option WriterState) → was.writer ≡ o → DidRead sum o cache offset len old new reply → Steps sum (Read offset len) reply was was old new
+    by_writer : (o : Option WriterState) → was.writer ≡ o → DidRead sum o cache offset len old new reply → StepsApart sum (Read offset len) reply was was old new
     by_writer None at goes = closed_takes sum (Read offset len) was was old new reply (λ before none. turned_closed before.has_writer none) at ready goes.0 refl goes.1
     by_writer (Some w) at says =
         let sound = sound_of sum was w old.present at ready in

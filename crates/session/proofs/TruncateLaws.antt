@@ -25,12 +25,13 @@ use Rattle.paged.specs.Truncate.{TruncateCause, shorten_calls, truncate_calls}
 use Rattle.paged.proofs.Flushes.{size_is_length}
 use Rattle.session.specs.declared.steps.Step.TheVariants.{Truncate}
 use Rattle.session.specs.declared.steps.Reply.{Reply}
-use Rattle.session.specs.declared.steps.Reply.TheVariants.{At, Nothing, Done, Started, Answer, Length, Bytes, Fault, Closed, NotRecovering, NoSuch, Served, Missed, BadRanges}
-use Rattle.session.specs.Run.{Standing, SessionState, truncated, lowered, begun, ended, turned_away, faults, HasCause, Takes, pending_in, AllCover, NamesFit, StandsFor, IsReady}
+use Rattle.session.specs.declared.steps.Reply.TheVariants.{At, Nothing, Done, Started, Answer, Length, Bytes, Fault, Closed, NotRecovering, NoSuch, Served, Missed, BadRanges, Taken, Sealed, NotAppending}
+use Rattle.session.specs.Run.{Standing, SessionState, truncated, lowered, begun, ended, turned_away, faults, HasCause, Takes, pending_in, AllCover, NamesFit}
 use Rattle.session.specs.Run.Touch.{Changes}
-use Rattle.session.specs.Calls.{KeepsRest, TruncateSays, Cuts, Truncated, Stepped, StepsAlways, Steps}
+use Rattle.session.specs.Calls.{KeepsRest, TruncateSays, Cuts, Truncated}
 use Rattle.session.proofs.StepLaws.{held, held_same, keeps_fewer, would_longer, cover_stays, all_lowered, begun_keeps, begun_covers, through_each, each_end, few_calls, raised_within, leaves, answers_away, stepped_by, had_failed_as, calls_few, settled_started, settled_awaits, closed_takes, held_takes, sound_of}
 use Rattle.session.proofs.PromiseLaws.{tip_is}
+use Rattle.session.proofs.Apart.{AlwaysApart, IsReadyApart, StandsApart, SteppedApart, StepsApart}
 
 -- ---- the first bytes
 
@@ -103,19 +104,19 @@ cut_halves sum P n s old new enough within keeps covered floors covering through
     }
 
 -- from what the call says, in the words of the standing
-says_only : (sum : List ℕ → ℕ) (P : ℕ) (was : SessionState) (w : WriterState) (n : ℕ) (old new : Life) (s : Standing) → StandsFor sum P (held was (Some w)) s old.present
+says_only : (sum : List ℕ → ℕ) (P : ℕ) (was : SessionState) (w : WriterState) (n : ℕ) (old new : Life) (s : Standing) → StandsApart sum P (held was (Some w)) s old.present
     → LeavesOnly sum w.page_size (content_of w old.present.readable) (take n (content_of w old.present.readable)) old new → LeavesOnly sum P s.content (take n s.content) old new
 says_only sum P was w n old new s stands only =
     subst (λ (p : ℕ). LeavesOnly sum p s.content (take n s.content) old new) stands.fits.page_size
     (subst (λ (l : List ℕ). LeavesOnly sum w.page_size l (take n l) old new) (sym stands.fits.content) only)
 
-says_covers : (sum : List ℕ → ℕ) (P : ℕ) (was : SessionState) (w : WriterState) (n : ℕ) (old new : Life) (s : Standing) → StandsFor sum P (held was (Some w)) s old.present
+says_covers : (sum : List ℕ → ℕ) (P : ℕ) (was : SessionState) (w : WriterState) (n : ℕ) (old new : Life) (s : Standing) → StandsApart sum P (held was (Some w)) s old.present
     → CoversThrough sum w.page_size (take n (content_of w old.present.readable)) old new → CoversThrough sum P (take n s.content) old new
 says_covers sum P was w n old new s stands covers =
     subst (λ (p : ℕ). CoversThrough sum p (take n s.content) old new) stands.fits.page_size
     (subst (λ (l : List ℕ). CoversThrough sum w.page_size (take n l) old new) (sym stands.fits.content) covers)
 
-says_floors : (sum : List ℕ → ℕ) (P : ℕ) (was : SessionState) (w : WriterState) (n : ℕ) (old new : Life) (s : Standing) → StandsFor sum P (held was (Some w)) s old.present
+says_floors : (sum : List ℕ → ℕ) (P : ℕ) (was : SessionState) (w : WriterState) (n : ℕ) (old new : Life) (s : Standing) → StandsApart sum P (held was (Some w)) s old.present
     → ((content : List ℕ) (floor : ℕ) → floor ≤ length (take n content) → AllKeep sum w.page_size (take n content) floor old.present → Through (AllKeep sum w.page_size (take n content) floor) old new)
     → Through (AllKeep sum P (take n s.content) (min n s.floor)) old new
 says_floors sum P was w n old new s stands floors =
@@ -168,9 +169,9 @@ not_turned n s has phase = by_phase s.has_writer s.recovering has phase
 
 -- by what each moment says
 cut_steps : (sum : List ℕ → ℕ) (P n : ℕ) (was : SessionState) (w : WriterState) (reply : Reply) (now : SessionState) (old new : Life) (before behind : Standing) (moments : List Disk) → was.recovering ≡ true → IsSound sum w old.present
-    → StandsFor sum P (held was (Some w)) before old.present → CutHalves sum P n before old new moments → length new.present.log ≤ length old.present.log + truncate_calls w n
+    → StandsApart sum P (held was (Some w)) before old.present → CutHalves sum P n before old new moments → length new.present.log ≤ length old.present.log + truncate_calls w n
     → ((s : Standing) → s ≡ lowered n before → begun (Truncate n) before ≡ s → Takes P (Truncate n) reply old.present new.present before behind)
-    → StandsFor sum P now behind new.present → Stepped sum P (Truncate n) reply now old new before
+    → StandsApart sum P now behind new.present → SteppedApart sum P (Truncate n) reply now old new before behind.snapshots
 cut_steps sum P n was w reply now old new before behind moments recovering sound stands h few takes after_it =
     let has = stands.fits.has_writer in
     let phase : before.recovering ≡ true = sym stands.phase ∙ recovering in
@@ -183,7 +184,7 @@ cut_steps sum P n was w reply now old new before behind moments recovering sound
 
 -- a truncate that is done
 truncate_steps : (sum : List ℕ → ℕ) (was : SessionState) (w v : WriterState) (n : ℕ) (old new : Life) → was.recovering ≡ true → IsSound sum w old.present → TruncateSays sum w n old new (Ok v)
-    → StepsAlways sum (Truncate n) (Length (size_of v)) (held was (Some w)) (held was (Some v)) old new
+    → AlwaysApart sum (Truncate n) (Length (size_of v)) (held was (Some w)) (held was (Some v)) old new
 unfolding Through
 truncate_steps sum was w v n old new recovering sound says = λ P before stands.
     let fits = stands.fits in
@@ -196,7 +197,7 @@ truncate_steps sum was w v n old new recovering sound says = λ P before stands.
     let room : v.capacity ≡ before.capacity = is.same.capacity ∙ fits.capacity in
     let buffered : length v.tip ≡ length (take n before.content) % P =
     tip_is sum v new says.sound is.settled.short ∙ ap (λ (l : List ℕ). length l % v.page_size) holds ∙ ap (λ (p : ℕ). length (take n before.content) % p) page in
-    let after_it : StandsFor sum P (held was (Some v)) (truncated P n (lowered n before)) new.present = record {
+    let after_it : StandsApart sum P (held was (Some v)) (truncated P n (lowered n before)) new.present = record {
       fits = record {
         page_size = page;
         has_writer = fits.has_writer;
@@ -235,13 +236,13 @@ truncate_cause sum P n w before old new OutOfMemory sound awaited cause = ((4, l
 truncate_cause sum P n w before old new IdsExhausted sound awaited cause = absurd cause
 
 truncate_refused_steps : (sum : List ℕ → ℕ) (was : SessionState) (w : WriterState) (n : ℕ) (e : Error) (old new : Life) → was.recovering ≡ true → IsSound sum w old.present → TruncateSays sum w n old new (Err e)
-    → StepsAlways sum (Truncate n) (Fault e) (held was (Some w)) (held was None) old new
+    → AlwaysApart sum (Truncate n) (Fault e) (held was (Some w)) (held was None) old new
 unfolding Through
 truncate_refused_steps sum was w n e old new recovering sound says = λ P before stands.
     let through = says_only sum P was w n old new before stands says.only in
     let h = cut_halves sum P n before old new stands.floor stands.within stands.kept stands.covered (says_floors sum P was w n old new before stands says.floors) (says_covers sum P was w n old new before stands says.covers) through in
     let cause = truncate_cause sum P n w before old new e sound stands.fits.awaited says.truncates.0 in
-    let after_it : StandsFor sum P (held was None) (ended (take n before.content) (lowered n before)) new.present = record {
+    let after_it : StandsApart sum P (held was None) (ended (take n before.content) (lowered n before)) new.present = record {
       fits = refl;
       phase = stands.phase;
       names = lowered_names n was.names before stands.names;
@@ -255,7 +256,7 @@ truncate_refused_steps sum was w n e old new recovering sound says = λ P before
     (λ s lower begins. (cause.0, cause.1, subst (λ (x : Standing). ended (take n before.content) (lowered n before) ≡ ended (take n x.content) x) (sym (begins ∙ lower)) refl)) after_it
 
 -- where the recovery has ended it is turned away
-turned_steps : (sum : List ℕ → ℕ) (was : SessionState) (w : WriterState) (n : ℕ) (life : Life) → was.recovering ≡ false → StepsAlways sum (Truncate n) NotRecovering (held was (Some w)) (held was (Some w)) life life
+turned_steps : (sum : List ℕ → ℕ) (was : SessionState) (w : WriterState) (n : ℕ) (life : Life) → was.recovering ≡ false → AlwaysApart sum (Truncate n) NotRecovering (held was (Some w)) (held was (Some w)) life life
 turned_steps sum was w n life ends = λ P before stands.
     let has = stands.fits.has_writer in
     let only : AllOnly sum P before.content (take n before.content) life.present = λ image is_image free.
@@ -277,6 +278,7 @@ turned_steps sum was w n life ends = λ P before stands.
         within = raised_within sum P (held was (Some w)) life life before [] refl stands;
       };
       stands = stands;
+      same = refl;
     }
   where
     away : (a b : Bool) → a ≡ true → b ≡ false → (if a then (if b then None else Some NotRecovering) else Some Closed) ≡ Some NotRecovering
@@ -295,9 +297,9 @@ closed_turned n s none = by_writer s.has_writer none
 
 -- a truncate by a session with a writer in recovery
 cuts_takes : (sum : List ℕ → ℕ) (was now : SessionState) (w : WriterState) (n : ℕ) (old new : Life) (reply : Reply) → was.writer ≡ Some w → was.recovering ≡ true → IsSound sum w old.present → KeepsRest was now → Cuts sum w now.writer n old new reply
-    → Steps sum (Truncate n) reply was now old new
+    → StepsApart sum (Truncate n) reply was now old new
 cuts_takes sum was now w n old new (Length m) at recovering sound rest (v, is, size, says) =
-    subst (λ (k : ℕ). Steps sum (Truncate n) (Length k) was now old new) (sym size)
+    subst (λ (k : ℕ). StepsApart sum (Truncate n) (Length k) was now old new) (sym size)
     (held_takes sum (Truncate n) (Length (size_of v)) was now w (Some v) old new at rest is says.sound (inr says.starts) (truncate_steps sum was w v n old new recovering sound says))
 cuts_takes sum was now w n old new (Fault e) at recovering sound rest (is, says) =
     held_takes sum (Truncate n) (Fault e) was now w None old new at rest is tt (inr says.starts) (truncate_refused_steps sum was w n e old new recovering sound says)
@@ -312,6 +314,9 @@ cuts_takes sum was now w n old new NotRecovering at recovering sound rest cuts =
 cuts_takes sum was now w n old new (Served count read) at recovering sound rest cuts = absurd cuts
 cuts_takes sum was now w n old new (Missed numbers) at recovering sound rest cuts = absurd cuts
 cuts_takes sum was now w n old new BadRanges at recovering sound rest cuts = absurd cuts
+cuts_takes sum was now w n old new (Taken index) at recovering sound rest cuts = absurd cuts
+cuts_takes sum was now w n old new (Sealed index sync) at recovering sound rest cuts = absurd cuts
+cuts_takes sum was now w n old new NotAppending at recovering sound rest cuts = absurd cuts
 cuts_takes sum was now w n old new NoSuch at recovering sound rest cuts = absurd cuts
 
 -- what a call of the writer did, by the session's state
@@ -321,16 +326,16 @@ cuts_here sum recovering o w now n old new reply phase at cuts =
     subst (λ (b : Bool). Truncated sum b o now n old new reply) (sym phase) (subst (λ (x : Option WriterState). Truncated sum true x now n old new reply) (sym at) cuts)
 
 -- a truncate by a session
-pub truncated_takes : (sum : List ℕ → ℕ) (was now : SessionState) (n : ℕ) (old new : Life) (reply : Reply) → IsReady sum was old.present → KeepsRest was now → Truncated sum was.recovering was.writer now.writer n old new reply
-    → Steps sum (Truncate n) reply was now old new
+pub truncated_takes : (sum : List ℕ → ℕ) (was now : SessionState) (n : ℕ) (old new : Life) (reply : Reply) → IsReadyApart sum was old.present → KeepsRest was now → Truncated sum was.recovering was.writer now.writer n old new reply
+    → StepsApart sum (Truncate n) reply was now old new
 truncated_takes sum was now n old new reply ready rest goes = by_state was.recovering was.writer refl refl goes
   where
-    by_state : (phase : Bool) (o : Option WriterState) → was.recovering ≡ phase → was.writer ≡ o → Truncated sum phase o now.writer n old new reply → Steps sum (Truncate n) reply was now old new
+    by_state : (phase : Bool) (o : Option WriterState) → was.recovering ≡ phase → was.writer ≡ o → Truncated sum phase o now.writer n old new reply → StepsApart sum (Truncate n) reply was now old new
     by_state phase None in_phase at closed =
         closed_takes sum (Truncate n) was now old new reply (λ before none. closed_turned n before none) at ready closed.replied
         (rest ∙ ap (λ (o : Option WriterState). held was o) (closed.writer ∙ sym at) ∙ sym (held_same was was.writer refl)) closed.life
     by_state true (Some w) in_phase at cuts = cuts_takes sum was now w n old new reply at in_phase (sound_of sum was w old.present at ready) rest cuts
     by_state false (Some w) in_phase at (replied, is, same) =
-        subst (λ (r : Reply). Steps sum (Truncate n) r was now old new) (sym replied)
-        (subst (λ (life : Life). Steps sum (Truncate n) NotRecovering was now old life) (sym same)
+        subst (λ (r : Reply). StepsApart sum (Truncate n) r was now old new) (sym replied)
+        (subst (λ (life : Life). StepsApart sum (Truncate n) NotRecovering was now old life) (sym same)
         (held_takes sum (Truncate n) NotRecovering was now w (Some w) old old at rest is (sound_of sum was w old.present at ready) ready.starts (turned_steps sum was w n old in_phase)))

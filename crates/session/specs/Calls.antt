@@ -21,8 +21,12 @@ use Rattle.paged.specs.Writer.{physical_size}
 use Rattle.paged.specs.Calls.{Appends, BuffersAll, TryAppends, BuffersOver, Syncs, HoldsWithin}
 use Rattle.paged.specs.Calls.{AsksAtMost, sync_calls, start_calls, wait_calls, StartsSync}
 use Rattle.paged.specs.Calls.{started_already, WaitsForSync, SettlesBy}
-use Rattle.paged.specs.Flush.{outcome}
+use Rattle.paged.specs.Flush.{outcome, has_work}
+use Rattle.paged.specs.Snapshots.{MakesSnapshot, CopiesTail, SealsWriter, snapshot_calls}
+use Rattle.paged.specs.Snapshots.{answer_of_seal, seal_calls}
 use Rattle.cache.specs.CacheState.{CacheState}
+use Rattle.paged_read.specs.Tail.{Tail, size_of as size_of_tail}
+use Rattle.paged_read.specs.Snapshots.{IsTailOf, StandsOn}
 use Rattle.paged_read.specs.Ranges.{Reads, ReadsUpTo, TriesRead, is_served}
 use Rattle.paged_read.specs.Ranges.{ReadsMany, AsksOnce, Misses}
 use Rattle.paged.specs.Caches.{tail_of}
@@ -33,8 +37,15 @@ use Rattle.session.specs.declared.steps.Reply.{Reply}
 use Rattle.session.specs.declared.steps.Reply.TheVariants.{At, Nothing, Done, Started, Answer}
 use Rattle.session.specs.declared.steps.Reply.TheVariants.{Length, Bytes, Fault, Closed, NoSuch}
 use Rattle.session.specs.declared.steps.Reply.TheVariants.{NotRecovering}
+use Rattle.session.specs.declared.steps.Step.TheVariants.{Append, Owned, TryAppend, Sync, StartSync}
+use Rattle.session.specs.declared.steps.Step.TheVariants.{Wait, WaitSync, Needs, Size, Read, Begin}
+use Rattle.session.specs.declared.steps.Step.TheVariants.{ReadUpTo, TryRead, Truncate}
+use Rattle.session.specs.declared.steps.Step.TheVariants.{ReadRanges, TryReadRanges}
+use Rattle.session.specs.declared.steps.Step.TheVariants.{Snapshot, TrySnapshot, Snap, Seal}
 use Rattle.session.specs.declared.steps.Reply.TheVariants.{Served, Missed, BadRanges}
-use Rattle.session.specs.Run.{Standing, SessionState, Did, StandsFor, IsReady}
+use Rattle.session.specs.declared.steps.Reply.TheVariants.{Taken, Sealed, NotAppending}
+use Rattle.session.specs.Run.{Standing, SessionState, Did, StandsFor, IsReady, IsBelow}
+use Rattle.session.specs.Run.{fit_together}
 
 -- what a call of the writer leaves of the session but the writer
 abbrev pub KeepsRest : SessionState → SessionState → Type 0
@@ -123,21 +134,24 @@ names_after AllDone names = names
 names_after (Named name) names = names ++ name ∷ []
 
 -- there was no memory for the name: nothing was done
-abbrev pub HadNoRoomFor : Error → SessionState → SessionState → Life → Life → Type 0
-HadNoRoomFor e was now old new = (e ≡ OutOfMemory) × (now ≡ was) × (new ≡ old)
+pub record NamesHadNoRoom (e : Error) (w : WriterState) (now : Option WriterState)
+    (names more : List ℕ) (old new : Life) : Type 0 where
+  pub fault : e ≡ OutOfMemory
+  pub writer : now ≡ Some w
+  pub given : more ≡ names
+  pub life : new ≡ old
 
--- a start of a sync by a session with this writer
-abbrev pub Starts : (List ℕ → ℕ) → Option WriterState → SessionState → SessionState → Life → Life
-    → Reply → Type 0
-Starts sum None was now old new reply = (reply ≡ Closed) × (now ≡ was) × (new ≡ old)
-Starts sum (Some w) was now old new (Started sync) =
-    (v : WriterState)
-    × (now ≡ record was { writer = Some v; names = names_after sync was.names })
+-- a start of a sync, by a session with this writer and these names
+abbrev pub Starts : (List ℕ → ℕ) → (was now : Option WriterState) → (names more : List ℕ) → Life
+    → Life → Reply → Type 0
+Starts sum None now names more old new reply = IsClosed now old new reply × (more ≡ names)
+Starts sum (Some w) now names more old new (Started sync) =
+    (v : WriterState) × (now ≡ Some v) × (more ≡ names_after sync names)
     × StartSays sum w old new (Ok (v, sync))
-Starts sum (Some w) was now old new (Fault e) =
-    ((now ≡ record was { writer = None }) × StartSays sum w old new (Err e))
-    ⊎ HadNoRoomFor e was now old new
-Starts sum (Some w) was now old new _ = ⊥
+Starts sum (Some w) now names more old new (Fault e) =
+    ((now ≡ None) × (more ≡ names) × StartSays sum w old new (Err e))
+    ⊎ NamesHadNoRoom e w now names more old new
+Starts sum (Some w) now names more old new _ = ⊥
 
 -- what a wait says of its answer
 pub record WaitSays (sum : List ℕ → ℕ) (w : WriterState) (old new : Life)
@@ -169,9 +183,9 @@ abbrev pub is_given : List ℕ → (name : ℕ) → Bool
 is_given names name = list_any (λ n. nat_eq n name) names
 
 -- whether a sync has something to do
-abbrev pub Needs : Option WriterState → Reply → Type 0
-Needs None reply = reply ≡ Closed
-Needs (Some w) reply = reply ≡ Answer (nat_lt 0 (sync_calls w))
+abbrev pub NeedsSync : Option WriterState → Reply → Type 0
+NeedsSync None reply = reply ≡ Closed
+NeedsSync (Some w) reply = reply ≡ Answer (nat_lt 0 (sync_calls w))
 
 -- the end of the recovery
 abbrev pub Begins : Option WriterState → SessionState → SessionState → Reply → Type 0
@@ -215,29 +229,31 @@ Sized None reply = reply ≡ Closed
 Sized (Some w) reply = reply ≡ Length (size_of w)
 
 -- a read's bytes, or why it is refused
-abbrev pub ReadsBytes : (List ℕ → ℕ) → WriterState → CacheState → (offset len : ℕ) → Life → Life
-    → Reply → Type 0
-ReadsBytes sum w cache offset len old new (Bytes bytes) =
+abbrev pub ReadsBytes : (List ℕ → ℕ) → Tail → CacheState → (offset len : ℕ) → Life → Life → Reply
+    → Type 0
+ReadsBytes sum t cache offset len old new (Bytes bytes) =
     (bufs : List (List ℕ)) × (bytes.items ≡ concat bufs)
-    × Reads sum (tail_of w) cache (offset, len) concat old new (Ok bufs)
-ReadsBytes sum w cache offset len old new (Fault e) =
-    Reads sum (tail_of w) cache (offset, len) concat old new (Err e)
-ReadsBytes sum w cache offset len old new _ = ⊥
+    × Reads sum t cache (offset, len) concat old new (Ok bufs)
+ReadsBytes sum t cache offset len old new (Fault e) =
+    Reads sum t cache (offset, len) concat old new (Err e)
+ReadsBytes sum t cache offset len old new _ = ⊥
 
--- what a read says of its answer
-pub record ReadSays (sum : List ℕ → ℕ) (w : WriterState) (cache : CacheState) (offset len : ℕ)
+-- what a read of a writer's blob, or of a snapshot, says of its answer
+pub record ReadSays (sum : List ℕ → ℕ) (t : Tail) (cache : CacheState) (offset len : ℕ)
     (old new : Life) (reply : Reply) : Type 0 where
-  pub reads : ReadsBytes sum w cache offset len old new reply
+  pub reads : ReadsBytes sum t cache offset len old new reply
   pub full : reply ≡ Fault InvalidChecksum → ⊥
   pub overflow : 2 ^ 64 ≤ offset + len → reply ≡ Fault OffsetOverflow
-  pub end : offset + len < 2 ^ 64 → size_of w < offset + len → reply ≡ Fault BlobInsufficientLength
+  pub end : offset + len < 2 ^ 64 → size_of_tail t < offset + len
+      → reply ≡ Fault BlobInsufficientLength
   pub looked : Looked old new
 
 -- a read
 abbrev pub DidRead : (List ℕ → ℕ) → Option WriterState → CacheState → (offset len : ℕ) → Life → Life
     → Reply → Type 0
 DidRead sum None cache offset len old new reply = (reply ≡ Closed) × (new ≡ old)
-DidRead sum (Some w) cache offset len old new reply = ReadSays sum w cache offset len old new reply
+DidRead sum (Some w) cache offset len old new reply =
+    ReadSays sum (tail_of w) cache offset len old new reply
 
 -- at most so many bytes, or why a read of them is refused
 abbrev pub ReadsBytesUpTo : (List ℕ → ℕ) → WriterState → CacheState → (offset len : ℕ) → Life → Life
@@ -326,6 +342,177 @@ abbrev pub IsBytes : List ℕ → Reply → Type 0
 IsBytes all (Bytes bytes) = bytes.items ≡ all
 IsBytes all (Fault e) = e ≡ OutOfMemory
 IsBytes all _ = ⊥
+
+-- ---- steps of snapshots
+
+-- what a snapshot says of its answer
+pub record SnapshotSays (sum : List ℕ → ℕ) (w : WriterState) (old new : Life)
+    (result : Result (WriterState × Tail) Error) : Type 0 where
+  pub makes : MakesSnapshot sum w old new result
+  pub within : IfOk result (λ r. HoldsWithin r.0)
+  pub calls : AsksAtMost (snapshot_calls w) old new
+  pub idle : has_work w false ≡ false → CopiesTail w result × (new ≡ old)
+  pub dirty : has_work w false ≡ true → IfOk result (λ r. r.0.sync ≡ Dirty)
+  pub owes : OwesStarts sum w old new
+
+-- the session with another writer and one snapshot more
+abbrev pub with_snapshot : SessionState → Option WriterState → Tail → SessionState
+with_snapshot was writer t = record was { writer = writer; snapshots = was.snapshots ++ t ∷ [] }
+
+-- there was no memory for a snapshot, or its name: nothing was done
+abbrev pub HadNoRoomFor : Error → SessionState → SessionState → Life → Life → Type 0
+HadNoRoomFor e was now old new = (e ≡ OutOfMemory) × (now ≡ was) × (new ≡ old)
+
+-- a snapshot by a session with a writer that appends: it tells the content, and can be read
+abbrev pub TakesSnapshot : (List ℕ → ℕ) → WriterState → (was now : SessionState) → CacheState → Life
+    → Life → Reply → Type 0
+TakesSnapshot sum w was now behind old new (Taken index) =
+    (v : WriterState) × (t : Tail) × (index ≡ length was.snapshots)
+    × (now ≡ with_snapshot was (Some v) t) × SnapshotSays sum w old new (Ok (v, t))
+    × StandsOn sum t (content_of w old.present.readable) behind new.present
+TakesSnapshot sum w was now behind old new (Fault e) =
+    ((now ≡ record was { writer = None }) × SnapshotSays sum w old new (Err e))
+    ⊎ HadNoRoomFor e was now old new
+TakesSnapshot sum w was now behind old new _ = ⊥
+
+-- one for which nothing is written
+abbrev pub TriesSnapshot : WriterState → (was now : SessionState) → Reply → Type 0
+TriesSnapshot w was now (Taken index) =
+    (length w.tip < w.page_size) × (index ≡ length was.snapshots)
+    × (now ≡ with_snapshot was (Some w) (tail_of w))
+TriesSnapshot w was now Nothing = (w.page_size ≤ length w.tip) × (now ≡ was)
+TriesSnapshot w was now (Fault e) = (e ≡ OutOfMemory) × (now ≡ was)
+TriesSnapshot w was now _ = ⊥
+
+-- what sealing a writer says of its answer
+pub record SealSays (sum : List ℕ → ℕ) (w : WriterState) (old new : Life)
+    (result : Result (Tail × StartedSync) Error) : Type 0 where
+  pub seals : SealsWriter sum w old new result
+  pub calls : AsksAtMost (seal_calls w) old new
+  pub answers : IfOk result (λ r. r.1 ≡ answer_of_seal w old)
+  pub idle : seal_calls w ≡ 0 → (result ≡ Ok (tail_of w, AllDone)) × (new ≡ old)
+  pub owes : OwesStarts sum w old new
+
+-- the session without a writer, with one snapshot more, and one name more or none
+abbrev pub sealed_with : SessionState → Tail → StartedSync → SessionState
+sealed_with was t sync = record was {
+  writer = None;
+  names = names_after sync was.names;
+  snapshots = was.snapshots ++ t ∷ [];
+}
+
+-- the end of a writer that appends: the snapshot that it leaves tells the content, and can be read
+abbrev pub SealsSession : (List ℕ → ℕ) → WriterState → (was now : SessionState) → CacheState → Life
+    → Life → Reply → Type 0
+SealsSession sum w was now behind old new (Sealed index sync) =
+    (t : Tail) × (index ≡ length was.snapshots) × (now ≡ sealed_with was t sync)
+    × SealSays sum w old new (Ok (t, sync))
+    × StandsOn sum t (content_of w old.present.readable) behind new.present
+SealsSession sum w was now behind old new (Fault e) =
+    ((now ≡ record was { writer = None }) × SealSays sum w old new (Err e))
+    ⊎ HadNoRoomFor e was now old new
+SealsSession sum w was now behind old new _ = ⊥
+
+-- the reply to a step of a writer that appends, by one in recovery
+abbrev pub RefusesAppending : Option WriterState → Reply → Type 0
+RefusesAppending None reply = reply ≡ Closed
+RefusesAppending (Some w) reply = reply ≡ NotAppending
+
+-- a step of a writer that appends, by whether the session is in recovery, and its writer: where it
+-- is turned away, this is so
+abbrev pub IfAppending : (recovering : Bool) → Option WriterState → Reply → (turned : Type 0)
+    → (WriterState → Type 0) → Type 0
+IfAppending recovering None reply turned goes = (reply ≡ Closed) × turned
+IfAppending true (Some w) reply turned goes = (reply ≡ NotAppending) × turned
+IfAppending false (Some w) reply turned goes = goes w
+
+-- each of the three that there are
+abbrev pub DidSnapshot : (List ℕ → ℕ) → (was now : SessionState) → CacheState → Life → Life → Reply
+    → Type 0
+DidSnapshot sum was now behind old new reply =
+    IfAppending was.recovering was.writer reply ((now ≡ was) × (new ≡ old)) (λ w.
+    TakesSnapshot sum w was now behind old new reply)
+
+abbrev pub DidTrySnapshot : (was now : SessionState) → Reply → Type 0
+DidTrySnapshot was now reply =
+    IfAppending was.recovering was.writer reply (now ≡ was) (λ w.
+    TriesSnapshot w was now reply)
+
+abbrev pub DidSeal : (List ℕ → ℕ) → (was now : SessionState) → CacheState → Life → Life → Reply
+    → Type 0
+DidSeal sum was now behind old new reply =
+    IfAppending was.recovering was.writer reply ((now ≡ was) × (new ≡ old)) (λ w.
+    SealsSession sum w was now behind old new reply)
+
+-- a read of a snapshot, if there is one of this number
+abbrev pub DidSnap : (List ℕ → ℕ) → Option Tail → CacheState → (offset len : ℕ) → Life → Life
+    → Reply → Type 0
+DidSnap sum None cache offset len old new reply = (reply ≡ NoSuch) × (new ≡ old)
+DidSnap sum (Some t) cache offset len old new reply =
+    ReadSays sum t cache offset len old new reply
+
+-- ---- a step of a session
+
+-- what a call of a session's writer leaves of each snapshot below its full pages: it stands as it
+-- stood, and is below them still
+abbrev pub LeavesSnapshots : (List ℕ → ℕ) → (was now : Option WriterState) → CacheState → CacheState
+    → Life → Life → Type 0
+LeavesSnapshots sum was now cache behind old new =
+    (t : Tail) (content : List ℕ) → IsBelow was t → StandsOn sum t content cache old.present
+    → StandsOn sum t content behind new.present × IsBelow now t
+
+-- a step that a writer takes in recovery, and when it appends
+abbrev pub IsOfEither : Step → Type 0
+IsOfEither (WaitSync name) = ⊥
+IsOfEither Begin = ⊥
+IsOfEither (Truncate n) = ⊥
+IsOfEither Snapshot = ⊥
+IsOfEither TrySnapshot = ⊥
+IsOfEither (Snap index offset len) = ⊥
+IsOfEither Seal = ⊥
+IsOfEither step = Unit {0}
+
+-- what only looks at a writer
+pub record LeavesWriterState (was now : Option WriterState) (names more : List ℕ) : Type 0 where
+  pub writer : now ≡ was
+  pub given : more ≡ names
+
+-- such a step, by a session with this writer and these names
+abbrev pub TakenBy : (List ℕ → ℕ) → Step → (was now : Option WriterState) → (names more : List ℕ)
+    → CacheState → Life → Life → Reply → Type 0
+TakenBy sum (Append bytes) was now names more cache old new reply =
+    Appended sum was now bytes.items old new reply × (more ≡ names)
+TakenBy sum (Owned bytes) was now names more cache old new reply =
+    Appended sum was now bytes.items old new reply × (more ≡ names)
+TakenBy sum (TryAppend bytes) was now names more cache old new reply =
+    TriedAppend sum was now bytes.items reply × (more ≡ names) × (new ≡ old)
+TakenBy sum Sync was now names more cache old new reply =
+    Synced sum was now old new reply × (more ≡ names)
+TakenBy sum StartSync was now names more cache old new reply =
+    Starts sum was now names more old new reply
+TakenBy sum Wait was now names more cache old new reply =
+    Waits sum was now old new reply × (more ≡ names)
+TakenBy sum Needs was now names more cache old new reply =
+    NeedsSync was reply × LeavesWriterState was now names more × (new ≡ old)
+TakenBy sum Size was now names more cache old new reply =
+    Sized was reply × LeavesWriterState was now names more × (new ≡ old)
+TakenBy sum (Read offset len) was now names more cache old new reply =
+    DidRead sum was cache offset len old new reply × LeavesWriterState was now names more
+TakenBy sum (ReadUpTo offset len) was now names more cache old new reply =
+    DidReadUpTo sum was cache offset len old new reply × LeavesWriterState was now names more
+TakenBy sum (TryRead offset len) was now names more cache old new reply =
+    DidTryRead was cache offset len reply × LeavesWriterState was now names more × (new ≡ old)
+TakenBy sum (ReadRanges ranges) was now names more cache old new reply =
+    DidReadRanges sum was (fit_together ranges.items) cache ranges.items old new reply
+    × LeavesWriterState was now names more
+TakenBy sum (TryReadRanges ranges) was now names more cache old new reply =
+    DidTryReadRanges was (fit_together ranges.items) cache ranges.items reply
+    × LeavesWriterState was now names more × (new ≡ old)
+TakenBy sum step was now names more cache old new reply = ⊥
+
+-- what a step of the writer leaves of the session but the writer and the names
+abbrev pub KeepsSnapshots : SessionState → SessionState → Type 0
+KeepsSnapshots was now = now ≡ record was { writer = now.writer; names = now.names }
 
 -- one step by a session that stood for this
 pub record Stepped (sum : List ℕ → ℕ) (P : ℕ) (step : Step) (reply : Reply)

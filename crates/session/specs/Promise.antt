@@ -138,11 +138,11 @@ Promises sum steps was now old new earlier replies =
 
 -- without a writer
 abbrev pub closed : SessionState
-closed = record { writer = None; recovering = false; names = [] }
+closed = record { writer = None; recovering = false; names = []; snapshots = [] }
 
 -- with this one, in recovery
 abbrev pub session_of : WriterState → SessionState
-session_of w = record { writer = Some w; recovering = true; names = [] }
+session_of w = record { writer = Some w; recovering = true; names = []; snapshots = [] }
 
 -- with this content, all of it durable, and a buffer of so many bytes
 abbrev pub fresh : (P capacity : ℕ) → List ℕ → Standing
@@ -157,6 +157,7 @@ fresh P capacity content = record {
   written = true;
   awaited = None;
   covers = [];
+  snapshots = [];
 }
 
 -- a recovery of these bytes at its end: the session that it gave stands for their text, all of it
@@ -234,6 +235,7 @@ opened w floor readable = record {
   written = nat_eq (start_calls w) 0;
   awaited = pending_in w.sync;
   covers = [];
+  snapshots = [];
 }
 
 -- over each blob on which the writer is sound

@@ -19,7 +19,7 @@ use Rattle.crash.specs.WriterState.{WriterState, SyncState}
 use Rattle.crash.specs.WriterState.SyncState.{Clean, Dirty, Pending}
 use Rattle.crash.specs.Sound.{IsSound, content as content_of}
 use Rattle.cache.specs.CacheState.{CacheState}
-use Rattle.paged_read.specs.Tail.{CanRead}
+use Rattle.paged_read.specs.Tail.{Tail, told, HasPages, HasFullPages, CanRead}
 use Rattle.paged.specs.Caches.{tail_of}
 use Rattle.paged.specs.Writer.{physical_size}
 use Rattle.paged.specs.Calls.{start_calls}
@@ -28,11 +28,13 @@ use Rattle.session.specs.declared.steps.Step.TheVariants.{Append, Owned, TryAppe
 use Rattle.session.specs.declared.steps.Step.TheVariants.{Wait, WaitSync, Needs, Size, Read, Begin}
 use Rattle.session.specs.declared.steps.Step.TheVariants.{ReadUpTo, TryRead, Truncate}
 use Rattle.session.specs.declared.steps.Step.TheVariants.{ReadRanges, TryReadRanges}
+use Rattle.session.specs.declared.steps.Step.TheVariants.{Snapshot, TrySnapshot, Snap, Seal}
 use Rattle.session.specs.declared.steps.Reply.{Reply}
 use Rattle.session.specs.declared.steps.Reply.TheVariants.{At, Nothing, Done, Started, Answer}
 use Rattle.session.specs.declared.steps.Reply.TheVariants.{Length, Bytes, Fault, Closed, NoSuch}
 use Rattle.session.specs.declared.steps.Reply.TheVariants.{NotRecovering}
 use Rattle.session.specs.declared.steps.Reply.TheVariants.{Served, Missed, BadRanges}
+use Rattle.session.specs.declared.steps.Reply.TheVariants.{Taken, Sealed, NotAppending}
 
 -- ---- what a session stands for
 
@@ -55,6 +57,8 @@ pub record Standing : Type 0 where
   -- the names of started syncs, the newest first, and how much of the content every crash keeps
   -- once each has completed
   pub covers : List (ℕ × ℕ)
+  -- what each snapshot tells, the oldest first
+  pub snapshots : List (List ℕ)
 
 -- so many bytes more fit what is buffered
 abbrev pub has_room : Standing → ℕ → Bool
@@ -115,6 +119,21 @@ truncated P n s =
       awaited = None;
     }
 
+-- with one snapshot more, of all of the content
+abbrev pub noted : Standing → Standing
+noted s = record s { snapshots = s.snapshots ++ s.content ∷ [] }
+
+-- with its full pages written, in pages of P bytes: a started sync was waited for then
+abbrev pub flushed : (P : ℕ) → Standing → Standing
+flushed P s = record s {
+  buffered = if nat_lt s.buffered P then s.buffered else s.buffered % P;
+  awaited = if nat_lt s.buffered P then s.awaited else None;
+}
+
+-- without a writer, which left a snapshot and a started sync
+abbrev pub left_by_seal : (P : ℕ) → StartedSync → Standing → Standing
+left_by_seal P sync s = record (noted (starting P sync s)) { has_writer = false }
+
 -- with no started sync to wait for
 abbrev pub waited : Standing → Standing
 waited s = record s { awaited = None }
@@ -159,6 +178,14 @@ begun step s = s
 abbrev pub has_name : Standing → ℕ → Bool
 has_name s name = list_any (λ c. nat_eq c.0 name) s.covers
 
+-- there is a snapshot of this number
+abbrev pub has_snapshot : Standing → ℕ → Bool
+has_snapshot s index = nat_lt index (length s.snapshots)
+
+-- what it tells
+abbrev pub snapshot_at : Standing → ℕ → List ℕ
+snapshot_at s index = elim (slice_get s.snapshots index) [ None ↦ [] | Some content ↦ content ]
+
 -- each range, a place and a length, begins at or behind the end of the one before; the first at or
 -- behind this place
 abbrev pub in_order_from : (place : ℕ) → List (ℕ × ℕ) → Bool
@@ -171,8 +198,14 @@ in_order_from place (range ∷ ranges) =
 abbrev pub fit_together : List (ℕ × ℕ) → Bool
 fit_together ranges = in_order_from 0 ranges && nat_lt (sum_by (λ range. range.1) ranges) (2 ^ 64)
 
--- the reply, where the session has not what the step needs: a writer, one whose recovery hasn't
--- ended, or a name that it was given; or where one call can't take the ranges
+-- the reply to a step of a writer that appends, where there is none
+abbrev pub unless_appending : Standing → Option Reply
+unless_appending s =
+    if s.has_writer then (if s.recovering then Some NotAppending else None) else Some Closed
+
+-- the reply, where the session has not what the step needs: a writer, one in recovery, one whose
+-- recovery has ended, a name that it was given, or a snapshot; or where one call can't take the
+-- ranges
 abbrev pub turned_away : Step → Standing → Option Reply
 turned_away (WaitSync name) s = if has_name s name then None else Some NoSuch
 turned_away (Truncate n) s =
@@ -185,6 +218,10 @@ turned_away (TryReadRanges ranges) s =
     if s.has_writer
     then (if fit_together ranges.items then None else Some BadRanges)
     else Some Closed
+turned_away Snapshot s = unless_appending s
+turned_away TrySnapshot s = unless_appending s
+turned_away Seal s = unless_appending s
+turned_away (Snap index offset len) s = if has_snapshot s index then None else Some NoSuch
 turned_away step s = if s.has_writer then None else Some Closed
 
 -- ---- steps that are accepted
@@ -225,6 +262,10 @@ started_by s from =
     then elim s.awaited [ None ↦ AllDone | Some name ↦ Named name ]
     else Named (length from.started)
 
+-- what sealing answers: where all is written, that all is durable, and else a new one
+abbrev pub sealed_by : Standing → Disk → StartedSync
+sealed_by s from = if s.written then AllDone else Named (length from.started)
+
 -- this started sync has completed, if it is one
 abbrev pub HasCompleted : Option ℕ → Disk → Type 0
 HasCompleted None d = Unit {0}
@@ -263,6 +304,15 @@ Accepts P (TryReadRanges ranges) (Missed numbers) from to s behind =
 Accepts P Begin Done from to s behind = behind ≡ record s { recovering = false }
 Accepts P (Truncate n) (Length m) from to s behind =
     (m ≡ min n (length s.content)) × (behind ≡ truncated P n s)
+Accepts P Snapshot (Taken index) from to s behind =
+    (index ≡ length s.snapshots) × (behind ≡ noted (flushed P s))
+Accepts P TrySnapshot (Taken index) from to s behind =
+    (s.buffered < P) × (index ≡ length s.snapshots) × (behind ≡ noted s)
+Accepts P TrySnapshot Nothing from to s behind = (P ≤ s.buffered) × (behind ≡ s)
+Accepts P (Snap index offset len) (Bytes bytes) from to s behind =
+    Slices (snapshot_at s index) offset len bytes.items × (behind ≡ s)
+Accepts P Seal (Sealed index sync) from to s behind =
+    (index ≡ length s.snapshots) × (sync ≡ sealed_by s from) × (behind ≡ left_by_seal P sync s)
 Accepts P step reply from to s behind = ⊥
 
 -- ---- steps that are refused
@@ -286,6 +336,11 @@ faults (ReadUpTo offset len) = ReadFailed ∷ BlobInsufficientLength ∷ OutOfMe
 faults (TryRead offset len) = OutOfMemory ∷ []
 faults (ReadRanges ranges) = ReadFailed ∷ BlobInsufficientLength ∷ OffsetOverflow ∷ OutOfMemory ∷ []
 faults (TryReadRanges ranges) = OutOfMemory ∷ []
+faults Snapshot = WriteFailed ∷ SyncFailed ∷ OutOfMemory ∷ []
+faults TrySnapshot = OutOfMemory ∷ []
+faults (Snap index offset len) =
+    ReadFailed ∷ BlobInsufficientLength ∷ OffsetOverflow ∷ OutOfMemory ∷ []
+faults Seal = WriteFailed ∷ SyncFailed ∷ OutOfMemory ∷ []
 
 -- a place, or the blob that the new size needs in pages of P bytes, passes the greatest number; of
 -- ranges the first that can't be read decides
@@ -294,12 +349,15 @@ Overflows P (Append bytes) s = 2 ^ 64 ≤ physical_size P 0 (length s.content + 
 Overflows P (Owned bytes) s = 2 ^ 64 ≤ physical_size P 0 (length s.content + length bytes.items)
 Overflows P (TryAppend bytes) s = 2 ^ 64 ≤ physical_size P 0 (length s.content + length bytes.items)
 Overflows P (Read offset len) s = 2 ^ 64 ≤ offset + len
+Overflows P (Snap index offset len) s = 2 ^ 64 ≤ offset + len
 Overflows P (ReadRanges ranges) s = RangesGo (length s.content) ranges.items (Err OffsetOverflow)
 Overflows P step s = ⊥
 
 -- a range passes the end, and no greatest number; or some bytes are asked for where there is none
 abbrev pub PassesEnd : Step → Standing → Type 0
 PassesEnd (Read offset len) s = (offset + len < 2 ^ 64) × (length s.content < offset + len)
+PassesEnd (Snap index offset len) s =
+    (offset + len < 2 ^ 64) × (length (snapshot_at s index) < offset + len)
 PassesEnd (ReadUpTo offset len) s = (len ≢ 0) × (length s.content ≤ offset)
 PassesEnd (ReadRanges ranges) s =
     RangesGo (length s.content) ranges.items (Err BlobInsufficientLength)
@@ -313,16 +371,18 @@ Allocates Sync s = needs_sync s ≡ true
 Allocates Wait s = is_some s.awaited ≡ true
 Allocates step s = Unit {0}
 
--- the started sync that a step waits for
-abbrev pub waits_for : Step → Standing → Option ℕ
-waits_for (Append bytes) s = if has_room s (length bytes.items) then None else s.awaited
-waits_for (Owned bytes) s = if has_room s (length bytes.items) then None else s.awaited
-waits_for Sync s = s.awaited
-waits_for StartSync s = if s.written then None else s.awaited
-waits_for Wait s = s.awaited
-waits_for (WaitSync name) s = Some name
-waits_for (Truncate n) s = s.awaited
-waits_for step s = None
+-- the started sync that a step waits for, in pages of P bytes
+abbrev pub waits_for : (P : ℕ) → Step → Standing → Option ℕ
+waits_for P (Append bytes) s = if has_room s (length bytes.items) then None else s.awaited
+waits_for P (Owned bytes) s = if has_room s (length bytes.items) then None else s.awaited
+waits_for P Sync s = s.awaited
+waits_for P StartSync s = if s.written then None else s.awaited
+waits_for P Wait s = s.awaited
+waits_for P (WaitSync name) s = Some name
+waits_for P (Truncate n) s = s.awaited
+waits_for P Snapshot s = if nat_lt s.buffered P then None else s.awaited
+waits_for P Seal s = s.awaited
+waits_for P step s = None
 
 -- it had failed
 abbrev pub HadFailed : Option ℕ → Disk → Type 0
@@ -335,7 +395,7 @@ HasCause P step s from to ReadFailed = HasFailed ReadFailed from to
 HasCause P step s from to WriteFailed = HasFailed WriteFailed from to
 HasCause P step s from to ResizeFailed = HasFailed ResizeFailed from to
 HasCause P step s from to SyncFailed =
-    HasFailed SyncFailed from to ⊎ HadFailed (waits_for step s) from
+    HasFailed SyncFailed from to ⊎ HadFailed (waits_for P step s) from
 HasCause P step s from to OffsetOverflow = Overflows P step s
 HasCause P step s from to BlobInsufficientLength = PassesEnd step s
 HasCause P step s from to OutOfMemory = Allocates step s
@@ -349,7 +409,8 @@ content_after (TryAppend bytes) content = content ++ bytes.items
 content_after (Truncate n) content = take n content
 content_after step content = content
 
--- there was no memory for a name that the session would have been given: nothing was done
+-- there was no memory for a name or a snapshot that the session would have been given: nothing was
+-- done
 abbrev pub HadNoRoom : Error → Disk → Disk → Standing → Standing → Type 0
 HadNoRoom e from to s behind = (e ≡ OutOfMemory) × (to ≡ from) × (behind ≡ s)
 
@@ -361,6 +422,9 @@ Refuses Sync e from to s behind = behind ≡ ended s.content s
 Refuses StartSync e from to s behind =
     ((s.written ≡ false) × (behind ≡ ended s.content s)) ⊎ HadNoRoom e from to s behind
 Refuses Wait e from to s behind = behind ≡ ended s.content s
+Refuses Snapshot e from to s behind =
+    (behind ≡ ended s.content s) ⊎ HadNoRoom e from to s behind
+Refuses Seal e from to s behind = (behind ≡ ended s.content s) ⊎ HadNoRoom e from to s behind
 Refuses (Truncate n) e from to s behind = behind ≡ ended (take n s.content) s
 Refuses step e from to s behind = behind ≡ s
 
@@ -397,23 +461,27 @@ abbrev pub wait_touch : Option ℕ → Touch
 wait_touch None = Leaves
 wait_touch (Some name) = Changes 1
 
-abbrev pub touch : Step → Standing → Touch
-touch (Append bytes) s = if has_room s (length bytes.items) then Leaves else Changes 3
-touch (Owned bytes) s = if has_room s (length bytes.items) then Leaves else Changes 3
-touch (TryAppend bytes) s = Leaves
-touch Sync s = if s.written then wait_touch s.awaited else Changes 2
-touch StartSync s = if s.written then Leaves else Changes 3
-touch Wait s = wait_touch s.awaited
-touch (WaitSync name) s = Changes 1
-touch Needs s = Leaves
-touch Size s = Leaves
-touch (Read offset len) s = Looks
-touch (ReadUpTo offset len) s = Looks
-touch (TryRead offset len) s = Leaves
-touch (ReadRanges ranges) s = Looks
-touch (TryReadRanges ranges) s = Leaves
-touch Begin s = Leaves
-touch (Truncate n) s = Changes (if nat_lt n (length s.content) then 8 else 2)
+abbrev pub touch : (P : ℕ) → Step → Standing → Touch
+touch P (Append bytes) s = if has_room s (length bytes.items) then Leaves else Changes 3
+touch P (Owned bytes) s = if has_room s (length bytes.items) then Leaves else Changes 3
+touch P (TryAppend bytes) s = Leaves
+touch P Sync s = if s.written then wait_touch s.awaited else Changes 2
+touch P StartSync s = if s.written then Leaves else Changes 3
+touch P Wait s = wait_touch s.awaited
+touch P (WaitSync name) s = Changes 1
+touch P Needs s = Leaves
+touch P Size s = Leaves
+touch P (Read offset len) s = Looks
+touch P (ReadUpTo offset len) s = Looks
+touch P (TryRead offset len) s = Leaves
+touch P (ReadRanges ranges) s = Looks
+touch P (TryReadRanges ranges) s = Leaves
+touch P Begin s = Leaves
+touch P (Truncate n) s = Changes (if nat_lt n (length s.content) then 8 else 2)
+touch P Snapshot s = if nat_lt s.buffered P then Leaves else Changes 2
+touch P TrySnapshot s = Leaves
+touch P (Snap index offset len) s = Looks
+touch P Seal s = if s.written then wait_touch s.awaited else Changes 3
 
 -- the last of some moments
 abbrev pub last : Disk → List Disk → Disk
@@ -438,7 +506,7 @@ AllCover sum P content covers d = All (λ c. WouldKeep sum P content c.0 c.1 d) 
 pub record Did (sum : List ℕ → ℕ) (P : ℕ) (step : Step) (reply : Reply) (from : Disk)
     (moments : List Disk) (before behind : Standing) : Type 0 where
   pub answer : Answers P step reply from (last from moments) before behind
-  pub touches : Touches (touch step before) from moments
+  pub touches : Touches (touch P step before) from moments
   pub stopped : is_some (turned_away step before) ≡ true → moments ≡ []
   pub kept : Each (AllKeep sum P before.content (begun step before).floor) (from ∷ moments)
   pub covered : Each (AllCover sum P before.content (begun step before).covers) (from ∷ moments)
@@ -463,11 +531,17 @@ Ran sum P (step ∷ steps) [] from moments s behind = ⊥
 
 -- ---- what a session has
 
--- as contracts see it: the syncs by their names, the oldest first
+-- as contracts see it: the syncs by their names, and the snapshots, the oldest first
 pub record SessionState : Type 0 where
   pub writer : Option WriterState
   pub recovering : Bool
   pub names : List ℕ
+  pub snapshots : List Tail
+
+-- the one of two writers by which a session takes its steps
+abbrev pub writer_in : (recovering : Bool) → Option WriterState → Option WriterState
+    → Option WriterState
+writer_in recovering recovery appending = if recovering then recovery else appending
 
 -- the started sync that a writer in this state waits for
 abbrev pub pending_in : SyncState → Option ℕ
@@ -499,7 +573,7 @@ NamesFit names covers =
 
 -- what a session stands for over this disk, in pages of P bytes: every image keeps the floor, and
 -- would keep what a started sync covers once that completed; and chance aside it has as its text a
--- prefix of one of the two contents
+-- prefix of one of the two contents. Each snapshot tells what it told.
 pub record StandsFor (sum : List ℕ → ℕ) (P : ℕ) (session : SessionState) (s : Standing)
     (d : Disk) : Type 0 where
   pub fits : WriterFits P session.writer s d
@@ -510,33 +584,53 @@ pub record StandsFor (sum : List ℕ → ℕ) (P : ℕ) (session : SessionState)
   pub kept : AllKeep sum P s.content s.floor d
   pub covered : AllCover sum P s.content s.covers d
   pub only : AllOnly sum P s.content s.otherwise d
+  pub snapshots : s.snapshots ≡ map (λ t. told t d.readable) session.snapshots
 
 -- the writer, if there is one, is sound over its blob
 abbrev pub HasSoundWriter : (List ℕ → ℕ) → Option WriterState → Disk → Type 0
 HasSoundWriter sum None d = Unit {0}
 HasSoundWriter sum (Some w) d = IsSound sum w d
 
+-- the snapshot's full pages are among those of the writer, if there is one
+abbrev pub IsBelow : Option WriterState → Tail → Type 0
+IsBelow None t = Unit {0}
+IsBelow (Some w) t = t.full_pages ≤ w.full_pages
+
+-- so the writer never writes them again; they are in the blob, and full
+pub record IsSnapshot (sum : List ℕ → ℕ) (writer : Option WriterState) (t : Tail)
+    (d : Disk) : Type 0 where
+  pub there : HasPages t d
+  pub full : HasFullPages sum t d
+  pub below : IsBelow writer t
+
 -- so a session may take steps: and the syncs that it was given may be waited for, also where the
--- writer is gone
+-- writer is gone, and its snapshots read; a writer in recovery, which may cut its blob, has none
 pub record IsReady (sum : List ℕ → ℕ) (session : SessionState) (d : Disk) : Type 0 where
   pub writer : HasSoundWriter sum session.writer d
   pub starts : (session.names ≡ []) ⊎ StartsStand d
+  pub snapshots : All (λ t. IsSnapshot sum session.writer t d) session.snapshots
+  pub begun : session.recovering ≡ true → session.snapshots ≡ []
 
 -- the cache fits the writer, if there is one: it gave its id, and what it holds of its pages is
 -- theirs
-abbrev pub CacheFits : Option WriterState → CacheState → Disk → Type 0
-CacheFits None cache d = Unit {0}
-CacheFits (Some w) cache d = CanRead (tail_of w) cache d
+abbrev pub FitsWriter : Option WriterState → CacheState → Disk → Type 0
+FitsWriter None cache d = Unit {0}
+FitsWriter (Some w) cache d = CanRead (tail_of w) cache d
+
+-- it fits the session: the writer, and each snapshot
+pub record CacheFits (session : SessionState) (cache : CacheState) (d : Disk) : Type 0 where
+  pub writer : FitsWriter session.writer cache d
+  pub snapshots : All (λ t. CanRead t cache d) session.snapshots
 
 -- where the cache fitted a writer, or none, it fits another over the same disk
 abbrev pub KeepsCache : Option WriterState → Option WriterState → Type 0
 KeepsCache was now =
-    (cache : CacheState) (d : Disk) → CacheFits was cache d → CacheFits now cache d
+    (cache : CacheState) (d : Disk) → FitsWriter was cache d → FitsWriter now cache d
 
 -- over another disk
 abbrev pub FitsOn : Option WriterState → Option WriterState → Disk → Disk → Type 0
 FitsOn was now from to =
-    (cache : CacheState) → CacheFits was cache from → CacheFits now cache to
+    (cache : CacheState) → FitsWriter was cache from → FitsWriter now cache to
 
 -- ---- a run
 

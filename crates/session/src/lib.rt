@@ -2,9 +2,11 @@
 //! back after a crash.
 #![tactic(auto)]
 
+mod held;
 mod reads;
 mod recoveries;
 mod sessions;
+mod snapshots;
 mod steps;
 
 pub use sessions::{Session, run};

@@ -8,32 +8,36 @@ ghost use Rattle.crash.specs.Sound.{IsSound};
 ghost use Rattle.paged_read.specs.Tail.{CanRead};
 ghost use Rattle.paged_read.specs.Ranges.{Misses};
 ghost use Rattle.paged.specs.Caches.{tail_of};
-ghost use Rattle.session.specs.Run.{IsReady, CacheFits, fit_together};
+ghost use Rattle.session.specs.Run.{HasSoundWriter, FitsWriter, fit_together};
+ghost use Rattle.paged_read.specs.Snapshots.{LeavesTails};
+ghost use Rattle.session.specs.Calls.{LeavesSnapshots};
 ghost use Rattle.session.specs.Calls.{DidRead, DidReadUpTo, DidTryRead, IsBytes};
 ghost use Rattle.session.specs.Calls.{ReadRangesSays, DidReadRanges, DidTryReadRanges};
 
-use crate::Session;
+use crate::held::Held;
 use crate::steps::Reply;
 use cache::CacheRef;
 use disk::{Blob, Error, IoBufs};
 use page::{Sum, validate_read_ranges};
-use paged::Recovery;
+use paged::Writer;
 use std::alloc::Global;
 
-impl<B: Blob, H: Sum> Session<B, H> {
+impl<B: Blob, H: Sum, Phase> Held<B, H, Phase> {
     pub(crate) fn read(&self, blob: &mut B, cache: &mut CacheRef, offset: u64, len: usize) -> Reply
-        requires ready { IsReady H.sum_of self.now (B.life blob.old).present }
-        requires cached { CacheFits self.now.writer cache.old (B.life blob.old).present }
+        requires sound { HasSoundWriter H.sum_of self.now (B.life blob.old).present }
+        requires cached { FitsWriter self.now cache.old (B.life blob.old).present }
         ensures goes { let old = B.life blob.old in let new = B.life blob.new in
-            DidRead H.sum_of self.now.writer cache.old offset len old new result }
-        ensures cached { CacheFits self.now.writer cache.new (B.life blob.new).present }
+            DidRead H.sum_of self.now cache.old offset len old new result }
+        ensures cached { FitsWriter self.now cache.new (B.life blob.new).present }
         ensures fresh_ids { IsFresh cache.old → IsFresh cache.new }
+        ensures tails { let old = B.life blob.old in let new = B.life blob.new in
+            LeavesSnapshots H.sum_of self.now self.now cache.old cache.new old new }
     {
         let Some(writer) = &self.writer else {
             return Reply::Closed;
         };
         match writer.read_at(blob, cache, offset, len) {
-            Ok(bufs) => self.bytes_of(&bufs),
+            Ok(bufs) => bytes_of(self.alloc, &bufs),
             Err(error) => Reply::Fault(error),
         }
     }
@@ -45,12 +49,14 @@ impl<B: Blob, H: Sum> Session<B, H> {
         offset: u64,
         len: usize,
     ) -> Reply
-        requires ready { IsReady H.sum_of self.now (B.life blob.old).present }
-        requires cached { CacheFits self.now.writer cache.old (B.life blob.old).present }
+        requires sound { HasSoundWriter H.sum_of self.now (B.life blob.old).present }
+        requires cached { FitsWriter self.now cache.old (B.life blob.old).present }
         ensures goes { let old = B.life blob.old in let new = B.life blob.new in
-            DidReadUpTo H.sum_of self.now.writer cache.old offset len old new result }
-        ensures cached { CacheFits self.now.writer cache.new (B.life blob.new).present }
+            DidReadUpTo H.sum_of self.now cache.old offset len old new result }
+        ensures cached { FitsWriter self.now cache.new (B.life blob.new).present }
         ensures fresh_ids { IsFresh cache.old → IsFresh cache.new }
+        ensures tails { let old = B.life blob.old in let new = B.life blob.new in
+            LeavesSnapshots H.sum_of self.now self.now cache.old cache.new old new }
     {
         let Some(writer) = &self.writer else {
             return Reply::Closed;
@@ -63,8 +69,8 @@ impl<B: Blob, H: Sum> Session<B, H> {
 
     // Room for the bytes is made only where they are within the size.
     pub(crate) fn try_read(&self, cache: &CacheRef, offset: u64, len: usize) -> Reply
-        requires { IfSome self.now.writer (λ w. cache.now.page_size ≡ w.page_size) }
-        ensures { DidTryRead self.now.writer cache.now offset len result }
+        requires { IfSome self.now (λ w. cache.now.page_size ≡ w.page_size) }
+        ensures { DidTryRead self.now cache.now offset len result }
     {
         let Some(writer) = &self.writer else {
             return Reply::Closed;
@@ -89,13 +95,15 @@ impl<B: Blob, H: Sum> Session<B, H> {
         cache: &mut CacheRef,
         ranges: &[(u64, usize)],
     ) -> Reply
-        requires ready { IsReady H.sum_of self.now (B.life blob.old).present }
-        requires cached { CacheFits self.now.writer cache.old (B.life blob.old).present }
+        requires sound { HasSoundWriter H.sum_of self.now (B.life blob.old).present }
+        requires cached { FitsWriter self.now cache.old (B.life blob.old).present }
         ensures goes { let old = B.life blob.old in let new = B.life blob.new in
             let fit = fit_together ranges.now in
-            DidReadRanges H.sum_of self.now.writer fit cache.old ranges.now old new result }
-        ensures cached { CacheFits self.now.writer cache.new (B.life blob.new).present }
+            DidReadRanges H.sum_of self.now fit cache.old ranges.now old new result }
+        ensures cached { FitsWriter self.now cache.new (B.life blob.new).present }
         ensures fresh_ids { IsFresh cache.old → IsFresh cache.new }
+        ensures tails { let old = B.life blob.old in let new = B.life blob.new in
+            LeavesSnapshots H.sum_of self.now self.now cache.old cache.new old new }
     {
         match (&self.writer, len_together(ranges)) {
             (None, _) => Reply::Closed,
@@ -107,7 +115,7 @@ impl<B: Blob, H: Sum> Session<B, H> {
     // Room for the bytes is made only where they are within the size.
     fn read_fitting(
         &self,
-        writer: &Recovery<B, H>,
+        writer: &Writer<B, H, Phase>,
         blob: &mut B,
         cache: &mut CacheRef,
         ranges: &[(u64, usize)],
@@ -121,6 +129,8 @@ impl<B: Blob, H: Sum> Session<B, H> {
             ReadRangesSays H.sum_of writer.now cache.old ranges.now old new result }
         ensures can { CanRead (tail_of writer.now) cache.new (B.life blob.new).present }
         ensures fresh_ids { IsFresh cache.old → IsFresh cache.new }
+        ensures tails { let old = B.life blob.old in let new = B.life blob.new in
+            LeavesTails H.sum_of writer.now.full_pages cache.old cache.new old new }
     {
         if let Err(error) = validate_read_ranges(len, ranges, writer.size()) {
             return Reply::Fault(error);
@@ -136,9 +146,9 @@ impl<B: Blob, H: Sum> Session<B, H> {
     }
 
     pub(crate) fn try_read_ranges(&self, cache: &CacheRef, ranges: &[(u64, usize)]) -> Reply
-        requires { IfSome self.now.writer (λ w. cache.now.page_size ≡ w.page_size) }
+        requires { IfSome self.now (λ w. cache.now.page_size ≡ w.page_size) }
         ensures { let fit = fit_together ranges.now in
-            DidTryReadRanges self.now.writer fit cache.now ranges.now result }
+            DidTryReadRanges self.now fit cache.now ranges.now result }
     {
         let Some(writer) = &self.writer else {
             return Reply::Closed;
@@ -155,7 +165,7 @@ impl<B: Blob, H: Sum> Session<B, H> {
     // All are missed where one can't be read, and then no room is made for the bytes.
     fn missed(
         &self,
-        writer: &Recovery<B, H>,
+        writer: &Writer<B, H, Phase>,
         cache: &CacheRef,
         ranges: &[(u64, usize)],
         len: usize,
@@ -182,23 +192,24 @@ impl<B: Blob, H: Sum> Session<B, H> {
         bytes.resize(len, 0)?;
         Ok(bytes)
     }
+}
 
-    fn bytes_of(&self, bufs: &IoBufs) -> Reply
-        ensures { IsBytes (concat bufs.now) result }
-    {
-        match self.joined(bufs) {
-            Ok(bytes) => Reply::Bytes(bytes),
-            Err(error) => Reply::Fault(error),
-        }
+/// The reply of these bytes.
+pub(crate) fn bytes_of(alloc: Global, bufs: &IoBufs) -> Reply
+    ensures { IsBytes (concat bufs.now) result }
+{
+    match joined(alloc, bufs) {
+        Ok(bytes) => Reply::Bytes(bytes),
+        Err(error) => Reply::Fault(error),
     }
+}
 
-    fn joined(&self, bufs: &IoBufs) -> Result<Vec<u8>, Error>
-        ensures ok { IfOk result (λ bytes. bytes.items ≡ concat bufs.now) }
-        ensures err { IsOkUnless result Error.OutOfMemory }
-    {
-        let all = bufs.coalesce()?;
-        Ok(Vec::from_slice(self.alloc, all.as_ref())?)
-    }
+fn joined(alloc: Global, bufs: &IoBufs) -> Result<Vec<u8>, Error>
+    ensures ok { IfOk result (λ bytes. bytes.items ≡ concat bufs.now) }
+    ensures err { IsOkUnless result Error.OutOfMemory }
+{
+    let all = bufs.coalesce()?;
+    Ok(Vec::from_slice(alloc, all.as_ref())?)
 }
 
 // Whether a range ends within so many bytes.

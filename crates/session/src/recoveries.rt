@@ -44,7 +44,7 @@ impl<B: Blob, H: Sum> Session<B, H> {
         ensures ready { let new = B.life blob.new in
             IfOk result (λ session. IsReady H.sum_of session new.present) }
         ensures cached { let new = B.life blob.new in IsFresh cache.old
-            → IfOk result (λ session. CacheFits session.writer cache.new new.present) }
+            → IfOk result (λ session. CacheFits session cache.new new.present) }
         ensures fresh_ids { IsFresh cache.old → IsFresh cache.new }
         ensures overflow { 2 ^ 64 ≤ adjusted capacity cache.old.page_size
             → result ≡ Err Error.OffsetOverflow }
@@ -105,7 +105,7 @@ impl<H: Sum> Session<MemBlob, H> {
             OnOk result (StandsFor H.sum_of P self.new s (life_of blob.new).present) }
         ensures ready { OnOk result (IsReady H.sum_of self.new (life_of blob.new).present) }
         ensures cached { let new = life_of blob.new in IsFresh cache.old
-            → OnOk result (CacheFits self.new.writer cache.new new.present) }
+            → OnOk result (CacheFits self.new cache.new new.present) }
         ensures fresh_ids { IsFresh cache.old → IsFresh cache.new }
         ensures refused { let same = (self.new ≡ self.old) × (blob.new ≡ blob.old) in
             OnErr result ((self.new ≡ closed) ⊎ (same × (cache.new ≡ cache.old))) }

@@ -1,46 +1,54 @@
 // Sessions: lists of steps over one blob.
-ghost use Rattle.std.specs.Prelude.{◌≡◌, option_map, IfOk, IsOkUnless, OnOk, OnErr};
+ghost use Rattle.std.specs.Prelude.{◌≡◌, option_map, IsOkUnless, OnOk, OnErr, false};
+ghost use Rattle.cache.specs.CacheState.{CacheState};
 ghost use Rattle.cache.specs.Pages.{IsFresh};
-ghost use Rattle.paged_read.specs.Tail.{CanRead};
+ghost use Rattle.paged_read.specs.Snapshots.{LeavesAllTails};
+ghost use Rattle.paged_read.specs.Tail.{CanRead, Tail};
+ghost use Rattle.crash.specs.Sound.{IsSound};
+ghost use Rattle.disk.specs.Disk.{Disk};
 ghost use Rattle.paged.specs.Caches.{tail_of};
 ghost use Rattle.paged.specs.Reads.{size_of};
-ghost use Rattle.session.specs.Run.{IsReady, CacheFits, KeepsCache, FitsOn, RunsAlways};
+ghost use Rattle.session.specs.Run.{CacheFits, FitsWriter, HasSoundWriter, IsReady, RunsAlways};
 ghost use Rattle.session.specs.Promise.{Promises, StandsWhereSound, closed, session_of};
-ghost use Rattle.session.specs.Calls.{Appended, TriedAppend, Synced, Starts, Waits, WaitsFor};
-ghost use Rattle.session.specs.Calls.{Needs, Sized, Begins, KeepsRest, is_given};
-ghost use Rattle.session.specs.Calls.{Steps, AppendSays, Truncated};
-ghost use Rattle.crash.specs.Sound.{IsSound};
+ghost use Rattle.session.specs.Calls.{Begins, is_given, IsOfEither, KeepsRest, KeepsSnapshots};
+ghost use Rattle.session.specs.Calls.{LeavesSnapshots, Steps, TakenBy, Truncated, WaitsFor};
 
+use crate::held::Held;
 use crate::steps::{Reply, Step};
 use cache::CacheRef;
-use disk::{Blob, Error, IoBuf, StartedSync};
+use disk::{Blob, Error, StartedSync};
 use page::Sum;
-use paged::Recovery;
+use paged::{Append, Recovering, Recovery, Writer, wait_sync};
+use paged_read::Sealed;
 use std::alloc::Global;
 use std::marker::Model;
 
-/// A writer that steps are taken on, or none, and the names of the syncs that it started.
+/// A writer that steps are taken on, or none, the names of the syncs that it started, and the
+/// snapshots that were made of it.
 ///
-/// A step whose call takes the writer and is refused closes the session. Its names stay: what was
-/// started can be waited for.
+/// A step whose call takes the writer and is refused closes the session, and so does a seal. Its
+/// names stay, and its snapshots: what was started can be waited for, and the snapshots be read.
 #[derive(Drop)]
 pub struct Session<B, H> {
     pub(crate) alloc: Global,
-    // A writer that appends stands here as a recovery too, as which it has every call.
-    pub(crate) writer: Option<Recovery<B, H>>,
-    recovering: bool,
-    names: Vec<u64>,
+    pub(crate) recovering: bool,
+    // The writer, while it is in recovery, and once it appends.
+    pub(crate) recovery: Held<B, H, Recovering>,
+    pub(crate) appending: Held<B, H, Append>,
+    pub(crate) names: Vec<u64>,
+    pub(crate) snapshots: Vec<Sealed<B, H>>,
 }
 
 impl<B, H> Model for Session<B, H> {
-    ghost use Rattle.session.specs.Run.{SessionState};
+    ghost use Rattle.session.specs.Run.{SessionState, writer_in};
 
     ghost Value = { SessionState };
 
     ghost view = { λ s. record {
-      writer = s.writer;
+      writer = writer_in s.recovering s.recovery s.appending;
       recovering = s.recovering;
       names = s.names.items;
+      snapshots = s.snapshots.items;
     } };
 }
 
@@ -51,9 +59,11 @@ impl<B, H> Session<B, H> {
     {
         Session {
             alloc,
-            writer: None,
             recovering: false,
+            recovery: Held::none(alloc),
+            appending: Held::none(alloc),
             names: Vec::new(alloc),
+            snapshots: Vec::new(alloc),
         }
     }
 }
@@ -63,12 +73,20 @@ impl<B: Blob, H: Sum> Session<B, H> {
     pub fn new(alloc: Global, writer: Recovery<B, H>) -> Self
         ensures writer { result ≡ session_of writer }
         ensures stands { StandsWhereSound H.sum_of writer }
+        ensures ready { (d : Disk) → IsSound H.sum_of writer d → IsReady H.sum_of result d }
+        ensures cached { (cache : CacheState) (d : Disk) → CanRead (tail_of writer) cache d
+            → CacheFits result cache d }
     {
         Session {
             alloc,
-            writer: Some(writer),
             recovering: true,
+            recovery: Held {
+                alloc,
+                writer: Some(writer),
+            },
+            appending: Held::none(alloc),
             names: Vec::new(alloc),
+            snapshots: Vec::new(alloc),
         }
     }
 
@@ -76,161 +94,52 @@ impl<B: Blob, H: Sum> Session<B, H> {
     pub fn size(&self) -> Option<u64>
         ensures { result ≡ option_map size_of self.now.writer }
     {
-        Some(self.writer.as_ref()?.size())
+        if self.recovering {
+            self.recovery.size()
+        } else {
+            self.appending.size()
+        }
     }
 
     /// Takes one step.
     fn step(&mut self, blob: &mut B, cache: &mut CacheRef, step: &Step) -> Reply
         requires ready { IsReady H.sum_of self.old (B.life blob.old).present }
-        requires cached { CacheFits self.old.writer cache.old (B.life blob.old).present }
+        requires cached { CacheFits self.old cache.old (B.life blob.old).present }
         ensures goes { let old = B.life blob.old in let new = B.life blob.new in
             Steps H.sum_of step.now result self.old self.new old new }
-        ensures cached { CacheFits self.new.writer cache.new (B.life blob.new).present }
+        ensures cached { CacheFits self.new cache.new (B.life blob.new).present }
         ensures fresh_ids { IsFresh cache.old → IsFresh cache.new }
     {
         match step {
-            Step::Append(bytes) => self.append(blob, cache, bytes),
-            Step::Owned(bytes) => self.append_owned(blob, cache, bytes),
-            Step::TryAppend(bytes) => self.try_append(bytes),
-            Step::Sync => self.sync(blob, cache),
-            Step::StartSync => self.start_sync(blob, cache),
-            Step::Wait => self.wait_for_sync(blob),
             Step::WaitSync(name) => self.wait_sync(blob, *name),
-            Step::Needs => self.needs_sync(),
-            Step::Size => self.length(),
-            Step::Read(offset, len) => self.read(blob, cache, *offset, *len),
-            Step::ReadUpTo(offset, len) => self.read_up_to(blob, cache, *offset, *len),
-            Step::TryRead(offset, len) => self.try_read(cache, *offset, *len),
-            Step::ReadRanges(ranges) => self.read_ranges(blob, cache, ranges),
-            Step::TryReadRanges(ranges) => self.try_read_ranges(cache, ranges),
             Step::Begin => self.begin(),
             Step::Truncate(size) => self.truncate(blob, cache, *size),
+            Step::Snapshot => self.snapshot(blob, cache),
+            Step::TrySnapshot => self.try_snapshot(),
+            Step::Snap(index, offset, len) => self.snap(blob, cache, *index, *offset, *len),
+            Step::Seal => self.seal(blob, cache),
+            _ => self.step_writer(blob, cache, step),
         }
     }
 
-    fn append(&mut self, blob: &mut B, cache: &mut CacheRef, bytes: &[u8]) -> Reply
-        requires ready { IsReady H.sum_of self.old (B.life blob.old).present }
-        requires cached { CacheFits self.old.writer cache.old (B.life blob.old).present }
+    /// Takes a step of the writer, in its phase.
+    fn step_writer(&mut self, blob: &mut B, cache: &mut CacheRef, step: &Step) -> Reply
+        requires either { IsOfEither step.now }
+        requires sound { HasSoundWriter H.sum_of self.old.writer (B.life blob.old).present }
+        requires cached { FitsWriter self.old.writer cache.old (B.life blob.old).present }
         ensures goes { let old = B.life blob.old in let new = B.life blob.new in
-            Appended H.sum_of self.old.writer self.new.writer bytes.now old new result }
-        ensures rest { KeepsRest self.old self.new }
-        ensures cached { CacheFits self.new.writer cache.new (B.life blob.new).present }
+            TakenBy H.sum_of step.now self.old.writer self.new.writer self.old.names self.new.names
+            cache.old old new result }
+        ensures rest { KeepsSnapshots self.old self.new }
+        ensures cached { FitsWriter self.new.writer cache.new (B.life blob.new).present }
         ensures fresh_ids { IsFresh cache.old → IsFresh cache.new }
+        ensures tails { let old = B.life blob.old in let new = B.life blob.new in
+            LeavesSnapshots H.sum_of self.old.writer self.new.writer cache.old cache.new old new }
     {
-        let Some(writer) = self.writer.take() else {
-            return Reply::Closed;
-        };
-        match writer.append(blob, cache, bytes) {
-            Ok((writer, at)) => {
-                self.writer = Some(writer);
-                Reply::At(at)
-            }
-            Err(error) => Reply::Fault(error),
-        }
-    }
-
-    fn append_owned(&mut self, blob: &mut B, cache: &mut CacheRef, bytes: &[u8]) -> Reply
-        requires ready { IsReady H.sum_of self.old (B.life blob.old).present }
-        requires cached { CacheFits self.old.writer cache.old (B.life blob.old).present }
-        ensures goes { let old = B.life blob.old in let new = B.life blob.new in
-            Appended H.sum_of self.old.writer self.new.writer bytes.now old new result }
-        ensures rest { KeepsRest self.old self.new }
-        ensures cached { CacheFits self.new.writer cache.new (B.life blob.new).present }
-        ensures fresh_ids { IsFresh cache.old → IsFresh cache.new }
-    {
-        let Some(writer) = self.writer.take() else {
-            return Reply::Closed;
-        };
-        match append_copy(self.alloc, writer, blob, cache, bytes) {
-            Ok((writer, place)) => {
-                self.writer = Some(writer);
-                Reply::At(place)
-            }
-            Err(error) => Reply::Fault(error),
-        }
-    }
-
-    fn try_append(&mut self, bytes: &[u8]) -> Reply
-        ensures goes { TriedAppend H.sum_of self.old.writer self.new.writer bytes.now result }
-        ensures rest { KeepsRest self.old self.new }
-        ensures cached { KeepsCache self.old.writer self.new.writer }
-    {
-        let Some(writer) = &mut self.writer else {
-            return Reply::Closed;
-        };
-        match writer.try_append(bytes) {
-            Ok(Some(place)) => Reply::At(place),
-            Ok(None) => Reply::Nothing,
-            Err(error) => Reply::Fault(error),
-        }
-    }
-
-    fn sync(&mut self, blob: &mut B, cache: &mut CacheRef) -> Reply
-        requires ready { IsReady H.sum_of self.old (B.life blob.old).present }
-        requires cached { CacheFits self.old.writer cache.old (B.life blob.old).present }
-        ensures goes { let old = B.life blob.old in let new = B.life blob.new in
-            Synced H.sum_of self.old.writer self.new.writer old new result }
-        ensures rest { KeepsRest self.old self.new }
-        ensures cached { CacheFits self.new.writer cache.new (B.life blob.new).present }
-        ensures fresh_ids { IsFresh cache.old → IsFresh cache.new }
-    {
-        let Some(writer) = self.writer.take() else {
-            return Reply::Closed;
-        };
-        match writer.sync(blob, cache) {
-            Ok(writer) => {
-                self.writer = Some(writer);
-                Reply::Done
-            }
-            Err(error) => Reply::Fault(error),
-        }
-    }
-
-    // Room for the name is made first: refused there, nothing is started and the writer stays.
-    fn start_sync(&mut self, blob: &mut B, cache: &mut CacheRef) -> Reply
-        requires ready { IsReady H.sum_of self.old (B.life blob.old).present }
-        requires cached { CacheFits self.old.writer cache.old (B.life blob.old).present }
-        ensures goes { let old = B.life blob.old in let new = B.life blob.new in
-            Starts H.sum_of self.old.writer self.old self.new old new result }
-        ensures cached { CacheFits self.new.writer cache.new (B.life blob.new).present }
-        ensures fresh_ids { IsFresh cache.old → IsFresh cache.new }
-    {
-        let Some(writer) = self.writer.take() else {
-            return Reply::Closed;
-        };
-        if self.names.try_reserve(1).is_err() {
-            self.writer = Some(writer);
-            return Reply::Fault(Error::OutOfMemory);
-        }
-        match writer.start_sync(blob, cache) {
-            Ok((writer, started)) => {
-                self.writer = Some(writer);
-                if let StartedSync::Named(name) = started {
-                    self.names.push_reserved(name);
-                }
-                Reply::Started(started)
-            }
-            Err(error) => Reply::Fault(error),
-        }
-    }
-
-    fn wait_for_sync(&mut self, blob: &mut B) -> Reply
-        requires ready { IsReady H.sum_of self.old (B.life blob.old).present }
-        ensures goes { let old = B.life blob.old in let new = B.life blob.new in
-            Waits H.sum_of self.old.writer self.new.writer old new result }
-        ensures rest { KeepsRest self.old self.new }
-        ensures cached { let old = B.life blob.old in let new = B.life blob.new in
-            FitsOn self.old.writer self.new.writer old.present new.present }
-    {
-        let Some(writer) = self.writer.take() else {
-            return Reply::Closed;
-        };
-        match writer.wait_for_sync(blob) {
-            Ok(writer) => {
-                self.writer = Some(writer);
-                Reply::Done
-            }
-            Err(error) => Reply::Fault(error),
+        if self.recovering {
+            self.recovery.step(&mut self.names, blob, cache, step)
+        } else {
+            self.appending.step(&mut self.names, blob, cache, step)
         }
     }
 
@@ -238,68 +147,61 @@ impl<B: Blob, H: Sum> Session<B, H> {
     fn wait_sync(&self, blob: &mut B, name: u64) -> Reply
         ensures goes { let given = is_given self.now.names name in
             WaitsFor given name (B.life blob.old) (B.life blob.new) result }
-        ensures cached { let old = B.life blob.old in let new = B.life blob.new in
-            FitsOn self.now.writer self.now.writer old.present new.present }
+        ensures can_read { (t : Tail) (cache : CacheState) → CanRead t cache (B.life blob.old).present
+            → CanRead t cache (B.life blob.new).present }
+        ensures tails { (cache : CacheState)
+            → LeavesAllTails H.sum_of cache cache (B.life blob.old) (B.life blob.new) }
     {
         if !self.names.contains(&name) {
             return Reply::NoSuch;
         }
-        match blob.wait_sync(StartedSync::Named(name)) {
+        match wait_sync::<B, H>(blob, StartedSync::Named(name)) {
             Ok(()) => Reply::Done,
             Err(error) => Reply::Fault(error),
         }
     }
 
-    fn needs_sync(&self) -> Reply
-        ensures { Needs self.now.writer result }
-    {
-        match &self.writer {
-            Some(writer) => Reply::Answer(writer.needs_sync()),
-            None => Reply::Closed,
-        }
-    }
-
-    fn length(&self) -> Reply
-        ensures { Sized self.now.writer result }
-    {
-        match self.size() {
-            Some(size) => Reply::Length(size),
-            None => Reply::Closed,
-        }
-    }
-
     fn begin(&mut self) -> Reply
         ensures goes { Begins self.old.writer self.old self.new result }
-        ensures cached { KeepsCache self.old.writer self.new.writer }
     {
-        if self.writer.is_none() {
-            return Reply::Closed;
+        if !self.recovering {
+            return match self.appending.writer {
+                Some(_) => Reply::Done,
+                None => Reply::Closed,
+            };
         }
+        let Some(writer) = self.recovery.writer.take() else {
+            return Reply::Closed;
+        };
+        self.appending.writer = Some(Writer::from(writer));
         self.recovering = false;
         Reply::Done
     }
 
     fn truncate(&mut self, blob: &mut B, cache: &mut CacheRef, size: u64) -> Reply
-        requires ready { IsReady H.sum_of self.old (B.life blob.old).present }
-        requires cached { CacheFits self.old.writer cache.old (B.life blob.old).present }
+        requires sound { HasSoundWriter H.sum_of self.old.writer (B.life blob.old).present }
+        requires cached { FitsWriter self.old.writer cache.old (B.life blob.old).present }
         ensures goes { let old = B.life blob.old in let new = B.life blob.new in
             Truncated H.sum_of self.old.recovering self.old.writer self.new.writer size old new
             result }
         ensures rest { KeepsRest self.old self.new }
-        ensures cached { CacheFits self.new.writer cache.new (B.life blob.new).present }
+        ensures cached { FitsWriter self.new.writer cache.new (B.life blob.new).present }
         ensures fresh_ids { IsFresh cache.old → IsFresh cache.new }
+        ensures turned { self.old.recovering ≡ false → cache.new ≡ cache.old }
     {
-        let Some(writer) = self.writer.take() else {
+        if !self.recovering {
+            return match self.appending.writer {
+                Some(_) => Reply::NotRecovering,
+                None => Reply::Closed,
+            };
+        }
+        let Some(writer) = self.recovery.writer.take() else {
             return Reply::Closed;
         };
-        if !self.recovering {
-            self.writer = Some(writer);
-            return Reply::NotRecovering;
-        }
         match writer.truncate(blob, cache, size) {
             Ok(writer) => {
                 let size = writer.size();
-                self.writer = Some(writer);
+                self.recovery.writer = Some(writer);
                 Reply::Length(size)
             }
             Err(error) => Reply::Fault(error),
@@ -307,37 +209,18 @@ impl<B: Blob, H: Sum> Session<B, H> {
     }
 }
 
-/// Appends a buffer of these bytes. Where there is no memory for one the bytes are appended from
-/// where they stand, so that an append tells an overflow before that.
-fn append_copy<B: Blob, H: Sum>(
-    alloc: Global,
-    writer: Recovery<B, H>,
-    blob: &mut B,
-    cache: &mut CacheRef,
-    bytes: &[u8],
-) -> Result<(Recovery<B, H>, u64), Error>
-    requires sound { IsSound H.sum_of writer (B.life blob.old).present }
-    requires can { CanRead (tail_of writer) cache.old (B.life blob.old).present }
-    ensures says { let old = B.life blob.old in let new = B.life blob.new in
-        AppendSays H.sum_of writer bytes.now old new result }
-    ensures can { let new = B.life blob.new in
-        IfOk result (λ r. CanRead (tail_of r.0) cache.new new.present) }
-    ensures fresh_ids { IsFresh cache.old → IsFresh cache.new }
-{
-    match IoBuf::copy_from_slice(alloc, bytes) {
-        Ok(bytes) => writer.append_owned(blob, cache, bytes),
-        Err(_) => writer.append(blob, cache, bytes),
-    }
-}
-
 /// Takes the steps in order over the session's blob, and adds one reply a step to `replies`. The
 /// session's writer, if it has one, is sound over the blob, the cache is the one that it was made
 /// with, and both stay so.
 ///
-/// An append, a sync, a start of one, a wait of the writer or a truncate that is refused ends the
-/// writer, and each step after it that needs one replies `Closed`; but a start for whose name there
-/// is no memory changes nothing. A try, a read or a wait for a name that is refused leaves the
-/// session as it was, and so does a try whose bytes don't fit.
+/// An append, a sync, a start of one, a wait of the writer, a truncate or a snapshot that is refused
+/// ends the writer, as a seal does at every answer; each step after it that needs one replies
+/// `Closed`. But a start, a snapshot or a seal for whose name or number there is no memory changes
+/// nothing. A try, a read, of the writer or of a snapshot, or a wait for a name that is refused
+/// leaves the session as it was, and so does a try that can't be met without the device.
+///
+/// A snapshot tells for good what was appended before it, also where the session is closed. What it
+/// tells is durable only by a sync or a seal, and a crash ends it.
 ///
 /// Room for all the replies is made first. `OutOfMemory` where it is refused: then no step was
 /// taken.
@@ -349,9 +232,9 @@ pub fn run<B: Blob, H: Sum>(
     replies: &mut Vec<Reply>,
 ) -> Result<(), Error>
     requires ready { IsReady H.sum_of session.old (B.life blob.old).present }
-    requires cached { CacheFits session.old.writer cache.old (B.life blob.old).present }
+    requires cached { CacheFits session.old cache.old (B.life blob.old).present }
     ensures ready { IsReady H.sum_of session.new (B.life blob.new).present }
-    ensures cached { CacheFits session.new.writer cache.new (B.life blob.new).present }
+    ensures cached { CacheFits session.new cache.new (B.life blob.new).present }
     ensures fresh_ids { IsFresh cache.old → IsFresh cache.new }
 
     // Whatever the session stood for before, at each moment of each step.

@@ -36,6 +36,16 @@ pub enum Step {
     Begin,
     /// Cuts the blob to its first so many logical bytes, durably, where the recovery hasn't ended.
     Truncate(u64),
+    /// Makes a snapshot of all that was appended, where the recovery has ended. Full pages that are
+    /// buffered are written first, without a sync: two device calls at most.
+    Snapshot,
+    /// Makes one where no full page is buffered, and so nothing has to be written for it.
+    TrySnapshot,
+    /// Reads of the snapshot of this number, from this logical place, so many bytes.
+    Snap(usize, u64, usize),
+    /// Ends the writer by a snapshot and a started sync, where the recovery has ended: three device
+    /// calls at most.
+    Seal,
 }
 
 /// The reply to a step.
@@ -43,7 +53,8 @@ pub enum Step {
 pub enum Reply {
     /// The logical place of the first appended byte.
     At(u64),
-    /// The bytes don't fit what is buffered, or can't be had without the device.
+    /// The bytes don't fit what is buffered, or can't be had without the device; or a snapshot
+    /// can't be made without a write.
     Nothing,
     /// The step is done.
     Done,
@@ -67,6 +78,12 @@ pub enum Reply {
     NotRecovering,
     /// The ranges overlap, aren't in order, or are too long together.
     BadRanges,
-    /// The session wasn't given a sync of this name.
+    /// The session wasn't given a sync of this name, or a snapshot of this number.
     NoSuch,
+    /// The number of the snapshot that was made.
+    Taken(usize),
+    /// The number of the snapshot that the writer left, and what starting a sync answered.
+    Sealed(usize, StartedSync),
+    /// The step needs a writer whose recovery has ended, and it hasn't.
+    NotAppending,
 }

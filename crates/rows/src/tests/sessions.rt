@@ -32,7 +32,7 @@ fn begun(
     requires fresh { IsFresh cache.old }
     ensures ready { IfOk result (λ session. IsReady add_sum session (life_of blob.new).present) }
     ensures cached { IfOk result (λ session.
-        CacheFits session.writer cache.new (life_of blob.new).present) }
+        CacheFits session cache.new (life_of blob.new).present) }
     ensures fresh { IsFresh cache.new }
 {
     let size = blob.len();
@@ -50,10 +50,10 @@ fn expect(
     replies: &[Reply],
 ) -> Result<(), Fail>
     requires ready { IsReady add_sum session.old (life_of blob.old).present }
-    requires cached { CacheFits session.old.writer cache.old (life_of blob.old).present }
+    requires cached { CacheFits session.old cache.old (life_of blob.old).present }
     requires fresh { IsFresh cache.old }
     ensures ready { IsReady add_sum session.new (life_of blob.new).present }
-    ensures cached { CacheFits session.new.writer cache.new (life_of blob.new).present }
+    ensures cached { CacheFits session.new cache.new (life_of blob.new).present }
     ensures fresh { IsFresh cache.new }
 {
     let mut given = Vec::new(alloc);
@@ -224,10 +224,10 @@ fn start_and_go_on(
     cache: &mut CacheRef,
 ) -> Result<(), Fail>
     requires ready { IsReady add_sum session.old (life_of blob.old).present }
-    requires cached { CacheFits session.old.writer cache.old (life_of blob.old).present }
+    requires cached { CacheFits session.old cache.old (life_of blob.old).present }
     requires fresh { IsFresh cache.old }
     ensures ready { IsReady add_sum session.new (life_of blob.new).present }
-    ensures cached { CacheFits session.new.writer cache.new (life_of blob.new).present }
+    ensures cached { CacheFits session.new cache.new (life_of blob.new).present }
     ensures fresh { IsFresh cache.new }
 {
     let steps = [

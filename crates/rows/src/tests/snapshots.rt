@@ -1,10 +1,12 @@
 // Snapshots and sealing.
-ghost use Rattle.std.specs.Prelude.{◌≡◌, IfOk, take, drop};
+ghost use Rattle.std.specs.Prelude.{◌≡◌, ◌++◌, IfOk, take, drop};
 ghost use Rattle.std.specs.List.{concat};
 ghost use Rattle.cache.specs.Pages.{IsFresh};
 ghost use Rattle.disk.specs.History.{life_of};
 ghost use Rattle.crash.specs.Sound.{IsSound, content};
+ghost use Rattle.page.specs.Page.{text};
 ghost use Rattle.paged.specs.Caches.{tail_of};
+ghost use Rattle.paged_read.specs.Snapshots.{LeavesReads};
 ghost use Rattle.paged_read.specs.Tail.{CanRead};
 
 use super::kit::{CAPACITY, Call, Store, cache_of, calls_from};
@@ -27,6 +29,12 @@ fn recovered<H: Sum>(
     ensures sound { IfOk result (λ w. IsSound H.sum_of w (life_of blob.new).present) }
     ensures can { IfOk result (λ w. CanRead (tail_of w) cache.new (life_of blob.new).present) }
     ensures fresh { IfOk result (λ _. IsFresh cache.new) }
+    ensures id { IfOk result (λ w. w.id ≡ cache.old.ids_given) }
+    ensures others { LeavesReads cache.old cache.new }
+    ensures page_size { IfOk result (λ w. w.page_size ≡ cache.old.page_size) }
+    ensures content { let old = life_of blob.old in let new = life_of blob.new in
+        let held = text H.sum_of cache.old.page_size old.present.readable in
+        IfOk result (λ w. content w new.present.readable ≡ held) }
 {
     let size = blob.len();
     let buffer_size = NonZeroUsize::MIN;
@@ -234,6 +242,70 @@ fn a_snapshot_is_read_in_part(rt: HostRuntime) -> Result<(), Fail> {
     let (writer, _) = writer.append(&mut blob, &mut cache, b"abcde")?;
     let behind = read_behind_an_append(writer, &mut blob, &mut cache, b"f", (3, 2))?;
     assert!(rt; is_made_of(behind.read, b"de")?);
+    Ok(())
+}
+
+// What two blobs read from their beginning.
+#[derive(Drop)]
+struct Both {
+    first: IoBufs,
+    second: IoBufs,
+}
+
+// Two blobs are recovered on one cache and appended to in turn, and then each is read: it gives its
+// own bytes.
+fn read_both<H: Sum>(
+    alloc: Global,
+    first_blob: &mut MemBlob,
+    second_blob: &mut MemBlob,
+    cache: &mut CacheRef,
+    first_bytes: &[u8],
+    second_bytes: &[u8],
+    len: usize,
+) -> Result<Both, Error>
+    requires fresh { IsFresh cache.old }
+    ensures first { let was = (life_of first_blob.old).present.readable in
+        let held = text H.sum_of cache.old.page_size was in
+        IfOk result (λ b. concat b.first ≡ take len (held ++ first_bytes.now)) }
+    ensures second { let was = (life_of second_blob.old).present.readable in
+        let held = text H.sum_of cache.old.page_size was in
+        IfOk result (λ b. concat b.second ≡ take len (held ++ second_bytes.now)) }
+{
+    let first = recovered::<H>(alloc, first_blob, cache)?;
+    let second = recovered::<H>(alloc, second_blob, cache)?;
+    let (first, _) = first.append(first_blob, cache, first_bytes)?;
+    let (second, _) = second.append(second_blob, cache, second_bytes)?;
+    let first_read = first.read_at(first_blob, cache, 0, len)?;
+    let second_read = second.read_at(second_blob, cache, 0, len)?;
+    Ok(Both {
+        first: first_read,
+        second: second_read,
+    })
+}
+
+// The cache holds one page, so each read takes the place of what the other left there. Eight bytes
+// of each blob are in pages 0 and 1, two in its buffer.
+#[test]
+fn two_blobs_have_one_cache(rt: HostRuntime) -> Result<(), Fail> {
+    let alloc = rt.alloc();
+    let mut cache = cache_of(alloc, 4, 1)?;
+    let mut first = MemBlob::new(alloc);
+    let mut second = MemBlob::new(alloc);
+    let both = read_both::<AddSum>(
+        alloc,
+        &mut first,
+        &mut second,
+        &mut cache,
+        b"abcdefghij",
+        b"ABCDEFGHIJ",
+        10,
+    )?;
+    assert!(rt; is_made_of(both.first, b"abcdefghij")?);
+    assert!(rt; is_made_of(both.second, b"ABCDEFGHIJ")?);
+    // The ids are 0 and 1, and the second was read last.
+    assert!(rt; cache.holds(1, 1));
+    assert!(rt; !cache.holds(0, 1));
+    assert_eq!(rt; cache.len(), 1);
     Ok(())
 }
 

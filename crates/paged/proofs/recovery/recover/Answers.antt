@@ -1,4 +1,4 @@
-use Rattle.paged.proofs.OpenedReads.{opened_fits, gives_id, looked_reads, cut_reads}
+use Rattle.paged.proofs.OpenedReads.{opened_fits, gives_id, looked_reads, cut_reads, recovered_id}
 use Rattle.paged.specs.Caches.{tail_of}
 use Rattle.std.proofs.Common.{◌≡◌, ◌≤◌, ◌+◌, ◌*◌, ℕ, length, ◌∙◌, ap, arith, refl, subst, inr}
 use Rattle.std.proofs.lemmas.Result.{err_from_is_err_and}
@@ -158,6 +158,9 @@ returns-clause-recovers g c = recovers g (goal.at.returns-clause-recovers g c).A
 
 pub returns-clause-sound : goal.returns-clause-sound
 returns-clause-sound g c = recovered_sound g.H.Sum.sum_of c.args.cache.now c.args.capacity (g.B.Blob.life c.args.blob.now) (g.B.Blob.life c.truncate.new.blob) c.truncate.result (recovers g (goal.at.returns-clause-sound g c).After-truncate (cuts g (goal.at.returns-clause-sound g c).After-size_of-text_size))
+
+pub returns-clause-id : goal.returns-clause-id
+returns-clause-id g c = recovered_id g.H.Sum.sum_of c.args.cache.now c.args.capacity (g.B.Blob.life c.args.blob.now) (g.B.Blob.life c.truncate.new.blob) c.truncate.result (recovers g (goal.at.returns-clause-id g c).After-truncate (cuts g (goal.at.returns-clause-id g c).After-size_of-text_size))
 
 pub returns-clause-durable : goal.returns-clause-durable
 returns-clause-durable g c =

@@ -1,12 +1,21 @@
-use Rattle.std.proofs.Common.{◌≡◌, ◌+◌, List, [], ◌∷◌, ◌++◌, take, ap, sym, ◌∙◌, subst, arith}
+use Rattle.std.proofs.Common.{rules, ◌≡◌, ◌+◌, List, [], ◌∷◌, ◌++◌, take, ap, sym, ◌∙◌, subst, arith}
 use Rattle.std.proofs.lemmas.List.{take_more, take_all}
 use Rattle.session.specs.declared.steps.Step.{Step}
 use Rattle.session.specs.declared.steps.Reply.{Reply}
 use Rattle.session.specs.Run.{RunsAlways}
 use Rattle.session.specs.Promise.{Promises}
-use Rattle.session.proofs.RunLaws.{runs_more}
+use Rattle.session.proofs.RunLaws.{runs_none, runs_more}
 use Rattle.session.proofs.PromiseLaws.{promises}
 use Rattle.session.proofs.sessions.run.Goals as goal
+
+pub loop-step-init : goal.loop-step-init
+loop-step-init g c = record {
+  room = search rules;
+  ready = c.requires.ready;
+  cached = c.requires.cached;
+  fresh_ids = λ fresh. fresh;
+  runs = runs_none g.H.Sum.sum_of c.args.session.now (g.B.Blob.life c.args.blob.now) c.try_reserve.new.self.items;
+}
 
 pub loop-step-preserved : goal.loop-step-preserved
 loop-step-preserved g c =

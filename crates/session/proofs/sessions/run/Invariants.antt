@@ -7,7 +7,7 @@ abbrev pub invariant-loop-step : goal.invariant-loop-step
 invariant-loop-step g l = record {
   room : vec_len l.replies + (length l.steps - l.step-index) ≤ vec_capacity l.replies;
   ready : IsReady g.H.Sum.sum_of l.session (g.B.Blob.life l.blob).present;
-  cached : CacheFits l.session.writer l.cache (g.B.Blob.life l.blob).present;
+  cached : CacheFits l.session l.cache (g.B.Blob.life l.blob).present;
   fresh_ids : IsFresh l.initial.cache → IsFresh l.cache;
   runs : RunsAlways g.H.Sum.sum_of (take l.step-index l.steps) l.initial.session l.session (g.B.Blob.life l.initial.blob) (g.B.Blob.life l.blob) l.initial.replies.items l.replies.items;
 }

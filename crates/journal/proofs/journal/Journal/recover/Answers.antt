@@ -4,7 +4,7 @@ use Rattle.crash.specs.WriterState.{WriterState}
 use Rattle.paged.specs.Truncate.{KeepsFloorsWithin}
 use Rattle.journal.specs.Frame.{records, whole_frames}
 use Rattle.journal.specs.Journal.{AllStay, OthersStay, HasRecovered, KeepsCommitted, KeepsAllRecords, LeavesAllRecords, BringsBack}
-use Rattle.journal.proofs.Journals.{recovery_stays, all_stay, new_id, others_stay, recovered_id, recovery_goes, recovery_refused, recovered_keeps, recovered_leaves, commits_through, keeps_committed, trim_commits, brings_back, leaves_records, prefix_of_itself}
+use Rattle.journal.proofs.Journals.{recovery_stays, all_stay, new_id, others_stay, recovery_goes, recovery_refused, recovered_keeps, recovered_leaves, commits_through, keeps_committed, trim_commits, brings_back, leaves_records, prefix_of_itself}
 use Rattle.journal.specs.Reader.{EachReaderStays}
 use Rattle.journal.proofs.Readers.{each_reader_stays, each_reader_still, new_to_readers, other_readers_stay}
 use Rattle.journal.proofs.journal.Journal.recover.Given.{Over}
@@ -104,7 +104,7 @@ returns-clause-recovers g c =
     let is : c.new.result ≡ now = c.new.ensures ∙ c.from.ensures in
     let recovered = c.in_ok-recovery.ensures in
     subst (λ (w : WriterState). HasRecovered sum own c.args.cache.now c.trim.new.cache old new w found) (sym is)
-    (recovery_goes sum own c.args.cache.now c.trim.new.cache c.args.capacity old mid new c.in_ok-recovery.recovery now found recovered.recovers recovered.durable
+    (recovery_goes sum own c.args.cache.now c.trim.new.cache c.args.capacity old mid new c.in_ok-recovery.recovery now found recovered.recovers recovered.id recovered.durable
     (trim-keeps g (goal.at.returns-clause-recovers g c).After-trim) c.in_ok-recovery-2.ensures.trims)
 
 pub returns-clause-journal : goal.returns-clause-journal
@@ -140,24 +140,20 @@ trim-requires g c =
     }
 
 -- the other journals stay, and the readers of other blobs
-recovered-id : (g : Over) (c : After-trim g) → c.in_ok-recovery.recovery.id ≡ c.args.cache.now.ids_given
-recovered-id g c =
-    recovered_id g.H.Sum.sum_of c.args.cache.now c.args.capacity (g.B.Blob.life c.args.blob.now) (g.B.Blob.life c.recover.new.blob) c.in_ok-recovery.recovery c.in_ok-recovery.ensures.recovers
-
 trim-others : (g : Over) (c : After-trim g) → AllStay c.args.cache.now c.trim.new.cache
 trim-others g c =
     let was = c.args.cache.now in
     let id = c.in_ok-recovery.recovery.id in
     let first : AllStay was c.recover.new.cache = recovery_stays was c.recover.new.cache c.recover.ensures.others c.recover.ensures.fresh_ids in
     let then_stays : OthersStay id c.recover.new.cache c.trim.new.cache = others_stay id c.recover.new.cache c.trim.new.cache c.trim.ensures.others (λ fresh. c.trim.ensures.fresh) in
-    all_stay id was c.recover.new.cache c.trim.new.cache (recovered-id g c) first then_stays
+    all_stay id was c.recover.new.cache c.trim.new.cache (c.in_ok-recovery.ensures.id) first then_stays
 
 trim-readers : (g : Over) (c : After-trim g) → EachReaderStays c.args.cache.now c.trim.new.cache
 trim-readers g c =
     let was = c.args.cache.now in
     let id = c.in_ok-recovery.recovery.id in
     let first : EachReaderStays was c.recover.new.cache = each_reader_stays was c.recover.new.cache c.recover.ensures.others in
-    each_reader_still id was c.recover.new.cache c.trim.new.cache (recovered-id g c) first (other_readers_stay id c.recover.new.cache c.trim.new.cache c.trim.ensures.others)
+    each_reader_still id was c.recover.new.cache c.trim.new.cache (c.in_ok-recovery.ensures.id) first (other_readers_stay id c.recover.new.cache c.trim.new.cache c.trim.ensures.others)
 
 pub returns-in_err-recovery-2-clause-others : goal.returns-in_err-recovery-2-clause-others
 returns-in_err-recovery-2-clause-others g c = trim-others g (goal.at.returns-in_err-recovery-2-clause-others g c).After-trim

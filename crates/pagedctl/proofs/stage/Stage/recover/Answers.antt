@@ -10,19 +10,19 @@ pub invariant_of-self-in_err-self-inside : goal.invariant_of-self-in_err-self-in
 invariant_of-self-in_err-self-inside g c =
     let d = (life_of c.recover-recovered.new.blob).present in
     let fresh : IsFresh c.match-take.cache = elim c.match-take.branch [
-      | in-Some w ↦ fresh_here c.self.inside.cache c.match-take.cache c.self.inside.session.writer _ (search rules) c.self.invariant.cached
+      | in-Some w ↦ fresh_here c.self.inside.cache c.match-take.cache c.self.inside.session _ (search rules) c.self.invariant.cached
       | in-None+in_ok-cache-in-None w ↦ fresh_empty _ _ c.match-take.cache (w.cache-is ∙ w.in_ok-cache-in-None.ensures.made)
     ] in
     record {
       ready = search rules;
-      cached = (subst (λ (s : SessionState). CacheFits s.writer c.recover-recovered.new.cache d) (sym c.closed.ensures) tt, c.recover-recovered.ensures.fresh_ids fresh);
+      cached = (subst (λ (s : SessionState). CacheFits s c.recover-recovered.new.cache d) (sym c.closed.ensures) (record { writer = tt; snapshots = search rules }), c.recover-recovered.ensures.fresh_ids fresh);
       rests = search rules;
     }
 
 pub invariant_of-self-2 : goal.invariant_of-self-2
 invariant_of-self-2 g c =
     let fresh : IsFresh c.match-take.cache = elim c.match-take.branch [
-      | in-Some w ↦ fresh_here c.self.inside.cache c.match-take.cache c.self.inside.session.writer _ (search rules) c.self.invariant.cached
+      | in-Some w ↦ fresh_here c.self.inside.cache c.match-take.cache c.self.inside.session _ (search rules) c.self.invariant.cached
       | in-None+in_ok-cache-in-None w ↦ fresh_empty _ _ c.match-take.cache (w.cache-is ∙ w.in_ok-cache-in-None.ensures.made)
     ] in
     record {

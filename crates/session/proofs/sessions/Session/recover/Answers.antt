@@ -18,3 +18,13 @@ returns-clause-gives g c =
 pub returns-clause-attempts : goal.returns-clause-attempts
 returns-clause-attempts g c =
     attempts_through g.H.Sum.sum_of c.args.cache.now.page_size (g.B.Blob.life c.args.blob.now) (g.B.Blob.life c.recover.new.blob) (g.met.B.Blob.readable_is_image c.args.blob.now) c.recover.ensures.floors c.recover.ensures.only
+
+pub returns-clause-ready : goal.returns-clause-ready
+returns-clause-ready g c = c.new.ensures.ready (g.B.Blob.life c.recover.new.blob).present c.in_ok-writer.ensures.sound
+
+pub returns-clause-cached : goal.returns-clause-cached
+returns-clause-cached g c =
+    λ fresh. c.new.ensures.cached c.recover.new.cache (g.B.Blob.life c.recover.new.blob).present (c.in_ok-writer.ensures.can_read fresh)
+
+pub returns-clause-overflow : goal.returns-clause-overflow
+returns-clause-overflow g c = λ over. absurd (cc (c.in_ok-writer.ensures.overflow over))

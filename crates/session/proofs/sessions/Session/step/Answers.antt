@@ -1,94 +1,80 @@
-use Rattle.std.proofs.Common.{ℕ, List, subst}
-use Rattle.session.specs.Run.{fit_together}
-use Rattle.session.specs.Calls.{Appended, TriedAppend, DidReadRanges, DidTryReadRanges}
-use Rattle.session.proofs.StepLaws.{appended_takes, owned_steps, tried_takes, synced_takes, sized_takes, read_takes}
-use Rattle.session.proofs.StartLaws.{started_takes, waited_takes, named_takes, needed_takes, begun_takes}
-use Rattle.session.proofs.ReadLaws.{read_up_to_takes, try_read_takes, page_size_fits}
-use Rattle.session.proofs.RangeLaws.{read_ranges_takes, try_read_ranges_takes}
-use Rattle.session.proofs.TruncateLaws.{truncated_takes}
+use Rattle.session.proofs.SnapshotLaws.{snapshot_takes, try_snapshot_takes, seal_takes, snap_takes}
+use Rattle.session.proofs.WholeLaws.{begin_takes, cut_takes, name_takes, writer_takes}
 use Rattle.session.proofs.sessions.Session.step.Goals as goal
-
-pub returns-in-Append-clause-goes : goal.returns-in-Append-clause-goes
-returns-in-Append-clause-goes g c =
-    let sum = g.H.Sum.sum_of in
-    let old = g.B.Blob.life c.args.blob.now in
-    let new = g.B.Blob.life c.append.new.blob in
-    rw c.in-Append.is (appended_takes sum c.args.self.now c.append.new.self c.in-Append.bytes old new c.append.result c.requires.ready c.append.ensures.rest
-    (subst (λ (bytes : List ℕ). Appended sum c.args.self.now.writer c.append.new.self.writer bytes old new c.append.result) c.deref.ensures.value c.append.ensures.goes))
-
-pub returns-in-TryAppend-clause-goes : goal.returns-in-TryAppend-clause-goes
-returns-in-TryAppend-clause-goes g c =
-    let sum = g.H.Sum.sum_of in
-    rw c.in-TryAppend.is (tried_takes sum c.args.self.now c.try_append.new.self c.in-TryAppend.bytes (g.B.Blob.life c.args.blob.now) c.try_append.result c.requires.ready c.try_append.ensures.rest
-    (subst (λ (bytes : List ℕ). TriedAppend sum c.args.self.now.writer c.try_append.new.self.writer bytes c.try_append.result) c.deref-in-TryAppend.ensures.value c.try_append.ensures.goes))
-
-pub returns-in-Sync-clause-goes : goal.returns-in-Sync-clause-goes
-returns-in-Sync-clause-goes g c =
-    rw c.in-Sync.is (synced_takes g.H.Sum.sum_of c.args.self.now c.sync.new.self (g.B.Blob.life c.args.blob.now) (g.B.Blob.life c.sync.new.blob) c.sync.result c.requires.ready c.sync.ensures.rest c.sync.ensures.goes)
-
-pub returns-in-Size-clause-goes : goal.returns-in-Size-clause-goes
-returns-in-Size-clause-goes g c = rw c.in-Size.is (sized_takes g.H.Sum.sum_of c.args.self.now (g.B.Blob.life c.args.blob.now) c.length.result c.requires.ready c.length.ensures)
-
-pub returns-in-Read-clause-goes : goal.returns-in-Read-clause-goes
-returns-in-Read-clause-goes g c =
-    rw c.in-Read.is (read_takes g.H.Sum.sum_of c.args.self.now c.args.cache.now c.in-Read.offset c.in-Read.len (g.B.Blob.life c.args.blob.now) (g.B.Blob.life c.read.new.blob) c.read.result c.requires.ready c.read.ensures.goes)
-
-pub returns-in-Owned-clause-goes : goal.returns-in-Owned-clause-goes
-returns-in-Owned-clause-goes g c =
-    let sum = g.H.Sum.sum_of in
-    let old = g.B.Blob.life c.args.blob.now in
-    let new = g.B.Blob.life c.append_owned.new.blob in
-    rw c.in-Owned.is (owned_steps sum c.args.self.now c.append_owned.new.self c.in-Owned.bytes old new c.append_owned.result
-    (appended_takes sum c.args.self.now c.append_owned.new.self c.in-Owned.bytes old new c.append_owned.result c.requires.ready c.append_owned.ensures.rest
-    (subst (λ (bytes : List ℕ). Appended sum c.args.self.now.writer c.append_owned.new.self.writer bytes old new c.append_owned.result) c.deref-in-Owned.ensures.value c.append_owned.ensures.goes)))
-
-pub returns-in-StartSync-clause-goes : goal.returns-in-StartSync-clause-goes
-returns-in-StartSync-clause-goes g c =
-    rw c.in-StartSync.is (started_takes g.H.Sum.sum_of c.args.self.now c.start_sync.new.self (g.B.Blob.life c.args.blob.now) (g.B.Blob.life c.start_sync.new.blob) c.start_sync.result c.requires.ready c.start_sync.ensures.goes)
-
-pub returns-in-Wait-clause-goes : goal.returns-in-Wait-clause-goes
-returns-in-Wait-clause-goes g c =
-    rw c.in-Wait.is (waited_takes g.H.Sum.sum_of c.args.self.now c.wait_for_sync.new.self (g.B.Blob.life c.args.blob.now) (g.B.Blob.life c.wait_for_sync.new.blob) c.wait_for_sync.result c.requires.ready c.wait_for_sync.ensures.rest
-    c.wait_for_sync.ensures.goes)
 
 pub returns-in-WaitSync-clause-goes : goal.returns-in-WaitSync-clause-goes
 returns-in-WaitSync-clause-goes g c =
-    rw c.in-WaitSync.is (named_takes g.H.Sum.sum_of c.args.self.now c.in-WaitSync.name (g.B.Blob.life c.args.blob.now) (g.B.Blob.life c.wait_sync.new.blob) c.wait_sync.result g.met.H.Sum.small c.requires.ready c.wait_sync.ensures.goes)
+    let is = c.wait_sync.ensures in
+    rw c.in-WaitSync.is (name_takes g.H.Sum.sum_of c.args.self.now c.args.cache.now c.in-WaitSync.name (g.B.Blob.life c.args.blob.now) (g.B.Blob.life c.wait_sync.new.blob) c.wait_sync.result g.met.H.Sum.small c.requires.ready c.requires.cached is.goes is.can_read is.tails).0
 
-pub returns-in-Needs-clause-goes : goal.returns-in-Needs-clause-goes
-returns-in-Needs-clause-goes g c = rw c.in-Needs.is (needed_takes g.H.Sum.sum_of c.args.self.now (g.B.Blob.life c.args.blob.now) c.needs_sync.result c.requires.ready c.needs_sync.ensures)
+pub returns-in-WaitSync-clause-cached : goal.returns-in-WaitSync-clause-cached
+returns-in-WaitSync-clause-cached g c =
+    let is = c.wait_sync.ensures in
+    (name_takes g.H.Sum.sum_of c.args.self.now c.args.cache.now c.in-WaitSync.name (g.B.Blob.life c.args.blob.now) (g.B.Blob.life c.wait_sync.new.blob) c.wait_sync.result g.met.H.Sum.small c.requires.ready c.requires.cached is.goes is.can_read is.tails).1
 
 pub returns-in-Begin-clause-goes : goal.returns-in-Begin-clause-goes
-returns-in-Begin-clause-goes g c = rw c.in-Begin.is (begun_takes g.H.Sum.sum_of c.args.self.now c.begin.new.self (g.B.Blob.life c.args.blob.now) c.begin.result c.requires.ready c.begin.ensures.goes)
+returns-in-Begin-clause-goes g c =
+    let is = c.begin.ensures in
+    rw c.in-Begin.is (begin_takes g.H.Sum.sum_of c.args.self.now c.begin.new.self c.args.cache.now (g.B.Blob.life c.args.blob.now) c.begin.result c.requires.ready c.requires.cached is.goes).0
+
+pub returns-in-Begin-clause-cached : goal.returns-in-Begin-clause-cached
+returns-in-Begin-clause-cached g c =
+    let is = c.begin.ensures in
+    (begin_takes g.H.Sum.sum_of c.args.self.now c.begin.new.self c.args.cache.now (g.B.Blob.life c.args.blob.now) c.begin.result c.requires.ready c.requires.cached is.goes).1
 
 pub returns-in-Truncate-clause-goes : goal.returns-in-Truncate-clause-goes
 returns-in-Truncate-clause-goes g c =
-    rw c.in-Truncate.is (truncated_takes g.H.Sum.sum_of c.args.self.now c.truncate.new.self c.in-Truncate.size (g.B.Blob.life c.args.blob.now) (g.B.Blob.life c.truncate.new.blob) c.truncate.result c.requires.ready c.truncate.ensures.rest
-    c.truncate.ensures.goes)
+    let is = c.truncate.ensures in
+    rw c.in-Truncate.is (cut_takes g.H.Sum.sum_of c.args.self.now c.truncate.new.self c.args.cache.now c.truncate.new.cache c.in-Truncate.size (g.B.Blob.life c.args.blob.now) (g.B.Blob.life c.truncate.new.blob) c.truncate.result c.requires.ready c.requires.cached is.goes is.rest is.cached is.turned).0
 
-pub returns-in-ReadUpTo-clause-goes : goal.returns-in-ReadUpTo-clause-goes
-returns-in-ReadUpTo-clause-goes g c =
-    rw c.in-ReadUpTo.is (read_up_to_takes g.H.Sum.sum_of c.args.self.now c.args.cache.now c.in-ReadUpTo.offset c.in-ReadUpTo.len (g.B.Blob.life c.args.blob.now) (g.B.Blob.life c.read_up_to.new.blob) c.read_up_to.result c.requires.ready c.read_up_to.ensures.goes)
+pub returns-in-Truncate-clause-cached : goal.returns-in-Truncate-clause-cached
+returns-in-Truncate-clause-cached g c =
+    let is = c.truncate.ensures in
+    (cut_takes g.H.Sum.sum_of c.args.self.now c.truncate.new.self c.args.cache.now c.truncate.new.cache c.in-Truncate.size (g.B.Blob.life c.args.blob.now) (g.B.Blob.life c.truncate.new.blob) c.truncate.result c.requires.ready c.requires.cached is.goes is.rest is.cached is.turned).1
 
-pub try_read-requires : goal.try_read-requires
-try_read-requires g c = page_size_fits c.args.self.now.writer c.args.cache.now (g.B.Blob.life c.args.blob.now).present c.requires.cached
+pub returns-in-Snapshot-clause-goes : goal.returns-in-Snapshot-clause-goes
+returns-in-Snapshot-clause-goes g c =
+    let is = c.snapshot.ensures in
+    rw c.in-Snapshot.is (snapshot_takes g.H.Sum.sum_of c.args.self.now c.snapshot.new.self c.args.cache.now c.snapshot.new.cache (g.B.Blob.life c.args.blob.now) (g.B.Blob.life c.snapshot.new.blob) c.snapshot.result c.requires.ready c.requires.cached is.cached is.tails is.goes).0
 
-pub returns-in-TryRead-clause-goes : goal.returns-in-TryRead-clause-goes
-returns-in-TryRead-clause-goes g c =
-    rw c.in-TryRead.is (try_read_takes g.H.Sum.sum_of c.args.self.now c.args.cache.now c.in-TryRead.offset c.in-TryRead.len (g.B.Blob.life c.args.blob.now) c.try_read.result c.requires.ready c.requires.cached c.try_read.ensures)
+pub returns-in-Snapshot-clause-cached : goal.returns-in-Snapshot-clause-cached
+returns-in-Snapshot-clause-cached g c =
+    let is = c.snapshot.ensures in
+    (snapshot_takes g.H.Sum.sum_of c.args.self.now c.snapshot.new.self c.args.cache.now c.snapshot.new.cache (g.B.Blob.life c.args.blob.now) (g.B.Blob.life c.snapshot.new.blob) c.snapshot.result c.requires.ready c.requires.cached is.cached is.tails is.goes).1
 
-pub returns-in-ReadRanges-clause-goes : goal.returns-in-ReadRanges-clause-goes
-returns-in-ReadRanges-clause-goes g c =
-    let sum = g.H.Sum.sum_of in
-    let old = g.B.Blob.life c.args.blob.now in
-    let new = g.B.Blob.life c.read_ranges.new.blob in
-    rw c.in-ReadRanges.is (read_ranges_takes sum c.args.self.now c.args.cache.now c.in-ReadRanges.ranges old new c.read_ranges.result c.requires.ready
-    (subst (λ (ranges : List (ℕ × ℕ)). DidReadRanges sum c.args.self.now.writer (fit_together ranges) c.args.cache.now ranges old new c.read_ranges.result) c.deref-in-ReadRanges.ensures.value c.read_ranges.ensures.goes))
+pub returns-in-TrySnapshot-clause-goes : goal.returns-in-TrySnapshot-clause-goes
+returns-in-TrySnapshot-clause-goes g c =
+    let is = c.try_snapshot.ensures in
+    rw c.in-TrySnapshot.is (try_snapshot_takes g.H.Sum.sum_of c.args.self.now c.try_snapshot.new.self c.args.cache.now (g.B.Blob.life c.args.blob.now) c.try_snapshot.result c.requires.ready c.requires.cached is).0
 
-pub try_read_ranges-requires : goal.try_read_ranges-requires
-try_read_ranges-requires g c = page_size_fits c.args.self.now.writer c.args.cache.now (g.B.Blob.life c.args.blob.now).present c.requires.cached
+pub returns-in-TrySnapshot-clause-cached : goal.returns-in-TrySnapshot-clause-cached
+returns-in-TrySnapshot-clause-cached g c =
+    let is = c.try_snapshot.ensures in
+    (try_snapshot_takes g.H.Sum.sum_of c.args.self.now c.try_snapshot.new.self c.args.cache.now (g.B.Blob.life c.args.blob.now) c.try_snapshot.result c.requires.ready c.requires.cached is).1
 
-pub returns-in-TryReadRanges-clause-goes : goal.returns-in-TryReadRanges-clause-goes
-returns-in-TryReadRanges-clause-goes g c =
-    rw c.in-TryReadRanges.is (try_read_ranges_takes g.H.Sum.sum_of c.args.self.now c.args.cache.now c.in-TryReadRanges.ranges (g.B.Blob.life c.args.blob.now) c.try_read_ranges.result c.requires.ready
-    (subst (λ (ranges : List (ℕ × ℕ)). DidTryReadRanges c.args.self.now.writer (fit_together ranges) c.args.cache.now ranges c.try_read_ranges.result) c.deref-in-TryReadRanges.ensures.value c.try_read_ranges.ensures))
+pub returns-in-Snap-clause-goes : goal.returns-in-Snap-clause-goes
+returns-in-Snap-clause-goes g c =
+    let is = c.snap.ensures in
+    rw c.in-Snap.is (snap_takes g.H.Sum.sum_of c.args.self.now c.args.cache.now c.snap.new.cache c.in-Snap.index c.in-Snap.offset c.in-Snap.len (g.B.Blob.life c.args.blob.now) (g.B.Blob.life c.snap.new.blob) c.snap.result c.requires.ready c.requires.cached is.goes is.writers is.tails is.can_read).0
+
+pub returns-in-Snap-clause-cached : goal.returns-in-Snap-clause-cached
+returns-in-Snap-clause-cached g c =
+    let is = c.snap.ensures in
+    (snap_takes g.H.Sum.sum_of c.args.self.now c.args.cache.now c.snap.new.cache c.in-Snap.index c.in-Snap.offset c.in-Snap.len (g.B.Blob.life c.args.blob.now) (g.B.Blob.life c.snap.new.blob) c.snap.result c.requires.ready c.requires.cached is.goes is.writers is.tails is.can_read).1
+
+pub returns-in-Seal-clause-goes : goal.returns-in-Seal-clause-goes
+returns-in-Seal-clause-goes g c =
+    let is = c.seal.ensures in
+    rw c.in-Seal.is (seal_takes g.H.Sum.sum_of c.args.self.now c.seal.new.self c.args.cache.now c.seal.new.cache (g.B.Blob.life c.args.blob.now) (g.B.Blob.life c.seal.new.blob) c.seal.result c.requires.ready c.requires.cached is.cached is.tails is.goes).0
+
+pub returns-in-Seal-clause-cached : goal.returns-in-Seal-clause-cached
+returns-in-Seal-clause-cached g c =
+    let is = c.seal.ensures in
+    (seal_takes g.H.Sum.sum_of c.args.self.now c.seal.new.self c.args.cache.now c.seal.new.cache (g.B.Blob.life c.args.blob.now) (g.B.Blob.life c.seal.new.blob) c.seal.result c.requires.ready c.requires.cached is.cached is.tails is.goes).1
+
+pub returns-in_default : goal.returns-in_default
+returns-in_default g c =
+    let is = c.step_writer.ensures in
+    let takes =
+    writer_takes g.H.Sum.sum_of c.args.step.now c.args.self.now c.step_writer.new.self c.args.cache.now c.step_writer.new.cache (g.B.Blob.life c.args.blob.now) (g.B.Blob.life c.step_writer.new.blob) c.step_writer.result c.requires.ready c.requires.cached is.goes is.rest is.cached is.tails in
+    record { goes = takes.0; cached = takes.1; fresh_ids = is.fresh_ids }

@@ -1,5 +1,10 @@
-use Rattle.std.proofs.Common.{rules, ◌≡◌, true, Some, None, refl}
-use Rattle.session.proofs.StepLaws.{sound_of, can_of}
+use Rattle.std.proofs.Common.{rules, ◌≡◌, true, Some, None, refl, sym, subst}
+use Rattle.std.specs.Prelude.{Option}
+use Rattle.crash.specs.WriterState.{WriterState}
+use Rattle.session.specs.declared.steps.Reply.TheVariants.{Length, Fault}
+use Rattle.session.specs.Run.{FitsWriter}
+use Rattle.session.specs.Calls.{Truncated}
+use Rattle.session.proofs.Below.{sound_in, can_in, in_recovery}
 use Rattle.session.proofs.TruncateLaws.{cuts_here}
 use Rattle.session.proofs.sessions.Session.truncate.Goals as goal
 
@@ -8,10 +13,12 @@ returns-in-Ok-clause-goes g c =
     let sum = g.H.Sum.sum_of in
     let old = g.B.Blob.life c.args.blob.now in
     let phase : c.args.self.now.recovering ≡ true = search rules in
-    let at : c.args.self.now.writer ≡ Some c.in-Some.writer = search rules in
-    let sound = sound_of sum c.args.self.now c.in-Some.writer old.present at c.requires.ready in
+    let at : c.args.self.now.writer ≡ Some c.in-Some-take.writer = search rules in
+    let sound = sound_in sum c.args.self.now.writer c.in-Some-take.writer old.present at c.requires.sound in
     let is = c.in-Ok.ensures in
-    cuts_here sum c.args.self.now.recovering c.args.self.now.writer c.in-Some.writer (Some c.in-Ok.writer) c.args.size old (g.B.Blob.life c.truncate.new.blob) _ phase at (
+    let inside = c.self-inside.inside in
+    subst (λ (o : Option WriterState). Truncated sum c.args.self.now.recovering c.args.self.now.writer o c.args.size old (g.B.Blob.life c.truncate.new.blob) (Length c.size-size.result)) (sym (in_recovery inside.0.1.0 (Some c.in-Ok.writer) inside.0.1.1.1.0.writer (search rules)))
+    (cuts_here sum c.args.self.now.recovering c.args.self.now.writer c.in-Some-take.writer (Some c.in-Ok.writer) c.args.size old (g.B.Blob.life c.truncate.new.blob) (Length c.size-size.result) phase at (
       c.in-Ok.writer,
       refl,
       search rules,
@@ -26,18 +33,27 @@ returns-in-Ok-clause-goes g c =
         covers = is.covers sound;
         starts = is.starts sound;
       },
-    )
+    ))
+
+pub returns-in-Ok-clause-cached : goal.returns-in-Ok-clause-cached
+returns-in-Ok-clause-cached g c =
+    let at : c.args.self.now.writer ≡ Some c.in-Some-take.writer = search rules in
+    let inside = c.self-inside.inside in
+    subst (λ (o : Option WriterState). FitsWriter o c.truncate.new.cache (g.B.Blob.life c.truncate.new.blob).present) (sym (in_recovery inside.0.1.0 (Some c.in-Ok.writer) inside.0.1.1.1.0.writer (search rules)))
+    (c.in-Ok.ensures.can_read (can_in c.args.self.now.writer c.in-Some-take.writer c.args.cache.now (g.B.Blob.life c.args.blob.now).present at c.requires.cached))
 
 pub returns-in-Err-clause-goes : goal.returns-in-Err-clause-goes
 returns-in-Err-clause-goes g c =
     let sum = g.H.Sum.sum_of in
     let old = g.B.Blob.life c.args.blob.now in
     let phase : c.args.self.now.recovering ≡ true = search rules in
-    let at : c.args.self.now.writer ≡ Some c.in-Some.writer = search rules in
+    let at : c.args.self.now.writer ≡ Some c.in-Some-take.writer = search rules in
     let none : c.take.new.self ≡ None = search rules in
-    let sound = sound_of sum c.args.self.now c.in-Some.writer old.present at c.requires.ready in
+    let sound = sound_in sum c.args.self.now.writer c.in-Some-take.writer old.present at c.requires.sound in
     let is = c.in-Err.ensures in
-    cuts_here sum c.args.self.now.recovering c.args.self.now.writer c.in-Some.writer c.take.new.self c.args.size old (g.B.Blob.life c.truncate.new.blob) _ phase at (
+    let inside = c.self-inside.inside in
+    subst (λ (o : Option WriterState). Truncated sum c.args.self.now.recovering c.args.self.now.writer o c.args.size old (g.B.Blob.life c.truncate.new.blob) (Fault c.in-Err.error)) (sym (in_recovery inside.0.1.0 c.take.new.self inside.0.1.1.1.0.writer (search rules)))
+    (cuts_here sum c.args.self.now.recovering c.args.self.now.writer c.in-Some-take.writer c.take.new.self c.args.size old (g.B.Blob.life c.truncate.new.blob) (Fault c.in-Err.error) phase at (
       none,
       record {
         truncates = is.truncates;
@@ -50,14 +66,14 @@ returns-in-Err-clause-goes g c =
         covers = is.covers sound;
         starts = is.starts sound;
       },
-    )
+    ))
 
 pub returns-in-Ok-clause-fresh_ids : goal.returns-in-Ok-clause-fresh_ids
 returns-in-Ok-clause-fresh_ids g c =
-    let at : c.args.self.now.writer ≡ Some c.in-Some.writer = search rules in
-    c.in-Ok.ensures.fresh_ids (can_of c.args.self.now c.in-Some.writer c.args.cache.now (g.B.Blob.life c.args.blob.now).present at c.requires.cached).given
+    let at : c.args.self.now.writer ≡ Some c.in-Some-take.writer = search rules in
+    c.in-Ok.ensures.fresh_ids (can_in c.args.self.now.writer c.in-Some-take.writer c.args.cache.now (g.B.Blob.life c.args.blob.now).present at c.requires.cached).given
 
 pub returns-in-Err-clause-fresh_ids : goal.returns-in-Err-clause-fresh_ids
 returns-in-Err-clause-fresh_ids g c =
-    let at : c.args.self.now.writer ≡ Some c.in-Some.writer = search rules in
-    c.in-Err.ensures.fresh_ids (can_of c.args.self.now c.in-Some.writer c.args.cache.now (g.B.Blob.life c.args.blob.now).present at c.requires.cached).given
+    let at : c.args.self.now.writer ≡ Some c.in-Some-take.writer = search rules in
+    c.in-Err.ensures.fresh_ids (can_in c.args.self.now.writer c.in-Some-take.writer c.args.cache.now (g.B.Blob.life c.args.blob.now).present at c.requires.cached).given

@@ -1,0 +1,118 @@
+-- What one step of a session does, with its snapshots.
+use Rattle.std.proofs.Common.{◌≡◌, ◌⊎◌, ℕ, List, [], ◌∷◌, length, refl, sym, ap, ◌∙◌, subst, arith, inl, inr, Bool, true, false, Vec}
+use Rattle.std.specs.Prelude.{All, Option, Some, None}
+use Rattle.std.specs.declared.alloc.Global.{Global}
+use Rattle.std.proofs.lemmas.Bool.{false≢true}
+use Rattle.disk.specs.Disk.{Life}
+use Rattle.crash.specs.WriterState.{WriterState}
+use Rattle.crash.proofs.BuiltLaws.{IsSmall}
+use Rattle.cache.specs.CacheState.{CacheState}
+use Rattle.paged_read.specs.Tail.{Tail, CanRead}
+use Rattle.paged_read.specs.Snapshots.{LeavesAllTails}
+use Rattle.paged.specs.Caches.{tail_of}
+use Rattle.session.specs.declared.steps.Step.{Step}
+use Rattle.session.specs.declared.steps.Step.TheVariants.{Append, Owned, TryAppend, Sync, StartSync, Wait, WaitSync, Needs, Size, Read, ReadUpTo, TryRead, ReadRanges, TryReadRanges, Begin, Truncate, Snapshot, TrySnapshot, Snap, Seal}
+use Rattle.session.specs.declared.steps.Reply.{Reply}
+use Rattle.session.specs.Run.{SessionState, CacheFits, FitsWriter, IsReady}
+use Rattle.session.specs.Calls.{Begins, is_given, KeepsRest, KeepsSnapshots, LeavesSnapshots, LeavesWriterState, Steps, TakenBy, Truncated, WaitsFor}
+use Rattle.session.proofs.Apart.{IsReadyApart, StepsApart, ready_apart}
+use Rattle.session.proofs.Below.{Left, framed_same, left_by, left_same}
+use Rattle.session.proofs.StepLaws.{appended_takes, owned_steps, tried_takes, synced_takes, sized_takes, read_takes}
+use Rattle.session.proofs.StartLaws.{started_takes, waited_takes, named_takes, needed_takes, begun_takes, both_same}
+use Rattle.session.proofs.ReadLaws.{read_up_to_takes, try_read_takes}
+use Rattle.session.proofs.RangeLaws.{read_ranges_takes, try_read_ranges_takes}
+use Rattle.session.proofs.TruncateLaws.{truncated_takes}
+
+-- ---- steps that a writer takes in either phase
+
+-- one that leaves the names
+rest_of : (was now : SessionState) → KeepsSnapshots was now → now.names ≡ was.names → KeepsRest was now
+rest_of was now rest names = rest ∙ ap (λ (l : List ℕ). record was { writer = now.writer; names = l }) names
+
+-- one that only looks
+same_of : (was now : SessionState) → KeepsSnapshots was now → LeavesWriterState was.writer now.writer was.names now.names → now ≡ was
+same_of was now rest stay = rest ∙ both_same was now.writer now.names stay.writer stay.given
+
+module _ (sum : List ℕ → ℕ) (was now : SessionState) (cache : CacheState) (old new : Life) (reply : Reply) (ready : IsReadyApart sum was old.present) (fits : FitsWriter was.writer cache old.present) (rest : KeepsSnapshots was now) where
+  -- the session is as it was
+  looks : (step : Step) → LeavesWriterState was.writer now.writer was.names now.names → StepsApart sum step reply was was old new → StepsApart sum step reply was now old new
+  looks step stay steps = subst (λ (s : SessionState). StepsApart sum step reply was s old new) (sym (same_of was now rest stay)) steps
+
+  -- and so is the disk
+  leaves : (step : Step) → new ≡ old → StepsApart sum step reply was now old old → StepsApart sum step reply was now old new
+  leaves step same steps = subst (λ (life : Life). StepsApart sum step reply was now old life) (sym same) steps
+
+  looks_here : (step : Step) → LeavesWriterState was.writer now.writer was.names now.names → new ≡ old → StepsApart sum step reply was was old old → StepsApart sum step reply was now old new
+  looks_here step stay same steps = leaves step same (subst (λ (s : SessionState). StepsApart sum step reply was s old old) (sym (same_of was now rest stay)) steps)
+
+  taken_apart : (step : Step) → TakenBy sum step was.writer now.writer was.names now.names cache old new reply → StepsApart sum step reply was now old new
+  taken_apart (Append bytes) (goes, names) = appended_takes sum was now bytes old new reply ready (rest_of was now rest names) goes
+  taken_apart (Owned bytes) (goes, names) = owned_steps sum was now bytes old new reply (appended_takes sum was now bytes old new reply ready (rest_of was now rest names) goes)
+  taken_apart (TryAppend bytes) (goes, names, same) = leaves (TryAppend bytes) same (tried_takes sum was now bytes old reply ready (rest_of was now rest names) goes)
+  taken_apart Sync (goes, names) = synced_takes sum was now old new reply ready (rest_of was now rest names) goes
+  taken_apart StartSync goes = started_takes sum was now old new reply ready rest goes
+  taken_apart Wait (goes, names) = waited_takes sum was now old new reply ready (rest_of was now rest names) goes
+  taken_apart Needs (goes, stay, same) = looks_here Needs stay same (needed_takes sum was old reply ready goes)
+  taken_apart Size (goes, stay, same) = looks_here Size stay same (sized_takes sum was old reply ready goes)
+  taken_apart (Read offset len) (goes, stay) = looks (Read offset len) stay (read_takes sum was cache offset len old new reply ready goes)
+  taken_apart (ReadUpTo offset len) (goes, stay) = looks (ReadUpTo offset len) stay (read_up_to_takes sum was cache offset len old new reply ready goes)
+  taken_apart (TryRead offset len) (goes, stay, same) = looks_here (TryRead offset len) stay same (try_read_takes sum was cache offset len old reply ready fits goes)
+  taken_apart (ReadRanges ranges) (goes, stay) = looks (ReadRanges ranges) stay (read_ranges_takes sum was cache ranges old new reply ready goes)
+  taken_apart (TryReadRanges ranges) (goes, stay, same) = looks_here (TryReadRanges ranges) stay same (try_read_ranges_takes sum was cache ranges old reply ready goes)
+  taken_apart (WaitSync name) taken = absurd taken
+  taken_apart Begin taken = absurd taken
+  taken_apart (Truncate n) taken = absurd taken
+  taken_apart Snapshot taken = absurd taken
+  taken_apart TrySnapshot taken = absurd taken
+  taken_apart (Snap index offset len) taken = absurd taken
+  taken_apart Seal taken = absurd taken
+
+-- such a step, with the session's snapshots
+pub writer_takes : (sum : List ℕ → ℕ) (step : Step) (was now : SessionState) (cache behind : CacheState) (old new : Life) (reply : Reply) → IsReady sum was old.present → CacheFits was cache old.present
+    → TakenBy sum step was.writer now.writer was.names now.names cache old new reply → KeepsSnapshots was now → FitsWriter now.writer behind new.present → LeavesSnapshots sum was.writer now.writer cache behind old new
+    → Steps sum step reply was now old new × CacheFits now behind new.present
+writer_takes sum step was now cache behind old new reply ready fits taken rest writer stay =
+    let same : now.snapshots ≡ was.snapshots = ap (λ (s : SessionState). s.snapshots) rest in
+    let phase : now.recovering ≡ was.recovering = ap (λ (s : SessionState). s.recovering) rest in
+    framed_same sum step reply was now behind old new same (λ is. same ∙ ready.begun (sym phase ∙ is)) writer (left_by sum was now.writer cache behind old new ready fits stay)
+    (taken_apart sum was now cache old new reply (ready_apart sum was old.present ready) fits.writer rest step taken)
+
+-- ---- steps of the session
+
+-- a wait for a name
+waits_fit : (o : Option WriterState) (cache : CacheState) (old new : Life) → ((t : Tail) (cache : CacheState) → CanRead t cache old.present → CanRead t cache new.present) → FitsWriter o cache old.present → FitsWriter o cache new.present
+waits_fit None cache old new can fits = tt
+waits_fit (Some w) cache old new can fits = can (tail_of w) cache fits
+
+pub name_takes : (sum : List ℕ → ℕ) (was : SessionState) (cache : CacheState) (name : ℕ) (old new : Life) (reply : Reply) → IsSmall sum → IsReady sum was old.present → CacheFits was cache old.present → WaitsFor (is_given was.names name) name old new reply
+    → ((t : Tail) (cache : CacheState) → CanRead t cache old.present → CanRead t cache new.present) → ((cache : CacheState) → LeavesAllTails sum cache cache old new) → Steps sum (WaitSync name) reply was was old new × CacheFits was cache new.present
+name_takes sum was cache name old new reply small ready fits goes can tails =
+    framed_same sum (WaitSync name) reply was was cache old new refl ready.begun (waits_fit was.writer cache old new can fits.writer)
+    (left_by sum was was.writer cache cache old new ready fits (λ t content below stands. (tails cache t content stands, below)))
+    (named_takes sum was name old new reply small (ready_apart sum was old.present ready) goes)
+
+-- the end of a recovery
+pub begin_takes : (sum : List ℕ → ℕ) (was now : SessionState) (cache : CacheState) (life : Life) (reply : Reply) → IsReady sum was life.present → CacheFits was cache life.present → Begins was.writer was now reply
+    → Steps sum Begin reply was now life life × CacheFits now cache life.present
+begin_takes sum was now cache life reply ready fits goes =
+    let same = begun_same was.writer refl goes in
+    framed_same sum Begin reply was now cache life life same.1.0 same.1.1 (subst (λ (o : Option WriterState). FitsWriter o cache life.present) (sym same.0) fits.writer) (left_same sum was now.writer cache cache life life ready fits same.0 refl refl)
+    (begun_takes sum was now life reply (ready_apart sum was life.present ready) goes)
+  where
+    begun_same : (o : Option WriterState) → was.writer ≡ o → Begins o was now reply → (now.writer ≡ was.writer) × ((now.snapshots ≡ was.snapshots) × (now.recovering ≡ true → now.snapshots ≡ []))
+    begun_same None at (replied, is) = (ap (λ (s : SessionState). s.writer) is, (ap (λ (s : SessionState). s.snapshots) is, subst (λ (s : SessionState). s.recovering ≡ true → s.snapshots ≡ []) (sym is) ready.begun))
+    begun_same (Some w) at (replied, is) =
+        (ap (λ (s : SessionState). s.writer) is, (ap (λ (s : SessionState). s.snapshots) is, λ other. absurd (false≢true (sym (ap (λ (s : SessionState). s.recovering) is) ∙ other))))
+
+-- a truncate, by a session in recovery, which has no snapshot, or turned away
+pub cut_takes : (sum : List ℕ → ℕ) (was now : SessionState) (cache behind : CacheState) (n : ℕ) (old new : Life) (reply : Reply) → IsReady sum was old.present → CacheFits was cache old.present → Truncated sum was.recovering was.writer now.writer n old new reply
+    → KeepsRest was now → FitsWriter now.writer behind new.present → (was.recovering ≡ false → behind ≡ cache) → Steps sum (Truncate n) reply was now old new × CacheFits now behind new.present
+cut_takes sum was now cache behind n old new reply ready fits goes rest writer turned =
+    let same : now.snapshots ≡ was.snapshots = ap (λ (s : SessionState). s.snapshots) rest in
+    let phase : now.recovering ≡ was.recovering = ap (λ (s : SessionState). s.recovering) rest in
+    framed_same sum (Truncate n) reply was now behind old new same (λ is. same ∙ ready.begun (sym phase ∙ is)) writer (left was.recovering was.writer refl refl goes) (truncated_takes sum was now n old new reply (ready_apart sum was old.present ready) rest goes)
+  where
+    left : (phase : Bool) (o : Option WriterState) → was.recovering ≡ phase → was.writer ≡ o → Truncated sum phase o now.writer n old new reply → All (Left sum now.writer behind old.present new.present) was.snapshots
+    left true o phase at goes = subst (λ (ts : List Tail). All (Left sum now.writer behind old.present new.present) ts) (sym (ready.begun phase)) (λ k t lt. absurd (omega (arith, lt)))
+    left false None phase at closed = left_same sum was now.writer cache behind old new ready fits (closed.writer ∙ sym at) (turned phase) closed.life
+    left false (Some w) phase at (replied, is, life) = left_same sum was now.writer cache behind old new ready fits (is ∙ sym at) (turned phase) life

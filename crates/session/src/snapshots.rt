@@ -1,0 +1,151 @@
+// Steps that make snapshots and read them.
+ghost use Rattle.std.specs.Prelude.{◌≡◌, All, slice_get, true};
+ghost use Rattle.cache.specs.Pages.{IsFresh};
+ghost use Rattle.paged_read.specs.Snapshots.{LeavesAllReads, LeavesAllTails, LeavesWriters};
+ghost use Rattle.paged_read.specs.Tail.{CanRead, HasFullPages};
+ghost use Rattle.session.specs.Calls.{DidSeal, DidSnap, DidSnapshot, DidTrySnapshot};
+ghost use Rattle.session.specs.Calls.{LeavesSnapshots, RefusesAppending};
+ghost use Rattle.session.specs.Run.{FitsWriter, HasSoundWriter};
+
+use crate::Session;
+use crate::reads::bytes_of;
+use crate::steps::Reply;
+use cache::CacheRef;
+use disk::{Blob, Error, StartedSync};
+use page::Sum;
+
+impl<B, H> Session<B, H> {
+    // Whether there is a writer is asked before its phase.
+    fn not_appending(&self) -> Reply
+        requires { self.now.recovering ≡ true }
+        ensures { RefusesAppending self.now.writer result }
+    {
+        match self.recovery.writer {
+            Some(_) => Reply::NotAppending,
+            None => Reply::Closed,
+        }
+    }
+}
+
+impl<B: Blob, H: Sum> Session<B, H> {
+    // Room for the snapshot is made first: refused there, nothing is done and the writer stays.
+    pub(crate) fn snapshot(&mut self, blob: &mut B, cache: &mut CacheRef) -> Reply
+        requires sound { HasSoundWriter H.sum_of self.old.writer (B.life blob.old).present }
+        requires cached { FitsWriter self.old.writer cache.old (B.life blob.old).present }
+        ensures goes { let old = B.life blob.old in let new = B.life blob.new in
+            DidSnapshot H.sum_of self.old self.new cache.new old new result }
+        ensures cached { FitsWriter self.new.writer cache.new (B.life blob.new).present }
+        ensures fresh_ids { IsFresh cache.old → IsFresh cache.new }
+        ensures tails { let old = B.life blob.old in let new = B.life blob.new in
+            LeavesSnapshots H.sum_of self.old.writer self.new.writer cache.old cache.new old new }
+    {
+        if self.recovering {
+            return self.not_appending();
+        }
+        let Some(writer) = self.appending.writer.take() else {
+            return Reply::Closed;
+        };
+        if self.snapshots.try_reserve(1).is_err() {
+            self.appending.writer = Some(writer);
+            return Reply::Fault(Error::OutOfMemory);
+        }
+        match writer.snapshot(blob, cache) {
+            Ok((writer, snapshot)) => {
+                self.appending.writer = Some(writer);
+                let index = self.snapshots.len();
+                self.snapshots.push_reserved(snapshot);
+                Reply::Taken(index)
+            }
+            Err(error) => Reply::Fault(error),
+        }
+    }
+
+    pub(crate) fn try_snapshot(&mut self) -> Reply
+        ensures { DidTrySnapshot self.old self.new result }
+    {
+        if self.recovering {
+            return self.not_appending();
+        }
+        let Some(writer) = &self.appending.writer else {
+            return Reply::Closed;
+        };
+        if self.snapshots.try_reserve(1).is_err() {
+            return Reply::Fault(Error::OutOfMemory);
+        }
+        match writer.try_snapshot() {
+            Ok(Some(snapshot)) => {
+                let index = self.snapshots.len();
+                self.snapshots.push_reserved(snapshot);
+                Reply::Taken(index)
+            }
+            Ok(None) => Reply::Nothing,
+            Err(error) => Reply::Fault(error),
+        }
+    }
+
+    // Room for the snapshot and for the name is made first.
+    pub(crate) fn seal(&mut self, blob: &mut B, cache: &mut CacheRef) -> Reply
+        requires sound { HasSoundWriter H.sum_of self.old.writer (B.life blob.old).present }
+        requires cached { FitsWriter self.old.writer cache.old (B.life blob.old).present }
+        ensures goes { let old = B.life blob.old in let new = B.life blob.new in
+            DidSeal H.sum_of self.old self.new cache.new old new result }
+        ensures cached { FitsWriter self.new.writer cache.new (B.life blob.new).present }
+        ensures fresh_ids { IsFresh cache.old → IsFresh cache.new }
+        ensures tails { let old = B.life blob.old in let new = B.life blob.new in
+            LeavesSnapshots H.sum_of self.old.writer self.new.writer cache.old cache.new old new }
+    {
+        if self.recovering {
+            return self.not_appending();
+        }
+        let Some(writer) = self.appending.writer.take() else {
+            return Reply::Closed;
+        };
+        if self.snapshots.try_reserve(1).is_err() || self.names.try_reserve(1).is_err() {
+            self.appending.writer = Some(writer);
+            return Reply::Fault(Error::OutOfMemory);
+        }
+        match writer.seal(blob, cache) {
+            Ok((snapshot, started)) => {
+                let index = self.snapshots.len();
+                self.snapshots.push_reserved(snapshot);
+                if let StartedSync::Named(name) = started {
+                    self.names.push_reserved(name);
+                }
+                Reply::Sealed(index, started)
+            }
+            Err(error) => Reply::Fault(error),
+        }
+    }
+
+    // Behind the back of the writer, which may be gone.
+    pub(crate) fn snap(
+        &self,
+        blob: &mut B,
+        cache: &mut CacheRef,
+        index: usize,
+        offset: u64,
+        len: usize,
+    ) -> Reply
+        requires full { let old = (B.life blob.old).present in
+            All (λ t. HasFullPages H.sum_of t old) self.now.snapshots }
+        requires can { let old = (B.life blob.old).present in
+            All (λ t. CanRead t cache.old old) self.now.snapshots }
+        ensures goes { let old = B.life blob.old in let new = B.life blob.new in
+            DidSnap H.sum_of (slice_get self.now.snapshots index) cache.old offset len old new
+            result }
+        ensures fresh_ids { IsFresh cache.old → IsFresh cache.new }
+        ensures writers { LeavesWriters H.sum_of (B.life blob.old) (B.life blob.new) }
+        ensures tails { let old = B.life blob.old in let new = B.life blob.new in
+            LeavesAllTails H.sum_of cache.old cache.new old new }
+        ensures can_read { let old = B.life blob.old in let new = B.life blob.new in
+            LeavesAllReads cache.old cache.new old new }
+    {
+        let Some(snapshot) = self.snapshots.get(index) else {
+            return Reply::NoSuch;
+        };
+        match snapshot.read_at(blob, cache, offset, len) {
+            Ok(bufs) => bytes_of(self.alloc, &bufs),
+            Err(error) => Reply::Fault(error),
+        }
+    }
+}
