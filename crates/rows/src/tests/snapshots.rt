@@ -19,8 +19,9 @@ use std::num::NonZeroUsize;
 use std::process::Abort;
 use std::test::Fail;
 
-// A writer on a blob that is recovered.
-fn recovered<H: Sum>(
+// A writer on a blob that is recovered: it has the cache's next id and the blob's text, and what
+// other blobs read from the cache stays theirs.
+fn recovered_beside<H: Sum>(
     alloc: Global,
     blob: &mut MemBlob,
     cache: &mut CacheRef,
@@ -40,6 +41,20 @@ fn recovered<H: Sum>(
     let buffer_size = NonZeroUsize::MIN;
     let recovery = recover::<MemBlob, H>(alloc, blob, size, CAPACITY, cache, buffer_size)?;
     Ok(Writer::from(recovery))
+}
+
+// A writer on a blob that is recovered.
+fn recovered<H: Sum>(
+    alloc: Global,
+    blob: &mut MemBlob,
+    cache: &mut CacheRef,
+) -> Result<Writer<MemBlob, H>, Error>
+    requires fresh { IsFresh cache.old }
+    ensures sound { IfOk result (λ w. IsSound H.sum_of w (life_of blob.new).present) }
+    ensures can { IfOk result (λ w. CanRead (tail_of w) cache.new (life_of blob.new).present) }
+    ensures fresh { IfOk result (λ _. IsFresh cache.new) }
+{
+    recovered_beside::<H>(alloc, blob, cache)
 }
 
 // What a call answered behind a snapshot, the snapshot's size, and what it then reads.
@@ -271,8 +286,8 @@ fn read_both<H: Sum>(
         let held = text H.sum_of cache.old.page_size was in
         IfOk result (λ b. concat b.second ≡ take len (held ++ second_bytes.now)) }
 {
-    let first = recovered::<H>(alloc, first_blob, cache)?;
-    let second = recovered::<H>(alloc, second_blob, cache)?;
+    let first = recovered_beside::<H>(alloc, first_blob, cache)?;
+    let second = recovered_beside::<H>(alloc, second_blob, cache)?;
     let (first, _) = first.append(first_blob, cache, first_bytes)?;
     let (second, _) = second.append(second_blob, cache, second_bytes)?;
     let first_read = first.read_at(first_blob, cache, 0, len)?;
