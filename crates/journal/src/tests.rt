@@ -221,11 +221,18 @@ fn take_turns<H: Sum, R: Sum>(
 {
     let one = NonZeroUsize::MIN;
     let size = first_blob.len();
-    let (first, _) =
-        Journal::<MemBlob, H, R>::recover(alloc, first_blob, size, CAPACITY, cache, one)?;
+    let (first, _) = Journal::<MemBlob, H, R>::recover(
+        alloc, first_blob, size, CAPACITY, cache, one,
+    )?;
     let size = second_blob.len();
-    let (second, _) =
-        Journal::<MemBlob, H, R>::recover(alloc, second_blob, size, CAPACITY, cache, one)?;
+    let (second, _) = Journal::<MemBlob, H, R>::recover(
+        alloc,
+        second_blob,
+        size,
+        CAPACITY,
+        cache,
+        one,
+    )?;
     let (first, _) = first.append_record(first_blob, cache, FIRST)?;
     let (second, _) = second.append_record(second_blob, cache, SECOND)?;
     let found = first.read_record(first_blob, cache, 0)?;

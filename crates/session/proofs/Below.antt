@@ -126,8 +126,7 @@ framed sum step reply was now behind old new more is begun ready fits left made 
     let snapshots : All (λ t. IsSnapshot sum now.writer t new.present) (ts ++ more) =
     All-append (λ t. IsSnapshot sum now.writer t new.present) ts more (λ k t lt. (left k t lt).snapshot) (λ k t lt. (made k t lt).snapshot) in
     let can : All (λ t. CanRead t behind new.present) (ts ++ more) = All-append (λ t. CanRead t behind new.present) ts more (λ k t lt. (left k t lt).can) (λ k t lt. (made k t lt).can) in
-    let tells : map (λ t. told t new.present.readable) ts ≡ map (λ t. told t old.present.readable) ts = told_alike old.present new.present ts (λ k t lt. (left k t lt).tells) in
-    (
+    let tells : map (λ t. told t new.present.readable) ts ≡ map (λ t. told t old.present.readable) ts = told_alike old.present new.present ts (λ k t lt. (left k t lt).tells) in (
       record {
         ready = record {
           writer = ready.writer;

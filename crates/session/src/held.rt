@@ -192,12 +192,7 @@ impl<B: Blob, H: Sum, Phase> Held<B, H, Phase> {
     }
 
     // Room for the name is made first: refused there, nothing is started and the writer stays.
-    fn start_sync(
-        &mut self,
-        names: &mut Vec<u64>,
-        blob: &mut B,
-        cache: &mut CacheRef,
-    ) -> Reply
+    fn start_sync(&mut self, names: &mut Vec<u64>, blob: &mut B, cache: &mut CacheRef) -> Reply
         requires sound { HasSoundWriter H.sum_of self.old (B.life blob.old).present }
         requires cached { FitsWriter self.old cache.old (B.life blob.old).present }
         ensures goes { let old = B.life blob.old in let new = B.life blob.new in

@@ -35,7 +35,7 @@ append_record-refused-requires-clause-journal g c =
     let first = c.in_ok-first-2.ensures in
     let second = c.in_ok-second-2.ensures in
     subst (λ (life : Life).
-        IsJournal g.H.Sum.sum_of c.in_ok-first-2.first c.read_record-2.new.cache life)
+    IsJournal g.H.Sum.sum_of c.in_ok-first-2.first c.read_record-2.new.cache life)
     (sym c.fail_at.ensures.life)
     (c.read_record-2.ensures.others _ _ _
     (λ same. apart (sym first.appends.same.id ∙ same ∙ second.appends.same.id))
