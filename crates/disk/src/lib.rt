@@ -25,3 +25,6 @@ pub use memory::MemBlob;
 pub use started_read::StartedRead;
 pub use started_sync::StartedSync;
 pub use vec_blob::VecBlob;
+
+#[cfg(test)]
+mod tests;

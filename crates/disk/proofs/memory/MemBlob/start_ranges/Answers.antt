@@ -1,4 +1,4 @@
-use Rattle.std.proofs.Common.{◌≡◌, ℕ, List, true, false, sym, ap, ◌∙◌, subst}
+use Rattle.std.proofs.Common.{ℕ, List, true, false, sym, ap, ◌∙◌, subst}
 use Rattle.disk.specs.Disk.{IsWithin, bytes_of}
 use Rattle.disk.specs.declared.action.Action.TheVariants as actions
 use Rattle.disk.specs.History.{life_of, lives}
