@@ -1,8 +1,8 @@
 -- The words of the blobs in memory, at a few bytes.
-use Rattle.std.proofs.Common.{◌≡◌, ℕ, List, [], ◌∷◌, length, map, nat_eq, true, false, refl, true≢false, arith}
+use Rattle.std.proofs.Common.{◌≡◌, ℕ, List, [], ◌∷◌, length, map, nat_eq, true, false, refl, true≢false, arith, Ok}
 use Rattle.std.proofs.lemmas.List.Sorted.{IsPermutation-reverse}
 use Rattle.std.proofs.lemmas.Map.Keys.{IsDistinct-head}
-use Rattle.disk.specs.Disk.{Write, Resize, settle, logged, ReadMany, SyncAll, next, coverings, Delivers}
+use Rattle.disk.specs.Disk.{Life, Write, Resize, settle, logged, ReadMany, StartReadMany, StartReadGoes, SyncAll, next, coverings, Delivers}
 use Rattle.disk.specs.declared.action.Action.TheVariants as actions
 use Rattle.disk.specs.History.{History, begun, life_of, told}
 use Rattle.disk.specs.Past.{went}
@@ -111,3 +111,17 @@ not_twice given = true≢false (IsDistinct-head nat_eq 0 (0 ∷ []) given.once).
 -- a read of ranges stands in the log, and changes nothing else
 pub a_read_of_ranges : life_of (went (actions.ReadMany three) false at_first) ≡ next (life_of at_first) (logged (ReadMany three) false (life_of at_first).present)
 a_read_of_ranges = refl
+
+-- so does a start of reads, as a call of its own
+pub a_start_of_reads : life_of (went (actions.StartReadMany three) false at_first) ≡ next (life_of at_first) (logged (StartReadMany three) false (life_of at_first).present)
+a_start_of_reads = refl
+
+-- what it keeps stands in the order of the ranges
+abbrev pub of_four : Life
+of_four = begun four_bytes []
+
+pub kept_in_order : StartReadGoes three of_four (next of_four (logged (StartReadMany three) false of_four.present)) (Ok ((5 ∷ 6 ∷ []) ∷ (8 ∷ []) ∷ [] ∷ []))
+kept_in_order = ((λ k d below. grind (arith)), refl, refl)
+
+pub no_other_order : (new : Life) → StartReadGoes three of_four new (Ok ((8 ∷ []) ∷ (5 ∷ 6 ∷ []) ∷ [] ∷ [])) → ⊥
+no_other_order new goes = let wrong = goes.1 in cc

@@ -55,8 +55,10 @@ waited_started name d = (same_of d (slice_get d.started name)).2
 lives_readable : (a : Action) (failed : Bool) (life : Life) → (lives a failed life).present.readable ≡ redone (event a failed) life.present.readable
 lives_readable (actions.Read place len) true life = refl
 lives_readable (actions.ReadMany ranges) true life = refl
+lives_readable (actions.StartReadMany ranges) true life = refl
 lives_readable (actions.Read place len) false life = refl
 lives_readable (actions.ReadMany ranges) false life = refl
+lives_readable (actions.StartReadMany ranges) false life = refl
 lives_readable (actions.Write place bytes false) failed life = refl
 lives_readable (actions.Write place bytes true) true life = refl
 lives_readable (actions.Write place bytes true) false life = refl
@@ -72,6 +74,7 @@ lives_readable (actions.WaitSync name) false life = waited_readable name life.pr
 lives_log : (a : Action) (failed : Bool) (life : Life) → (lives a failed life).present.log ≡ life.present.log ++ entry (asked a) failed ∷ []
 lives_log (actions.Read place len) failed life = refl
 lives_log (actions.ReadMany ranges) failed life = refl
+lives_log (actions.StartReadMany ranges) failed life = refl
 lives_log (actions.Write place bytes false) failed life = refl
 lives_log (actions.Write place bytes true) true life = refl
 lives_log (actions.Write place bytes true) false life = refl
@@ -195,6 +198,7 @@ idle_redone : (a : Action) (failed : Bool) (bytes : List ℕ) → length (operat
 idle_redone a true bytes none = refl
 idle_redone (actions.Read place len) false bytes none = refl
 idle_redone (actions.ReadMany ranges) false bytes none = refl
+idle_redone (actions.StartReadMany ranges) false bytes none = refl
 idle_redone (actions.Write place new sync) false bytes none = absurd (omega (arith, none))
 idle_redone (actions.Resize len) false bytes none = absurd (omega (arith, none))
 idle_redone actions.Sync false bytes none = refl
@@ -340,8 +344,10 @@ module _ (h : History) (starts : List Start) (m : ℕ) (at : DurableTo h m (life
   durable_more : (a : Action) (failed : Bool) → DurableTo (with_event h (event a failed)) (settled_after a failed starts m (length h.events)) (next_disk a failed)
   durable_more (actions.Read place len) true = kept_to h (event (actions.Read place len) true) m now (next_disk (actions.Read place len) true) at refl (sym (append-nil now.since)) refl
   durable_more (actions.ReadMany ranges) true = kept_to h (event (actions.ReadMany ranges) true) m now (next_disk (actions.ReadMany ranges) true) at refl (sym (append-nil now.since)) refl
+  durable_more (actions.StartReadMany ranges) true = kept_to h (event (actions.StartReadMany ranges) true) m now (next_disk (actions.StartReadMany ranges) true) at refl (sym (append-nil now.since)) refl
   durable_more (actions.Read place len) false = kept_to h (event (actions.Read place len) false) m now (next_disk (actions.Read place len) false) at refl (sym (append-nil now.since)) refl
   durable_more (actions.ReadMany ranges) false = kept_to h (event (actions.ReadMany ranges) false) m now (next_disk (actions.ReadMany ranges) false) at refl (sym (append-nil now.since)) refl
+  durable_more (actions.StartReadMany ranges) false = kept_to h (event (actions.StartReadMany ranges) false) m now (next_disk (actions.StartReadMany ranges) false) at refl (sym (append-nil now.since)) refl
   durable_more (actions.Write place bytes false) true = kept_to h (event (actions.Write place bytes false) true) m now (next_disk (actions.Write place bytes false) true) at refl refl refl
   durable_more (actions.Write place bytes false) false = kept_to h (event (actions.Write place bytes false) false) m now (next_disk (actions.Write place bytes false) false) at refl refl refl
   durable_more (actions.Write place bytes true) true = kept_to h (event (actions.Write place bytes true) true) m now (next_disk (actions.Write place bytes true) true) at refl refl refl
@@ -396,6 +402,7 @@ within_more (actions.WaitSync name) true n starts are = later_within n (failing_
 within_more (actions.WaitSync name) false n starts are = later_within n starts are
 within_more (actions.Read place len) failed n starts are = later_within n starts are
 within_more (actions.ReadMany ranges) failed n starts are = later_within n starts are
+within_more (actions.StartReadMany ranges) failed n starts are = later_within n starts are
 within_more (actions.Write place bytes sync) failed n starts are = later_within n starts are
 within_more (actions.Resize len) failed n starts are = later_within n starts are
 within_more actions.Sync failed n starts are = later_within n starts are
@@ -409,6 +416,7 @@ module _ (h : History) (starts : List Start) (m : ℕ) (at : DurableTo h m (life
   started_more : (a : Action) (failed : Bool) → (lives a failed (life_of h)).present.started ≡ map (started_by (with_event h (event a failed))) (starts_after a failed starts (length h.events))
   started_more (actions.Read place len) failed = is ∙ sym (same_starts h (event (actions.Read place len) failed) starts are)
   started_more (actions.ReadMany ranges) failed = is ∙ sym (same_starts h (event (actions.ReadMany ranges) failed) starts are)
+  started_more (actions.StartReadMany ranges) failed = is ∙ sym (same_starts h (event (actions.StartReadMany ranges) failed) starts are)
   started_more (actions.Write place bytes false) failed = is ∙ sym (same_starts h (event (actions.Write place bytes false) failed) starts are)
   started_more (actions.Write place bytes true) true = is ∙ sym (same_starts h (event (actions.Write place bytes true) true) starts are)
   started_more (actions.Write place bytes true) false = is ∙ sym (same_starts h (event (actions.Write place bytes true) false) starts are)
@@ -438,6 +446,7 @@ names_more (actions.WaitSync name) true starts n log is = omega (arith, is, fail
 names_more (actions.WaitSync name) false starts n log is = omega (arith, is, names_append log (entry (WaitSync name) false))
 names_more (actions.Read place len) failed starts n log is = omega (arith, is, names_append log (entry (asked (actions.Read place len)) failed))
 names_more (actions.ReadMany ranges) failed starts n log is = omega (arith, is, names_append log (entry (asked (actions.ReadMany ranges)) failed))
+names_more (actions.StartReadMany ranges) failed starts n log is = omega (arith, is, names_append log (entry (asked (actions.StartReadMany ranges)) failed))
 names_more (actions.Write place bytes sync) failed starts n log is = omega (arith, is, names_append log (entry (asked (actions.Write place bytes sync)) failed))
 names_more (actions.Resize len) failed starts n log is = omega (arith, is, names_append log (entry (asked (actions.Resize len)) failed))
 names_more actions.Sync failed starts n log is = omega (arith, is, names_append log (entry (asked actions.Sync) failed))

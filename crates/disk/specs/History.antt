@@ -3,7 +3,7 @@ use Rattle.std.specs.Prelude.{◌≡◌, ℕ, ◌-◌, ◌==◌, List, [], ◌�
 use Rattle.std.specs.Prelude.{if◌then◌else◌, replicate, ◌+◌}
 use Rattle.disk.specs.Disk.{Operation, Write, Resize, applied, Disk, Life, Entry, Request, ReadAt}
 use Rattle.disk.specs.Disk.{WriteAt, ResizeTo, SyncAll, StartSync, WaitSync, next, logged, settle}
-use Rattle.disk.specs.Disk.{ReadMany, Started, starts, waited}
+use Rattle.disk.specs.Disk.{ReadMany, StartReadMany, Started, starts, waited}
 use Rattle.disk.specs.Torn.{torn}
 use Rattle.disk.specs.declared.action.Action.{Action}
 use Rattle.disk.specs.declared.action.Action.TheVariants as actions
@@ -15,6 +15,7 @@ use Rattle.disk.specs.declared.action.Call.TheVariants as calls
 abbrev pub request_of : Call → Request
 request_of (calls.ReadAt place len) = ReadAt place len
 request_of (calls.ReadMany ranges) = ReadMany ranges.items
+request_of (calls.StartReadMany ranges) = StartReadMany ranges.items
 request_of (calls.WriteAt place len sync) = WriteAt place len sync
 request_of (calls.Resize len) = ResizeTo len
 request_of calls.Sync = SyncAll
@@ -25,6 +26,7 @@ request_of (calls.WaitSync name) = WaitSync name
 abbrev pub asked : Action → Request
 asked (actions.Read place len) = ReadAt place len
 asked (actions.ReadMany ranges) = ReadMany ranges
+asked (actions.StartReadMany ranges) = StartReadMany ranges
 asked (actions.Write place bytes sync) = WriteAt place (length bytes) sync
 asked (actions.Resize len) = ResizeTo len
 asked actions.Sync = SyncAll
@@ -35,6 +37,7 @@ asked (actions.WaitSync name) = WaitSync name
 abbrev pub done : Action → List ℕ → List ℕ
 done (actions.Read place len) bytes = bytes
 done (actions.ReadMany ranges) bytes = bytes
+done (actions.StartReadMany ranges) bytes = bytes
 done (actions.Write place new sync) bytes = applied (Write place new) bytes
 done (actions.Resize len) bytes = applied (Resize len) bytes
 done actions.Sync bytes = bytes
@@ -45,6 +48,7 @@ done (actions.WaitSync name) bytes = bytes
 abbrev pub operation_of : Action → List Operation
 operation_of (actions.Read place len) = []
 operation_of (actions.ReadMany ranges) = []
+operation_of (actions.StartReadMany ranges) = []
 operation_of (actions.Write place bytes sync) = Write place bytes ∷ []
 operation_of (actions.Resize len) = Resize len ∷ []
 operation_of actions.Sync = []
@@ -82,6 +86,8 @@ lives (actions.Read place len) failed life =
     next life (logged (ReadAt place len) failed life.present)
 lives (actions.ReadMany ranges) failed life =
     next life (logged (ReadMany ranges) failed life.present)
+lives (actions.StartReadMany ranges) failed life =
+    next life (logged (StartReadMany ranges) failed life.present)
 lives (actions.Write place bytes false) failed life =
     let request = WriteAt place (length bytes) false in
     next life (operated (Write place bytes) request failed life.present)

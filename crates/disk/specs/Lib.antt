@@ -7,3 +7,4 @@ pub mod Torn
 pub mod Lives
 pub mod Memory
 pub mod Past
+pub mod StartedRead

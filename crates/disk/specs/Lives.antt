@@ -7,7 +7,8 @@ use Rattle.std.proofs.Common.{ap, subst, ◌∙◌, inl, inr, arith, length-appe
 use Rattle.std.proofs.lemmas.Bool.Decides.{nat_tests}
 use Rattle.std.proofs.lemmas.List.{drop-append-le, drop-drop}
 use Rattle.disk.specs.Disk.{Started, AreCovered, coverings, Operation, Write, Resize, applied}
-use Rattle.disk.specs.Disk.{Disk, IsImage, Life, Request, ReadAt, ReadMany, WaitSync, starts}
+use Rattle.disk.specs.Disk.{Disk, IsImage, Life, Request, ReadAt, ReadMany, StartReadMany}
+use Rattle.disk.specs.Disk.{WaitSync, starts}
 use Rattle.disk.specs.Disk.{WriteAt, ResizeTo, SyncAll, logged}
 use Rattle.disk.specs.Disk.{settle, settle_to, waited, waited_for}
 use Rattle.disk.specs.Disk.{failed_at}
@@ -200,6 +201,8 @@ lives_reads (actions.Read place len) failed life r =
     logged_reads (ReadAt place len) failed life.present r
 lives_reads (actions.ReadMany ranges) failed life r =
     logged_reads (ReadMany ranges) failed life.present r
+lives_reads (actions.StartReadMany ranges) failed life r =
+    logged_reads (StartReadMany ranges) failed life.present r
 lives_reads (actions.Write place bytes false) failed life r =
     operated_reads (Write place bytes) (WriteAt place (length bytes) false) failed life.present r
 lives_reads (actions.Write place bytes true) true life r =

@@ -2,7 +2,7 @@
 use Rattle.std.specs.Prelude.{◌≡◌, ◌≤◌, ◌<◌, ◌≢◌, ℕ, ◌+◌, ◌-◌, List, [], ◌∷◌, length, take, drop}
 use Rattle.std.specs.Prelude.{Bool, true, false, Result, Ok, Err, if◌then◌else◌, ◌++◌, suc, zero}
 use Rattle.std.specs.Prelude.{Option, Some, None, slice_get, max, map}
-use Rattle.disk.specs.Disk.{Entry, Disk, Started, Delivers, IsWithin, failures}
+use Rattle.disk.specs.Disk.{Entry, Disk, Started, Delivers, IsWithin, bytes_of, failures}
 use Rattle.disk.specs.declared.action.Event.{Event}
 use Rattle.disk.specs.declared.action.Call.{Call}
 use Rattle.disk.specs.declared.error.Error.{Error}
@@ -86,6 +86,7 @@ abbrev pub settled_after : Action → (failed : Bool) → List Start → (settle
 settled_after action true starts settled events = settled
 settled_after (actions.Read place len) false starts settled events = settled
 settled_after (actions.ReadMany ranges) false starts settled events = settled
+settled_after (actions.StartReadMany ranges) false starts settled events = settled
 settled_after (actions.Write place bytes sync) false starts settled events =
     if sync then events + 1 else settled
 settled_after (actions.Resize len) false starts settled events = settled
@@ -108,6 +109,7 @@ starts_after (actions.WaitSync name) true starts events = failing_at name starts
 starts_after (actions.WaitSync name) false starts events = starts
 starts_after (actions.Read place len) failed starts events = starts
 starts_after (actions.ReadMany ranges) failed starts events = starts
+starts_after (actions.StartReadMany ranges) failed starts events = starts
 starts_after (actions.Write place bytes sync) failed starts events = starts
 starts_after (actions.Resize len) failed starts events = starts
 starts_after actions.Sync failed starts events = starts
@@ -148,3 +150,11 @@ AreRanges ranges readable out (Ok _) = IsWithin ranges readable × Delivers rang
 AreRanges ranges readable out (Err BlobInsufficientLength) = IsWithin ranges readable → ⊥
 AreRanges ranges readable out (Err OutOfMemory) = IsWithin ranges readable
 AreRanges ranges readable out (Err _) = ⊥
+
+-- the same, the bytes in the order of the ranges
+abbrev pub AreRangesInOrder : List (ℕ × ℕ) → List ℕ → Result (List (List ℕ)) Error → Type 0
+AreRangesInOrder ranges readable (Ok bufs) =
+    IsWithin ranges readable × (bufs ≡ bytes_of ranges readable)
+AreRangesInOrder ranges readable (Err BlobInsufficientLength) = IsWithin ranges readable → ⊥
+AreRangesInOrder ranges readable (Err OutOfMemory) = IsWithin ranges readable
+AreRangesInOrder ranges readable (Err _) = ⊥

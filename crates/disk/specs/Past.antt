@@ -4,8 +4,8 @@ use Rattle.std.specs.List.{concat}
 use Rattle.disk.specs.declared.action.Action.{Action}
 use Rattle.disk.specs.declared.action.Action.TheVariants as actions
 use Rattle.disk.specs.declared.past.Asked.{Asked}
-use Rattle.disk.specs.declared.past.Asked.TheVariants.{Nothing, Read, ReadMany, Write}
-use Rattle.disk.specs.declared.past.Asked.TheVariants.{Resize, Sync, StartSync, WaitSync}
+use Rattle.disk.specs.declared.past.Asked.TheVariants.{Nothing, Read, ReadMany, StartReadMany}
+use Rattle.disk.specs.declared.past.Asked.TheVariants.{Write, Resize, Sync, StartSync, WaitSync}
 use Rattle.disk.specs.declared.ranges.Range.{Range}
 use Rattle.disk.specs.declared.ranges.Range.TheVariants as ranges
 use Rattle.disk.specs.History.{History}
@@ -27,6 +27,8 @@ past_of (Nothing first) =
 past_of (Read before place len failed) = went (actions.Read place len) failed before.value.value
 past_of (ReadMany before ranges failed) =
     went (actions.ReadMany ranges.value) failed before.value.value
+past_of (StartReadMany before ranges failed) =
+    went (actions.StartReadMany ranges.value) failed before.value.value
 past_of (Write before place bufs sync failed) =
     went (actions.Write place (concat bufs.value) sync) failed before.value.value
 past_of (Resize before len failed) = went (actions.Resize len) failed before.value.value

@@ -19,6 +19,8 @@ pub enum Call {
     ReadAt(u64, usize),
     /// A read of several ranges: of each the place and the number of bytes.
     ReadMany(Vec<(u64, usize)>),
+    /// The start of a read of several ranges: of each the place and the number of bytes.
+    StartReadMany(Vec<(u64, usize)>),
     /// A write: the place, the number of bytes, and whether it was to be durable.
     WriteAt(u64, usize, bool),
     /// A resize: the new length in bytes.
@@ -36,6 +38,7 @@ pub enum Call {
 pub enum Action {
     Read(u64, usize),
     ReadMany(Ranges),
+    StartReadMany(Ranges),
     Write(u64, IoBuf, bool),
     Resize(u64),
     Sync,
@@ -66,6 +69,7 @@ impl Action {
         Ok(match self {
             Action::Read(place, len) => Call::ReadAt(*place, *len),
             Action::ReadMany(ranges) => Call::ReadMany(ranges.to_vec(alloc)?),
+            Action::StartReadMany(ranges) => Call::StartReadMany(ranges.to_vec(alloc)?),
             Action::Write(place, bytes, sync) => Call::WriteAt(*place, bytes.len(), *sync),
             Action::Resize(len) => Call::Resize(*len),
             Action::Sync => Call::Sync,

@@ -2,9 +2,10 @@
 ghost use Rattle.std.specs.Prelude.{◌≡◌, [], true};
 ghost use Rattle.std.specs.List.{concat};
 ghost use Rattle.disk.specs.Disk.{Life, IsImage, AreCovered, Write, Resize, ReadGoes, WriteGoes};
-ghost use Rattle.disk.specs.Disk.{ReadManyGoes, ResizeGoes, SyncGoes, StartGoes, WaitsFor};
+ghost use Rattle.disk.specs.Disk.{ReadManyGoes, StartReadGoes, ResizeGoes, SyncGoes, StartGoes};
+ghost use Rattle.disk.specs.Disk.{WaitsFor};
 
-use crate::{Error, IoBuf, IoBufs, StartedSync};
+use crate::{Error, IoBuf, IoBufs, StartedRead, StartedSync};
 use std::alloc::Global;
 
 /// How a read is to be done.
@@ -28,7 +29,8 @@ pub struct WriteOptions {
 /// Each call has one clause, by cases on its answer: what it did to the blob's life, and why an
 /// error came. A call looks for an overflow first, then for the end, then for memory, and asks the
 /// device last. One that answers `OffsetOverflow`, `BlobInsufficientLength` or `OutOfMemory` asked
-/// no device: it changed nothing and stands in no log.
+/// no device: it changed nothing and stands in no log. A start of reads answers so at the wait for
+/// them.
 ///
 /// A sync that failed may be asked for again, also by a recovery that begins on the same blob:
 /// where the later one answers `Ok`, all that is readable is durable, what was written before the
@@ -64,6 +66,19 @@ pub trait Blob {
     ) -> Result<(), Error>
         ensures goes { ReadManyGoes ranges.now (life self.old) (life self.new) out.new.items
             result };
+
+    /// Starts a read of each of the ranges, a place and a length, in one device call, and answers
+    /// what keeps their bytes, in the order of the ranges and as they were at the start. The call
+    /// itself is never refused: what would have refused it shows at the wait.
+    /// `BlobInsufficientLength` where a range passes the end, `OutOfMemory` only where none does,
+    /// and both asked no device; `ReadFailed` where the device failed.
+    fn start_read_many(
+        &mut self,
+        alloc: Global,
+        ranges: &[(u64, usize)],
+        options: ReadOptions,
+    ) -> StartedRead
+        ensures goes { StartReadGoes ranges.now (life self.old) (life self.new) result };
 
     /// Sets the bytes at `offset`; a gap behind the end is filled with zeros. With `sync` they are
     /// durable at `Ok`, and nothing may be unsynced before. `OffsetOverflow` where the range passes

@@ -2,9 +2,9 @@
 ghost use Rattle.std.specs.Prelude.{◌≡◌, ◌+◌, ◌-◌, ◌^◌, [], min, length, sum_by, true};
 ghost use Rattle.std.specs.List.{concat};
 ghost use Rattle.disk.specs.Disk.{ReadGoes, ReadManyGoes, WriteGoes, ResizeGoes, SyncGoes};
-ghost use Rattle.disk.specs.Disk.{StartGoes, WaitsFor, calls_after_wait};
+ghost use Rattle.disk.specs.Disk.{StartReadGoes, StartGoes, WaitsFor, calls_after_wait};
 
-use crate::{Blob, Error, IoBuf, IoBufs, ReadOptions, StartedSync, WriteOptions};
+use crate::{Blob, Error, IoBuf, IoBufs, ReadOptions, StartedRead, StartedSync, WriteOptions};
 use std::alloc::Global;
 
 /// A blob that hands each call on to another, and counts the calls and the bytes that it is asked
@@ -35,6 +35,18 @@ impl<B> Counted<B> {
             read: 0,
             written: 0,
         }
+    }
+
+    // Counts a call that asks for these ranges.
+    fn count_ranges(&mut self, ranges: &[(u64, usize)])
+        ensures inner { self.new.inner ≡ self.old.inner }
+        ensures calls { self.new.calls ≡ min (self.old.calls + 1) (2 ^ 64 - 1) }
+        ensures read { let bytes = sum_by (λ r. r.1) ranges.now in
+            self.new.read ≡ min (self.old.read + bytes) (2 ^ 64 - 1) }
+        ensures written { self.new.written ≡ self.old.written }
+    {
+        self.calls = self.calls.saturating_add(1);
+        self.read = with_lengths(self.read, ranges);
     }
 }
 
@@ -72,9 +84,25 @@ impl<B: Blob> Blob for Counted<B> {
             self.new.read ≡ min (self.old.read + bytes) (2 ^ 64 - 1) }
         ensures written { self.new.written ≡ self.old.written }
     {
-        self.calls = self.calls.saturating_add(1);
-        self.read = with_lengths(self.read, ranges);
+        self.count_ranges(ranges);
         self.inner.read_many(alloc, ranges, options, out)
+    }
+
+    fn start_read_many(
+        &mut self,
+        alloc: Global,
+        ranges: &[(u64, usize)],
+        options: ReadOptions,
+    ) -> StartedRead
+        ensures goes { let old = B.life self.old.inner in let new = B.life self.new.inner in
+            StartReadGoes ranges.now old new result }
+        ensures calls { self.new.calls ≡ min (self.old.calls + 1) (2 ^ 64 - 1) }
+        ensures read { let bytes = sum_by (λ r. r.1) ranges.now in
+            self.new.read ≡ min (self.old.read + bytes) (2 ^ 64 - 1) }
+        ensures written { self.new.written ≡ self.old.written }
+    {
+        self.count_ranges(ranges);
+        self.inner.start_read_many(alloc, ranges, options)
     }
 
     fn write_at(&mut self, offset: u64, bufs: &IoBufs, options: WriteOptions) -> Result<(), Error>

@@ -12,6 +12,7 @@ mod error;
 mod memory;
 mod past;
 mod ranges;
+mod started_read;
 mod started_sync;
 mod vec_blob;
 
@@ -21,5 +22,9 @@ pub use buf::{IoBuf, IoBufs};
 pub use counted::Counted;
 pub use error::Error;
 pub use memory::MemBlob;
+pub use started_read::StartedRead;
 pub use started_sync::StartedSync;
 pub use vec_blob::VecBlob;
+
+#[cfg(test)]
+mod tests;

@@ -6,14 +6,15 @@ ghost use Rattle.std.specs.Prelude.{IsOkUnless};
 ghost use Rattle.std.specs.List.{concat};
 ghost use Rattle.disk.specs.Disk.{IsImage, LeavesNoMore, Life, Write, Resize, failures, had_failed};
 ghost use Rattle.disk.specs.Disk.{ReadGoes, ReadManyGoes, WriteGoes, ResizeGoes, SyncGoes};
-ghost use Rattle.disk.specs.Disk.{StartGoes, WaitsFor};
+ghost use Rattle.disk.specs.Disk.{StartReadGoes, StartGoes, WaitsFor};
 ghost use Rattle.disk.specs.History.{life_of, begun, told, request_of};
 ghost use Rattle.disk.specs.Memory.{CountsDown, CountsStart, CountsWait, IsRange, AreRanges};
+ghost use Rattle.disk.specs.StartedRead.{answer_of};
 ghost use Rattle.disk.specs.Torn.{torn};
 
 use crate::action::{Action, Call, Event, Start, replay, tear};
-use crate::ranges::{Ranges, copy_ranges};
-use crate::{Blob, Error, IoBuf, IoBufs, ReadOptions, StartedSync, WriteOptions};
+use crate::ranges::{Ranges, copy_in_order, copy_ranges};
+use crate::{Blob, Error, IoBuf, IoBufs, ReadOptions, StartedRead, StartedSync, WriteOptions};
 use std::alloc::{AllocError, Global};
 use std::marker::Model;
 
@@ -131,7 +132,8 @@ impl MemBlob {
     }
 
     /// The nth device call from now on is to fail, and no other one. A start of a sync answers `Ok`
-    /// all the same: that it failed shows at each wait for it.
+    /// all the same: that it failed shows at each wait for it. So does a failed start of reads, at
+    /// the wait for those.
     pub fn fail_at(&mut self, n: u64)
         requires { 1 ≤ n }
         ensures life { life_of self.new ≡ life_of self.old }
@@ -212,6 +214,20 @@ impl MemBlob {
         Ok(())
     }
 
+    // Starts a read of several ranges, and answers what is to be kept of it.
+    fn start_ranges(&mut self, alloc: Global, ranges: &[(u64, usize)]) -> Result<Vec<IoBuf>, Error>
+        ensures goes { let old = life_of self.old in let new = life_of self.new in
+            StartReadGoes ranges.now old new (answer_of result) }
+        ensures counts { CountsDown self.old.failing self.new.failing (answer_of result) }
+    {
+        let bufs = copy_in_order(alloc, self.bytes(), ranges)?;
+        let asked = Ranges::from_slice(alloc, ranges)?;
+        if self.ask(Action::StartReadMany(asked))? {
+            return Err(Error::ReadFailed);
+        }
+        Ok(bufs)
+    }
+
     // Whether a wait for this sync can only fail.
     fn has_failed(&self, name: u64) -> bool
         ensures { result ≡ had_failed (life_of self.now).present.started name }
@@ -289,6 +305,18 @@ impl Blob for MemBlob {
             return Err(Error::ReadFailed);
         }
         Ok(())
+    }
+
+    fn start_read_many(
+        &mut self,
+        alloc: Global,
+        ranges: &[(u64, usize)],
+        _options: ReadOptions,
+    ) -> StartedRead
+        ensures goes { StartReadGoes ranges.now (life_of self.old) (life_of self.new) result }
+        ensures counts { CountsDown self.old.failing self.new.failing result }
+    {
+        StartedRead::kept(self.start_ranges(alloc, ranges))
     }
 
     // What is unsynced before a durable write is made durable with it.

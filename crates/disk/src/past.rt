@@ -24,6 +24,7 @@ enum Asked {
     Nothing(Snapshot<Vec<u8>>),
     Read(Snapshot<Snapshot<Past>>, u64, usize, bool),
     ReadMany(Snapshot<Snapshot<Past>>, Snapshot<Listed>, bool),
+    StartReadMany(Snapshot<Snapshot<Past>>, Snapshot<Listed>, bool),
     Write(Snapshot<Snapshot<Past>>, u64, Snapshot<IoBufs>, bool, bool),
     Resize(Snapshot<Snapshot<Past>>, u64, bool),
     Sync(Snapshot<Snapshot<Past>>, bool),
@@ -79,6 +80,20 @@ impl Past {
     {
         let past = Past {
             last: Asked::ReadMany(Snapshot::of(before), Listed::of(ranges), failed),
+        };
+        Snapshot::of(&past)
+    }
+
+    /// A start of a read of several ranges more.
+    pub fn start_read_many(
+        before: &Snapshot<Self>,
+        ranges: &[(u64, usize)],
+        failed: bool,
+    ) -> Snapshot<Self>
+        ensures { result.value ≡ went (actions.StartReadMany ranges.now) failed before.now.value }
+    {
+        let past = Past {
+            last: Asked::StartReadMany(Snapshot::of(before), Listed::of(ranges), failed),
         };
         Snapshot::of(&past)
     }

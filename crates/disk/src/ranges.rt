@@ -1,7 +1,8 @@
 // Several ranges of bytes: lists of them, and the bytes that stand there.
 ghost use Rattle.std.specs.Prelude.{◌≡◌, ◌↔◌, ◌++◌, ◌∷◌, [], IfOk, true};
 ghost use Rattle.disk.specs.Disk.{IsWithin};
-ghost use Rattle.disk.specs.Memory.{AreRanges};
+ghost use Rattle.disk.specs.Memory.{AreRanges, AreRangesInOrder};
+ghost use Rattle.disk.specs.StartedRead.{answer_of};
 
 use crate::{Error, IoBuf};
 use std::alloc::{AllocError, Global};
@@ -127,6 +128,26 @@ pub fn copy_ranges(
         out.push((index, range))?;
     }
     Ok(())
+}
+
+/// A copy of each range's bytes, in the order of the ranges. `BlobInsufficientLength` where a range
+/// passes the end, and else `OutOfMemory` alone.
+pub fn copy_in_order(
+    alloc: Global,
+    bytes: &[u8],
+    ranges: &[(u64, usize)],
+) -> Result<Vec<IoBuf>, Error>
+    ensures { AreRangesInOrder ranges.now bytes.now (answer_of result) }
+{
+    if !are_within(ranges, bytes) {
+        return Err(Error::BlobInsufficientLength);
+    }
+    let mut bufs = Vec::with_capacity(alloc, ranges.len())?;
+    for &(place, len) in ranges {
+        let start = place as usize;
+        bufs.push(IoBuf::copy_from_slice(alloc, &bytes[start..start + len])?)?;
+    }
+    Ok(bufs)
 }
 
 // Whether each of the ranges lies within these bytes.

@@ -3,13 +3,14 @@ ghost use Rattle.std.specs.Prelude.{◌≡◌, ◌≤◌, ◌<◌, ◌+◌, ◌^
 ghost use Rattle.std.specs.Prelude.{OnErr, IsOk, IsOkUnless, vec_capacity};
 ghost use Rattle.std.specs.List.{concat};
 ghost use Rattle.disk.specs.Disk.{ReadGoes, ReadManyGoes, WriteGoes, ResizeGoes, SyncGoes};
-ghost use Rattle.disk.specs.Disk.{StartGoes, WaitsFor};
+ghost use Rattle.disk.specs.Disk.{StartReadGoes, StartGoes, WaitsFor};
 ghost use Rattle.disk.specs.History.{life_of, begun};
+ghost use Rattle.disk.specs.StartedRead.{answer_of};
 
 use crate::action::{grow, put};
 use crate::past::Past;
-use crate::ranges::copy_ranges;
-use crate::{Blob, Error, IoBuf, IoBufs, ReadOptions, StartedSync, WriteOptions};
+use crate::ranges::{copy_in_order, copy_ranges};
+use crate::{Blob, Error, IoBuf, IoBufs, ReadOptions, StartedRead, StartedSync, WriteOptions};
 use std::alloc::{AllocError, Global};
 use std::marker::Model;
 use std::snapshot::Snapshot;
@@ -70,6 +71,16 @@ impl VecBlob {
         ensures { result ≡ length (life_of self.now).present.readable }
     {
         self.bytes.len() as u64
+    }
+
+    // Starts a read of several ranges, and answers what is to be kept of it.
+    fn start_ranges(&mut self, alloc: Global, ranges: &[(u64, usize)]) -> Result<Vec<IoBuf>, Error>
+        ensures { let old = life_of self.old in let new = life_of self.new in
+            StartReadGoes ranges.now old new (answer_of result) }
+    {
+        let bufs = copy_in_order(alloc, &self.bytes, ranges)?;
+        self.past = Past::start_read_many(&self.past, ranges, false);
+        Ok(bufs)
     }
 }
 
@@ -135,6 +146,17 @@ impl Blob for VecBlob {
         copy_ranges(alloc, &self.bytes, ranges, out)?;
         self.past = Past::read_many(&self.past, ranges, false);
         Ok(())
+    }
+
+    fn start_read_many(
+        &mut self,
+        alloc: Global,
+        ranges: &[(u64, usize)],
+        _options: ReadOptions,
+    ) -> StartedRead
+        ensures goes { StartReadGoes ranges.now (life_of self.old) (life_of self.new) result }
+    {
+        StartedRead::kept(self.start_ranges(alloc, ranges))
     }
 
     fn write_at(&mut self, offset: u64, bufs: &IoBufs, options: WriteOptions) -> Result<(), Error>

@@ -354,6 +354,7 @@ impl<H: Sum> Store<H> {
 pub enum Call {
     ReadAt(u64, usize),
     ReadMany,
+    StartReadMany,
     WriteAt(u64, usize, bool),
     Resize(u64),
     Sync,
@@ -365,6 +366,7 @@ fn as_written(call: &disk::Call) -> Call {
     match call {
         disk::Call::ReadAt(place, len) => Call::ReadAt(*place, *len),
         disk::Call::ReadMany(_) => Call::ReadMany,
+        disk::Call::StartReadMany(_) => Call::StartReadMany,
         disk::Call::WriteAt(place, len, sync) => Call::WriteAt(*place, *len, *sync),
         disk::Call::Resize(len) => Call::Resize(*len),
         disk::Call::Sync => Call::Sync,
@@ -404,7 +406,7 @@ pub fn reads_many(blob: &MemBlob, first: usize, lists: &[&[(u64, usize)]]) -> bo
 /// The error with which a call of this kind fails.
 pub fn error_of(call: Call) -> Error {
     match call {
-        Call::ReadAt(_, _) | Call::ReadMany => Error::ReadFailed,
+        Call::ReadAt(_, _) | Call::ReadMany | Call::StartReadMany => Error::ReadFailed,
         Call::WriteAt(_, _, _) => Error::WriteFailed,
         Call::Resize(_) => Error::ResizeFailed,
         Call::Sync | Call::StartSync | Call::WaitSync(_) => Error::SyncFailed,

@@ -1,0 +1,7 @@
+use Rattle.std.proofs.Common.{◌≡◌, take}
+use Rattle.disk.specs.Disk.{bytes_of}
+use Rattle.disk.proofs.ranges.copy_in_order.Given as goal
+
+-- the bytes of the ranges so far
+abbrev pub invariant-loop-place : goal.invariant-loop-place
+invariant-loop-place l = l.bufs.items ≡ bytes_of (take l.place-index l.ranges) l.bytes

@@ -1,0 +1,40 @@
+// Reads that were started.
+ghost use Rattle.std.specs.Prelude.{◌≡◌};
+ghost use Rattle.disk.specs.StartedRead.{answer_of};
+
+use crate::{Error, IoBuf};
+use std::marker::Model;
+
+/// What starting a read of several ranges answers, to be waited for. It keeps the bytes of each
+/// range, as they were at the start, or why there are none.
+#[derive(Drop)]
+pub struct StartedRead {
+    answer: Result<Vec<IoBuf>, Error>,
+}
+
+impl Model for StartedRead {
+    ghost use Rattle.std.specs.Prelude.{List, Result, ℕ};
+    ghost use Rattle.disk.specs.declared.error.Error.{Error};
+    ghost use Rattle.disk.specs.StartedRead.{answer_of};
+
+    ghost Value = { Result (List (List ℕ)) Error };
+
+    ghost view = { λ r. answer_of r.answer };
+}
+
+impl StartedRead {
+    /// A started read that keeps this answer, for whoever writes a [`crate::Blob`].
+    pub fn kept(answer: Result<Vec<IoBuf>, Error>) -> Self
+        ensures { result ≡ answer_of answer }
+    {
+        StartedRead { answer }
+    }
+
+    /// The bytes of each range, in the order of the ranges, or the error that was kept in their
+    /// place. It asks no device and takes no memory.
+    pub fn wait(self) -> Result<Vec<IoBuf>, Error>
+        ensures { answer_of result ≡ self }
+    {
+        self.answer
+    }
+}

@@ -1,0 +1,123 @@
+// Reads that are started.
+use crate::{
+    Blob, Call, Counted, Error, IoBuf, IoBufs, MemBlob, ReadOptions, VecBlob, WriteOptions,
+};
+use std::alloc::Global;
+use std::test::Fail;
+
+const LETTERS: &[u8] = b"abcdef";
+
+// Two that lie across each other, an empty one behind the last byte, and one of all bytes.
+const RANGES: &[(u64, usize)] = &[(1, 3), (3, 2), (6, 0), (0, 6)];
+
+const PIECES: &[&[u8]] = &[b"bcd", b"de", b"", b"abcdef"];
+
+// The last range passes the end by a byte.
+const PAST: &[(u64, usize)] = &[(0, 1), (4, 3)];
+
+// What is written over the letters.
+const OVER: &[u8] = b"uvwxyz";
+
+const PLAIN: WriteOptions = WriteOptions {
+    sync: false,
+    dont_cache: false,
+};
+
+// Whether a wait gives this.
+fn gives(got: &Result<Vec<IoBuf>, Error>, want: Result<&[&[u8]], Error>) -> bool {
+    match got {
+        Ok(bufs) => match want {
+            Ok(pieces) => are_made_of(bufs, pieces),
+            Err(_) => false,
+        },
+        Err(error) => want == Err(*error),
+    }
+}
+
+fn are_made_of(bufs: &[IoBuf], pieces: &[&[u8]]) -> bool {
+    if bufs.len() != pieces.len() {
+        return false;
+    }
+    for (buf, piece) in bufs.iter().zip(pieces) {
+        if buf.as_ref() != *piece {
+            return false;
+        }
+    }
+    true
+}
+
+// Whether a started read of these ranges keeps this.
+fn keeps<B: Blob>(
+    alloc: Global,
+    blob: &mut B,
+    ranges: &[(u64, usize)],
+    want: Result<&[&[u8]], Error>,
+) -> bool {
+    let started = blob.start_read_many(alloc, ranges, ReadOptions::default());
+    gives(&started.wait(), want)
+}
+
+// Whether it keeps the bytes of the start where they are written over before the wait.
+fn keeps_what_was<B: Blob>(alloc: Global, blob: &mut B) -> Result<bool, Error> {
+    let started = blob.start_read_many(alloc, RANGES, ReadOptions::default());
+    let mut bufs = IoBufs::new(alloc);
+    bufs.append(IoBuf::copy_from_slice(alloc, OVER)?)?;
+    blob.write_at(0, &bufs, PLAIN)?;
+    Ok(gives(&started.wait(), Ok(PIECES)))
+}
+
+// Whether this is a start of a read of just these ranges.
+fn starts(call: Option<&Call>, want: &[(u64, usize)]) -> bool {
+    match call {
+        Some(Call::StartReadMany(ranges)) => ranges.as_slice() == want,
+        _ => false,
+    }
+}
+
+#[test]
+fn a_started_read_keeps_what_was(rt: HostRuntime) -> Result<(), Fail> {
+    let alloc = rt.alloc();
+    let mut blob = MemBlob::from_bytes(alloc, LETTERS)?;
+    // It has no part in how a read of ranges delivers.
+    blob.deliver_backwards(true);
+    assert!(rt; keeps_what_was(alloc, &mut blob)?);
+    assert_eq!(rt; blob.bytes(), OVER);
+    assert_eq!(rt; blob.calls().len(), 2);
+    assert!(rt; starts(blob.calls().first(), RANGES));
+
+    let mut plain = Counted::new(VecBlob::from_vec(Vec::from_slice(alloc, LETTERS)?));
+    assert!(rt; keeps_what_was(alloc, &mut plain)?);
+    assert_eq!(rt; plain.inner.bytes(), OVER);
+    assert_eq!(rt; plain.calls, 2);
+    assert_eq!(rt; plain.read, 11);
+    Ok(())
+}
+
+#[test]
+fn a_range_past_the_end_asks_no_device(rt: HostRuntime) -> Result<(), Fail> {
+    let alloc = rt.alloc();
+    let past = Err(Error::BlobInsufficientLength);
+    let mut blob = MemBlob::from_bytes(alloc, LETTERS)?;
+    assert!(rt; keeps(alloc, &mut blob, PAST, past));
+    assert_eq!(rt; blob.calls().len(), 0);
+    let mut plain = VecBlob::from_vec(Vec::from_slice(alloc, LETTERS)?);
+    assert!(rt; keeps(alloc, &mut plain, PAST, past));
+    Ok(())
+}
+
+#[test]
+fn a_failed_start_shows_at_the_wait(rt: HostRuntime) -> Result<(), Fail> {
+    let alloc = rt.alloc();
+    let mut blob = MemBlob::from_bytes(alloc, LETTERS)?;
+    blob.fail_at(1);
+    // What asks no device isn't counted.
+    assert!(rt; keeps(alloc, &mut blob, PAST, Err(Error::BlobInsufficientLength)));
+    assert!(rt; keeps(alloc, &mut blob, RANGES, Err(Error::ReadFailed)));
+    assert_eq!(rt; blob.calls().len(), 1);
+    assert!(rt; starts(blob.calls().first(), RANGES));
+    assert_eq!(rt; blob.failures(), 1);
+    assert!(rt; keeps(alloc, &mut blob, RANGES, Ok(PIECES)));
+    assert_eq!(rt; blob.calls().len(), 2);
+    assert_eq!(rt; blob.failures(), 1);
+    Ok(())
+}
