@@ -1,6 +1,6 @@
 -- What a journal's calls do, from what the writer's do.
-use Rattle.std.proofs.Common.{◌≡◌, ◌≢◌, cond, inl, inr, ℕ, ◌+◌, ◌-◌, ◌*◌, ◌^◌, ◌<◌, ◌≤◌, List, [], ◌∷◌, ◌++◌, length, take, drop, refl, sym, ap, ap₂, ◌∙◌, subst, arith, append-nil, length-append, length-take, length-drop, min, Ok, Err, Result}
-use Rattle.std.specs.Prelude.{Option, IfOk, OnOk, IsOkUnless, Vec, Bool, true, false, nat_lt}
+use Rattle.std.proofs.Common.{◌≡◌, inl, inr, ℕ, ◌+◌, ◌-◌, ◌*◌, ◌^◌, ◌<◌, ◌≤◌, List, [], ◌∷◌, ◌++◌, length, take, drop, refl, sym, ap, ap₂, ◌∙◌, subst, arith, append-nil, length-append, length-take, length-drop, min, Ok, Err, Result}
+use Rattle.std.specs.Prelude.{Option, IfOk, OnOk, IsOkUnless, Vec}
 use Rattle.std.specs.Result.{IsErrAnd}
 use Rattle.std.specs.declared.alloc.Global.{Global}
 use Rattle.std.proofs.lemmas.List.{append_assoc, take-append-le, take-take, take_all, drop_at}
@@ -17,18 +17,15 @@ use Rattle.crash.specs.Stays.{KeepsAllFloors, LeavesOnly, KeepsAll}
 use Rattle.crash.specs.Looks.{Looked, looked_start, looked_joins}
 use Rattle.crash.specs.Sound.{IsSound, LeavesItsContent, content}
 use Rattle.crash.specs.WriterState.{WriterState}
-use Rattle.crash.specs.WriterState.SyncState.{Clean}
 use Rattle.crash.specs.Moments.{through_start, through_then, through_joins, through_end}
 use Rattle.paged_read.specs.Snapshots.{LeavesOthers, LeavesReads, LeavesTails}
-use Rattle.paged_read.specs.Tail.{Tail, CanRead, told}
+use Rattle.paged_read.specs.Tail.{Tail, CanRead}
 use Rattle.paged_read.specs.Ranges.{Reads, LeavesAll}
 use Rattle.paged.specs.Caches.{tail_of}
 use Rattle.paged.specs.Calls.{GoesOn, Appends, Syncs}
-use Rattle.paged.specs.Flush.{synced}
 use Rattle.paged.specs.Reads.{size_of}
-use Rattle.paged.specs.Recovers.{Recovers, opened_bytes}
-use Rattle.paged.specs.Recovery.{opened_writer}
-use Rattle.paged.specs.Truncate.{Truncates, KeepsFloorsWithin, cut_writer, shortened_writer}
+use Rattle.paged.specs.Recovers.{Recovers}
+use Rattle.paged.specs.Truncate.{Truncates, KeepsFloorsWithin}
 use Rattle.paged.specs.Writer.{physical_size}
 use Rattle.journal.specs.declared.frame.Found.{Found}
 use Rattle.journal.specs.Frame.{frame, record_len, frame_len, listed, record_of, records, whole_frames, IsWhole, IsPrefix}

@@ -1,6 +1,6 @@
 -- What a journal's calls leave to readers, and what a reader's reads do.
-use Rattle.std.proofs.Common.{◌≡◌, ◌≢◌, ℕ, ◌+◌, ◌-◌, ◌^◌, ◌<◌, ◌≤◌, List, [], ◌∷◌, ◌++◌, length, take, drop, refl, sym, ap, ◌∙◌, subst, append-nil, arith, Ok, Err, Result}
-use Rattle.std.specs.Prelude.{Option, Some, None, is_some, false, IfOk}
+use Rattle.std.proofs.Common.{◌≡◌, ℕ, ◌≤◌, List, [], ◌++◌, length, drop, refl, sym, ap, ◌∙◌, subst, append-nil, arith, Ok, Err, Result}
+use Rattle.std.specs.Prelude.{Option, Some, None, is_some, false}
 use Rattle.std.specs.Result.{IsErrAnd}
 use Rattle.std.proofs.lemmas.List.{drop_all}
 use Rattle.disk.specs.Disk.{Disk, Life, IsImage}
@@ -8,7 +8,7 @@ use Rattle.disk.specs.declared.error.Error.{Error}
 use Rattle.cache.specs.CacheState.{CacheState}
 use Rattle.cache.specs.Pages.{IsFresh}
 use Rattle.crash.specs.Guard.{IsChanceFree}
-use Rattle.crash.specs.Kept.{AllKeep, AllOnly, Through}
+use Rattle.crash.specs.Kept.{AllKeep, AllOnly}
 use Rattle.crash.specs.Looks.{Looked, SameButLog, looked_start, looked_joins}
 use Rattle.crash.specs.Moments.{through_then}
 use Rattle.crash.specs.Sound.{IsSound, content}
@@ -21,8 +21,8 @@ use Rattle.paged.specs.Caches.{tail_of}
 use Rattle.paged.specs.Calls.{GoesOn}
 use Rattle.journal.specs.declared.frame.Found.{Found}
 use Rattle.journal.specs.Frame.{IsWhole, listed, records}
-use Rattle.journal.specs.Journal.{IsFound, IsJournal, ReadRefused}
-use Rattle.journal.specs.Reader.{ReaderState, AllReadersStay, EachReaderStays, FindsNext, IsNewToReaders, IsNext, IsOpen, HasReader, IsReader, JournalsStay, LeavesTheirRecords, OnlyLooks, OtherReadersStay, ReadersStay, left, read_over}
+use Rattle.journal.specs.Journal.{IsFound, ReadRefused}
+use Rattle.journal.specs.Reader.{ReaderState, AllReadersStay, EachReaderStays, FindsNext, IsNewToReaders, IsNext, IsOpen, HasReader, IsReader, JournalsStay, LeavesTheirRecords, OnlyLooks, OtherReadersStay, ReadersStay, read_over}
 use Rattle.journal.proofs.Frames.{records-none}
 use Rattle.journal.proofs.Journals.{gone_on, is_journal, leaves_records, prefix_of_itself, ready_of, refused_later, whole_of}
 

@@ -1,6 +1,6 @@
 -- A reader of a journal's records, and what leaves it as it is.
-use Rattle.std.specs.Prelude.{◌≡◌, ◌≢◌, ◌≤◌, ◌<◌, ℕ, List, [], ◌∷◌, ◌++◌, length, drop}
-use Rattle.std.specs.Prelude.{Option, Some, None, Result, Ok, Err}
+use Rattle.std.specs.Prelude.{◌≡◌, ◌≢◌, ◌≤◌, ℕ, List, [], ◌++◌, length, drop}
+use Rattle.std.specs.Prelude.{Option, None, Result, Ok, Err}
 use Rattle.disk.specs.Disk.{Life}
 use Rattle.disk.specs.declared.error.Error.{Error}
 use Rattle.cache.specs.CacheState.{CacheState}

@@ -1,5 +1,5 @@
 -- What a step leaves of the session's snapshots.
-use Rattle.std.proofs.Common.{◌≡◌, ◌⊎◌, ℕ, zero, suc, ◌+◌, ◌<◌, ◌≤◌, List, [], ◌∷◌, ◌++◌, length, map, refl, sym, ap, ◌∙◌, subst, arith, append-nil, inl, inr, Bool, true, false}
+use Rattle.std.proofs.Common.{◌≡◌, ℕ, suc, ◌<◌, ◌≤◌, List, [], ◌∷◌, ◌++◌, length, map, refl, sym, ap, ◌∙◌, subst, arith, append-nil, inl, Bool, true, false}
 use Rattle.std.specs.Prelude.{All, Option, Some, None, nat_lt, get_or}
 use Rattle.std.proofs.lemmas.List.Elements.{All-append}
 use Rattle.std.proofs.lemmas.Bool.{false≢true}
@@ -11,14 +11,14 @@ use Rattle.crash.specs.WriterState.{WriterState}
 use Rattle.crash.specs.Sound.{IsSound}
 use Rattle.cache.specs.CacheState.{CacheState}
 use Rattle.paged_read.specs.Tail.{Tail, told, CanRead}
-use Rattle.paged_read.specs.Snapshots.{LeavesTails, LeavesAllTails, StandsOn}
+use Rattle.paged_read.specs.Snapshots.{LeavesTails}
 use Rattle.paged.specs.Caches.{tail_of}
 use Rattle.session.specs.declared.steps.Step.{Step}
 use Rattle.session.specs.declared.steps.Reply.{Reply}
 use Rattle.session.specs.Run.{CacheFits, FitsWriter, HasSoundWriter, IsBelow, IsReady, IsSnapshot, SessionState, Standing, StandsFor, writer_in}
 use Rattle.session.specs.Promise.{session_of}
 use Rattle.session.specs.Calls.{LeavesSnapshots, Steps}
-use Rattle.session.proofs.Apart.{AlwaysApart, IsReadyApart, SteppedApart, StepsApart, stands_apart, whole}
+use Rattle.session.proofs.Apart.{IsReadyApart, SteppedApart, StepsApart, stands_apart, whole}
 
 -- ---- of a writer
 

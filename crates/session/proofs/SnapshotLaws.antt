@@ -1,5 +1,5 @@
 -- What the steps do that make snapshots, and read them.
-use Rattle.std.proofs.Common.{◌≡◌, ◌⊎◌, ℕ, zero, suc, ◌+◌, ◌<◌, ◌≤◌, ◌^◌, ◌%◌, List, [], ◌∷◌, ◌++◌, length, map, take, drop, refl, sym, ap, ◌∙◌, subst, arith, append-nil, inl, inr, Bool, true, false, Ok, Err, Result, lit<, lit≤}
+use Rattle.std.proofs.Common.{◌≡◌, ◌⊎◌, ℕ, zero, suc, ◌+◌, ◌<◌, ◌≤◌, ◌%◌, List, [], ◌∷◌, ◌++◌, length, map, take, drop, refl, sym, ap, ◌∙◌, subst, arith, append-nil, inl, inr, Bool, true, false, Ok, Err, lit<, lit≤}
 use Rattle.std.specs.Prelude.{All, Option, Some, None, nat_le, nat_lt, nat_eq, if◌then◌else◌, option_map, ◌||◌}
 use Rattle.std.specs.List.{Contains, concat, slice_get}
 use Rattle.std.proofs.Math.Bool.{or-false}
@@ -12,7 +12,7 @@ use Rattle.disk.specs.declared.started_sync.StartedSync.{StartedSync}
 use Rattle.disk.specs.declared.started_sync.StartedSync.TheVariants.{Done as AllDone, Named}
 use Rattle.disk.specs.declared.error.Error.{Error}
 use Rattle.disk.specs.declared.error.Error.TheVariants.{ReadFailed, WriteFailed, ResizeFailed, SyncFailed, InvalidChecksum, BlobInsufficientLength, OffsetOverflow, OutOfMemory, IdsExhausted}
-use Rattle.crash.specs.Kept.{AllKeep, AllOnly, Each, Through}
+use Rattle.crash.specs.Kept.{AllKeep, AllOnly, Through}
 use Rattle.crash.specs.Looks.{SameButLog}
 use Rattle.crash.specs.Moments.{each_then}
 use Rattle.crash.specs.Started.{WouldKeep, StartsStand}
@@ -30,20 +30,20 @@ use Rattle.paged_read.proofs.Leaving.{length-told}
 use Rattle.paged.specs.Caches.{tail_of}
 use Rattle.paged.specs.Calls.{HasCause as CallCause, AsksAtMost, start_calls, wait_calls, unstarted_calls}
 use Rattle.paged.specs.Flush.{has_work}
-use Rattle.paged.specs.Snapshots.{CopiesTail, answer_of_seal, seal_calls, snapshot_calls}
+use Rattle.paged.specs.Snapshots.{CopiesTail, seal_calls}
 use Rattle.paged.proofs.Serves.{sound_there, sound_full}
 use Rattle.session.specs.declared.steps.Step.{Step}
 use Rattle.session.specs.declared.steps.Step.TheVariants.{Snapshot, TrySnapshot, Snap, Seal}
 use Rattle.session.specs.declared.steps.Reply.{Reply}
-use Rattle.session.specs.declared.steps.Reply.TheVariants.{At, Nothing, Done, Started, Answer, Length, Bytes, Fault, Closed, NotRecovering, NoSuch, Served, Missed, BadRanges, Taken, Sealed, NotAppending}
+use Rattle.session.specs.declared.steps.Reply.TheVariants.{Nothing, Bytes, Fault, Closed, NoSuch, Taken, Sealed, NotAppending}
 use Rattle.session.specs.Run.{Standing, SessionState, begun, noted, flushed, starting, left_by_seal, ended, sealed_by, snapshot_at, has_snapshot, turned_away, faults, HasCause, HadFailed, Takes, Foretells, Answers, Touches, wait_touch, last, AllCover, pending_in, WriterStandsFor, WriterFits, NamesFit, HasSoundWriter, FitsWriter, CacheFits, IsReady, IsBelow, IsSnapshot, StandsFor}
 use Rattle.session.specs.Run.Touch.{Leaves, Looks, Changes}
-use Rattle.session.specs.Calls.{names_after, IfAppending, SnapshotSays, with_snapshot, HadNoRoomFor, TakesSnapshot, TriesSnapshot, SealSays, sealed_with, SealsSession, DidSnapshot, DidTrySnapshot, DidSeal, DidSnap, ReadsBytes, ReadSays, LeavesSnapshots, Steps}
+use Rattle.session.specs.Calls.{IfAppending, SnapshotSays, with_snapshot, TakesSnapshot, TriesSnapshot, SealSays, sealed_with, SealsSession, DidSnapshot, DidTrySnapshot, DidSeal, DidSnap, ReadsBytes, ReadSays, LeavesSnapshots, Steps}
 use Rattle.session.proofs.Apart.{AlwaysApart, IsReadyApart, StandsApart, SteppedApart, StepsApart, stands_apart, ready_apart}
 use Rattle.session.proofs.Below.{AlwaysMakes, Left, Made, can_in, framed, framed_same, left_by, left_same, of_each, sound_in}
 use Rattle.session.proofs.StepLaws.{held, held_same, last_is, no_moments, answers_away, answers_here, leaves, few_calls, raised_within, only_there, Halves, each_end, stepped, unasked, unasked_over, stands_now, stands_ended, full_work, start_work, start_dirty, had_without_room, had_failed_as, wait_none, wait_one, owed_starts, same_halves, left_buffered, alike_stays_started, closed_takes}
 use Rattle.session.proofs.RangeLaws.{away_steps}
-use Rattle.session.proofs.StartLaws.{goes_through, refused_through, name_more, no_start, waited_fits, starting_same, all_more}
+use Rattle.session.proofs.StartLaws.{goes_through, refused_through, name_more, waited_fits, all_more}
 
 -- ---- by the two tests of a writer that appends
 

@@ -26,7 +26,7 @@ use Rattle.paged.specs.Snapshots.{MakesSnapshot, CopiesTail, SealsWriter, snapsh
 use Rattle.paged.specs.Snapshots.{answer_of_seal, seal_calls}
 use Rattle.cache.specs.CacheState.{CacheState}
 use Rattle.paged_read.specs.Tail.{Tail, size_of as size_of_tail}
-use Rattle.paged_read.specs.Snapshots.{IsTailOf, StandsOn}
+use Rattle.paged_read.specs.Snapshots.{StandsOn}
 use Rattle.paged_read.specs.Ranges.{Reads, ReadsUpTo, TriesRead, is_served}
 use Rattle.paged_read.specs.Ranges.{ReadsMany, AsksOnce, Misses}
 use Rattle.paged.specs.Caches.{tail_of}

@@ -1,6 +1,6 @@
 use Rattle.std.proofs.Common.{◌+◌, ◌-◌, ap, arith}
 use Rattle.paged_read.specs.Tail.{told}
-use Rattle.journal.proofs.Journals.{found, not_found}
+use Rattle.journal.proofs.Journals.{found}
 use Rattle.journal.proofs.Readers.{looks_start}
 use Rattle.journal.proofs.reader.find.Goals as goal
 

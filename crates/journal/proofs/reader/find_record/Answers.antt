@@ -1,5 +1,5 @@
-use Rattle.std.proofs.Common.{◌≡◌, ◌≤◌, ◌∙◌, List, ℕ, Ok, length, refl, sym, ap, arith, subst}
-use Rattle.std.specs.Prelude.{Option, Some, None}
+use Rattle.std.proofs.Common.{◌≤◌, ◌∙◌, List, ℕ, Ok, length, refl, sym, ap, arith, subst}
+use Rattle.std.specs.Prelude.{Option}
 use Rattle.paged_read.specs.Tail.{told}
 use Rattle.journal.specs.declared.frame.Found.{Found}
 use Rattle.journal.specs.Journal.{IsFound, ReadsRecord}

@@ -1,5 +1,4 @@
-use Rattle.std.proofs.Common.{◌<◌, ◌++◌, subst, ap, arith, Err}
-use Rattle.crash.specs.Sound.{content}
+use Rattle.std.proofs.Common.{subst, Err}
 use Rattle.crash.specs.Stays.{KeepsAllFloors}
 use Rattle.crash.specs.WriterState.{WriterState}
 use Rattle.paged.specs.Calls.{Appends}

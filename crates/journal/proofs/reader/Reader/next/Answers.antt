@@ -1,4 +1,4 @@
-use Rattle.std.proofs.Common.{◌≡◌, ap, subst, sym}
+use Rattle.std.proofs.Common.{ap, subst, sym}
 use Rattle.paged_read.specs.Tail.{Tail}
 use Rattle.journal.specs.Reader.{IsOpen, OnlyLooks, ReaderState}
 use Rattle.journal.proofs.Journals.{keeps_committed, others_stay}

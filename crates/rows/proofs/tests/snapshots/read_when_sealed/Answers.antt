@@ -1,4 +1,3 @@
-use Rattle.std.proofs.Common.{rules}
 use Rattle.rows.proofs.tests.snapshots.read_when_sealed.Goals as goal
 
 pub read_at-requires-2 : goal.read_at-requires-2
