@@ -147,7 +147,8 @@ impl<B: Blob, H: Sum> Session<B, H> {
     fn wait_sync(&self, blob: &mut B, name: u64) -> Reply
         ensures goes { let given = is_given self.now.names name in
             WaitsFor given name (B.life blob.old) (B.life blob.new) result }
-        ensures can_read { (t : Tail) (cache : CacheState) → CanRead t cache (B.life blob.old).present
+        ensures can_read { (t : Tail) (cache : CacheState)
+            → CanRead t cache (B.life blob.old).present
             → CanRead t cache (B.life blob.new).present }
         ensures tails { (cache : CacheState)
             → LeavesAllTails H.sum_of cache cache (B.life blob.old) (B.life blob.new) }
@@ -213,11 +214,11 @@ impl<B: Blob, H: Sum> Session<B, H> {
 /// session's writer, if it has one, is sound over the blob, the cache is the one that it was made
 /// with, and both stay so.
 ///
-/// An append, a sync, a start of one, a wait of the writer, a truncate or a snapshot that is refused
-/// ends the writer, as a seal does at every answer; each step after it that needs one replies
-/// `Closed`. But a start, a snapshot or a seal for whose name or number there is no memory changes
-/// nothing. A try, a read, of the writer or of a snapshot, or a wait for a name that is refused
-/// leaves the session as it was, and so does a try that can't be met without the device.
+/// An append, a sync, a start of one, a wait of the writer, a truncate or a snapshot that is
+/// refused ends the writer, as a seal does at every answer; each step after it that needs one
+/// replies `Closed`. But a start, a snapshot or a seal for whose name or number there is no memory
+/// changes nothing. A try, a read, of the writer or of a snapshot, or a wait for a name that is
+/// refused leaves the session as it was, and so does a try that can't be met without the device.
 ///
 /// A snapshot tells for good what was appended before it, also where the session is closed. What it
 /// tells is durable only by a sync or a seal, and a crash ends it.
