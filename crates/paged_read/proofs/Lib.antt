@@ -18,3 +18,6 @@ pub mod Looking
 pub mod Searching
 pub mod Outliving
 pub mod FullReads
+mod Hands
+pub mod ReadAheads
+pub mod Replays

@@ -6,3 +6,6 @@ pub mod Batch
 pub mod Prefix
 pub mod Searches
 pub mod Snapshots
+pub mod Hand
+pub mod ReadAhead
+pub mod Replay

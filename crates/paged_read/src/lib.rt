@@ -2,19 +2,24 @@
 //! the pages that have a value.
 #![tactic(auto)]
 
+mod ahead;
 mod batch;
 mod below;
 mod fetch;
 mod full;
+mod hand;
 mod lack;
 mod pieces;
 mod prefix;
 mod ranges;
+mod replay;
 mod sealed;
 mod search;
 mod view;
 
+pub use hand::TooFew;
 pub use prefix::{Partial, Prefix};
+pub use replay::Replay;
 pub use sealed::Sealed;
 pub use search::{last_pages, pages_of, physical_size, scan};
 pub use view::View;

@@ -86,6 +86,35 @@ impl<B, H> Sealed<B, H> {
         self.tip.size()
     }
 
+    /// The memory that it takes its own of.
+    pub(crate) fn alloc(&self) -> Global {
+        self.alloc
+    }
+
+    /// The logical bytes of a page.
+    pub(crate) fn page_size(&self) -> NonZeroU16
+        ensures { non_zero_u16_get result ≡ self.now.page_size }
+    {
+        self.page_size
+    }
+
+    /// How many full pages it has; a blob has places for them.
+    pub(crate) fn full_pages(&self) -> u64
+        ensures pages { result ≡ self.now.full_pages }
+        ensures fits { self.now.full_pages * (self.now.page_size + 12) < 2 ^ 64 }
+        ensures places { size_of self.now < 2 ^ 64 }
+        ensures short { length self.now.bytes < self.now.page_size }
+    {
+        self.tip.offset() / u64::from(self.page_size.get())
+    }
+
+    /// The bytes behind them.
+    pub(crate) fn bytes(&self) -> &[u8]
+        ensures { result.now ≡ self.now.bytes }
+    {
+        self.tip.partial()
+    }
+
     /// What reads of the snapshot stand on: it borrows the snapshot, and can be copied.
     pub fn view(&self) -> View<'_, B, H>
         ensures view { IsView (non_zero_u16_get result.page_size) result.tip.now }

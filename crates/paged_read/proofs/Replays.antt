@@ -1,0 +1,545 @@
+-- Fills of a replay: what a batch, and the bytes behind the full pages, add to what is at hand.
+use Rattle.std.proofs.Common.{◌≡◌, ◌⊎◌, inl, inr, ℕ, zero, suc, ◌+◌, ◌*◌, ◌-◌, ◌/◌, ◌%◌, ◌<◌, ◌≤◌, min, max, List, [], ◌∷◌, ◌++◌, length, take, drop, ◌^◌, refl, sym, ap, ◌∙◌, subst, arith, All, Bool, true, false, true≢false, Result, Ok, Err, append-nil, append_assoc, length-append, length-take, length-drop}
+use Rattle.std.proofs.lemmas.Bool.{cases_lt, le-leb, lt-leb}
+use Rattle.std.proofs.lemmas.Nat.{div_below, mod_below, div-add-mod', le-div}
+use Rattle.std.proofs.lemmas.List.{drop_all, drop-drop, drop-take, take-take, take_all, take-append-le, drop-append-le, length-take-le}
+use Rattle.std.proofs.Math.Nat.{mul-div_cancel, mul-le-mul_right, mul-mod_left, suc-mul}
+use Rattle.std.proofs.Math.Seq.{take-add}
+use Rattle.std.specs.Prelude.{IsOkUnless, OnErr, OnOk}
+use Rattle.disk.specs.Disk.{Disk, Life}
+use Rattle.disk.specs.declared.error.Error.{Error}
+use Rattle.disk.specs.declared.error.Error.TheVariants.{ReadFailed, InvalidChecksum, OutOfMemory}
+use Rattle.disk.proofs.Logs.{failed_later}
+use Rattle.page.specs.Page.{pages}
+use Rattle.crash.specs.Full.{AreFull}
+use Rattle.crash.specs.Looks.{Looked, looked_joins, looked_start}
+use Rattle.crash.specs.Sound.{stored}
+use Rattle.crash.proofs.LookLaws.{looked_readable}
+use Rattle.crash.proofs.Pages.{drop-stored, fewer_fit, length-stored, stored_same, stored_suc, take-stored}
+use Rattle.crash.proofs.Texts.{AreFull_page}
+use Rattle.paged_read.specs.Hand.{payloads}
+use Rattle.paged_read.specs.ReadAhead.{AddsBatch, AreFullPages, AreNext, batch_bytes, behind, Follow, IsBatch, IsQueue, ReadsBatch}
+use Rattle.paged_read.specs.Replay.{advanced, CanReplay, end_of, Ensures, FillFault, Fills, FillsOnce, HasFilled, IsAhead, IsReplay, IsReplayOf, IsToppedUp, new_replay, ReplaysOn, ReplaysThrough, ReplayState}
+use Rattle.paged_read.specs.Snapshots.{IsTailOf}
+use Rattle.paged_read.specs.Tail.{HasFullPages, size_of, Tail, told}
+use Rattle.paged_read.specs.declared.ahead.Ahead.{Ahead}
+use Rattle.paged_read.proofs.Hands.{payloads_first, payloads_none, payloads_short}
+use Rattle.paged_read.proofs.Leaving.{length-told, told_in_tip}
+use Rattle.paged_read.proofs.ReadAheads.{one_run}
+
+-- ---- the payloads of a batch
+
+-- those of whole pages are what is stored in them
+payloads_whole : (P k : ℕ) (bytes : List ℕ) → length bytes ≡ k * (P + 12) → payloads P bytes ≡ stored P k bytes
+payloads_whole P zero [] size = payloads_none P
+payloads_whole P zero (byte ∷ bytes) size = absurd (omega (arith, size))
+payloads_whole P (suc k) bytes size =
+    let more : length bytes ≡ k * (P + 12) + (P + 12) = omega (arith, size, suc-mul k (P + 12)) in
+    let e : k + 1 ≡ suc k = omega arith in
+    payloads_first P bytes
+    ∙ ap (λ (l : List ℕ). take P bytes ++ l) (payloads_whole P k (drop (P + 12) bytes) (omega (arith, more, length-drop (P + 12) bytes)))
+    ∙ sym (stored_suc P k bytes (omega (arith, more)))
+    ∙ ap (λ (n : ℕ). stored P n bytes) e
+
+rest_reach : (P a b : ℕ) (readable : List ℕ) → (a + b) * (P + 12) ≤ length readable → b * (P + 12) ≤ length (drop (a * (P + 12)) readable)
+rest_reach P a b readable reach = omega (arith, reach, length-drop (a * (P + 12)) readable)
+
+module _ (t : Tail) (readable : List ℕ) (reach : t.full_pages * (t.page_size + 12) ≤ length readable) (page k : ℕ) (within : page + k ≤ t.full_pages) (run : List ℕ)
+    (is : run ≡ take (k * (t.page_size + 12)) (drop (page * (t.page_size + 12)) readable)) where
+  abbrev below : List ℕ
+  below = drop (page * (t.page_size + 12)) readable
+
+  below_reach : (t.full_pages - page) * (t.page_size + 12) ≤ length below
+  below_reach =
+      let e : t.full_pages ≡ page + (t.full_pages - page) = omega (arith, within) in
+      rest_reach t.page_size page (t.full_pages - page) readable (subst (λ (n : ℕ). n * (t.page_size + 12) ≤ length readable) e reach)
+
+  batch_size : length run ≡ k * (t.page_size + 12)
+  batch_size = ap (λ (l : List ℕ). length l) is ∙ length-take-le (k * (t.page_size + 12)) below (fewer_fit t.page_size k (t.full_pages - page) below (omega (arith, within)) below_reach)
+
+  batch_stored : payloads t.page_size run ≡ take (k * t.page_size) (drop (page * t.page_size) (stored t.page_size t.full_pages readable))
+  batch_stored =
+      let P = t.page_size in
+      let size = batch_size in
+      let same : take (k * (P + 12)) run ≡ take (k * (P + 12)) below = ap (λ (l : List ℕ). take (k * (P + 12)) l) is ∙ take-take (k * (P + 12)) (k * (P + 12)) below (omega arith) in
+      payloads_whole P k run size
+      ∙ stored_same P k run below (omega (arith, size)) same
+      ∙ sym (take-stored P k (t.full_pages - page) below (omega (arith, within)) below_reach)
+      ∙ ap (λ (l : List ℕ). take (k * P) l) (sym (drop-stored P page t.full_pages readable (omega (arith, within)) reach))
+
+  pages_within : (page + k) * t.page_size ≤ t.full_pages * t.page_size
+  pages_within = mul-le-mul_right t.page_size within
+
+  -- those of the told bytes
+  batch_told : payloads t.page_size run ≡ take (k * t.page_size) (drop (page * t.page_size) (told t readable))
+  batch_told =
+      let P = t.page_size in
+      let all = stored P t.full_pages readable in
+      let size : length all ≡ t.full_pages * P = length-stored P t.full_pages readable reach in
+      let more = pages_within in
+      batch_stored
+      ∙ sym (take-append-le (k * P) (drop (page * P) all) t.bytes (omega (arith, size, more, length-drop (page * P) all)))
+      ∙ ap (λ (l : List ℕ). take (k * P) l) (sym (drop-append-le (page * P) all t.bytes (omega (arith, size, more))))
+
+  -- and from a place in the first page on
+  pub batch_more : (skip : ℕ) → skip ≤ k * t.page_size → drop skip (payloads t.page_size run) ≡ take (k * t.page_size - skip) (drop (page * t.page_size + skip) (told t readable))
+  batch_more skip less =
+      let P = t.page_size in
+      let from = drop (page * P) (told t readable) in
+      let e : k * P ≡ skip + (k * P - skip) = omega (arith, less) in
+      ap (λ (l : List ℕ). drop skip l) (batch_told ∙ ap (λ (n : ℕ). take n from) e)
+      ∙ drop-take skip (k * P - skip) from
+      ∙ ap (λ (l : List ℕ). take (k * P - skip) l) (drop-drop skip (page * P) (told t readable))
+
+  pub batch_length : (skip : ℕ) → skip ≤ k * t.page_size → length (drop skip (payloads t.page_size run)) ≡ k * t.page_size - skip
+  batch_length skip less =
+      let P = t.page_size in
+      let all = told t readable in
+      let more = pages_within in
+      ap (λ (l : List ℕ). length l) (batch_more skip less)
+      ∙ length-take-le (k * P - skip) (drop (page * P + skip) all) (omega (arith, less, more, length-told t readable reach, length-drop (page * P + skip) all))
+
+-- ---- what is at hand
+
+-- more bytes of the same
+hand_more : (told hand more : List ℕ) (position : ℕ) → hand ≡ take (length hand) (drop position told) → more ≡ take (length more) (drop (position + length hand) told)
+    → hand ++ more ≡ take (length (hand ++ more)) (drop position told)
+hand_more told hand more position so_far next =
+    let from = drop position told in
+    let n = length hand in
+    let m = length more in
+    ap (λ (l : List ℕ). l ++ more) so_far
+    ∙ ap (λ (l : List ℕ). take n from ++ l) (next ∙ ap (λ (l : List ℕ). take m l) (sym (drop-drop n position told)))
+    ∙ sym (take-add n m from)
+    ∙ ap (λ (k : ℕ). take k from) (sym (length-append hand more))
+
+-- ---- pages
+
+-- full pages are full by their places
+pub full_each : (sum : List ℕ → ℕ) (t : Tail) (d : Disk) (first end : ℕ) → t.full_pages * (t.page_size + 12) ≤ length d.readable → HasFullPages sum t d → end ≤ t.full_pages → AreFullPages sum t.page_size first end d.readable
+full_each sum t d first end reach full within = λ page above below. AreFull_page sum t.page_size t.full_pages page d.readable full reach (omega (arith, below, within))
+
+-- ---- the next batches are a queue
+
+next_follow : (n batch full page : ℕ) (queue : List Ahead) → page ≤ full → AreNext n batch full page queue → Follow batch full page queue × (length queue ≤ n)
+next_follow zero batch full page queue within next =
+    (subst (λ (l : List Ahead). Follow batch full page l) (sym next) within, omega (arith, ap (λ (l : List Ahead). length l) next))
+next_follow (suc n) batch full page [] within next = (within, omega arith)
+next_follow (suc n) batch full page (a ∷ rest) within next =
+    let more = next_follow n batch full (behind batch full page) rest (omega (arith, next.1)) next.2 in
+    ((next.0, next.1, more.0), omega (arith, more.1))
+
+pub next_queue : (batch full page : ℕ) (queue : List Ahead) → page ≤ full → AreNext 3 batch full page queue → IsQueue batch full queue
+next_queue batch full page [] within next = tt {0}
+next_queue batch full page (a ∷ rest) within next =
+    let follow = next_follow 3 batch full page (a ∷ rest) within next in
+    (subst (λ (p : ℕ). Follow batch full p (a ∷ rest)) (sym next.0) follow.0, omega (arith, follow.1))
+
+-- ---- a fill
+
+-- what holds of a fill
+pub record Filled (sum : List ℕ → ℕ) (r now : ReplayState) (old new : Life) (result : Result (Unit {0}) Error) : Type 0 where
+  pub fills : FillsOnce sum r now old new result
+  pub can : CanReplay now new.present
+  pub is : IsReplay now
+
+module _ (sum : List ℕ → ℕ) (r : ReplayState) (is : IsReplay r) (more : end_of r < size_of r.tail) where
+  some : 0 < r.tail.page_size
+  some = omega (arith, is.short)
+
+  -- where the fill begins
+  pub end_is : end_of r ≡ end_of r / r.tail.page_size * r.tail.page_size + end_of r % r.tail.page_size
+  end_is = omega (arith, div-add-mod' (end_of r) r.tail.page_size)
+
+  pub skip_less : end_of r % r.tail.page_size < r.tail.page_size
+  skip_less = mod_below (end_of r) r.tail.page_size some
+
+  pub page_within : end_of r / r.tail.page_size ≤ r.tail.full_pages
+  page_within =
+      let less : end_of r / r.tail.page_size < r.tail.full_pages + 1 = div_below (end_of r) r.tail.page_size (r.tail.full_pages + 1) some (omega (arith, more, is.short)) in
+      omega (arith, less)
+
+  -- the first page is passed over in part only where nothing is at hand
+  pub skips_none : 0 < length r.hand → end_of r % r.tail.page_size ≡ 0
+  skips_none there = elim (is.whole there) [
+    | inl whole ↦ whole
+    | inr ends ↦ absurd (omega (arith, ends, more))
+  ]
+
+  -- a place is left for each byte of the pages that follow
+  pub grows : length r.hand + (r.tail.full_pages - end_of r / r.tail.page_size) * (r.tail.page_size + 12) < 2 ^ 64
+  grows = elim (cases_lt 0 (length r.hand)) [
+    | inl there ↦
+        let page = end_of r / r.tail.page_size in
+        let e : page + (r.tail.full_pages - page) ≡ r.tail.full_pages = omega (arith, page_within) in
+        let whole : (page + (r.tail.full_pages - page)) * (r.tail.page_size + 12) < 2 ^ 64 = subst (λ (n : ℕ). n * (r.tail.page_size + 12) < 2 ^ 64) (sym e) is.pages in
+        omega (arith, whole, end_is, skips_none there)
+    | inr none ↦
+        let less : (r.tail.full_pages - end_of r / r.tail.page_size) * (r.tail.page_size + 12) ≤ r.tail.full_pages * (r.tail.page_size + 12) = mul-le-mul_right (r.tail.page_size + 12) (omega arith) in
+        omega (arith, none, less, is.pages)
+  ]
+
+  said_none : r.exhausted ≡ true → ⊥
+  said_none said = omega (arith, is.exhausted said, more)
+
+  at_least_one : r.tail.page_size ≤ r.batch * r.tail.page_size
+  at_least_one = let e : 1 * r.tail.page_size ≤ r.batch * r.tail.page_size = mul-le-mul_right r.tail.page_size (omega (arith, is.batch)) in omega (arith, e)
+
+  -- nothing more is at hand
+  nothing_filled : (queue : List Ahead) (old new : Life) (e : Error) → CanReplay r old.present → IsQueue r.batch r.tail.full_pages queue → All (IsBatch r.tail.page_size r.batch r.tail.full_pages new.present) queue
+      → Looked old new → FillFault sum r.tail old new e → Filled sum r (record r { queue = queue }) old new (Err e)
+  nothing_filled queue old new e can follow batches looked fault =
+      let same = looked_readable old new looked in
+      record {
+        fills = (record { tail = refl; batch = refl; position = refl; hand = omega arith; }, refl, refl, fault);
+        can = record {
+          there = omega (arith, can.there, ap (λ (l : List ℕ). length l) same);
+          hand = subst (λ (l : List ℕ). r.hand ≡ take (length r.hand) (drop r.position (told r.tail l))) (sym same) can.hand;
+          queue = batches;
+        };
+        is = record {
+          batch = is.batch;
+          within = is.within;
+          places = is.places;
+          pages = is.pages;
+          short = is.short;
+          whole = is.whole;
+          queue = follow;
+          exhausted = is.exhausted;
+        };
+      }
+
+  -- the bytes behind the full pages
+  rest_filled : (old : Life) (hand : List ℕ) → CanReplay r old.present → end_of r / r.tail.page_size ≡ r.tail.full_pages
+      → hand ≡ r.hand ++ drop (end_of r % r.tail.page_size) (payloads r.tail.page_size r.tail.bytes) → Filled sum r (record r { hand = hand }) old old (Ok (tt {0}))
+  rest_filled old hand can last made =
+      let t = r.tail in
+      let P = t.page_size in
+      let e = end_of r in
+      let skip = e % P in
+      let short = is.short in
+      let all = told t old.present.readable in
+      let at : e ≡ t.full_pages * P + skip = end_is ∙ ap (λ (n : ℕ). n * P + skip) last in
+      let rest : payloads P t.bytes ≡ t.bytes = payloads_short P t.bytes (omega (arith, short)) ∙ take_all P t.bytes (omega (arith, short)) in
+      let given : drop skip (payloads P t.bytes) ≡ drop e all =
+      ap (λ (l : List ℕ). drop skip l) rest ∙ sym (told_in_tip t old.present.readable can.there skip) ∙ ap (λ (n : ℕ). drop n all) (sym at) in
+      let added = drop skip (payloads P t.bytes) in
+      let count : length added ≡ length t.bytes - skip = ap (λ (l : List ℕ). length (drop skip l)) rest ∙ length-drop skip t.bytes in
+      let size : length hand ≡ length r.hand + (length t.bytes - skip) = ap (λ (l : List ℕ). length l) made ∙ length-append r.hand added ∙ ap (λ (n : ℕ). length r.hand + n) count in
+      let ends : r.position + length hand ≡ size_of t = omega (arith, size, at, more) in
+      let place : (r.position + length hand) / P ≡ t.full_pages =
+      let low = le-div t.full_pages (r.position + length hand) P some (omega (arith, ends)) in
+      let high = div_below (r.position + length hand) P (t.full_pages + 1) some (omega (arith, ends, short)) in
+      omega (arith, low, high) in
+      let whole_added : added ≡ take (length added) (drop e all) =
+      given ∙ sym (take_all (length added) (drop e all) (omega (arith, ap (λ (l : List ℕ). length l) given))) in
+      let big = at_least_one in
+      record {
+        fills = (
+          record { tail = refl; batch = refl; position = refl; hand = omega (arith, size); },
+          refl,
+          omega (arith, size, at, more),
+          omega (arith, size, short, big),
+          (λ page above under. absurd (omega (arith, above, under, last))),
+          inr (refl, refl, place ∙ sym last));
+        can = record {
+          there = can.there;
+          hand = made ∙ hand_more all r.hand added r.position can.hand whole_added ∙ ap (λ (l : List ℕ). take (length l) (drop r.position all)) (sym made);
+          queue = can.queue;
+        };
+        is = record {
+          batch = is.batch;
+          within = omega (arith, ends);
+          places = is.places;
+          pages = is.pages;
+          short = is.short;
+          whole = λ _. inr ends;
+          queue = is.queue;
+          exhausted = λ said. absurd (said_none said);
+        };
+      }
+
+  pub filled_rest : (old : Life) (hand : List ℕ) (result : Result (Unit {0}) Error) → CanReplay r old.present → end_of r / r.tail.page_size ≡ r.tail.full_pages
+      → OnOk result (hand ≡ r.hand ++ drop (end_of r % r.tail.page_size) (payloads r.tail.page_size r.tail.bytes)) → OnErr result (hand ≡ r.hand) → IsOkUnless result OutOfMemory
+      → Filled sum r (record r { hand = hand }) old old result
+  filled_rest old hand (Ok _) can last made same err = rest_filled old hand can last made
+  filled_rest old hand (Err e) can last made same err =
+      subst (λ (x : Error). Filled sum r (record r { hand = hand }) old old (Err x)) (sym err)
+      (subst (λ (l : List ℕ). Filled sum r (record r { hand = l }) old old (Err OutOfMemory)) (sym same)
+      (nothing_filled r.queue old old OutOfMemory can is.queue can.queue (looked_start old) (tt {0})))
+
+  -- a batch
+  batch_filled : (old new : Life) (run hand : List ℕ) (queue : List Ahead) → CanReplay r old.present → end_of r / r.tail.page_size < r.tail.full_pages
+      → ReadsBatch sum r.tail.page_size r.batch r.tail.full_pages (end_of r / r.tail.page_size) old new (Ok run)
+      → hand ≡ r.hand ++ drop (end_of r % r.tail.page_size) (payloads r.tail.page_size run)
+      → Looked old new
+      → AreNext 3 r.batch r.tail.full_pages (behind r.batch r.tail.full_pages (end_of r / r.tail.page_size)) queue
+      → All (IsBatch r.tail.page_size r.batch r.tail.full_pages new.present) queue
+      → Filled sum r (record r { hand = hand; queue = queue }) old new (Ok (tt {0}))
+  batch_filled old new run hand queue can under reads made looked next batches =
+      let t = r.tail in
+      let P = t.page_size in
+      let e = end_of r in
+      let page = e / P in
+      let skip = e % P in
+      let k = min r.batch (t.full_pages - page) in
+      let within : page + k ≤ t.full_pages = omega (arith, under) in
+      let one : 1 ≤ k = omega (arith, under, is.batch) in
+      let one_page : 1 * P ≤ k * P = mul-le-mul_right P one in
+      let few_pages : k * P ≤ r.batch * P = mul-le-mul_right P (let b : k ≤ r.batch = omega arith in b) in
+      let less : skip ≤ k * P = omega (arith, skip_less, one_page) in
+      let all = told t old.present.readable in
+      let is_run : run ≡ take (k * (P + 12)) (drop (page * (P + 12)) old.present.readable) = one_run run (take (k * (P + 12)) (drop (page * (P + 12)) old.present.readable)) reads.0 in
+      let added = drop skip (payloads P run) in
+      let count : length added ≡ k * P - skip = batch_length t old.present.readable can.there page k within run is_run skip less in
+      let size : length hand ≡ length r.hand + (k * P - skip) = ap (λ (l : List ℕ). length l) made ∙ length-append r.hand added ∙ ap (λ (n : ℕ). length r.hand + n) count in
+      let ends : r.position + length hand ≡ (page + k) * P = omega (arith, size, end_is, less) in
+      let up : (page + k) * P ≤ t.full_pages * P = mul-le-mul_right P within in
+      let place : (r.position + length hand) / P ≡ page + k = ap (λ (n : ℕ). n / P) ends ∙ mul-div_cancel (page + k) some in
+      let given : added ≡ take (length added) (drop e all) =
+      batch_more t old.present.readable can.there page k within run is_run skip less
+      ∙ ap (λ (n : ℕ). take n (drop (page * P + skip) all)) (sym count) ∙ ap (λ (n : ℕ). take (length added) (drop n all)) (sym end_is) in
+      let same = looked_readable old new looked in
+      record {
+        fills = (
+          record { tail = refl; batch = refl; position = refl; hand = omega (arith, size); },
+          refl,
+          omega (arith, size, skip_less, one_page),
+          omega (arith, size, few_pages),
+          (λ p above below. reads.1 p above (omega (arith, below, place))),
+          inl (subst (λ (n : ℕ). AreNext 3 r.batch t.full_pages n queue) (sym place) next));
+        can = record {
+          there = omega (arith, can.there, ap (λ (l : List ℕ). length l) same);
+          hand = subst (λ (l : List ℕ). hand ≡ take (length hand) (drop r.position (told t l))) (sym same)
+              (made ∙ hand_more all r.hand added r.position can.hand given ∙ ap (λ (l : List ℕ). take (length l) (drop r.position all)) (sym made));
+          queue = batches;
+        };
+        is = record {
+          batch = is.batch;
+          within = omega (arith, ends, up);
+          places = is.places;
+          pages = is.pages;
+          short = is.short;
+          whole = λ _. inl (ap (λ (n : ℕ). n % P) ends ∙ mul-mod_left (page + k) P);
+          queue = next_queue r.batch t.full_pages (page + k) queue within next;
+          exhausted = λ said. absurd (said_none said);
+        };
+      }
+
+  -- why a batch isn't read
+  why : (old new : Life) (e : Error) → CanReplay r old.present → ReadsBatch sum r.tail.page_size r.batch r.tail.full_pages (end_of r / r.tail.page_size) old new (Err e) → FillFault sum r.tail old new e
+  why old new ReadFailed can failed = failed
+  why old new InvalidChecksum can not_full = λ full.
+      not_full (full_each sum r.tail old.present (end_of r / r.tail.page_size) (behind r.batch r.tail.full_pages (end_of r / r.tail.page_size)) can.there full (omega (arith, page_within)))
+  why old new OutOfMemory can failed = tt {0}
+  why old new _ can failed = absurd failed
+
+  adds_filled : (old new : Life) (hand : List ℕ) (queue : List Ahead) (result : Result (Unit {0}) Error) → CanReplay r old.present → end_of r / r.tail.page_size < r.tail.full_pages
+      → AddsBatch sum r.tail.page_size r.batch r.tail.full_pages (end_of r / r.tail.page_size) (end_of r % r.tail.page_size) r.hand hand queue old new result
+      → IsQueue r.batch r.tail.full_pages queue → All (IsBatch r.tail.page_size r.batch r.tail.full_pages new.present) queue → Looked old new
+      → Filled sum r (record r { hand = hand; queue = queue }) old new result
+  adds_filled old new hand queue (Ok _) can under adds follow batches looked =
+      batch_filled old new adds.0 hand queue can under adds.1 adds.2 looked adds.3 batches
+  adds_filled old new hand queue (Err e) can under adds follow batches looked =
+      subst (λ (l : List ℕ). Filled sum r (record r { hand = l; queue = queue }) old new (Err e)) (sym adds.0)
+      (nothing_filled queue old new e can follow batches looked (why old new e can adds.1))
+
+  -- the same by what the fields of a replay say
+  pub filled_batch : (P full page skip : ℕ) → P ≡ r.tail.page_size → full ≡ r.tail.full_pages → page ≡ end_of r / r.tail.page_size → skip ≡ end_of r % r.tail.page_size
+      → (old new : Life) (hand : List ℕ) (queue : List Ahead) (result : Result (Unit {0}) Error) → CanReplay r old.present → page < full
+      → AddsBatch sum P r.batch full page skip r.hand hand queue old new result
+      → IsQueue r.batch full queue → All (IsBatch P r.batch full new.present) queue → Looked old new
+      → Filled sum r (record r { hand = hand; queue = queue }) old new result
+  filled_batch P full page skip is_P is_full is_page is_skip old new hand queue result can under adds follow batches looked =
+      let t = r.tail in
+      adds_filled old new hand queue result can (omega (arith, under, is_page, is_full))
+      (subst (λ (n : ℕ). AddsBatch sum n r.batch t.full_pages (end_of r / t.page_size) (end_of r % t.page_size) r.hand hand queue old new result) is_P
+      (subst (λ (n : ℕ). AddsBatch sum P r.batch n (end_of r / t.page_size) (end_of r % t.page_size) r.hand hand queue old new result) is_full
+      (subst (λ (n : ℕ). AddsBatch sum P r.batch full n (end_of r % t.page_size) r.hand hand queue old new result) is_page
+      (subst (λ (n : ℕ). AddsBatch sum P r.batch full page n r.hand hand queue old new result) is_skip adds))))
+      (subst (λ (n : ℕ). IsQueue r.batch n queue) is_full follow)
+      (subst (λ (n : ℕ). All (IsBatch n r.batch t.full_pages new.present) queue) is_P
+      (subst (λ (n : ℕ). All (IsBatch P r.batch n new.present) queue) is_full batches))
+      looked
+
+-- ---- fills, one after another, until so many bytes are at hand
+
+-- pages at hand are the first of the tail
+end_within : (r : ReplayState) → IsReplay r → end_of r / r.tail.page_size ≤ r.tail.full_pages
+end_within r is =
+    let less : end_of r / r.tail.page_size < r.tail.full_pages + 1 = div_below (end_of r) r.tail.page_size (r.tail.full_pages + 1) (omega (arith, is.short)) (omega (arith, is.within, is.short)) in
+    omega (arith, less)
+
+-- what holds before each fill
+pub record Reached (sum : List ℕ → ℕ) (r : ReplayState) (count : ℕ) (now : ReplayState) (old new : Life) : Type 0 where
+  pub fills : Fills r now
+  pub exhausted : now.exhausted ≡ r.exhausted
+  pub few : length now.hand ≤ max (length r.hand) (count + r.batch * r.tail.page_size)
+  pub filled : HasFilled sum r now old.present
+  pub ahead : IsAhead r now old new
+  pub can : CanReplay now new.present
+  pub looked : Looked old new
+
+pub reach_start : (sum : List ℕ → ℕ) (r : ReplayState) (count : ℕ) (old : Life) → CanReplay r old.present → Reached sum r count r old old
+reach_start sum r count old can = record {
+  fills = record { tail = refl; batch = refl; position = refl; hand = omega arith; };
+  exhausted = refl;
+  few = omega arith;
+  filled = λ page above below. absurd (omega (arith, above, below));
+  ahead = inl (refl, refl);
+  can = can;
+  looked = looked_start old;
+}
+
+-- a fill more
+pub reach_more : (sum : List ℕ → ℕ) (r : ReplayState) (count : ℕ) (mid now : ReplayState) (old between new : Life) → Reached sum r count mid old between → IsReplay mid → length mid.hand < count
+    → FillsOnce sum mid now between new (Ok (tt {0})) → CanReplay now new.present → Looked between new → Reached sum r count now old new
+reach_more sum r count mid now old between new so_far is less filled can looked =
+    let t = r.tail in
+    let P = t.page_size in
+    let fills = filled.0 in
+    let place : end_of mid / P ≤ t.full_pages = subst (λ (u : Tail). end_of mid / u.page_size ≤ u.full_pages) so_far.fills.tail (end_within mid is) in
+    let step : mid.batch * mid.tail.page_size ≡ r.batch * P = ap (λ (n : ℕ). n * mid.tail.page_size) so_far.fills.batch ∙ ap (λ (u : Tail). r.batch * u.page_size) so_far.fills.tail in
+    let next : AreFullPages sum P (end_of mid / P) (min t.full_pages (end_of now / P)) old.present.readable =
+    subst (λ (l : List ℕ). AreFullPages sum P (end_of mid / P) (min t.full_pages (end_of now / P)) l) (looked_readable old between so_far.looked)
+    (subst (λ (u : Tail). AreFullPages sum u.page_size (end_of mid / u.page_size) (min u.full_pages (end_of now / u.page_size)) between.present.readable) so_far.fills.tail filled.4) in
+    record {
+      fills = record {
+        tail = fills.tail ∙ so_far.fills.tail;
+        batch = fills.batch ∙ so_far.fills.batch;
+        position = fills.position ∙ so_far.fills.position;
+        hand = omega (arith, fills.hand, so_far.fills.hand);
+      };
+      exhausted = filled.1 ∙ so_far.exhausted;
+      few = omega (arith, filled.3, step, less, so_far.few);
+      filled = λ page above below. elim (cases_lt page (end_of mid / P)) [
+        | inl before ↦ so_far.filled page above (omega (arith, before, place))
+        | inr behind ↦ next page (omega (arith, behind)) below
+      ];
+      ahead = goes_ahead filled.5 so_far.ahead;
+      can = can;
+      looked = looked_joins old between new so_far.looked looked;
+    }
+  where
+    goes_ahead : IsToppedUp now ⊎ ((new ≡ between) × (now.queue ≡ mid.queue) × (end_of now / mid.tail.page_size ≡ end_of mid / mid.tail.page_size)) → IsAhead r mid old between → IsAhead r now old new
+    goes_ahead (inl topped) before = inr topped
+    goes_ahead (inr none) (inl same) = inl (none.0 ∙ same.0, none.1 ∙ same.1)
+    goes_ahead (inr none) (inr topped) =
+        let fills = filled.0 in
+        inr (subst (λ (n : ℕ). AreNext 3 n now.tail.full_pages (end_of now / now.tail.page_size) now.queue) (sym fills.batch)
+        (subst (λ (u : Tail). AreNext 3 mid.batch u.full_pages (end_of now / u.page_size) now.queue) (sym fills.tail)
+        (subst (λ (n : ℕ). AreNext 3 mid.batch mid.tail.full_pages n now.queue) (sym none.2)
+        (subst (λ (q : List Ahead). AreNext 3 mid.batch mid.tail.full_pages (end_of mid / mid.tail.page_size) q) (sym none.1) topped))))
+
+-- one that fails
+pub reach_fails : (sum : List ℕ → ℕ) (r : ReplayState) (count : ℕ) (mid now : ReplayState) (old between new : Life) (e : Error) → Reached sum r count mid old between
+    → FillsOnce sum mid now between new (Err e) → Ensures sum r count now old new (Err e)
+reach_fails sum r count mid now old between new e so_far filled =
+    let fills = filled.0 in
+    (record {
+      tail = fills.tail ∙ so_far.fills.tail;
+      batch = fills.batch ∙ so_far.fills.batch;
+      position = fills.position ∙ so_far.fills.position;
+      hand = omega (arith, fills.hand, so_far.fills.hand);
+    }, fault e (subst (λ (u : Tail). FillFault sum u between new e) so_far.fills.tail filled.3))
+  where
+    fault : (e : Error) → FillFault sum r.tail between new e → FillFault sum r.tail old new e
+    fault ReadFailed failed = failed_later ReadFailed old.present between.present new.present so_far.looked.log failed
+    fault InvalidChecksum not_full = λ full.
+        not_full (subst (λ (l : List ℕ). AreFull sum r.tail.page_size (take r.tail.full_pages (pages r.tail.page_size l))) (sym (looked_readable old between so_far.looked)) full)
+    fault OutOfMemory none = tt {0}
+    fault _ none = absurd none
+
+-- enough
+pub reach_enough : (sum : List ℕ → ℕ) (r : ReplayState) (count : ℕ) (now : ReplayState) (old new : Life) → Reached sum r count now old new → IsReplay now → count ≤ length now.hand
+    → Ensures sum r count now old new (Ok true)
+reach_enough sum r count now old new so_far is enough =
+    let size : size_of now.tail ≡ size_of r.tail = ap (λ (u : Tail). size_of u) so_far.fills.tail in
+    let there : r.position + count ≤ size_of r.tail = omega (arith, is.within, size, so_far.fills.position, enough) in
+    (so_far.fills, sym (le-leb (r.position + count) (size_of r.tail) there), (λ _. enough), (λ no. absurd (true≢false no)), so_far.few, so_far.filled, so_far.ahead)
+
+-- and all that is left
+pub reach_ends : (sum : List ℕ → ℕ) (r : ReplayState) (count : ℕ) (now : ReplayState) (old new : Life) → Reached sum r count now old new → length now.hand < count → end_of now ≡ size_of now.tail
+    → Ensures sum r count (record now { exhausted = true }) old new (Ok false)
+reach_ends sum r count now old new so_far few ends =
+    let size : size_of now.tail ≡ size_of r.tail = ap (λ (u : Tail). size_of u) so_far.fills.tail in
+    let none : size_of r.tail < r.position + count = omega (arith, ends, size, so_far.fills.position, few) in
+    (record { tail = so_far.fills.tail; batch = so_far.fills.batch; position = so_far.fills.position; hand = so_far.fills.hand; },
+    sym (lt-leb (r.position + count) (size_of r.tail) none), (λ yes. absurd (true≢false (sym yes))), (λ _. (ends ∙ size, refl)), so_far.few, so_far.filled, so_far.ahead)
+
+-- ---- what a replay gives it gives
+
+-- bytes that are passed over
+passed_over : (told hand : List ℕ) (position count : ℕ) → hand ≡ take (length hand) (drop position told)
+    → drop count hand ≡ take (length (drop count hand)) (drop (position + min count (length hand)) told)
+passed_over told hand position count is = elim (cases_lt (length hand) count) [
+  | inl all ↦
+      let none : drop count hand ≡ [] = drop_all count hand (omega (arith, all)) in
+      none ∙ ap (λ (l : List ℕ). take (length l) (drop (position + min count (length hand)) told)) (sym none)
+  | inr some ↦
+      let n = length hand - count in
+      let size : n ≡ length (drop count hand) = omega (arith, length-drop count hand) in
+      let place : position + count ≡ position + min count (length hand) = omega (arith, some) in
+      let whole : length hand ≡ count + n = omega (arith, some) in
+      ap (λ (l : List ℕ). drop count l) (is ∙ ap (λ (k : ℕ). take k (drop position told)) whole)
+      ∙ drop-take count n (drop position told)
+      ∙ ap (λ (l : List ℕ). take n l) (drop-drop count position told)
+      ∙ ap (λ (k : ℕ). take n (drop k told)) place
+      ∙ ap (λ (k : ℕ). take k (drop (position + min count (length hand)) told)) size
+]
+
+pub advanced_replays : (count : ℕ) (r : ReplayState) → ReplaysOn r (advanced count r)
+advanced_replays count r sum content d is = record {
+  tail = is.tail;
+  can = record {
+    there = is.can.there;
+    hand = passed_over (told r.tail d.readable) r.hand r.position count is.can.hand;
+    queue = is.can.queue;
+  };
+  hand = passed_over content r.hand r.position count is.hand;
+}
+
+-- so by its fields
+pub moved_replays : (count : ℕ) (r was : ReplayState) (position : ℕ) (hand : List ℕ) → was ≡ r → position ≡ was.position + min count (length was.hand) → hand ≡ drop count was.hand
+    → ReplaysOn r (record was { position = position; hand = hand })
+moved_replays count r was position hand view at bytes =
+    subst (λ (s : ReplayState). ReplaysOn s (record was { position = position; hand = hand })) view
+    (subst (λ (n : ℕ). ReplaysOn was (record was { position = n; hand = hand })) (sym at)
+    (subst (λ (l : List ℕ). ReplaysOn was (record was { position = was.position + min count (length was.hand); hand = l })) (sym bytes) (advanced_replays count was)))
+
+-- one that went elsewhere, by its fields
+pub cleared_replays : (r was : ReplayState) (position : ℕ) (hand : List ℕ) → was ≡ r → hand ≡ [] → ReplaysOn r (record was { position = position; hand = hand; exhausted = false })
+cleared_replays r was position hand view none =
+    subst (λ (s : ReplayState). ReplaysOn s (record was { position = position; hand = hand; exhausted = false })) view
+    (subst (λ (l : List ℕ). ReplaysOn was (record was { position = position; hand = l; exhausted = false })) (sym none) (cleared was position))
+  where
+    cleared : (was : ReplayState) (position : ℕ) → ReplaysOn was (record was { position = position; hand = []; exhausted = false })
+    cleared was position sum content d is = record {
+      tail = is.tail;
+      can = record { there = is.can.there; hand = refl; queue = is.can.queue; };
+      hand = refl;
+    }
+
+-- a new one
+pub new_replays : (sum : List ℕ → ℕ) (t : Tail) (buffer_size : ℕ) (content : List ℕ) (d : Disk) → IsTailOf sum t content d → IsReplayOf sum (new_replay t buffer_size) content d
+new_replays sum t buffer_size content d tail = record {
+  tail = tail;
+  can = record { there = tail.there; hand = refl; queue = λ k a below. absurd (omega (arith, below)); };
+  hand = refl;
+}
+
+-- one that was filled
+pub filled_replays : (r now : ReplayState) (old new : Life) → Fills r now → CanReplay now new.present → Looked old new → ReplaysThrough r now old new
+filled_replays r now old new fills can looked sum content is =
+    let same = looked_readable old new looked in
+    let tail : IsTailOf sum r.tail content new.present = record {
+      there = omega (arith, is.tail.there, ap (λ (l : List ℕ). length l) same);
+      full = subst (λ (l : List ℕ). AreFull sum r.tail.page_size (take r.tail.full_pages (pages r.tail.page_size l))) (sym same) is.tail.full;
+      is = ap (λ (l : List ℕ). told r.tail l) same ∙ is.tail.is;
+    } in
+    let told_is : told now.tail new.present.readable ≡ content = ap (λ (u : Tail). told u new.present.readable) fills.tail ∙ tail.is in
+    record {
+      tail = subst (λ (u : Tail). IsTailOf sum u content new.present) (sym fills.tail) tail;
+      can = can;
+      hand = can.hand ∙ ap (λ (l : List ℕ). take (length now.hand) (drop now.position l)) told_is;
+    }

@@ -1,0 +1,23 @@
+use Rattle.std.proofs.Common.{◌≡◌, [], ◌∷◌, List, ap, ◌∙◌, sym, subst, All, drop, slice_get}
+use Rattle.std.specs.Int.NonZero.{non_zero_u16_get}
+use Rattle.std.proofs.lemmas.List.Elements.{All-drop}
+use Rattle.paged_read.specs.declared.ahead.Ahead.{Ahead}
+use Rattle.paged_read.specs.ReadAhead.{IsBatch}
+use Rattle.paged_read.proofs.ReadAheads.{taken_is}
+use Rattle.paged_read.proofs.ahead.Batches.take.Goals as goal
+
+pub returns-in-Some-clause-batches : goal.returns-in-Some-clause-batches
+returns-in-Some-clause-batches c = λ d are.
+    let P = non_zero_u16_get c.args.self.page_size in
+    let batch = IsBatch P c.args.self.batch c.args.self.full_pages d in
+    subst (λ (l : List Ahead). All batch l) (sym c.remove.ensures.items)
+    (All-drop batch 1 c.args.queue.now.items are)
+
+pub returns-in-Some-clause-bytes : goal.returns-in-Some-clause-bytes
+returns-in-Some-clause-bytes c = λ d are.
+    let P = non_zero_u16_get c.args.self.page_size in
+    taken_is P c.args.self.batch c.args.self.full_pages c.args.page d c.args.queue.now.items
+    c.in-Some.first.now c.remove.result c.wait.result c.ok.result are
+    (c.in-Some.ensures.value ∙ ap (λ (l : List Ahead). slice_get l 0) c.deref.ensures.value)
+    c.remove.ensures.value c.if-first-page.true c.wait.ensures.ok c.wait.ensures.err
+    c.ok.ensures.value

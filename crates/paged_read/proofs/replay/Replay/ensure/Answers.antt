@@ -1,0 +1,100 @@
+use Rattle.std.proofs.Common.{◌≡◌, ◌<◌, ◌∙◌, ap, arith, length, subst, sym, true}
+use Rattle.std.proofs.lemmas.Result.{err_from_is_err_and}
+use Rattle.crash.specs.Looks.{looked_joins}
+use Rattle.paged_read.specs.Replay.{end_of, IsReplay, ReplayState}
+use Rattle.paged_read.specs.Tail.{size_of}
+use Rattle.paged_read.proofs.Replays.{Reached, filled_replays, reach_ends, reach_enough, reach_fails, reach_more, reach_start}
+use Rattle.paged_read.proofs.replay.Replay.ensure.Goals as goal
+use Rattle.paged_read.proofs.replay.Replay.ensure.Goals.{After-remaining-2, then-loop-self-test+else-end-size, else-loop-self-test}
+use Rattle.paged_read.proofs.replay.Replay.ensure.Given.{Over}
+
+pub loop-self-init : goal.loop-self-init
+loop-self-init g c =
+    reach_start g.H.Sum.sum_of c.args.self.now c.args.count (g.B.Blob.life c.args.blob.now)
+    c.requires.can
+
+pub loop-self-preserved : goal.loop-self-preserved
+loop-self-preserved g c =
+    reach_more g.H.Sum.sum_of c.args.self.now c.args.count c.loop-self.self c.fill.new.self
+    (g.B.Blob.life c.args.blob.now) (g.B.Blob.life c.loop-self.blob)
+    (g.B.Blob.life c.fill.new.blob) c.loop-self.invariant
+    (subst (λ (r : ReplayState). IsReplay r) c.self.view_is c.self.invariant.0)
+    (omega (arith, c.loop-self-test.true, c.remaining.ensures,
+    ap (λ (r : ReplayState). length r.hand) c.self.view_is))
+    c.in_ok-fill.ensures.fills c.fill.ensures.can c.fill.ensures.looked
+
+pub returns-in_err-fill-clause-fetches : goal.returns-in_err-fill-clause-fetches
+returns-in_err-fill-clause-fetches g c =
+    let error = err_from_is_err_and c.from_residual.result c.from_residual.ensures.1 in
+    rw (error.1, error.2) (reach_fails g.H.Sum.sum_of c.args.self.now c.args.count c.loop-self.self c.fill.new.self
+    (g.B.Blob.life c.args.blob.now) (g.B.Blob.life c.loop-self.blob)
+    (g.B.Blob.life c.fill.new.blob) c.in_err-fill.field-0.0 c.loop-self.invariant
+    c.in_err-fill.ensures.fills)
+
+pub returns-in_err-fill-clause-looked : goal.returns-in_err-fill-clause-looked
+returns-in_err-fill-clause-looked g c =
+    looked_joins (g.B.Blob.life c.args.blob.now) (g.B.Blob.life c.loop-self.blob)
+    (g.B.Blob.life c.fill.new.blob) c.loop-self.invariant.looked c.fill.ensures.looked
+
+-- the replay behind the loop
+abbrev left : (g : Over) (c : After-remaining-2 g) → ReplayState
+left g c = record {
+  tail = c.self-2.inside.sealed;
+  batch = c.self-2.inside.batches.batch;
+  position = c.self-2.inside.position;
+  hand = c.self-2.inside.hand.bytes;
+  queue = c.self-2.inside.queue.items;
+  exhausted = c.self-2.inside.exhausted;
+}
+
+reached : (g : Over) (c : After-remaining-2 g) → Reached g.H.Sum.sum_of c.args.self.now c.args.count
+    (left g c) (g.B.Blob.life c.args.blob.now) (g.B.Blob.life c.loop-self.blob)
+reached g c =
+    subst (λ (r : ReplayState). Reached g.H.Sum.sum_of c.args.self.now c.args.count r
+    (g.B.Blob.life c.args.blob.now) (g.B.Blob.life c.loop-self.blob)) (sym c.self-2.view_is)
+    c.loop-self.invariant
+
+ends : (g : Over) (c : After-remaining-2 g) → length (left g c).hand < c.args.count
+    → end_of (left g c) ≡ size_of (left g c).tail
+ends g c few = elim c.loop-self-test.branch [
+  | then-loop-self-test+else-end-size w ↦
+      let over = w.if-end-size.false in
+      let end = w.end.ensures ∙ ap (λ (r : ReplayState). end_of r) (sym c.self-2.view_is) in
+      let size = w.size.ensures ∙ ap (λ (r : ReplayState). size_of r.tail)
+      (c.self.view_is ∙ sym c.self-2.view_is) in
+      omega (arith, over, end, size, c.self-2.invariant.0.within)
+  | else-loop-self-test w ↦
+      let enough = w.loop-self-test.false in
+      let same = ap (λ (r : ReplayState). length r.hand) (c.self.view_is ∙ sym c.self-2.view_is) in
+      absurd (omega (arith, enough, c.remaining.ensures, same, few))
+]
+
+pub returns-clause-fetches : goal.returns-clause-fetches
+returns-clause-fetches g c =
+    let here = (goal.at.returns-clause-fetches g c).After-remaining-2 in
+    let few = c.if-count-remaining.false in
+    let fewer : length c.self-2.inside.hand.bytes < c.args.count =
+    omega (arith, few, c.remaining-2.ensures) in
+    reach_ends g.H.Sum.sum_of c.args.self.now c.args.count (left g here)
+    (g.B.Blob.life c.args.blob.now) (g.B.Blob.life c.loop-self.blob) (reached g here) fewer
+    (ends g here fewer)
+
+pub returns-clause-can : goal.returns-clause-can
+returns-clause-can g c =
+    let can = (reached g (goal.at.returns-clause-can g c).After-remaining-2).can in
+    record { there = can.there; hand = can.hand; queue = can.queue; }
+
+pub returns-clause-replays : goal.returns-clause-replays
+returns-clause-replays g c =
+    let so_far = reached g (goal.at.returns-clause-replays g c).After-remaining-2 in
+    let now = left g (goal.at.returns-clause-replays g c).After-remaining-2 in
+    filled_replays c.args.self.now (record now { exhausted = true })
+    (g.B.Blob.life c.args.blob.now) (g.B.Blob.life c.loop-self.blob)
+    (record {
+      tail = so_far.fills.tail;
+      batch = so_far.fills.batch;
+      position = so_far.fills.position;
+      hand = so_far.fills.hand;
+    })
+    (record { there = so_far.can.there; hand = so_far.can.hand; queue = so_far.can.queue; })
+    so_far.looked

@@ -1,0 +1,17 @@
+use Rattle.std.proofs.Common.{◌+◌, arith, length}
+use Rattle.paged_read.specs.Replay.{ReplayState}
+use Rattle.paged_read.proofs.Replays.{moved_replays}
+use Rattle.paged_read.proofs.replay.Replay.try_copy_to_slice.Goals as goal
+
+pub returns-clause-replays : goal.returns-clause-replays
+returns-clause-replays g c =
+    let was : ReplayState = record {
+      tail = c.self.inside.sealed;
+      batch = c.self.inside.batches.batch;
+      position = c.self.inside.position;
+      hand = c.self.inside.hand.bytes;
+      queue = c.self.inside.queue.items;
+      exhausted = c.self.inside.exhausted;
+    } in
+    moved_replays (length c.args.out.now) c.args.self.now was (c.self.inside.position + length c.args.out.now) c.try_copy_to_slice.new.self.bytes
+    c.self.view_is (omega (arith, c.in_ok-try_copy_to_slice.ensures.enough)) c.in_ok-try_copy_to_slice.ensures.bytes

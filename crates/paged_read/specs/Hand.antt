@@ -1,0 +1,40 @@
+-- The bytes that a replay has at hand: the payloads of pages that were read.
+use Rattle.std.specs.Prelude.{◌≡◌, ◌≤◌, ◌<◌, ◌+◌, ◌/◌, ◌^◌, ◌++◌, ℕ, List, [], ◌∷◌, length, take, drop}
+use Rattle.std.specs.Prelude.{min, All}
+use Rattle.std.specs.List.{flat_map}
+use Rattle.page.specs.Page.{pieces}
+
+-- the payloads of physical pages, one behind the other; fewer bytes than a page has, behind the
+-- last one, are a payload alone
+abbrev pub payloads : (P : ℕ) → List ℕ → List ℕ
+payloads P bytes = flat_map (take P) (pieces (length bytes / (P + 12) + 1) (P + 12) bytes)
+
+-- the payloads of runs of pages from a page of the first one on, of which so many bytes are left,
+-- from this place on
+abbrev pub payloads_from : (P : ℕ) → List (List ℕ) → (start left : ℕ) → List ℕ
+payloads_from P [] start left = []
+payloads_from P (first ∷ runs) start left =
+    let others = payloads P (drop (start + left + 12) first) ++ flat_map (payloads P) runs in
+    take left (drop start first) ++ others
+
+-- those from a place on that is in a later run
+abbrev pub payloads_at : (P : ℕ) → List (List ℕ) → (run start left : ℕ) → List ℕ
+payloads_at P runs run start left = payloads_from P (drop run runs) start left
+
+-- such a place: some bytes of its page are left, but where there is no page
+abbrev pub IsPlace : List (List ℕ) → (start left : ℕ) → Type 0
+IsPlace [] start left = left ≡ 0
+IsPlace (first ∷ runs) start left = (0 < left) × (start + left ≤ length first)
+
+-- what the fields of the bytes at hand say of one another: no run is empty
+pub record IsHand (P : ℕ) (all : List (List ℕ)) (start left remaining : ℕ) : Type 0 where
+  pub some : 0 < P
+  pub runs : All (λ run. 0 < length run) all
+  pub place : IsPlace all start left
+  pub fits : start + left < 2 ^ 64
+  pub count : remaining ≡ length (payloads_from P all start left)
+
+-- bytes at hand, of pages of this size
+pub record HandState : Type 0 where
+  pub page_size : ℕ
+  pub bytes : List ℕ

@@ -1,0 +1,93 @@
+-- Batches of pages that are read ahead.
+use Rattle.std.specs.Prelude.{◌≡◌, ◌⊎◌, ◌≤◌, ◌<◌, ◌+◌, ◌-◌, ◌*◌, ◌/◌, ◌≢◌, ℕ, zero, suc, List, [], ◌∷◌, ◌++◌, drop}
+use Rattle.std.specs.Prelude.{length, min, max, Result, Ok, Err, All}
+use Rattle.std.specs.Int.{div_ceil}
+use Rattle.disk.specs.Disk.{Disk, Life, bytes_of, HasFailed}
+use Rattle.disk.specs.declared.error.Error.{Error}
+use Rattle.disk.specs.declared.error.Error.TheVariants.{ReadFailed, InvalidChecksum, OutOfMemory}
+use Rattle.page.specs.Page.{value_len}
+use Rattle.paged_read.specs.Hand.{payloads}
+use Rattle.paged_read.specs.Ranges.{page_at}
+use Rattle.paged_read.specs.declared.ahead.Ahead.{Ahead}
+
+-- how many pages a read of a replay has, for a buffer of so many bytes: a quarter of those that fit
+-- it, and at least one
+abbrev pub batch_of : (P buffer_size : ℕ) → ℕ
+batch_of P buffer_size = div_ceil (max 1 (buffer_size / (P + 12))) 4
+
+-- the page behind the batch that begins at this one, of so many full pages
+abbrev pub behind : (batch full page : ℕ) → ℕ
+behind batch full page = page + min batch (full - page)
+
+-- the range of that batch
+abbrev pub batch_range : (P batch full page : ℕ) → ℕ × ℕ
+batch_range P batch full page = (page * (P + 12), min batch (full - page) * (P + 12))
+
+-- its bytes
+abbrev pub batch_bytes : (P batch full page : ℕ) → List ℕ → List (List ℕ)
+batch_bytes P batch full page readable = bytes_of (batch_range P batch full page ∷ []) readable
+
+-- a batch that was read ahead holds the blob's bytes, unless its read failed
+abbrev pub IsBatch : (P batch full : ℕ) → Disk → Ahead → Type 0
+IsBatch P batch full d a =
+    (bytes : List (List ℕ)) → a.read ≡ Ok bytes
+    → bytes ≡ batch_bytes P batch full a.page d.readable
+
+-- these batches follow one another, from this page on
+abbrev pub Follow : (batch full page : ℕ) → List Ahead → Type 0
+Follow batch full page [] = page ≤ full
+Follow batch full page (a ∷ rest) =
+    (a.page ≡ page) × (page < full) × Follow batch full (behind batch full page) rest
+
+-- the page that follows them
+abbrev pub page_behind : (batch full page : ℕ) → List Ahead → ℕ
+page_behind batch full page [] = page
+page_behind batch full page (a ∷ rest) = page_behind batch full (behind batch full page) rest
+
+-- these are the next n batches from this page on, as far as there are any
+abbrev pub AreNext : (n batch full page : ℕ) → List Ahead → Type 0
+AreNext zero batch full page queue = queue ≡ []
+AreNext (suc n) batch full page [] = full ≤ page
+AreNext (suc n) batch full page (a ∷ rest) =
+    (a.page ≡ page) × (page < full) × AreNext n batch full (behind batch full page) rest
+
+-- they are queued: at most three, one behind another
+abbrev pub IsQueue : (batch full : ℕ) → List Ahead → Type 0
+IsQueue batch full [] = Unit {0}
+IsQueue batch full (a ∷ rest) = Follow batch full a.page (a ∷ rest) × (length rest ≤ 2)
+
+-- pages of a blob are full
+abbrev pub AreFullPages : (List ℕ → ℕ) → (P first end : ℕ) → List ℕ → Type 0
+AreFullPages sum P first end readable =
+    (page : ℕ) → first ≤ page → page < end → value_len sum P (page_at P page readable) ≡ P
+
+-- the bytes of a batch are fetched, from the queue or on demand
+abbrev pub FetchesBatch : (P batch full page : ℕ) → Life → Life → Result (List ℕ) Error → Type 0
+FetchesBatch P batch full page old new (Ok bytes) =
+    bytes ∷ [] ≡ batch_bytes P batch full page old.present.readable
+FetchesBatch P batch full page old new (Err ReadFailed) =
+    HasFailed ReadFailed old.present new.present
+FetchesBatch P batch full page old new (Err OutOfMemory) = Unit {0}
+FetchesBatch P batch full page old new (Err _) = ⊥
+
+-- and its pages are full
+abbrev pub ReadsBatch : (List ℕ → ℕ) → (P batch full page : ℕ) → Life → Life
+    → Result (List ℕ) Error → Type 0
+ReadsBatch sum P batch full page old new (Ok bytes) =
+    FetchesBatch P batch full page old new (Ok bytes)
+    × AreFullPages sum P page (behind batch full page) old.present.readable
+ReadsBatch sum P batch full page old new (Err InvalidChecksum) =
+    AreFullPages sum P page (behind batch full page) old.present.readable → ⊥
+ReadsBatch sum P batch full page old new (Err e) =
+    FetchesBatch P batch full page old new (Err e)
+
+-- a batch is added to what is at hand, without so many bytes of its first page, and the next three
+-- are queued; or nothing is
+abbrev pub AddsBatch : (List ℕ → ℕ) → (P batch full page skip : ℕ) → (hand now : List ℕ)
+    → List Ahead → Life → Life → Result (Unit {0}) Error → Type 0
+AddsBatch sum P batch full page skip hand now queue old new (Ok _) =
+    (run : List ℕ) × ReadsBatch sum P batch full page old new (Ok run)
+    × (now ≡ hand ++ drop skip (payloads P run))
+    × AreNext 3 batch full (behind batch full page) queue
+AddsBatch sum P batch full page skip hand now queue old new (Err e) =
+    (now ≡ hand) × ReadsBatch sum P batch full page old new (Err e)

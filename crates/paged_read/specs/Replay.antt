@@ -1,0 +1,149 @@
+-- A replay: what is at hand of the bytes that a blob had when it began, and what each call does.
+use Rattle.std.specs.Prelude.{◌≡◌, ◌⊎◌, ◌≤◌, ◌<◌, ◌+◌, ◌*◌, ◌/◌, ◌%◌, ◌^◌, ℕ, Bool, true, false, nat_le}
+use Rattle.std.specs.Prelude.{min, max, List, [], length, take, drop, All, Result, Ok, Err}
+use Rattle.disk.specs.Disk.{Disk, Life, HasFailed}
+use Rattle.disk.specs.declared.error.Error.{Error}
+use Rattle.disk.specs.declared.error.Error.TheVariants.{ReadFailed, InvalidChecksum, OutOfMemory}
+use Rattle.disk.specs.declared.error.Error.TheVariants.{BlobInsufficientLength}
+use Rattle.paged_read.specs.Tail.{Tail, told, size_of, HasPages, HasFullPages}
+use Rattle.paged_read.specs.ReadAhead.{batch_of, AreFullPages, AreNext, IsBatch, IsQueue}
+use Rattle.paged_read.specs.Snapshots.{IsTailOf}
+use Rattle.paged_read.specs.declared.ahead.Ahead.{Ahead}
+
+-- the tail as it was when the replay began, how many pages are read at once, where the replay
+-- stands, the bytes at hand from there on, the batches that are queued, and whether it said that
+-- the blob is exhausted
+pub record ReplayState : Type 0 where
+  pub tail : Tail
+  pub batch : ℕ
+  pub position : ℕ
+  pub hand : List ℕ
+  pub queue : List Ahead
+  pub exhausted : Bool
+
+-- a replay that begins, with a buffer of so many bytes
+abbrev pub new_replay : Tail → (buffer_size : ℕ) → ReplayState
+new_replay t buffer_size = record {
+  tail = t;
+  batch = batch_of t.page_size buffer_size;
+  position = 0;
+  hand = [];
+  queue = [];
+  exhausted = false;
+}
+
+-- the place behind the bytes at hand
+abbrev pub end_of : ReplayState → ℕ
+end_of r = r.position + length r.hand
+
+-- what its fields say of one another
+pub record IsReplay (r : ReplayState) : Type 0 where
+  pub batch : 0 < r.batch
+  pub within : end_of r ≤ size_of r.tail
+  pub places : size_of r.tail < 2 ^ 64
+  pub pages : r.tail.full_pages * (r.tail.page_size + 12) < 2 ^ 64
+  pub short : length r.tail.bytes < r.tail.page_size
+  -- pages come to hand whole
+  pub whole : 0 < length r.hand → (end_of r % r.tail.page_size ≡ 0) ⊎ (end_of r ≡ size_of r.tail)
+  pub queue : IsQueue r.batch r.tail.full_pages r.queue
+  -- it was said only with all at hand that is left
+  pub exhausted : r.exhausted ≡ true → end_of r ≡ size_of r.tail
+
+-- what a caller of a replay is to know: the pages are there, and what is at hand, and what is
+-- queued, is theirs
+pub record CanReplay (r : ReplayState) (d : Disk) : Type 0 where
+  pub there : HasPages r.tail d
+  pub hand : r.hand ≡ take (length r.hand) (drop r.position (told r.tail d.readable))
+  pub queue : All (IsBatch r.tail.page_size r.batch r.tail.full_pages d) r.queue
+
+-- it gives these bytes, and none of its fills is refused for a page
+pub record IsReplayOf (sum : List ℕ → ℕ) (r : ReplayState) (content : List ℕ) (d : Disk) :
+    Type 0 where
+  pub tail : IsTailOf sum r.tail content d
+  pub can : CanReplay r d
+  pub hand : r.hand ≡ take (length r.hand) (drop r.position content)
+
+-- what it gave it gives
+abbrev pub ReplaysOn : ReplayState → ReplayState → Type 0
+ReplaysOn r now =
+    (sum : List ℕ → ℕ) (content : List ℕ) (d : Disk)
+    → IsReplayOf sum r content d → IsReplayOf sum now content d
+
+-- so it does behind a call that asked the device
+abbrev pub ReplaysThrough : ReplayState → ReplayState → Life → Life → Type 0
+ReplaysThrough r now old new =
+    (sum : List ℕ → ℕ) (content : List ℕ)
+    → IsReplayOf sum r content old.present → IsReplayOf sum now content new.present
+
+-- it stands where it stood, with no less at hand
+pub record Fills (r now : ReplayState) : Type 0 where
+  pub tail : now.tail ≡ r.tail
+  pub batch : now.batch ≡ r.batch
+  pub position : now.position ≡ r.position
+  pub hand : length r.hand ≤ length now.hand
+
+-- why a fill may answer this error: the device failed in the call, a page isn't full, or memory was
+-- refused
+abbrev pub FillFault : (List ℕ → ℕ) → Tail → Life → Life → Error → Type 0
+FillFault sum t old new ReadFailed = HasFailed ReadFailed old.present new.present
+FillFault sum t old new InvalidChecksum = HasFullPages sum t old.present → ⊥
+FillFault sum t old new OutOfMemory = Unit {0}
+FillFault sum t old new _ = ⊥
+
+-- each page that came to hand is full
+abbrev pub HasFilled : (List ℕ → ℕ) → ReplayState → ReplayState → Disk → Type 0
+HasFilled sum r now d =
+    let P = r.tail.page_size in
+    let end = min r.tail.full_pages (end_of now / P) in
+    AreFullPages sum P (end_of r / P) end d.readable
+
+-- the next three batches are queued, as far as there are any
+abbrev pub IsToppedUp : ReplayState → Type 0
+IsToppedUp r = AreNext 3 r.batch r.tail.full_pages (end_of r / r.tail.page_size) r.queue
+
+-- so they are where the device was asked
+abbrev pub IsAhead : ReplayState → ReplayState → Life → Life → Type 0
+IsAhead r now old new = ((new ≡ old) × (now.queue ≡ r.queue)) ⊎ IsToppedUp now
+
+-- one batch more is at hand, or the bytes behind the full pages; or nothing is
+abbrev pub FillsOnce : (List ℕ → ℕ) → ReplayState → ReplayState → Life → Life
+    → Result (Unit {0}) Error → Type 0
+FillsOnce sum r now old new (Ok _) =
+    Fills r now × (now.exhausted ≡ r.exhausted) × (length r.hand < length now.hand)
+    × (length now.hand ≤ length r.hand + r.batch * r.tail.page_size)
+    × HasFilled sum r now old.present
+    × (IsToppedUp now ⊎ ((new ≡ old) × (now.queue ≡ r.queue)
+    × (end_of now / r.tail.page_size ≡ end_of r / r.tail.page_size)))
+FillsOnce sum r now old new (Err e) =
+    Fills r now × (now.exhausted ≡ r.exhausted) × (now.hand ≡ r.hand)
+    × FillFault sum r.tail old new e
+
+-- so many bytes are to be at hand: whether there are so many from the position on. What is fetched
+-- is needed, or of the last batch that is.
+abbrev pub Ensures : (List ℕ → ℕ) → ReplayState → (count : ℕ) → ReplayState → Life → Life
+    → Result Bool Error → Type 0
+Ensures sum r count now old new (Ok answer) =
+    Fills r now × (answer ≡ nat_le (r.position + count) (size_of r.tail))
+    × (answer ≡ true → count ≤ length now.hand)
+    × (answer ≡ false → (end_of now ≡ size_of r.tail) × (now.exhausted ≡ true))
+    × (length now.hand ≤ max (length r.hand) (count + r.batch * r.tail.page_size))
+    × HasFilled sum r now old.present × IsAhead r now old new
+Ensures sum r count now old new (Err e) = Fills r now × FillFault sum r.tail old new e
+
+-- so many bytes of those at hand are passed over, or all
+abbrev pub advanced : ℕ → ReplayState → ReplayState
+advanced count r = record r {
+  position = r.position + min count (length r.hand);
+  hand = drop count r.hand;
+}
+
+-- it goes to a place; what is queued stays
+abbrev pub Seeks : ReplayState → (offset : ℕ) → ReplayState → Result (Unit {0}) Error → Type 0
+Seeks r offset now (Ok _) =
+    (offset ≤ size_of r.tail) × (now ≡ record r {
+      position = offset;
+      hand = [];
+      exhausted = false;
+    })
+Seeks r offset now (Err BlobInsufficientLength) = (size_of r.tail < offset) × (now ≡ r)
+Seeks r offset now (Err _) = ⊥

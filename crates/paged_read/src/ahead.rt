@@ -1,0 +1,277 @@
+// Batches of pages that are read ahead.
+ghost use Rattle.std.specs.Prelude.{◌≡◌, ◌≤◌, ◌<◌, ◌+◌, ◌-◌, ◌*◌, ◌^◌, ◌∷◌, [], ℕ, List, length, min};
+ghost use Rattle.std.specs.Prelude.{All, IfSome, IsTrue, ◌↔◌, Ok, Err, vec_capacity, OnOk};
+ghost use Rattle.std.specs.Int.NonZero.{non_zero_u16_get};
+ghost use Rattle.crash.specs.Looks.{Looked};
+ghost use Rattle.disk.specs.Disk.{Disk, StartReadGoes, Life};
+ghost use Rattle.paged_read.specs.ReadAhead.{batch_range, behind, batch_bytes, AreFullPages};
+ghost use Rattle.paged_read.specs.ReadAhead.{AddsBatch, AreNext, FetchesBatch, Follow, IsBatch};
+ghost use Rattle.paged_read.specs.ReadAhead.{IsQueue, page_behind, ReadsBatch};
+
+use crate::full::is_full;
+use crate::hand::Hand;
+use crate::search::physical_size;
+use disk::{Blob, Error, IoBuf, ReadOptions, StartedRead};
+use page::Sum;
+use std::alloc::Global;
+use std::num::NonZeroU16;
+
+/// How many batches are read ahead of the one that is handed out.
+pub(crate) const MAX_READ_AHEAD: usize = 3;
+
+/// The pages of a blob that are read in batches.
+#[derive(Clone, Copy)]
+pub(crate) struct Batches {
+    pub(crate) alloc: Global,
+    pub(crate) page_size: NonZeroU16,
+    // How many full pages there are, and how many are read at once.
+    pub(crate) full_pages: u64,
+    pub(crate) batch: u64,
+    pub(crate) options: ReadOptions,
+}
+
+/// A batch that is read ahead, by its first page.
+#[derive(Drop)]
+pub(crate) struct Ahead {
+    pub(crate) page: u64,
+    pub(crate) read: StartedRead,
+}
+
+impl Ahead {
+    /// Its bytes.
+    fn wait(self) -> Result<IoBuf, Error>
+        ensures ok { (bytes : List ℕ) → self.read ≡ Ok (bytes ∷ []) → result ≡ Ok bytes }
+        ensures err { (error : Error) → self.read ≡ Err error → result ≡ Err error }
+    {
+        self.read.wait()?.pop().ok_or(Error::ReadFailed)
+    }
+}
+
+/// Whether each of these physical pages is full.
+fn are_full<H: Sum>(page_size: NonZeroU16, bytes: &[u8], pages: u64) -> bool
+    requires { pages * (non_zero_u16_get page_size + 12) ≤ length bytes.now }
+    ensures { let P = non_zero_u16_get page_size in
+        IsTrue result ↔ AreFullPages H.sum_of P 0 pages bytes.now }
+{
+    let size = physical_size(page_size) as usize;
+    for page in 0..pages as usize {
+        if !is_full::<H>(page_size, &bytes[page * size..page * size + size]) {
+            return false;
+        }
+    }
+    true
+}
+
+impl Batches {
+    /// The page behind the batch that begins at this one.
+    fn behind(self, page: u64) -> u64
+        requires { page ≤ self.full_pages }
+        ensures { result ≡ behind self.batch self.full_pages page }
+    {
+        page + self.batch.min(self.full_pages - page)
+    }
+
+    /// The page behind these batches, which follow one another from a page on.
+    fn behind_queue(self, queue: &[Ahead], page: u64) -> u64
+        requires { Follow self.batch self.full_pages page queue.now }
+        ensures next { result ≡ page_behind self.batch self.full_pages page queue.now }
+        ensures within { result ≤ self.full_pages }
+    {
+        match queue.last() {
+            None => page,
+            Some(last) => self.behind(last.page),
+        }
+    }
+
+    /// Starts a read of the batch that begins at a page, which is there.
+    fn start<B: Blob>(self, blob: &mut B, page: u64) -> Ahead
+        requires below { page < self.full_pages }
+        requires there { let size = non_zero_u16_get self.page_size + 12 in
+            self.full_pages * size ≤ length (B.life blob.old).present.readable }
+        requires fits { self.full_pages * (non_zero_u16_get self.page_size + 12) < 2 ^ 64 }
+        ensures page { result.page ≡ page }
+        ensures goes { let P = non_zero_u16_get self.page_size in
+            let range = batch_range P self.batch self.full_pages page in
+            StartReadGoes (range ∷ []) (B.life blob.old) (B.life blob.new) result.read }
+    {
+        let size = physical_size(self.page_size);
+        let pages = self.batch.min(self.full_pages - page);
+        let ranges = [(page * size, (pages * size) as usize)];
+        Ahead {
+            page,
+            read: blob.start_read_many(self.alloc, &ranges, self.options),
+        }
+    }
+
+    /// Starts reads of the next batches from a page on, until three are queued or no page is left.
+    fn top_up<B: Blob>(self, blob: &mut B, queue: &mut Vec<Ahead>, page: u64)
+        requires there { let size = non_zero_u16_get self.page_size + 12 in
+            self.full_pages * size ≤ length (B.life blob.old).present.readable }
+        requires fits { self.full_pages * (non_zero_u16_get self.page_size + 12) < 2 ^ 64 }
+        requires some { 0 < self.batch }
+        requires room { 3 ≤ vec_capacity queue.old }
+        requires follow { Follow self.batch self.full_pages page queue.old.items }
+        requires few { length queue.old.items ≤ 3 }
+        requires batches { let P = non_zero_u16_get self.page_size in
+            All (IsBatch P self.batch self.full_pages (B.life blob.old).present) queue.old.items }
+        ensures next { AreNext 3 self.batch self.full_pages page queue.new.items }
+        ensures batches { let P = non_zero_u16_get self.page_size in
+            All (IsBatch P self.batch self.full_pages (B.life blob.new).present) queue.new.items }
+        ensures room { vec_capacity queue.new ≡ vec_capacity queue.old }
+        ensures looked { Looked (B.life blob.old) (B.life blob.new) }
+    {
+        let mut next = self.behind_queue(queue, page);
+        while queue.len() < MAX_READ_AHEAD && next < self.full_pages {
+            queue.push_reserved(self.start(blob, next));
+            next = self.behind(next);
+        }
+    }
+
+    /// The bytes of the batch that begins at a page, where it is the first that is queued and its
+    /// read didn't fail.
+    fn take(self, queue: &mut Vec<Ahead>, page: u64) -> Option<IoBuf>
+        requires queue { IsQueue self.batch self.full_pages queue.old.items }
+        ensures bytes { let P = non_zero_u16_get self.page_size in (d : Disk)
+            → All (IsBatch P self.batch self.full_pages d) queue.old.items
+            → IfSome result (λ bytes.
+            bytes ∷ [] ≡ batch_bytes P self.batch self.full_pages page d.readable) }
+        ensures batches { let P = non_zero_u16_get self.page_size in (d : Disk)
+            → All (IsBatch P self.batch self.full_pages d) queue.old.items
+            → All (IsBatch P self.batch self.full_pages d) queue.new.items }
+        ensures follow { let next = behind self.batch self.full_pages page in
+            IfSome result (λ _. Follow self.batch self.full_pages next queue.new.items) }
+        ensures queue { IsQueue self.batch self.full_pages queue.new.items }
+        ensures room { vec_capacity queue.new ≡ vec_capacity queue.old }
+    {
+        match queue.first() {
+            Some(first) if first.page == page => queue.remove(0).wait().ok(),
+            _ => None,
+        }
+    }
+
+    /// Reads the batch that begins at a page, which is there.
+    fn read_now<B: Blob>(self, blob: &mut B, page: u64) -> Result<IoBuf, Error>
+        requires below { page < self.full_pages }
+        requires there { let size = non_zero_u16_get self.page_size + 12 in
+            self.full_pages * size ≤ length (B.life blob.old).present.readable }
+        requires fits { self.full_pages * (non_zero_u16_get self.page_size + 12) < 2 ^ 64 }
+        ensures fetches { let P = non_zero_u16_get self.page_size in
+            FetchesBatch P self.batch self.full_pages page (B.life blob.old) (B.life blob.new)
+            result }
+        ensures looked { Looked (B.life blob.old) (B.life blob.new) }
+    {
+        self.start(blob, page).wait()
+    }
+
+    /// The bytes of the batch that begins at a page: of the queue, where they were read ahead, and
+    /// else read on demand, and nothing stays queued. What is queued then follows it.
+    fn fetch<B: Blob>(
+        self,
+        blob: &mut B,
+        queue: &mut Vec<Ahead>,
+        page: u64,
+    ) -> Result<IoBuf, Error>
+        requires below { page < self.full_pages }
+        requires there { let size = non_zero_u16_get self.page_size + 12 in
+            self.full_pages * size ≤ length (B.life blob.old).present.readable }
+        requires fits { self.full_pages * (non_zero_u16_get self.page_size + 12) < 2 ^ 64 }
+        requires queue { IsQueue self.batch self.full_pages queue.old.items }
+        requires batches { let P = non_zero_u16_get self.page_size in
+            All (IsBatch P self.batch self.full_pages (B.life blob.old).present) queue.old.items }
+        ensures fetches { let P = non_zero_u16_get self.page_size in
+            FetchesBatch P self.batch self.full_pages page (B.life blob.old) (B.life blob.new)
+            result }
+        ensures follow { let next = behind self.batch self.full_pages page in
+            OnOk result (Follow self.batch self.full_pages next queue.new.items) }
+        ensures queue { IsQueue self.batch self.full_pages queue.new.items }
+        ensures batches { let P = non_zero_u16_get self.page_size in
+            All (IsBatch P self.batch self.full_pages (B.life blob.new).present) queue.new.items }
+        ensures few { length queue.new.items ≤ 3 }
+        ensures room { vec_capacity queue.new ≡ vec_capacity queue.old }
+        ensures looked { Looked (B.life blob.old) (B.life blob.new) }
+    {
+        match self.take(queue, page) {
+            Some(bytes) => Ok(bytes),
+            None => {
+                queue.clear();
+                self.read_now(blob, page)
+            }
+        }
+    }
+
+    /// The same, where all its pages are full.
+    fn read<B: Blob, H: Sum>(
+        self,
+        blob: &mut B,
+        queue: &mut Vec<Ahead>,
+        page: u64,
+    ) -> Result<IoBuf, Error>
+        requires below { page < self.full_pages }
+        requires there { let size = non_zero_u16_get self.page_size + 12 in
+            self.full_pages * size ≤ length (B.life blob.old).present.readable }
+        requires fits { self.full_pages * (non_zero_u16_get self.page_size + 12) < 2 ^ 64 }
+        requires queue { IsQueue self.batch self.full_pages queue.old.items }
+        requires batches { let P = non_zero_u16_get self.page_size in
+            All (IsBatch P self.batch self.full_pages (B.life blob.old).present) queue.old.items }
+        ensures reads { let P = non_zero_u16_get self.page_size in
+            ReadsBatch H.sum_of P self.batch self.full_pages page (B.life blob.old)
+            (B.life blob.new) result }
+        ensures follow { let next = behind self.batch self.full_pages page in
+            OnOk result (Follow self.batch self.full_pages next queue.new.items) }
+        ensures queue { IsQueue self.batch self.full_pages queue.new.items }
+        ensures batches { let P = non_zero_u16_get self.page_size in
+            All (IsBatch P self.batch self.full_pages (B.life blob.new).present) queue.new.items }
+        ensures few { length queue.new.items ≤ 3 }
+        ensures room { vec_capacity queue.new ≡ vec_capacity queue.old }
+        ensures looked { Looked (B.life blob.old) (B.life blob.new) }
+    {
+        let bytes = self.fetch(blob, queue, page)?;
+        let pages = self.batch.min(self.full_pages - page);
+        if are_full::<H>(self.page_size, bytes.as_ref(), pages) {
+            Ok(bytes)
+        } else {
+            Err(Error::InvalidChecksum)
+        }
+    }
+
+    /// Adds the bytes of the batch that begins at a page to what is at hand, without so many of its
+    /// first page, and tops the queue up. Where that fails it adds nothing and starts no read ahead.
+    pub(crate) fn add<B: Blob, H: Sum>(
+        self,
+        blob: &mut B,
+        queue: &mut Vec<Ahead>,
+        hand: &mut Hand,
+        page: u64,
+        skip: usize,
+    ) -> Result<(), Error>
+        requires below { page < self.full_pages }
+        requires there { let size = non_zero_u16_get self.page_size + 12 in
+            self.full_pages * size ≤ length (B.life blob.old).present.readable }
+        requires some { 0 < self.batch }
+        requires queue { IsQueue self.batch self.full_pages queue.old.items }
+        requires room { 3 ≤ vec_capacity queue.old }
+        requires batches { let P = non_zero_u16_get self.page_size in
+            All (IsBatch P self.batch self.full_pages (B.life blob.old).present) queue.old.items }
+        requires page_size { hand.old.page_size ≡ non_zero_u16_get self.page_size }
+        requires skip { skip < hand.old.page_size }
+        requires behind { 0 < length hand.old.bytes → skip ≡ 0 }
+        requires fits { self.full_pages * (non_zero_u16_get self.page_size + 12) < 2 ^ 64 }
+        requires grows { let size = non_zero_u16_get self.page_size + 12 in
+            length hand.old.bytes + (self.full_pages - page) * size < 2 ^ 64 }
+        ensures adds { let P = non_zero_u16_get self.page_size in
+            AddsBatch H.sum_of P self.batch self.full_pages page skip hand.old.bytes
+            hand.new.bytes queue.new.items (B.life blob.old) (B.life blob.new) result }
+        ensures page_size { hand.new.page_size ≡ hand.old.page_size }
+        ensures queue { IsQueue self.batch self.full_pages queue.new.items }
+        ensures batches { let P = non_zero_u16_get self.page_size in
+            All (IsBatch P self.batch self.full_pages (B.life blob.new).present) queue.new.items }
+        ensures room { vec_capacity queue.new ≡ vec_capacity queue.old }
+        ensures looked { Looked (B.life blob.old) (B.life blob.new) }
+    {
+        let bytes = self.read::<B, H>(blob, queue, page)?;
+        hand.push(bytes, skip)?;
+        let next = self.behind(page);
+        self.top_up(blob, queue, next);
+        Ok(())
+    }
+}

@@ -1,0 +1,265 @@
+// Replays.
+ghost use Rattle.std.specs.Prelude.{◌≡◌, ◌≤◌, ◌<◌, ◌+◌, ◌*◌, [], ℕ, List, length, take, IfErr, IfOk};
+ghost use Rattle.std.specs.Prelude.{IsErrOf, IsOkUnless, OnErr, OnOk};
+ghost use Rattle.std.specs.Int.NonZero.{non_zero_usize_get};
+ghost use Rattle.crash.specs.Looks.{Looked};
+ghost use Rattle.disk.specs.Disk.{Disk};
+ghost use Rattle.paged_read.specs.Snapshots.{IsTailOf};
+ghost use Rattle.paged_read.specs.Replay.{advanced, CanReplay, Ensures, IsReplayOf, new_replay};
+ghost use Rattle.paged_read.specs.Replay.{end_of, FillsOnce, ReplaysOn, ReplaysThrough, Seeks};
+ghost use Rattle.paged_read.specs.Tail.{HasFullPages, size_of};
+
+use crate::ahead::{Ahead, Batches, MAX_READ_AHEAD};
+use crate::hand::{Hand, TooFew};
+use crate::search::physical_size;
+use crate::sealed::Sealed;
+use disk::{Blob, Error, IoBuf, ReadOptions};
+use page::Sum;
+use std::marker::Model;
+use std::num::NonZeroUsize;
+
+/// The bytes of a blob of the type `B`, with pages under the checksum function `H`, from one place
+/// on: in order, and in batches that are read ahead of where the replay stands.
+///
+/// A replay gives the bytes that there were when it began, whatever the blob's writer does
+/// meanwhile: it holds their number and a copy of those behind the full pages, and full pages are
+/// never written again. It ends with a crash, and with a recovery of the blob, which may cut it. The
+/// blob is lent to each call that may read; no cache is asked.
+///
+/// Where a batch that was read ahead failed, it is read again once it is needed, and only what fails
+/// then is told.
+#[derive(Drop)]
+pub struct Replay<B, H> {
+    sealed: Sealed<B, H>,
+    batches: Batches,
+    position: u64,
+    hand: Hand,
+    queue: Vec<Ahead>,
+    exhausted: bool,
+}
+
+impl<B, H> Model for Replay<B, H> {
+    ghost use Rattle.std.specs.Prelude.{◌≡◌, ◌≤◌, vec_capacity};
+    ghost use Rattle.std.specs.Int.NonZero.{non_zero_u16_get};
+    ghost use Rattle.paged_read.specs.Replay.{ReplayState, IsReplay};
+
+    ghost Value = { ReplayState };
+
+    ghost view = { λ r. record {
+        tail = r.sealed;
+        batch = r.batches.batch;
+        position = r.position;
+        hand = r.hand.bytes;
+        queue = r.queue.items;
+        exhausted = r.exhausted;
+    } };
+
+    ghost invariant = { λ r. IsReplay (record {
+            tail = r.sealed;
+            batch = r.batches.batch;
+            position = r.position;
+            hand = r.hand.bytes;
+            queue = r.queue.items;
+            exhausted = r.exhausted;
+        })
+        × (r.hand.page_size ≡ r.sealed.page_size)
+        × (non_zero_u16_get r.batches.page_size ≡ r.sealed.page_size)
+        × (r.batches.full_pages ≡ r.sealed.full_pages)
+        × (3 ≤ vec_capacity r.queue) };
+}
+
+impl<B, H> Replay<B, H> {
+    /// A replay of what a snapshot tells, from its first byte on. Pages are read in batches of a
+    /// quarter of those that fit `buffer_size` bytes, and at least one, and three batches ahead.
+    /// `OutOfMemory` alone.
+    pub fn new(
+        sealed: Sealed<B, H>,
+        buffer_size: NonZeroUsize,
+        options: ReadOptions,
+    ) -> Result<Self, Error>
+        ensures begins { IfOk result (λ r. r ≡ new_replay sealed (non_zero_usize_get buffer_size)) }
+        ensures err { IsOkUnless result Error.OutOfMemory }
+    {
+        let alloc = sealed.alloc();
+        let page_size = sealed.page_size();
+        let full_pages = sealed.full_pages();
+        let pages = (buffer_size.get() as u64 / physical_size(page_size)).max(1);
+        let batches = Batches {
+            alloc,
+            page_size,
+            full_pages,
+            batch: pages.div_ceil(4),
+            options,
+        };
+        Ok(Replay {
+            sealed,
+            batches,
+            position: 0,
+            hand: Hand::new(alloc, page_size),
+            queue: Vec::with_capacity(alloc, MAX_READ_AHEAD)?,
+            exhausted: false,
+        })
+    }
+
+    /// The logical bytes of the blob when the replay began.
+    pub fn blob_size(&self) -> u64
+        ensures { result ≡ size_of self.now.tail }
+    {
+        self.sealed.size()
+    }
+
+    /// Whether a call answered that all is at hand that is left. A seek begins anew.
+    pub fn is_exhausted(&self) -> bool
+        ensures { result ≡ self.now.exhausted }
+    {
+        self.exhausted
+    }
+
+    /// How many bytes are at hand.
+    pub fn remaining(&self) -> usize
+        ensures { result ≡ length self.now.hand }
+    {
+        self.hand.remaining()
+    }
+
+    /// The first bytes at hand, up to the end of their page, without a copy: none only where none
+    /// are.
+    pub fn chunk(&self) -> &[u8]
+        ensures chunk { result.now ≡ take (length result.now) self.now.hand }
+        ensures some { result.now ≡ [] → self.now.hand ≡ [] }
+    {
+        self.hand.chunk()
+    }
+
+    /// Passes over so many of the bytes at hand, or over all.
+    pub fn advance(&mut self, count: usize)
+        ensures advanced { self.new ≡ advanced count self.old }
+        ensures replays { ReplaysOn self.old self.new }
+    {
+        self.position += count.min(self.hand.remaining()) as u64;
+        self.hand.advance(count);
+    }
+
+    /// Goes to a place up to the size; nothing is at hand then. What is read ahead stays, for where
+    /// it is needed. `BlobInsufficientLength` past the size, and then nothing changed.
+    pub fn seek_to(&mut self, offset: u64) -> Result<(), Error>
+        ensures seeks { Seeks self.old offset self.new result }
+        ensures replays { ReplaysOn self.old self.new }
+    {
+        if self.sealed.size() < offset {
+            return Err(Error::BlobInsufficientLength);
+        }
+        self.position = offset;
+        self.hand.clear();
+        self.exhausted = false;
+        Ok(())
+    }
+
+    /// Takes so many of the bytes at hand: shared with their page where they are of one, else
+    /// copied. `OutOfMemory` alone, and then nothing is taken.
+    pub fn copy_to_bytes(&mut self, count: usize) -> Result<IoBuf, Error>
+        requires { count ≤ length self.old.hand }
+        ensures bytes { IfOk result (λ bytes. bytes ≡ take count self.old.hand) }
+        ensures taken { OnOk result (self.new ≡ advanced count self.old) }
+        ensures same { OnErr result (self.new ≡ self.old) }
+        ensures err { IsOkUnless result Error.OutOfMemory }
+        ensures replays { ReplaysOn self.old self.new }
+    {
+        let bytes = self.hand.copy_to_bytes(count)?;
+        self.position += count as u64;
+        Ok(bytes)
+    }
+
+    /// Takes as many of the bytes at hand as the slice has places. Where fewer remain nothing
+    /// changes.
+    pub fn try_copy_to_slice(&mut self, out: &mut [u8]) -> Result<(), TooFew>
+        ensures bytes { OnOk result (out.new ≡ take (length out.old) self.old.hand) }
+        ensures taken { OnOk result (self.new ≡ advanced (length out.old) self.old) }
+        ensures enough { OnOk result (length out.old ≤ length self.old.hand) }
+        ensures same { OnErr result ((self.new ≡ self.old) × (out.new ≡ out.old)) }
+        ensures few { IfErr result (λ few. (few.requested ≡ length out.old)
+            × (few.available ≡ length self.old.hand) × (few.available < few.requested)) }
+        ensures replays { ReplaysOn self.old self.new }
+    {
+        let count = out.len();
+        self.hand.try_copy_to_slice(out)?;
+        self.position += count as u64;
+        Ok(())
+    }
+}
+
+impl<B: Blob, H: Sum> Replay<B, H> {
+    /// Reads on until so many bytes are at hand, and answers whether they are: where not, all is at
+    /// hand that is left. Each batch is read ahead, in one read of the device, before it is needed,
+    /// or on demand where that failed or the replay went elsewhere; what is at hand was found full,
+    /// page by page.
+    ///
+    /// `ReadFailed` where a read failed that was needed, `InvalidChecksum` where a page isn't full,
+    /// which it always is in a sound blob, `OutOfMemory`. The replay stands where it stood, with no
+    /// less at hand, and may be asked again.
+    pub fn ensure(&mut self, blob: &mut B, count: usize) -> Result<bool, Error>
+        requires can { CanReplay self.old (B.life blob.old).present }
+        ensures fetches { let old = B.life blob.old in let new = B.life blob.new in
+            Ensures H.sum_of self.old count self.new old new result }
+        ensures replays { let old = B.life blob.old in let new = B.life blob.new in
+            ReplaysThrough self.old self.new old new }
+        ensures can { CanReplay self.new (B.life blob.new).present }
+        ensures looked { Looked (B.life blob.old) (B.life blob.new) }
+    {
+        while self.hand.remaining() < count && self.end() < self.sealed.size() {
+            self.fill(blob)?;
+        }
+        if count <= self.hand.remaining() {
+            return Ok(true);
+        }
+        self.exhausted = true;
+        Ok(false)
+    }
+
+    /// The place behind the bytes at hand.
+    fn end(&self) -> u64
+        ensures { result ≡ end_of self.now }
+    {
+        self.position + self.hand.remaining() as u64
+    }
+
+    /// Adds the next batch to what is at hand, or the bytes behind the full pages.
+    fn fill(&mut self, blob: &mut B) -> Result<(), Error>
+        requires can { CanReplay self.old (B.life blob.old).present }
+        requires more { end_of self.old < size_of self.old.tail }
+        ensures fills { let old = B.life blob.old in let new = B.life blob.new in
+            FillsOnce H.sum_of self.old self.new old new result }
+        ensures can { CanReplay self.new (B.life blob.new).present }
+        ensures looked { Looked (B.life blob.old) (B.life blob.new) }
+    {
+        let end = self.end();
+        let page_size = u64::from(self.batches.page_size.get());
+        let page = end / page_size;
+        let skip = (end % page_size) as usize;
+        if page == self.batches.full_pages {
+            let rest = IoBuf::copy_from_slice(self.batches.alloc, self.sealed.bytes())?;
+            return self.hand.push(rest, skip);
+        }
+        self.batches
+            .add::<B, H>(blob, &mut self.queue, &mut self.hand, page, skip)
+    }
+}
+
+impl<B: Blob, H: Sum> Sealed<B, H> {
+    /// A replay of what the snapshot tells, from its first byte on: it copies the bytes behind the
+    /// full pages, and reads nothing yet. Pages are read in batches of a quarter of those that fit
+    /// `buffer_size` bytes, and at least one, and three batches ahead. `OutOfMemory` alone.
+    pub fn replay(
+        &self,
+        buffer_size: NonZeroUsize,
+        options: ReadOptions,
+    ) -> Result<Replay<B, H>, Error>
+        ensures begins { let size = non_zero_usize_get buffer_size in
+            IfOk result (λ r. r ≡ new_replay self.now size) }
+        ensures replays { (content : List ℕ) (d : Disk) → IsTailOf H.sum_of self.now content d
+            → IfOk result (λ r. IsReplayOf H.sum_of r content d) }
+        ensures err { IsOkUnless result Error.OutOfMemory }
+    {
+        Replay::new(self.try_clone()?, buffer_size, options)
+    }
+}
