@@ -21,3 +21,4 @@ pub mod FullReads
 mod Hands
 pub mod ReadAheads
 pub mod Replays
+pub mod OutlivingReplays

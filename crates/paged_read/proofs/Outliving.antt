@@ -33,7 +33,7 @@ module _ (t : Tail) (k : ℕ) (d e : Disk) (below : t.full_pages ≤ k)
   fewer : SamePages t.page_size t.full_pages d e
   fewer = fewer_stay t.page_size t.full_pages k d e below same
 
-  still_told : HasPages t d → told t e.readable ≡ told t d.readable
+  pub still_told : HasPages t d → told t e.readable ≡ told t d.readable
   still_told there =
       ap (λ (s : List ℕ). s ++ t.bytes)
       (stored_still (λ _. 0) t.page_size t.full_pages d e there fewer)
@@ -225,6 +225,23 @@ alike_tails sum cache old new same t held stands = record {
         stands.can.cached;
   };
 }
+
+pub look_leaves_tails : (sum : List ℕ → ℕ) (cache : CacheState) (old new : Life) → Looked old new
+    → LeavesAllTails sum cache cache old new
+look_leaves_tails sum cache old new looked =
+    alike_tails sum cache old new (looked_readable old new looked)
+
+pub look_leaves_reads : (cache : CacheState) (old new : Life) → Looked old new
+    → LeavesAllReads cache cache old new
+look_leaves_reads cache old new looked t can =
+    let same = looked_readable old new looked in
+    record {
+      there = omega (arith, can.there, ap length same);
+      page_size = can.page_size;
+      given = can.given;
+      cached = subst (λ (l : List ℕ). IsTrueFor t.id (told t l) t.full_pages cache) (sym same)
+          can.cached;
+    }
 
 -- one that takes an id
 pub given_reads : (cache behind : CacheState)

@@ -75,6 +75,19 @@ ReplaysThrough r now old new =
     (sum : List ℕ → ℕ) (content : List ℕ)
     → IsReplayOf sum r content old.present → IsReplayOf sum now content new.present
 
+-- a call of a blob leaves each replay of at most so many of its pages, which have this size
+abbrev pub LeavesReplays : (P full_pages : ℕ) → Life → Life → Type 0
+LeavesReplays P full_pages old new =
+    (sum : List ℕ → ℕ) (content : List ℕ) (r : ReplayState)
+    → r.tail.page_size ≡ P → r.tail.full_pages ≤ full_pages
+    → IsReplayOf sum r content old.present → IsReplayOf sum r content new.present
+
+-- a call that changes no byte leaves all
+abbrev pub LeavesAllReplays : Life → Life → Type 0
+LeavesAllReplays old new =
+    (sum : List ℕ → ℕ) (content : List ℕ) (r : ReplayState)
+    → IsReplayOf sum r content old.present → IsReplayOf sum r content new.present
+
 -- it stands where it stood, with no less at hand
 pub record Fills (r now : ReplayState) : Type 0 where
   pub tail : now.tail ≡ r.tail

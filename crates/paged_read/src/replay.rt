@@ -2,11 +2,13 @@
 ghost use Rattle.std.specs.Prelude.{◌≡◌, ◌≤◌, ◌<◌, ◌+◌, ◌*◌, [], ℕ, List, length, take, IfErr, IfOk};
 ghost use Rattle.std.specs.Prelude.{IsErrOf, IsOkUnless, OnErr, OnOk};
 ghost use Rattle.std.specs.Int.NonZero.{non_zero_usize_get};
+ghost use Rattle.cache.specs.CacheState.{CacheState};
 ghost use Rattle.crash.specs.Looks.{Looked};
 ghost use Rattle.disk.specs.Disk.{Disk};
-ghost use Rattle.paged_read.specs.Snapshots.{IsTailOf};
+ghost use Rattle.paged_read.specs.Snapshots.{IsTailOf, LeavesAllReads, LeavesAllTails};
+ghost use Rattle.paged_read.specs.Snapshots.{LeavesWriters};
 ghost use Rattle.paged_read.specs.Replay.{advanced, CanReplay, Ensures, IsReplayOf, new_replay};
-ghost use Rattle.paged_read.specs.Replay.{end_of, FillsOnce, ReplaysOn, ReplaysThrough, Seeks};
+ghost use Rattle.paged_read.specs.Replay.{end_of, FillsOnce, LeavesAllReplays, ReplaysOn, ReplaysThrough, Seeks};
 ghost use Rattle.paged_read.specs.Tail.{HasFullPages, size_of};
 
 use crate::ahead::{Ahead, Batches, MAX_READ_AHEAD};
@@ -205,6 +207,15 @@ impl<B: Blob, H: Sum> Replay<B, H> {
             ReplaysThrough self.old self.new old new }
         ensures can { CanReplay self.new (B.life blob.new).present }
         ensures looked { Looked (B.life blob.old) (B.life blob.new) }
+
+        // The blob's writer stays as it is, each snapshot and each other replay stands as it stood,
+        // and what can be read can be read on.
+        ensures writers { LeavesWriters H.sum_of (B.life blob.old) (B.life blob.new) }
+        ensures tails { (cache : CacheState)
+            → LeavesAllTails H.sum_of cache cache (B.life blob.old) (B.life blob.new) }
+        ensures can_read { (cache : CacheState)
+            → LeavesAllReads cache cache (B.life blob.old) (B.life blob.new) }
+        ensures others { LeavesAllReplays (B.life blob.old) (B.life blob.new) }
     {
         while self.hand.remaining() < count && self.end() < self.sealed.size() {
             self.fill(blob)?;

@@ -9,6 +9,7 @@ ghost use Rattle.crash.specs.Looks.{Looked};
 ghost use Rattle.paged_read.specs.Batch.{ranges_of};
 ghost use Rattle.paged_read.specs.Ranges.{AsksForMissing, AsksOnce, HasServed, LeavesAll, Misses};
 ghost use Rattle.paged_read.specs.Ranges.{range_up_to, Reads, ReadsMany, ReadsUpTo, TriesRead};
+ghost use Rattle.paged_read.specs.Replay.{LeavesAllReplays};
 ghost use Rattle.paged_read.specs.Snapshots.{IsSealed, LeavesAllReads, LeavesAllTails};
 ghost use Rattle.paged_read.specs.Snapshots.{LeavesOthers, LeavesWriters};
 ghost use Rattle.paged_read.specs.Tail.{CanRead, HasFullPages, IsView, size_of, Tail, tail_at};
@@ -220,13 +221,14 @@ impl<B: Blob, H: Sum> Sealed<B, H> {
         ensures never { HasFullPages H.sum_of self.now (B.life blob.old).present
             → IsErrOf result Error.InvalidChecksum → ⊥ }
 
-        // The blob's writer stays as it is, each snapshot stands as it stood, what can be read can
-        // be read on, and so can other blobs.
+        // The blob's writer stays as it is, each snapshot and each replay stands as it stood, what
+        // can be read can be read on, and so can other blobs.
         ensures writers { LeavesWriters H.sum_of (B.life blob.old) (B.life blob.new) }
         ensures tails { let old = B.life blob.old in let new = B.life blob.new in
             LeavesAllTails H.sum_of cache.old cache.new old new }
         ensures can_read { let old = B.life blob.old in let new = B.life blob.new in
             LeavesAllReads cache.old cache.new old new }
+        ensures replays { LeavesAllReplays (B.life blob.old) (B.life blob.new) }
         ensures others { LeavesOthers self.now.id cache.old cache.new }
     {
         self.view().read_into(blob, cache, buf, offset)
@@ -257,13 +259,14 @@ impl<B: Blob, H: Sum> Sealed<B, H> {
         ensures never { HasFullPages H.sum_of self.now (B.life blob.old).present
             → IsErrOf result Error.InvalidChecksum → ⊥ }
 
-        // The blob's writer stays as it is, each snapshot stands as it stood, what can be read can
-        // be read on, and so can other blobs.
+        // The blob's writer stays as it is, each snapshot and each replay stands as it stood, what
+        // can be read can be read on, and so can other blobs.
         ensures writers { LeavesWriters H.sum_of (B.life blob.old) (B.life blob.new) }
         ensures tails { let old = B.life blob.old in let new = B.life blob.new in
             LeavesAllTails H.sum_of cache.old cache.new old new }
         ensures can_read { let old = B.life blob.old in let new = B.life blob.new in
             LeavesAllReads cache.old cache.new old new }
+        ensures replays { LeavesAllReplays (B.life blob.old) (B.life blob.new) }
         ensures others { LeavesOthers self.now.id cache.old cache.new }
     {
         self.view().read_at(blob, cache, offset, len)
@@ -297,13 +300,14 @@ impl<B: Blob, H: Sum> Sealed<B, H> {
         ensures never { HasFullPages H.sum_of self.now (B.life blob.old).present
             → IsErrOf result Error.InvalidChecksum → ⊥ }
 
-        // The blob's writer stays as it is, each snapshot stands as it stood, what can be read can
-        // be read on, and so can other blobs.
+        // The blob's writer stays as it is, each snapshot and each replay stands as it stood, what
+        // can be read can be read on, and so can other blobs.
         ensures writers { LeavesWriters H.sum_of (B.life blob.old) (B.life blob.new) }
         ensures tails { let old = B.life blob.old in let new = B.life blob.new in
             LeavesAllTails H.sum_of cache.old cache.new old new }
         ensures can_read { let old = B.life blob.old in let new = B.life blob.new in
             LeavesAllReads cache.old cache.new old new }
+        ensures replays { LeavesAllReplays (B.life blob.old) (B.life blob.new) }
         ensures others { LeavesOthers self.now.id cache.old cache.new }
     {
         self.view().read_up_to(blob, cache, offset, len, bytes)
@@ -341,13 +345,14 @@ impl<B: Blob, H: Sum> Sealed<B, H> {
         ensures never { HasFullPages H.sum_of self.now (B.life blob.old).present
             → IsErrOf result Error.InvalidChecksum → ⊥ }
 
-        // The blob's writer stays as it is, each snapshot stands as it stood, what can be read can
-        // be read on, and so can other blobs.
+        // The blob's writer stays as it is, each snapshot and each replay stands as it stood, what
+        // can be read can be read on, and so can other blobs.
         ensures writers { LeavesWriters H.sum_of (B.life blob.old) (B.life blob.new) }
         ensures tails { let old = B.life blob.old in let new = B.life blob.new in
             LeavesAllTails H.sum_of cache.old cache.new old new }
         ensures can_read { let old = B.life blob.old in let new = B.life blob.new in
             LeavesAllReads cache.old cache.new old new }
+        ensures replays { LeavesAllReplays (B.life blob.old) (B.life blob.new) }
         ensures others { LeavesOthers self.now.id cache.old cache.new }
     {
         self.view().read_ranges_into(blob, cache, buf, ranges)
@@ -379,13 +384,14 @@ impl<B: Blob, H: Sum> Sealed<B, H> {
         ensures never { HasFullPages H.sum_of self.now (B.life blob.old).present
             → IsErrOf result Error.InvalidChecksum → ⊥ }
 
-        // The blob's writer stays as it is, each snapshot stands as it stood, what can be read can
-        // be read on, and so can other blobs.
+        // The blob's writer stays as it is, each snapshot and each replay stands as it stood, what
+        // can be read can be read on, and so can other blobs.
         ensures writers { LeavesWriters H.sum_of (B.life blob.old) (B.life blob.new) }
         ensures tails { let old = B.life blob.old in let new = B.life blob.new in
             LeavesAllTails H.sum_of cache.old cache.new old new }
         ensures can_read { let old = B.life blob.old in let new = B.life blob.new in
             LeavesAllReads cache.old cache.new old new }
+        ensures replays { LeavesAllReplays (B.life blob.old) (B.life blob.new) }
         ensures others { LeavesOthers self.now.id cache.old cache.new }
     {
         self.view().read_many_into(blob, cache, buf, offsets, len)

@@ -3,6 +3,8 @@ use Rattle.std.proofs.lemmas.Result.{err_from_is_err_and}
 use Rattle.crash.specs.Looks.{looked_joins}
 use Rattle.paged_read.specs.Replay.{end_of, IsReplay, ReplayState}
 use Rattle.paged_read.specs.Tail.{size_of}
+use Rattle.paged_read.proofs.Outliving.{look_leaves_reads, look_leaves_tails, look_leaves_writers}
+use Rattle.paged_read.proofs.OutlivingReplays.{look_leaves_replays}
 use Rattle.paged_read.proofs.Replays.{Reached, filled_replays, reach_ends, reach_enough, reach_fails, reach_more, reach_start}
 use Rattle.paged_read.proofs.replay.Replay.ensure.Goals as goal
 use Rattle.paged_read.proofs.replay.Replay.ensure.Goals.{After-remaining-2, then-loop-self-test+else-end-size, else-loop-self-test}
@@ -98,3 +100,64 @@ returns-clause-replays g c =
     })
     (record { there = so_far.can.there; hand = so_far.can.hand; queue = so_far.can.queue; })
     so_far.looked
+
+-- what a call that only looked leaves
+pub returns-in_err-fill-clause-writers : goal.returns-in_err-fill-clause-writers
+returns-in_err-fill-clause-writers g c = 
+    look_leaves_writers g.H.Sum.sum_of (g.B.Blob.life c.args.blob.now) (g.B.Blob.life c.fill.new.blob)
+    (returns-in_err-fill-clause-looked g c)
+
+pub returns-in_err-fill-clause-tails : goal.returns-in_err-fill-clause-tails
+returns-in_err-fill-clause-tails g c = λ cache. 
+    look_leaves_tails g.H.Sum.sum_of cache (g.B.Blob.life c.args.blob.now) (g.B.Blob.life c.fill.new.blob)
+    (returns-in_err-fill-clause-looked g c)
+
+pub returns-in_err-fill-clause-can_read : goal.returns-in_err-fill-clause-can_read
+returns-in_err-fill-clause-can_read g c = λ cache. 
+    look_leaves_reads cache (g.B.Blob.life c.args.blob.now) (g.B.Blob.life c.fill.new.blob)
+    (returns-in_err-fill-clause-looked g c)
+
+pub returns-in_err-fill-clause-others : goal.returns-in_err-fill-clause-others
+returns-in_err-fill-clause-others g c = 
+    look_leaves_replays (g.B.Blob.life c.args.blob.now) (g.B.Blob.life c.fill.new.blob)
+    (returns-in_err-fill-clause-looked g c)
+
+pub returns-then-count-remaining-clause-writers : goal.returns-then-count-remaining-clause-writers
+returns-then-count-remaining-clause-writers g c = 
+    look_leaves_writers g.H.Sum.sum_of (g.B.Blob.life c.args.blob.now) (g.B.Blob.life c.loop-self.blob)
+    (c.loop-self.invariant.looked)
+
+pub returns-then-count-remaining-clause-tails : goal.returns-then-count-remaining-clause-tails
+returns-then-count-remaining-clause-tails g c = λ cache. 
+    look_leaves_tails g.H.Sum.sum_of cache (g.B.Blob.life c.args.blob.now) (g.B.Blob.life c.loop-self.blob)
+    (c.loop-self.invariant.looked)
+
+pub returns-then-count-remaining-clause-can_read : goal.returns-then-count-remaining-clause-can_read
+returns-then-count-remaining-clause-can_read g c = λ cache. 
+    look_leaves_reads cache (g.B.Blob.life c.args.blob.now) (g.B.Blob.life c.loop-self.blob)
+    (c.loop-self.invariant.looked)
+
+pub returns-then-count-remaining-clause-others : goal.returns-then-count-remaining-clause-others
+returns-then-count-remaining-clause-others g c = 
+    look_leaves_replays (g.B.Blob.life c.args.blob.now) (g.B.Blob.life c.loop-self.blob)
+    (c.loop-self.invariant.looked)
+
+pub returns-clause-writers : goal.returns-clause-writers
+returns-clause-writers g c = 
+    look_leaves_writers g.H.Sum.sum_of (g.B.Blob.life c.args.blob.now) (g.B.Blob.life c.loop-self.blob)
+    (c.loop-self.invariant.looked)
+
+pub returns-clause-tails : goal.returns-clause-tails
+returns-clause-tails g c = λ cache. 
+    look_leaves_tails g.H.Sum.sum_of cache (g.B.Blob.life c.args.blob.now) (g.B.Blob.life c.loop-self.blob)
+    (c.loop-self.invariant.looked)
+
+pub returns-clause-can_read : goal.returns-clause-can_read
+returns-clause-can_read g c = λ cache. 
+    look_leaves_reads cache (g.B.Blob.life c.args.blob.now) (g.B.Blob.life c.loop-self.blob)
+    (c.loop-self.invariant.looked)
+
+pub returns-clause-others : goal.returns-clause-others
+returns-clause-others g c = 
+    look_leaves_replays (g.B.Blob.life c.args.blob.now) (g.B.Blob.life c.loop-self.blob)
+    (c.loop-self.invariant.looked)

@@ -4,6 +4,7 @@ use Rattle.paged_read.specs.Ranges.{LeavesAll, ReadsMany}
 use Rattle.paged_read.proofs.FullReads.{full_reads_many}
 use Rattle.paged_read.proofs.Outliving.{look_leaves_writers, read_leaves_all_tails}
 use Rattle.paged_read.proofs.Outliving.{read_leaves_all_reads, read_leaves_others}
+use Rattle.paged_read.proofs.OutlivingReplays.{look_leaves_replays}
 use Rattle.paged_read.proofs.sealed.Sealed.read_ranges_into.Goals as goal
 
 pub returns-clause-never : goal.returns-clause-never
@@ -43,3 +44,8 @@ returns-clause-others g c =
     (subst (λ (t : Tail). LeavesAll t c.args.cache.now c.read_ranges_into.new.cache
     (g.B.Blob.life c.args.blob.now) (g.B.Blob.life c.read_ranges_into.new.blob))
     c.view.ensures.tail c.read_ranges_into.ensures.leaves)
+
+pub returns-clause-replays : goal.returns-clause-replays
+returns-clause-replays g c =
+    look_leaves_replays (g.B.Blob.life c.args.blob.now) (g.B.Blob.life c.read_ranges_into.new.blob)
+    c.read_ranges_into.ensures.leaves.looked
