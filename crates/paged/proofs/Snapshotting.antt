@@ -12,11 +12,14 @@ use Rattle.crash.specs.Sound.{IsSound, content}
 use Rattle.crash.specs.Stays.{StaysThrough, KeepsAllFloors, LeavesOnly}
 use Rattle.crash.proofs.FloorLaws.{floors_of_sound}
 use Rattle.paged_read.specs.Tail.{Tail, CanRead}
+use Rattle.paged_read.specs.Replay.{IsReplayOf, new_replay, ReplayState}
 use Rattle.paged_read.specs.Snapshots.{IsTailOf, StandsOn}
+use Rattle.paged_read.proofs.Replays.{new_replays}
 use Rattle.paged.specs.Caches.{ReadsOn, tail_of}
 use Rattle.paged.specs.Calls.{GoesOn, waited}
 use Rattle.paged.specs.Calls.{waited_state, wait_calls, unstarted_calls, start_calls, started_already}
 use Rattle.paged.specs.Flush.{has_work}
+use Rattle.paged.specs.Replays.{BeginsReplay}
 use Rattle.paged.specs.Snapshots.{answer_of_seal, MakesSnapshot, seal_calls}
 use Rattle.paged.proofs.Halves.{goes_stay, keeps_floors, leaves_only}
 use Rattle.paged.proofs.Serves.{sound_full, sound_there}
@@ -75,6 +78,40 @@ module _ (sum : List ℕ → ℕ) (w : WriterState) (old new : Life)
   make_leaves result makes =
       leaves_only sum w.page_size (content w old.present.readable) old new
       (make_stays sum w old new result makes)
+
+-- ---- a replay that begins
+
+begin_stays : (sum : List ℕ → ℕ) (w : WriterState) (size : ℕ) (old new : Life)
+    (result : Result (WriterState × ReplayState) Error) → BeginsReplay sum w size old new result
+    → StaysThrough sum w.page_size (content w old.present.readable) old new
+begin_stays sum w size old new (Ok r) begins = goes_stay sum w r.0 old new begins.0
+begin_stays sum w size old new (Err e) refused = refused.stays
+
+module _ (sum : List ℕ → ℕ) (w : WriterState) (size : ℕ) (old new : Life)
+    (sound : IsSound sum w old.present) where
+  pub begin_keeps : (result : Result (WriterState × ReplayState) Error)
+      → BeginsReplay sum w size old new result → KeepsAllFloors sum w.page_size old new
+  begin_keeps result begins =
+      floors_of_sound sum w old new sound
+      (keeps_floors sum w.page_size (content w old.present.readable) old new
+      (begin_stays sum w size old new result begins))
+
+  pub begin_leaves : (result : Result (WriterState × ReplayState) Error)
+      → BeginsReplay sum w size old new result
+      → LeavesOnly sum w.page_size (content w old.present.readable)
+      (content w old.present.readable) old new
+  begin_leaves result begins =
+      leaves_only sum w.page_size (content w old.present.readable) old new
+      (begin_stays sum w size old new result begins)
+
+-- it gives what was told before
+pub begun_gives : (sum : List ℕ → ℕ) (w now : WriterState) (size : ℕ) (r : ReplayState)
+    (old new : Life) → GoesOn sum w old [] now new → r ≡ new_replay (tail_of now) size
+    → IsReplayOf sum r (content w old.present.readable) new.present
+begun_gives sum w now size r old new goes is =
+    subst (λ (s : ReplayState). IsReplayOf sum s (content w old.present.readable) new.present)
+    (sym is) (new_replays sum (tail_of now) size (content w old.present.readable) new.present
+    (goes_tells sum w now old new goes))
 
 -- ---- a writer that is sealed
 

@@ -9,3 +9,4 @@ pub mod Recovers
 pub mod Caches
 pub mod Snapshots
 pub mod LaterCalls
+pub mod Replays

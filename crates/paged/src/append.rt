@@ -14,6 +14,7 @@ ghost use Rattle.paged.specs.Reads.{HasPages, size_of};
 ghost use Rattle.paged.specs.Flush.{answered};
 ghost use Rattle.paged.specs.Caches.{CachesTo, Caches, ReadsOn, KeepsReads, PutsOnceWaited};
 ghost use Rattle.cache.specs.Pages.{CachesOnly, IsFresh};
+ghost use Rattle.paged_read.specs.Replay.{LeavesReplays};
 ghost use Rattle.paged_read.specs.Snapshots.{LeavesOthers, LeavesTails};
 
 use crate::Writer;
@@ -120,9 +121,11 @@ impl<B: Blob, H: Sum, Phase> Writer<B, H, Phase> {
             CoversThrough H.sum_of self.page_size held old new }
         ensures starts { StartsStand (B.life blob.new).present }
 
-        // What snapshots, and reads of other blobs, stand on.
+        // What snapshots, replays, and reads of other blobs stand on.
         ensures tails { let old = B.life blob.old in let new = B.life blob.new in
             LeavesTails H.sum_of self.full_pages cache.old cache.new old new }
+        ensures replays { let old = B.life blob.old in let new = B.life blob.new in
+            LeavesReplays self.page_size self.full_pages old new }
         ensures others { LeavesOthers self.id cache.old cache.new }
     {
         let at = self.size();

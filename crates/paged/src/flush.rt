@@ -21,6 +21,7 @@ ghost use Rattle.cache.specs.CacheState.{PutsAll};
 ghost use Rattle.cache.specs.Pages.{CachesOnly, IsFresh};
 ghost use Rattle.paged.specs.Flush.{full_in, rest_of, rest_bytes, has_work, carried, advanced};
 ghost use Rattle.paged.specs.Flush.{place_of, flush_bytes, synced, written, outcome, answered};
+ghost use Rattle.paged_read.specs.Replay.{LeavesReplays};
 ghost use Rattle.paged_read.specs.Snapshots.{LeavesOthers, LeavesTails};
 
 use crate::Writer;
@@ -357,9 +358,11 @@ impl<B: Blob, H: Sum, Phase> Writer<B, H, Phase> {
             CoversThrough H.sum_of self.page_size held old new }
         ensures starts { StartsStand (B.life blob.new).present }
 
-        // What snapshots, and reads of other blobs, stand on.
+        // What snapshots, replays, and reads of other blobs stand on.
         ensures tails { let old = B.life blob.old in let new = B.life blob.new in
             LeavesTails H.sum_of self.full_pages cache.old cache.new old new }
+        ensures replays { let old = B.life blob.old in let new = B.life blob.new in
+            LeavesReplays self.page_size self.full_pages old new }
         ensures others { LeavesOthers self.id cache.old cache.new }
     {
         self.sync_all(blob, cache)?;

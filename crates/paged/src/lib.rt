@@ -8,6 +8,7 @@ mod direct;
 mod flush;
 mod read;
 mod recovery;
+mod replay;
 mod snapshot;
 mod start;
 mod truncate;

@@ -12,6 +12,7 @@ ghost use Rattle.paged_read.specs.Tail.{CanRead, IsView, tail_at, told};
 ghost use Rattle.paged_read.specs.Ranges.{Reads, ReadsUpTo, ReadsMany, range_up_to, TriesRead};
 ghost use Rattle.paged_read.specs.Ranges.{AsksForMissing, AsksOnce, LeavesAll, Misses, HasServed};
 ghost use Rattle.paged_read.specs.Batch.{ranges_of};
+ghost use Rattle.paged_read.specs.Replay.{LeavesAllReplays};
 ghost use Rattle.paged_read.specs.Snapshots.{LeavesOthers, LeavesTails};
 ghost use Rattle.paged.specs.Caches.{tail_of};
 ghost use Rattle.paged.specs.Reads.{size_of};
@@ -142,9 +143,10 @@ impl<B: Blob, H: Sum, Phase> Writer<B, H, Phase> {
             IsSound H.sum_of self.now old.present
             → LeavesOnly H.sum_of self.now.page_size held held old new }
 
-        // What snapshots, and reads of other blobs, stand on.
+        // What snapshots, replays, and reads of other blobs stand on.
         ensures tails { let old = B.life blob.old in let new = B.life blob.new in
             LeavesTails H.sum_of self.now.full_pages cache.old cache.new old new }
+        ensures replays { LeavesAllReplays (B.life blob.old) (B.life blob.new) }
         ensures others { LeavesOthers self.now.id cache.old cache.new }
 
         // Of a recovery that was opened over any blob: it can still be cut.
@@ -189,9 +191,10 @@ impl<B: Blob, H: Sum, Phase> Writer<B, H, Phase> {
             IsSound H.sum_of self.now old.present
             → LeavesOnly H.sum_of self.now.page_size held held old new }
 
-        // What snapshots, and reads of other blobs, stand on.
+        // What snapshots, replays, and reads of other blobs stand on.
         ensures tails { let old = B.life blob.old in let new = B.life blob.new in
             LeavesTails H.sum_of self.now.full_pages cache.old cache.new old new }
+        ensures replays { LeavesAllReplays (B.life blob.old) (B.life blob.new) }
         ensures others { LeavesOthers self.now.id cache.old cache.new }
 
         // Of a recovery that was opened over any blob: it can still be cut.
@@ -240,9 +243,10 @@ impl<B: Blob, H: Sum, Phase> Writer<B, H, Phase> {
             IsSound H.sum_of self.now old.present
             → LeavesOnly H.sum_of self.now.page_size held held old new }
 
-        // What snapshots, and reads of other blobs, stand on.
+        // What snapshots, replays, and reads of other blobs stand on.
         ensures tails { let old = B.life blob.old in let new = B.life blob.new in
             LeavesTails H.sum_of self.now.full_pages cache.old cache.new old new }
+        ensures replays { LeavesAllReplays (B.life blob.old) (B.life blob.new) }
         ensures others { LeavesOthers self.now.id cache.old cache.new }
 
         // Of a recovery that was opened over any blob: it can still be cut.
@@ -294,9 +298,10 @@ impl<B: Blob, H: Sum, Phase> Writer<B, H, Phase> {
             IsSound H.sum_of self.now old.present
             → LeavesOnly H.sum_of self.now.page_size held held old new }
 
-        // What snapshots, and reads of other blobs, stand on.
+        // What snapshots, replays, and reads of other blobs stand on.
         ensures tails { let old = B.life blob.old in let new = B.life blob.new in
             LeavesTails H.sum_of self.now.full_pages cache.old cache.new old new }
+        ensures replays { LeavesAllReplays (B.life blob.old) (B.life blob.new) }
         ensures others { LeavesOthers self.now.id cache.old cache.new }
 
         // Of a recovery that was opened over any blob: it can still be cut.
@@ -342,9 +347,10 @@ impl<B: Blob, H: Sum, Phase> Writer<B, H, Phase> {
             IsSound H.sum_of self.now old.present
             → LeavesOnly H.sum_of self.now.page_size held held old new }
 
-        // What snapshots, and reads of other blobs, stand on.
+        // What snapshots, replays, and reads of other blobs stand on.
         ensures tails { let old = B.life blob.old in let new = B.life blob.new in
             LeavesTails H.sum_of self.now.full_pages cache.old cache.new old new }
+        ensures replays { LeavesAllReplays (B.life blob.old) (B.life blob.new) }
         ensures others { LeavesOthers self.now.id cache.old cache.new }
 
         // Of a recovery that was opened over any blob: it can still be cut.

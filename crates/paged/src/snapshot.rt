@@ -6,6 +6,7 @@ ghost use Rattle.crash.specs.WriterState.SyncState.{Dirty};
 ghost use Rattle.crash.specs.Sound.{content, IsSound};
 ghost use Rattle.crash.specs.Started.{CoversThrough, StartsStand};
 ghost use Rattle.crash.specs.Stays.{KeepsAllFloors, LeavesOnly};
+ghost use Rattle.paged_read.specs.Replay.{LeavesReplays};
 ghost use Rattle.paged_read.specs.Snapshots.{IsTailOf, LeavesOthers, LeavesTails, StandsOn};
 ghost use Rattle.paged_read.specs.Tail.{CanRead};
 ghost use Rattle.paged.specs.Caches.{Caches, CachesTo, PutsOnceWaited, ReadsOn, tail_of};
@@ -36,7 +37,7 @@ impl<B, H> Writer<B, H> {
     }
 
     /// A snapshot, where no full page is buffered. `OutOfMemory` alone.
-    fn copy_tail(&self) -> Result<Sealed<B, H>, Error>
+    pub(crate) fn copy_tail(&self) -> Result<Sealed<B, H>, Error>
         requires short { length self.now.tip < self.now.page_size }
         ensures copies { CopiesTail self.now (paired self.now result) }
     {
@@ -129,9 +130,11 @@ impl<B: Blob, H: Sum> Writer<B, H> {
             CoversThrough H.sum_of self.page_size held old new }
         ensures starts { StartsStand (B.life blob.new).present }
 
-        // What snapshots, and reads of other blobs, stand on.
+        // What snapshots, replays, and reads of other blobs stand on.
         ensures tails { let old = B.life blob.old in let new = B.life blob.new in
             LeavesTails H.sum_of self.full_pages cache.old cache.new old new }
+        ensures replays { let old = B.life blob.old in let new = B.life blob.new in
+            LeavesReplays self.page_size self.full_pages old new }
         ensures others { LeavesOthers self.id cache.old cache.new }
     {
         let sealed = self.snapshot_all(blob, cache)?;
@@ -223,9 +226,11 @@ impl<B: Blob, H: Sum> Writer<B, H> {
             CoversThrough H.sum_of self.page_size held old new }
         ensures starts { StartsStand (B.life blob.new).present }
 
-        // What snapshots, and reads of other blobs, stand on.
+        // What snapshots, replays, and reads of other blobs stand on.
         ensures tails { let old = B.life blob.old in let new = B.life blob.new in
             LeavesTails H.sum_of self.full_pages cache.old cache.new old new }
+        ensures replays { let old = B.life blob.old in let new = B.life blob.new in
+            LeavesReplays self.page_size self.full_pages old new }
         ensures others { LeavesOthers self.id cache.old cache.new }
     {
         let started = self.seal_all(blob, cache)?;

@@ -8,6 +8,7 @@ ghost use Rattle.crash.specs.Stays.{KeepsAllFloors, LeavesOnly};
 ghost use Rattle.paged.specs.Calls.{AsksAtMost, HoldsWithin, IsWritten, StartsSync};
 ghost use Rattle.paged.specs.Calls.{WaitsForSync, Completed, Completes, start_calls};
 ghost use Rattle.paged.specs.Calls.{started_already, started_state, Covers};
+ghost use Rattle.paged_read.specs.Replay.{LeavesAllReplays, LeavesReplays};
 ghost use Rattle.paged_read.specs.Snapshots.{LeavesAllTails, LeavesOthers, LeavesTails};
 ghost use Rattle.paged_read.specs.Snapshots.{LeavesWriters};
 ghost use Rattle.disk.specs.Disk.{StartGoes, WaitsFor};
@@ -91,9 +92,11 @@ impl<B: Blob, H: Sum, Phase> Writer<B, H, Phase> {
             CoversThrough H.sum_of self.page_size held old new }
         ensures starts { StartsStand (B.life blob.new).present }
 
-        // What snapshots, and reads of other blobs, stand on.
+        // What snapshots, replays, and reads of other blobs stand on.
         ensures tails { let old = B.life blob.old in let new = B.life blob.new in
             LeavesTails H.sum_of self.full_pages cache.old cache.new old new }
+        ensures replays { let old = B.life blob.old in let new = B.life blob.new in
+            LeavesReplays self.page_size self.full_pages old new }
         ensures others { LeavesOthers self.id cache.old cache.new }
     {
         let started = self.start_all(blob, cache)?;
@@ -208,6 +211,8 @@ impl<B: Blob, H: Sum, Phase> Writer<B, H, Phase> {
         ensures tails { let old = B.life blob.old in let new = B.life blob.new in
             (cache : CacheState) → cache.page_size ≡ self.page_size
             → LeavesTails H.sum_of self.full_pages cache cache old new }
+        ensures replays { let old = B.life blob.old in let new = B.life blob.new in
+            LeavesReplays self.page_size self.full_pages old new }
     {
         self.wait(blob)?;
         Ok(self)
@@ -227,6 +232,7 @@ pub fn wait_sync<B: Blob, H: Sum>(blob: &mut B, started: StartedSync) -> Result<
         → CanRead t cache (B.life blob.new).present }
     ensures tails { (cache : CacheState)
         → LeavesAllTails H.sum_of cache cache (B.life blob.old) (B.life blob.new) }
+    ensures replays { LeavesAllReplays (B.life blob.old) (B.life blob.new) }
 
     // From then on every image keeps what the sync covers.
     ensures durable { OnOk result ((page_size : ℕ) →

@@ -2,6 +2,7 @@ use Rattle.std.proofs.Common.{[], append-nil, sym, Ok, Err}
 use Rattle.crash.specs.Sound.{content}
 use Rattle.crash.specs.WriterState.{WriterState}
 use Rattle.paged_read.specs.Tail.{Tail}
+use Rattle.paged_read.proofs.OutlivingReplays.{replays_stay}
 use Rattle.paged_read.proofs.Outliving.{others_stay, tails_stay}
 use Rattle.paged.proofs.Caching.{caches_law_same, fresh_law, reads_behind}
 use Rattle.paged.proofs.Covers.{completed}
@@ -114,3 +115,13 @@ returns-clause-others g c =
     let old = g.B.Blob.life c.args.blob.now in
     others_stay w.id w.full_pages (content w old.present.readable) c.args.cache.now
     c.snapshot_all.new.cache (returns-clause-caches g c)
+
+pub returns-in_err-sealed-clause-replays : goal.returns-in_err-sealed-clause-replays
+returns-in_err-sealed-clause-replays g c =
+    replays_stay c.args.self.page_size c.args.self.full_pages (g.B.Blob.life c.args.blob.now)
+    (g.B.Blob.life c.snapshot_all.new.blob) c.in_err-sealed.ensures.pages
+
+pub returns-clause-replays : goal.returns-clause-replays
+returns-clause-replays g c =
+    replays_stay c.args.self.page_size c.args.self.full_pages (g.B.Blob.life c.args.blob.now)
+    (g.B.Blob.life c.snapshot_all.new.blob) c.in_ok-sealed.ensures.pages

@@ -9,6 +9,7 @@ use Rattle.paged.specs.Calls.{Appends}
 use Rattle.paged.proofs.Covers.{completed}
 use Rattle.paged.proofs.Halves.{append_keeps, append_leaves}
 use Rattle.paged.proofs.There.{appended_there}
+use Rattle.paged_read.proofs.OutlivingReplays.{replays_stay}
 use Rattle.paged_read.proofs.Outliving.{others_stay, tails_stay}
 use Rattle.paged.proofs.writer.Writer.append.Goals as goal
 
@@ -101,3 +102,13 @@ returns-clause-others g c =
     let old = g.B.Blob.life c.args.blob.now in
     others_stay w.id w.full_pages (content w old.present.readable ++ c.args.bytes.now) c.args.cache.now
     c.append_bytes.new.cache (returns-clause-caches g c)
+
+pub returns-in_err-append_bytes-clause-replays : goal.returns-in_err-append_bytes-clause-replays
+returns-in_err-append_bytes-clause-replays g c =
+    replays_stay c.args.self.page_size c.args.self.full_pages (g.B.Blob.life c.args.blob.now)
+    (g.B.Blob.life c.append_bytes.new.blob) c.in_err-append_bytes.ensures.pages
+
+pub returns-clause-replays : goal.returns-clause-replays
+returns-clause-replays g c =
+    replays_stay c.args.self.page_size c.args.self.full_pages (g.B.Blob.life c.args.blob.now)
+    (g.B.Blob.life c.append_bytes.new.blob) c.in_ok-append_bytes.ensures.pages

@@ -7,6 +7,7 @@ use Rattle.paged_read.specs.Ranges.{AsksOnce, LeavesAll}
 use Rattle.paged_read.specs.Batch.{ranges_of}
 use Rattle.paged.proofs.There.{reads_keep_sound, reads_keep, reads_leave}
 use Rattle.paged.proofs.Serves.{reads_many_never}
+use Rattle.paged_read.proofs.OutlivingReplays.{look_leaves_replays}
 use Rattle.paged_read.proofs.Outliving.{read_leaves_others, read_leaves_tails}
 use Rattle.paged.specs.Caches.{tail_of}
 use Rattle.paged.proofs.writer.Writer.read_many_into.Goals as goal
@@ -56,3 +57,8 @@ returns-clause-others g c =
     (subst (λ (t : Tail). LeavesAll t c.args.cache.now c.read_many_into.new.cache
     (g.B.Blob.life c.args.blob.now) (g.B.Blob.life c.read_many_into.new.blob))
     c.view.ensures.tail c.read_many_into.ensures.leaves)
+
+pub returns-clause-replays : goal.returns-clause-replays
+returns-clause-replays g c =
+    look_leaves_replays (g.B.Blob.life c.args.blob.now) (g.B.Blob.life c.read_many_into.new.blob)
+    c.read_many_into.ensures.leaves.looked

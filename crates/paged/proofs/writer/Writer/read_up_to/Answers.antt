@@ -8,6 +8,7 @@ use Rattle.paged_read.specs.Ranges.{ReadsUpTo, range_up_to}
 use Rattle.paged_read.specs.Ranges.{AsksForMissing, LeavesAll}
 use Rattle.paged.proofs.There.{reads_keep_sound, reads_keep, reads_leave}
 use Rattle.paged.proofs.Serves.{reads_up_to_never}
+use Rattle.paged_read.proofs.OutlivingReplays.{look_leaves_replays}
 use Rattle.paged_read.proofs.Outliving.{read_leaves_others, read_leaves_tails}
 use Rattle.paged.specs.Caches.{tail_of}
 use Rattle.paged.proofs.writer.Writer.read_up_to.Goals as goal
@@ -60,3 +61,8 @@ returns-clause-others g c =
     (subst (λ (t : Tail). LeavesAll t c.args.cache.now c.read_up_to.new.cache
     (g.B.Blob.life c.args.blob.now) (g.B.Blob.life c.read_up_to.new.blob))
     c.view.ensures.tail c.read_up_to.ensures.leaves)
+
+pub returns-clause-replays : goal.returns-clause-replays
+returns-clause-replays g c =
+    look_leaves_replays (g.B.Blob.life c.args.blob.now) (g.B.Blob.life c.read_up_to.new.blob)
+    c.read_up_to.ensures.leaves.looked

@@ -8,6 +8,7 @@ use Rattle.std.proofs.Common.{Ok, Err}
 use Rattle.paged.proofs.Covers.{completed}
 use Rattle.paged.proofs.Halves.{start_keeps, start_leaves, start_within}
 use Rattle.paged.proofs.There.{start_there}
+use Rattle.paged_read.proofs.OutlivingReplays.{replays_stay}
 use Rattle.paged_read.proofs.Outliving.{others_stay, tails_stay}
 use Rattle.paged.proofs.writer.Writer.start_sync.Goals as goal
 
@@ -99,3 +100,13 @@ returns-clause-others g c =
     let old = g.B.Blob.life c.args.blob.now in
     others_stay w.id w.full_pages (content w old.present.readable) c.args.cache.now
     c.start_all.new.cache (returns-clause-caches g c)
+
+pub returns-in_err-started-clause-replays : goal.returns-in_err-started-clause-replays
+returns-in_err-started-clause-replays g c =
+    replays_stay c.args.self.page_size c.args.self.full_pages (g.B.Blob.life c.args.blob.now)
+    (g.B.Blob.life c.start_all.new.blob) c.in_err-started.ensures.pages
+
+pub returns-clause-replays : goal.returns-clause-replays
+returns-clause-replays g c =
+    replays_stay c.args.self.page_size c.args.self.full_pages (g.B.Blob.life c.args.blob.now)
+    (g.B.Blob.life c.start_all.new.blob) c.in_ok-started.ensures.pages

@@ -7,6 +7,7 @@ use Rattle.std.proofs.Common.{Ok, Err}
 use Rattle.paged.proofs.Flushes.{sync_within}
 use Rattle.paged.proofs.Halves.{sync_keeps_all, sync_keeps, sync_leaves}
 use Rattle.paged.proofs.There.{synced_there}
+use Rattle.paged_read.proofs.OutlivingReplays.{replays_stay}
 use Rattle.paged_read.proofs.Outliving.{others_stay, tails_stay}
 use Rattle.paged.proofs.writer.Writer.sync.Goals as goal
 
@@ -98,3 +99,13 @@ returns-clause-others g c =
     let old = g.B.Blob.life c.args.blob.now in
     others_stay w.id w.full_pages (content w old.present.readable) c.args.cache.now
     c.sync_all.new.cache (returns-clause-caches g c)
+
+pub returns-in_err-sync_all-clause-replays : goal.returns-in_err-sync_all-clause-replays
+returns-in_err-sync_all-clause-replays g c =
+    replays_stay c.args.self.page_size c.args.self.full_pages (g.B.Blob.life c.args.blob.now)
+    (g.B.Blob.life c.sync_all.new.blob) c.in_err-sync_all.ensures.pages
+
+pub returns-clause-replays : goal.returns-clause-replays
+returns-clause-replays g c =
+    replays_stay c.args.self.page_size c.args.self.full_pages (g.B.Blob.life c.args.blob.now)
+    (g.B.Blob.life c.sync_all.new.blob) c.in_ok-sync_all.ensures.pages

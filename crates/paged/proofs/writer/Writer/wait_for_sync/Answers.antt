@@ -2,6 +2,7 @@ use Rattle.std.proofs.Common.{[], Ok, Err}
 use Rattle.paged.proofs.Halves.{wait_keeps, wait_leaves}
 use Rattle.paged.proofs.There.{wait_there}
 use Rattle.cache.proofs.CacheLaws.{caches_none}
+use Rattle.paged_read.proofs.OutlivingReplays.{replays_stay}
 use Rattle.paged_read.proofs.Outliving.{tails_stay}
 use Rattle.paged.proofs.writer.Writer.wait_for_sync.Goals as goal
 
@@ -33,3 +34,13 @@ returns-in_err-wait-clause-tails g c = λ cache same.
     tails_stay g.H.Sum.sum_of w.page_size w.id w.full_pages [] cache cache
     (g.B.Blob.life c.args.blob.now) (g.B.Blob.life c.wait.new.blob) same
     c.in_err-wait.ensures.pages (caches_none w.id w.full_pages [] cache)
+
+pub returns-clause-replays : goal.returns-clause-replays
+returns-clause-replays g c =
+    replays_stay c.args.self.page_size c.args.self.full_pages (g.B.Blob.life c.args.blob.now)
+    (g.B.Blob.life c.wait.new.blob) c.in_ok-wait.ensures.pages
+
+pub returns-in_err-wait-clause-replays : goal.returns-in_err-wait-clause-replays
+returns-in_err-wait-clause-replays g c =
+    replays_stay c.args.self.page_size c.args.self.full_pages (g.B.Blob.life c.args.blob.now)
+    (g.B.Blob.life c.wait.new.blob) c.in_err-wait.ensures.pages
