@@ -63,6 +63,12 @@ pub record IsReplayOf (sum : List ℕ → ℕ) (r : ReplayState) (content : List
   pub can : CanReplay r d
   pub hand : r.hand ≡ take (length r.hand) (drop r.position content)
 
+-- these bytes are the content's from its position on
+abbrev pub Gives : ReplayState → List ℕ → Type 0
+Gives r bytes =
+    (sum : List ℕ → ℕ) (content : List ℕ) (d : Disk) → IsReplayOf sum r content d
+    → bytes ≡ take (length bytes) (drop r.position content)
+
 -- what it gave it gives
 abbrev pub ReplaysOn : ReplayState → ReplayState → Type 0
 ReplaysOn r now =

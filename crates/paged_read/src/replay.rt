@@ -7,7 +7,7 @@ ghost use Rattle.crash.specs.Looks.{Looked};
 ghost use Rattle.disk.specs.Disk.{Disk};
 ghost use Rattle.paged_read.specs.Snapshots.{IsTailOf, LeavesAllReads, LeavesAllTails};
 ghost use Rattle.paged_read.specs.Snapshots.{LeavesWriters};
-ghost use Rattle.paged_read.specs.Replay.{advanced, CanReplay, Ensures, IsReplayOf, new_replay};
+ghost use Rattle.paged_read.specs.Replay.{advanced, CanReplay, Ensures, Gives, IsReplayOf, new_replay};
 ghost use Rattle.paged_read.specs.Replay.{end_of, FillsOnce, LeavesAllReplays, ReplaysOn, ReplaysThrough, Seeks};
 ghost use Rattle.paged_read.specs.Tail.{HasFullPages, size_of};
 
@@ -129,6 +129,7 @@ impl<B, H> Replay<B, H> {
     pub fn chunk(&self) -> &[u8]
         ensures chunk { result.now ≡ take (length result.now) self.now.hand }
         ensures some { result.now ≡ [] → self.now.hand ≡ [] }
+        ensures gives { Gives self.now result.now }
     {
         self.hand.chunk()
     }
@@ -165,6 +166,7 @@ impl<B, H> Replay<B, H> {
         ensures taken { OnOk result (self.new ≡ advanced count self.old) }
         ensures same { OnErr result (self.new ≡ self.old) }
         ensures err { IsOkUnless result Error.OutOfMemory }
+        ensures gives { IfOk result (λ bytes. (length bytes ≡ count) × Gives self.old bytes) }
         ensures replays { ReplaysOn self.old self.new }
     {
         let bytes = self.hand.copy_to_bytes(count)?;
@@ -181,6 +183,7 @@ impl<B, H> Replay<B, H> {
         ensures same { OnErr result ((self.new ≡ self.old) × (out.new ≡ out.old)) }
         ensures few { IfErr result (λ few. (few.requested ≡ length out.old)
             × (few.available ≡ length self.old.hand) × (few.available < few.requested)) }
+        ensures gives { OnOk result (Gives self.old out.new) }
         ensures replays { ReplaysOn self.old self.new }
     {
         let count = out.len();
