@@ -9,7 +9,7 @@ use crate::reads::Reads;
 use crate::stage::{Device, Stage};
 use crate::work::{
     append_all, append_owned_all, append_started, append_synced, checksum_all, read_all,
-    read_into_all, read_many_all, try_append_all,
+    read_into_all, read_many_all, replay_all, try_append_all,
 };
 use crate::workload::{Work, Workload};
 use anyhow::Result;
@@ -36,6 +36,7 @@ pub fn play<H: Sum>(rt: &HostRuntime, workload: &Workload, rounds: u64) -> Resul
         | Work::ReadMany(..)
         | Work::ReadThrough(_) => play_reads::<H>(rt, workload, rounds, &mut done)?,
         Work::Recover(_, buffer) => play_recoveries::<H>(rt, workload, buffer, rounds, &mut done)?,
+        Work::Replay(_, buffer) => play_replays::<H>(rt, workload, buffer, rounds, &mut done)?,
         Work::Checksum => play_checksums::<H>(rt, workload, rounds, &mut done)?,
     }
     done.operations = rounds.saturating_mul(workload.count);
@@ -196,6 +197,25 @@ fn play_recoveries<H: Sum>(
     for _ in 0..rounds {
         let start = Start::now(rt, &stage.blob)?;
         let _ = stage.recover::<H>(buffer_size)?;
+        start.end(rt, &stage.blob, done)?;
+    }
+    Ok(())
+}
+
+fn play_replays<H: Sum>(
+    rt: &HostRuntime,
+    workload: &Workload,
+    buffer: usize,
+    rounds: u64,
+    done: &mut Done,
+) -> Result<()> {
+    let mut stage = Stage::new(rt.alloc(), workload.bytes() as u64, false)?;
+    let record = record(rt.alloc(), workload.bytes())?;
+    let mut writer = filled::<H>(&mut stage, &record, 1, true)?;
+    let buffer_size = NonZeroUsize::new(buffer).unwrap_or(NonZeroUsize::MIN);
+    for _ in 0..rounds {
+        let start = Start::now(rt, &stage.blob)?;
+        writer = replay_all(writer, &mut stage.blob, &mut stage.cache, buffer_size)?;
         start.end(rt, &stage.blob, done)?;
     }
     Ok(())

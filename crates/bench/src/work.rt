@@ -4,7 +4,7 @@ ghost use Rattle.bench.specs.Ready.{IsReady};
 
 use crate::reads::are_in_order;
 use cache::CacheRef;
-use disk::{Blob, Error, IoBuf};
+use disk::{Blob, Error, IoBuf, ReadOptions};
 use page::Sum;
 use paged::Writer;
 use std::num::NonZeroUsize;
@@ -163,6 +163,28 @@ pub fn read_many_all<B: Blob, H: Sum>(
         writer.read_many_into(blob, cache, buf, places, len)?;
     }
     Ok(())
+}
+
+/// A replay of all bytes, page by page, in batches of a quarter of the pages that fit `buffer_size`
+/// bytes.
+pub fn replay_all<B: Blob, H: Sum>(
+    writer: Writer<B, H>,
+    blob: &mut B,
+    cache: &mut CacheRef,
+    buffer_size: NonZeroUsize,
+) -> Result<Writer<B, H>, Error>
+    requires { IsReady H.sum_of writer cache.old (B.life blob.old) }
+    ensures { IfOk result (λ writer. IsReady H.sum_of writer cache.new (B.life blob.new)) }
+{
+    let (writer, mut replay) = writer.replay(blob, cache, buffer_size, ReadOptions::default())?;
+    for _ in 0..replay.blob_size() {
+        if !replay.ensure(blob, 1)? {
+            break;
+        }
+        let count = replay.chunk().len();
+        replay.advance(count);
+    }
+    Ok(writer)
 }
 
 /// The checksum of these bytes, so often, each written over the first four before the next. It

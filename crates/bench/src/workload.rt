@@ -29,6 +29,8 @@ pub enum Work {
     ReadThrough(usize),
     /// Recovers a blob of so many bytes, with a buffer of so many.
     Recover(usize, usize),
+    /// Replays a blob of so many bytes, with a buffer of so many.
+    Replay(usize, usize),
     /// The checksum of a page.
     Checksum,
 }
@@ -59,7 +61,8 @@ impl Workload {
             | Work::ReadBelow(len)
             | Work::ReadRandom(len, _)
             | Work::ReadThrough(len)
-            | Work::Recover(len, _) => len,
+            | Work::Recover(len, _)
+            | Work::Replay(len, _) => len,
             Work::ReadMany(len, _) => MANY.saturating_mul(len),
             Work::Checksum => usize::from(PAGE_SIZE),
         }
@@ -71,7 +74,7 @@ const KIB: usize = 1 << 10;
 const MIB: usize = 1 << 20;
 
 /// All of them, in the order in which they are played.
-pub fn workloads() -> [Workload; 20] {
+pub fn workloads() -> [Workload; 22] {
     [
         Workload::new("append 16 B", Work::Append(16), 16384),
         Workload::new("append 100 B", Work::Append(100), 8192),
@@ -108,6 +111,12 @@ pub fn workloads() -> [Workload; 20] {
             1,
         ),
         Workload::new("recover 64 MiB by 1 MiB", Work::Recover(64 * MIB, MIB), 1),
+        Workload::new(
+            "replay 64 MiB by 64 KiB",
+            Work::Replay(64 * MIB, 64 * KIB),
+            1,
+        ),
+        Workload::new("replay 64 MiB by 1 MiB", Work::Replay(64 * MIB, MIB), 1),
         Workload::new("checksum of a page", Work::Checksum, 256),
     ]
 }

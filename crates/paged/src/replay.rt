@@ -58,10 +58,13 @@ impl<B: Blob, H: Sum> Writer<B, H> {
             let held = content self old.present.readable in
             IfOk result (λ r. Completed H.sum_of self.page_size held self.sync r.0.sync old new) }
 
-        // The replay gives the content; what it is of can be read where the writer could be.
+        // The replay gives the content, of pages that the writer has; what it is of can be read
+        // where the writer could be.
         ensures gives { let old = B.life blob.old in let new = B.life blob.new in
             let held = content self old.present.readable in
             IfOk result (λ r. IsReplayOf H.sum_of r.1 held new.present) }
+        ensures below { IfOk result (λ r. (r.1.tail.page_size ≡ r.0.page_size)
+            × (r.1.tail.full_pages ≤ r.0.full_pages)) }
         ensures stands { let old = B.life blob.old in let new = B.life blob.new in
             let held = content self old.present.readable in
             IfOk result (λ r. CanRead (tail_of self) cache.old old.present

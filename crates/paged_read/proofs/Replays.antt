@@ -488,16 +488,19 @@ passed_over told hand position count is = elim (cases_lt (length hand) count) [
       ∙ ap (λ (k : ℕ). take k (drop (position + min count (length hand)) told)) size
 ]
 
-pub advanced_replays : (count : ℕ) (r : ReplayState) → ReplaysOn r (advanced count r)
-advanced_replays count r sum content d is = record {
-  tail = is.tail;
-  can = record {
-    there = is.can.there;
-    hand = passed_over (told r.tail d.readable) r.hand r.position count is.can.hand;
-    queue = is.can.queue;
-  };
-  hand = passed_over content r.hand r.position count is.hand;
+advanced_can : (count : ℕ) (r : ReplayState) (d : Disk) → CanReplay r d → CanReplay (advanced count r) d
+advanced_can count r d can = record {
+  there = can.there;
+  hand = passed_over (told r.tail d.readable) r.hand r.position count can.hand;
+  queue = can.queue;
 }
+
+pub advanced_replays : (count : ℕ) (r : ReplayState) → ReplaysOn r (advanced count r)
+advanced_replays count r = (advanced_can count r, λ sum content d is. record {
+  tail = is.tail;
+  can = advanced_can count r d is.can;
+  hand = passed_over content r.hand r.position count is.hand;
+})
 
 -- so by its fields
 pub moved_replays : (count : ℕ) (r was : ReplayState) (position : ℕ) (hand : List ℕ) → was ≡ r → position ≡ was.position + min count (length was.hand) → hand ≡ drop count was.hand
@@ -514,11 +517,13 @@ cleared_replays r was position hand view none =
     (subst (λ (l : List ℕ). ReplaysOn was (record was { position = position; hand = l; exhausted = false })) (sym none) (cleared was position))
   where
     cleared : (was : ReplayState) (position : ℕ) → ReplaysOn was (record was { position = position; hand = []; exhausted = false })
-    cleared was position sum content d is = record {
-      tail = is.tail;
-      can = record { there = is.can.there; hand = refl; queue = is.can.queue; };
-      hand = refl;
-    }
+    cleared was position = (
+      λ d can. record { there = can.there; hand = refl; queue = can.queue; },
+      λ sum content d is. record {
+        tail = is.tail;
+        can = record { there = is.can.there; hand = refl; queue = is.can.queue; };
+        hand = refl;
+      })
 
 -- a new one
 pub new_replays : (sum : List ℕ → ℕ) (t : Tail) (buffer_size : ℕ) (content : List ℕ) (d : Disk) → IsTailOf sum t content d → IsReplayOf sum (new_replay t buffer_size) content d

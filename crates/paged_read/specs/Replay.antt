@@ -72,8 +72,9 @@ Gives r bytes =
 -- what it gave it gives
 abbrev pub ReplaysOn : ReplayState → ReplayState → Type 0
 ReplaysOn r now =
-    (sum : List ℕ → ℕ) (content : List ℕ) (d : Disk)
-    → IsReplayOf sum r content d → IsReplayOf sum now content d
+    ((d : Disk) → CanReplay r d → CanReplay now d)
+    × ((sum : List ℕ → ℕ) (content : List ℕ) (d : Disk)
+    → IsReplayOf sum r content d → IsReplayOf sum now content d)
 
 -- so it does behind a call that asked the device
 abbrev pub ReplaysThrough : ReplayState → ReplayState → Life → Life → Type 0

@@ -9,6 +9,7 @@ mod memory;
 mod openings;
 mod ranges;
 mod reads;
+mod replays;
 mod sessions;
 mod snapshots;
 mod starts;

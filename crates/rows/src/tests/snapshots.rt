@@ -44,7 +44,7 @@ fn recovered_beside<H: Sum>(
 }
 
 // A writer on a blob that is recovered.
-fn recovered<H: Sum>(
+pub fn recovered<H: Sum>(
     alloc: Global,
     blob: &mut MemBlob,
     cache: &mut CacheRef,
