@@ -1,5 +1,7 @@
 // The loops that are timed.
 ghost use Rattle.std.specs.Prelude.{IfOk};
+ghost use Rattle.crash.specs.Looks.{Looked};
+ghost use Rattle.paged_read.specs.Replay.{CanReplay};
 ghost use Rattle.bench.specs.Ready.{IsReady};
 
 use crate::reads::are_in_order;
@@ -7,6 +9,7 @@ use cache::CacheRef;
 use disk::{Blob, Error, IoBuf, ReadOptions};
 use page::Sum;
 use paged::Writer;
+use paged_read::Replay;
 use std::num::NonZeroUsize;
 
 /// So many appends of a record.
@@ -165,8 +168,7 @@ pub fn read_many_all<B: Blob, H: Sum>(
     Ok(())
 }
 
-/// A replay of all bytes, page by page, in batches of a quarter of the pages that fit `buffer_size`
-/// bytes.
+/// A replay of all bytes, in batches of a quarter of the pages that fit `buffer_size` bytes.
 pub fn replay_all<B: Blob, H: Sum>(
     writer: Writer<B, H>,
     blob: &mut B,
@@ -176,7 +178,16 @@ pub fn replay_all<B: Blob, H: Sum>(
     requires { IsReady H.sum_of writer cache.old (B.life blob.old) }
     ensures { IfOk result (λ writer. IsReady H.sum_of writer cache.new (B.life blob.new)) }
 {
-    let (writer, mut replay) = writer.replay(blob, cache, buffer_size, ReadOptions::default())?;
+    let (writer, replay) = writer.replay(blob, cache, buffer_size, ReadOptions::default())?;
+    pass_all(replay, blob)?;
+    Ok(writer)
+}
+
+/// Passes over all bytes, page by page.
+fn pass_all<B: Blob, H: Sum>(mut replay: Replay<B, H>, blob: &mut B) -> Result<(), Error>
+    requires { CanReplay replay (B.life blob.old).present }
+    ensures { Looked (B.life blob.old) (B.life blob.new) }
+{
     for _ in 0..replay.blob_size() {
         if !replay.ensure(blob, 1)? {
             break;
@@ -184,7 +195,7 @@ pub fn replay_all<B: Blob, H: Sum>(
         let count = replay.chunk().len();
         replay.advance(count);
     }
-    Ok(writer)
+    Ok(())
 }
 
 /// The checksum of these bytes, so often, each written over the first four before the next. It

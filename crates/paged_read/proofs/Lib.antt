@@ -21,4 +21,5 @@ pub mod FullReads
 mod Hands
 pub mod ReadAheads
 pub mod Replays
+pub mod ReplayExamples
 pub mod OutlivingReplays

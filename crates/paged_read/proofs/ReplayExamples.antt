@@ -1,0 +1,63 @@
+-- Examples of the definitions of replays.
+use Rattle.std.proofs.Common.{◌≡◌, ℕ, List, [], ◌∷◌, ◌++◌, refl, arith, Ok}
+use Rattle.paged_read.specs.declared.ahead.Ahead.{Ahead}
+use Rattle.paged_read.specs.Hand.{payloads, payloads_from}
+use Rattle.paged_read.specs.ReadAhead.{AreNext, batch_of, batch_range, behind}
+use Rattle.paged_read.specs.Replay.{advanced, end_of, new_replay, ReplayState}
+use Rattle.paged_read.specs.Tail.{Tail}
+
+-- a physical page of four bytes
+abbrev page : (a b c d : ℕ) → List ℕ
+page a b c d =
+    a ∷ b ∷ c ∷ d ∷ 9 ∷ 9 ∷ 9 ∷ 9 ∷ 9 ∷ 9 ∷ 9 ∷ 9 ∷ 9 ∷ 9 ∷ 9 ∷ 9 ∷ []
+
+payloads_of_two : payloads 4 (page 1 2 3 4 ++ page 5 6 7 8)
+    ≡ 1 ∷ 2 ∷ 3 ∷ 4 ∷ 5 ∷ 6 ∷ 7 ∷ 8 ∷ []
+payloads_of_two = refl
+
+a_payload_without_a_footer : payloads 4 (1 ∷ 2 ∷ []) ≡ 1 ∷ 2 ∷ []
+a_payload_without_a_footer = refl
+
+-- from the third byte of the first page on, of which two are left
+from_a_place : payloads_from 4 ((page 1 2 3 4 ++ page 5 6 7 8) ∷ (9 ∷ []) ∷ []) 2 2
+    ≡ 3 ∷ 4 ∷ 5 ∷ 6 ∷ 7 ∷ 8 ∷ 9 ∷ []
+from_a_place = refl
+
+-- for buffers of 1, 3, 4, 5, 7, 9 and 64 pages of 76 bytes, and for one of a byte
+batches_of_buffers : batch_of 64 76 ∷ batch_of 64 228 ∷ batch_of 64 304 ∷ batch_of 64 380
+    ∷ batch_of 64 532 ∷ batch_of 64 684 ∷ batch_of 64 4864 ∷ batch_of 64 1 ∷ []
+    ≡ 1 ∷ 1 ∷ 1 ∷ 2 ∷ 2 ∷ 3 ∷ 16 ∷ 1 ∷ []
+batches_of_buffers = refl
+
+-- of five pages, by two
+the_last_batch : behind 2 5 0 ∷ behind 2 5 2 ∷ behind 2 5 4 ∷ [] ≡ 2 ∷ 4 ∷ 5 ∷ []
+the_last_batch = refl
+
+the_range_of_a_batch : batch_range 64 16 80 16 ≡ (1216, 1216)
+the_range_of_a_batch = refl
+
+abbrev read_of : (page : ℕ) → Ahead
+read_of page = record { page = page; read = Ok []; }
+
+-- of two pages, one by one
+the_next_two : AreNext 3 1 2 0 (read_of 0 ∷ read_of 1 ∷ [])
+the_next_two = (refl, omega arith, (refl, omega arith, omega arith))
+
+-- so they are of three pages too, but not where three are to be queued
+no_third_of_two : AreNext 3 1 3 0 (read_of 0 ∷ read_of 1 ∷ []) → ⊥
+no_third_of_two next = omega (arith, next.2.2)
+
+abbrev tail : Tail
+tail = record { page_size = 4; id = 0; full_pages = 1; bytes = 5 ∷ []; }
+
+a_new_replay : end_of (new_replay tail 64) ≡ 0
+a_new_replay = refl
+
+abbrev with_three : ReplayState
+with_three = record (new_replay tail 64) { position = 1; hand = 2 ∷ 3 ∷ 4 ∷ []; }
+
+two_of_three : advanced 2 with_three ≡ record with_three { position = 3; hand = 4 ∷ []; }
+two_of_three = refl
+
+all_of_three : advanced 9 with_three ≡ record with_three { position = 4; hand = []; }
+all_of_three = refl
