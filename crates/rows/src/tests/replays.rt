@@ -8,13 +8,13 @@ ghost use Rattle.paged.specs.Caches.{tail_of};
 ghost use Rattle.paged_read.specs.Replay.{CanReplay};
 ghost use Rattle.paged_read.specs.Tail.{CanRead};
 
-use super::kit::{Call, cache_of, calls_from};
+use super::kit::{Call, Page, cache_of, calls_from};
 use super::snapshots::recovered;
 use cache::CacheRef;
 use disk::{Blob, Error, IoBuf, MemBlob, ReadOptions};
 use page::{AddSum, Sum};
 use paged::Writer;
-use paged_read::{Replay, Sealed, TooFew};
+use paged_read::{Replay, TooFew};
 use std::alloc::Global;
 use std::marker::Model;
 use std::num::NonZeroUsize;
@@ -42,6 +42,26 @@ fn replayed<B: Blob, H: Sum>(
     Ok(Some(replay.copy_to_bytes(count)?))
 }
 
+// So does a replay of a snapshot.
+fn replayed_of_a_snapshot<B: Blob, H: Sum>(
+    writer: Writer<B, H>,
+    blob: &mut B,
+    cache: &mut CacheRef,
+    count: usize,
+) -> Result<Option<IoBuf>, Error>
+    requires cached { cache.old.page_size ≡ writer.page_size }
+    requires sound { IsSound H.sum_of writer (B.life blob.old).present }
+    ensures gives { let held = content writer (B.life blob.old).present.readable in
+        IfOk result (λ given. IfSome given (λ bytes. bytes ≡ take count held)) }
+{
+    let (_, sealed) = writer.snapshot(blob, cache)?;
+    let mut replay = sealed.replay(NonZeroUsize::MIN, ReadOptions::default())?;
+    if !replay.ensure(blob, count)? {
+        return Ok(None);
+    }
+    Ok(Some(replay.copy_to_bytes(count)?))
+}
+
 // So it does behind an append, whatever that answered.
 fn replayed_behind_an_append<B: Blob, H: Sum>(
     writer: Writer<B, H>,
@@ -57,7 +77,9 @@ fn replayed_behind_an_append<B: Blob, H: Sum>(
 {
     let options = ReadOptions::default();
     let (writer, mut replay) = writer.replay(blob, cache, NonZeroUsize::MIN, options)?;
-    let _ = writer.append(blob, cache, bytes);
+    match writer.append(blob, cache, bytes) {
+        Ok(_) | Err(_) => {}
+    }
     if !replay.ensure(blob, count)? {
         return Ok(None);
     }
@@ -173,7 +195,10 @@ fn bytes_are_taken_as_they_come(rt: HostRuntime) -> Result<(), Fail> {
     let alloc = rt.alloc();
     let mut play = Play::new(alloc, 4, b"abcde", 64)?;
     let calls = calls_from(alloc, &play.blob, 0)?;
-    assert_eq!(rt; calls.as_slice(), [Call::Sync, Call::WriteAt(0, 32, false)].as_slice());
+    assert_eq!(rt;
+        calls.as_slice(),
+        [Call::Sync, Call::WriteAt(0, 32, false)].as_slice()
+    );
     assert_eq!(rt; play.replay.blob_size(), 5);
     assert!(rt; play.ensure(5)?);
     assert!(rt; starts(&play.blob, 2, &[(0, 16)]));
@@ -215,10 +240,13 @@ fn a_slice_takes_all_or_nothing(rt: HostRuntime) -> Result<(), Fail> {
     assert_eq!(rt; six, *b"abcdef");
     assert!(rt; play.gives(4, b"ghij")?);
     let mut one = *b"-";
-    assert_eq!(rt; play.copy(&mut one), Err(TooFew {
-        requested: 1,
-        available: 0,
-    }));
+    assert_eq!(rt;
+        play.copy(&mut one),
+        Err(TooFew {
+            requested: 1,
+            available: 0,
+        })
+    );
     assert_eq!(rt; one, *b"-");
     play.seek(3)?;
     assert!(rt; play.ensure(2)?);
@@ -264,7 +292,7 @@ fn a_quarter_of_the_buffer_is_read_at_once(rt: HostRuntime) -> Result<(), Fail> 
         let first = play.blob.calls().len();
         assert!(rt; play.ensure(1)?);
         let size = batch * 76;
-        let ranges = [0, 1, 2, 3].map(|number| (number * size, size as usize));
+        let ranges = [0u64, 1, 2, 3].map(|number| (number.saturating_mul(size), size as usize));
         assert!(rt; starts(&play.blob, first, ranges.as_slice()), "{pages}");
         assert_eq!(rt; play.replay.remaining() as u64, batch * 64);
     }
@@ -285,16 +313,73 @@ fn a_failed_read_ahead_is_read_again(rt: HostRuntime) -> Result<(), Fail> {
     assert_eq!(rt; taken, bytes);
     assert!(rt; !play.ensure(1)?);
     assert_eq!(rt; play.blob.failures(), 1);
-    assert!(rt; starts(&play.blob, first, &[
-        (0, 1216),
-        (1216, 1216),
-        (2432, 1216),
-        (3648, 1216),
-        (1216, 1216),
-        (2432, 1216),
-        (3648, 1216),
-        (4864, 1216),
-    ]));
+    assert!(rt;
+        starts(
+            &play.blob,
+            first,
+            &[
+                (0, 1216),
+                (1216, 1216),
+                (2432, 1216),
+                (3648, 1216),
+                (1216, 1216),
+                (2432, 1216),
+                (3648, 1216),
+                (4864, 1216),
+            ]
+        )
+    );
+    Ok(())
+}
+
+const HELD: Page = [
+    0x61, 0x62, 0x63, 0x00, 0x00, 0x01, 0x00, 0x00, 0x00, 0x61, 0x00, 0x00, 0x00, 0x00, 0x00, 0x00,
+];
+
+// Of the replay's write of "ab" a crash leaves ten bytes, of the refused sync's of "abc" six: the
+// slot of "a", which both repeat in its place, is what tells the page's value.
+#[test]
+fn a_replay_makes_nothing_durable(rt: HostRuntime) -> Result<(), Fail> {
+    let alloc = rt.alloc();
+    let mut blob = MemBlob::new(alloc);
+    let mut cache = cache_of(alloc, 4, 1)?;
+    let writer = recovered::<AddSum>(alloc, &mut blob, &mut cache)?;
+    let (writer, _) = writer.append(&mut blob, &mut cache, b"a")?;
+    let writer = writer.sync(&mut blob, &mut cache)?;
+    let (writer, _) = writer.append(&mut blob, &mut cache, b"b")?;
+    let options = ReadOptions::default();
+    let (writer, replay) = writer.replay(&mut blob, &mut cache, NonZeroUsize::MIN, options)?;
+    assert_eq!(rt; replay.blob_size(), 2);
+    let (writer, _) = writer.append(&mut blob, &mut cache, b"c")?;
+    blob.fail_at(2);
+    let refused = writer.sync(&mut blob, &mut cache);
+    assert_eq!(rt; refused.err(), Some(Error::SyncFailed));
+    let mut keep = [false; 32];
+    for flag in keep.iter_mut().take(10) {
+        *flag = true;
+    }
+    for flag in keep.iter_mut().skip(16).take(6) {
+        *flag = true;
+    }
+    blob.crash(&keep)?;
+    assert_eq!(rt; blob.bytes(), HELD.as_slice());
+    let mut cache = cache_of(alloc, 4, 1)?;
+    let writer = recovered::<AddSum>(alloc, &mut blob, &mut cache)?;
+    assert_eq!(rt; writer.size(), 1);
+    Ok(())
+}
+
+// A snapshot replays too. The recovery synced, and the append wrote the full pages.
+#[test]
+fn a_snapshot_is_replayed(rt: HostRuntime) -> Result<(), Fail> {
+    let alloc = rt.alloc();
+    let mut blob = MemBlob::new(alloc);
+    let mut cache = cache_of(alloc, 4, 1)?;
+    let writer = recovered::<AddSum>(alloc, &mut blob, &mut cache)?;
+    let (writer, _) = writer.append(&mut blob, &mut cache, b"abcdefghij")?;
+    let given = replayed_of_a_snapshot(writer, &mut blob, &mut cache, 10)?;
+    assert!(rt; is_given(given, b"abcdefghij"));
+    assert!(rt; starts(&blob, 2, &[(0, 16), (16, 16)]));
     Ok(())
 }
 
