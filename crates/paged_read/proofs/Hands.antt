@@ -153,7 +153,7 @@ pub passed : (P : ℕ) (runs : List (List ℕ)) (start left count : ℕ) → IsP
     → count ≤ length (payloads_from P runs start left) → drop count (payloads_from P runs start left) ≡ payloads_from P runs (start + count) (left - count)
 passed P [] start left count place few there = drop_all count [] (omega arith)
 passed P (first ∷ runs) start left count place few there =
-    let less : count < left = elim few [ | inl none ↦ absurd (omega (arith, none, place.0)) | inr less ↦ less ] in
+    let less : count < left = elim few [ inl none ↦ absurd (omega (arith, none, place.0)) | inr less ↦ less ] in
     let page = take left (drop start first) in
     let others = payloads P (drop (start + left + 12) first) ++ flat_map (payloads P) runs in
     let size : length page ≡ left = length-take-le left (drop start first) (omega (arith, place.1, length-drop start first)) in
@@ -164,7 +164,7 @@ passed P (first ∷ runs) start left count place few there =
 pub passed_place : (runs : List (List ℕ)) (start left count : ℕ) → IsPlace runs start left → (left ≡ 0) ⊎ (count < left) → IsPlace runs (start + count) (left - count)
 passed_place [] start left count place few = omega (arith, place)
 passed_place (first ∷ runs) start left count place few =
-    let less : count < left = elim few [ | inl none ↦ absurd (omega (arith, none, place.0)) | inr less ↦ less ] in
+    let less : count < left = elim few [ inl none ↦ absurd (omega (arith, none, place.0)) | inr less ↦ less ] in
     (omega (arith, less), omega (arith, less, place.1))
 
 -- a place with no byte left is behind all

@@ -1,5 +1,5 @@
 -- A replay outlives the calls of its blob.
-use Rattle.std.proofs.Common.{◌≡◌, inl, inr, ℕ, ◌+◌, ◌*◌, ◌-◌, ◌<◌, ◌≤◌, min, List, [], ◌∷◌, length, take, drop, sym, ap, ◌∙◌, subst, arith, All, Ok, slice_index_or}
+use Rattle.std.proofs.Common.{◌≡◌, inl, inr, ℕ, ◌+◌, ◌*◌, ◌-◌, ◌≤◌, min, List, [], ◌∷◌, length, take, drop, sym, ap, ◌∙◌, subst, arith, All, slice_index_or}
 use Rattle.std.proofs.lemmas.Bool.{cases_lt}
 use Rattle.std.proofs.Math.Nat.{mul-le-mul_right}
 use Rattle.disk.specs.Disk.{Disk, Life}
@@ -12,7 +12,7 @@ use Rattle.crash.proofs.BelowLaws.{fewer_stay}
 use Rattle.crash.proofs.Lists.{within_same}
 use Rattle.crash.proofs.LookLaws.{looked_readable}
 use Rattle.paged_read.specs.ReadAhead.{batch_bytes, IsBatch}
-use Rattle.paged_read.specs.Replay.{IsReplayOf, LeavesAllReplays, LeavesReplays, ReplayState}
+use Rattle.paged_read.specs.Replay.{LeavesAllReplays, LeavesReplays}
 use Rattle.paged_read.specs.Tail.{told}
 use Rattle.paged_read.specs.declared.ahead.Ahead.{Ahead}
 use Rattle.paged_read.proofs.Outliving.{still_told, tail_stays}

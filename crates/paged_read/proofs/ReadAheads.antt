@@ -1,12 +1,12 @@
 -- Batches of pages that are read ahead.
-use Rattle.std.proofs.Common.{◌≡◌, ◌⊎◌, inl, inr, ℕ, zero, suc, ◌+◌, ◌*◌, ◌-◌, ◌<◌, ◌≤◌, min, max, List, [], ◌∷◌, ◌++◌, length, take, drop, length-drop, refl, sym, ap, ◌∙◌, subst, arith, All, Result, Ok, Err, slice_index_or, slice_get, Option, Some, None, false, true}
+use Rattle.std.proofs.Common.{◌≡◌, ◌⊎◌, inl, inr, ℕ, zero, suc, ◌+◌, ◌*◌, ◌-◌, ◌<◌, ◌≤◌, min, List, [], ◌∷◌, ◌++◌, length, take, drop, length-drop, refl, sym, ap, ◌∙◌, subst, arith, All, Result, Ok, Err, slice_index_or, slice_get, Option, Some, false, true}
 use Rattle.std.specs.Prelude.{IfSome}
 use Rattle.std.specs.Result.{result_ok}
 use Rattle.std.proofs.lemmas.List.Elements.{All-append}
 use Rattle.disk.proofs.Logs.{failed_once}
 use Rattle.disk.specs.Disk.{Disk, IsWithin, Life, StartReadGoes, StartReadMany, bytes_of}
 use Rattle.disk.specs.declared.error.Error.{Error}
-use Rattle.disk.specs.declared.error.Error.TheVariants.{ReadFailed, BlobInsufficientLength, InvalidChecksum, OutOfMemory}
+use Rattle.disk.specs.declared.error.Error.TheVariants.{ReadFailed, BlobInsufficientLength, OutOfMemory}
 use Rattle.crash.specs.Looks.{Looked}
 use Rattle.crash.proofs.LookLaws.{looked_asked, looked_none, looked_readable}
 use Rattle.std.proofs.lemmas.Bool.{cases_lt}
@@ -15,7 +15,7 @@ use Rattle.bytes.proofs.Ranges.{drop-take_less}
 use Rattle.std.proofs.Math.Nat.{mul-le-mul_right}
 use Rattle.page.specs.Page.{value_len}
 use Rattle.paged_read.specs.Ranges.{page_at}
-use Rattle.paged_read.specs.ReadAhead.{AreFullPages, AreNext, FetchesBatch, Follow, IsBatch, IsQueue, ReadsBatch, batch_bytes, batch_range, behind, page_behind}
+use Rattle.paged_read.specs.ReadAhead.{AreFullPages, AreNext, FetchesBatch, Follow, IsBatch, batch_bytes, batch_range, behind, page_behind}
 use Rattle.paged_read.specs.declared.ahead.Ahead.{Ahead}
 
 -- a slice of pages that is one of them
@@ -58,10 +58,9 @@ page_behind_more batch full page (b ∷ rest) a = page_behind_more batch full (b
 pub are_next : (n batch full page : ℕ) (queue : List Ahead) → Follow batch full page queue → length queue ≤ n → (length queue ≡ n) ⊎ (full ≤ page_behind batch full page queue) → AreNext n batch full page queue
 are_next zero batch full page [] follow few whole = refl
 are_next zero batch full page (a ∷ rest) follow few whole = absurd (omega (arith, few))
-are_next (suc n) batch full page [] follow few whole = elim whole [ | inl same ↦ absurd (omega (arith, same)) | inr ends ↦ ends ]
+are_next (suc n) batch full page [] follow few whole = elim whole [ inl same ↦ absurd (omega (arith, same)) | inr ends ↦ ends ]
 are_next (suc n) batch full page (a ∷ rest) follow few whole =
-    (follow.0, follow.1, are_next n batch full (behind batch full page) rest follow.2 (omega (arith, few)) (elim whole [ | inl same ↦ inl (omega (arith, same)) | inr ends ↦ inr ends ]))
-
+    (follow.0, follow.1, are_next n batch full (behind batch full page) rest follow.2 (omega (arith, few)) (elim whole [ inl same ↦ inl (omega (arith, same)) | inr ends ↦ inr ends ]))
 
 -- the page behind them is that behind the last one
 pub behind_last : (batch full page : ℕ) (queue : List Ahead) (last : Ahead) → Follow batch full page queue → Some last ≡ slice_get queue (length queue - 1)

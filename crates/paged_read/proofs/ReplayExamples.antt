@@ -37,7 +37,7 @@ the_range_of_a_batch : batch_range 64 16 80 16 ≡ (1216, 1216)
 the_range_of_a_batch = refl
 
 abbrev read_of : (page : ℕ) → Ahead
-read_of page = record { page = page; read = Ok []; }
+read_of page = record { page = page; read = Ok [] }
 
 -- of two pages, one by one
 the_next_two : AreNext 3 1 2 0 (read_of 0 ∷ read_of 1 ∷ [])
@@ -48,16 +48,16 @@ no_third_of_two : AreNext 3 1 3 0 (read_of 0 ∷ read_of 1 ∷ []) → ⊥
 no_third_of_two next = omega (arith, next.2.2)
 
 abbrev tail : Tail
-tail = record { page_size = 4; id = 0; full_pages = 1; bytes = 5 ∷ []; }
+tail = record { page_size = 4; id = 0; full_pages = 1; bytes = 5 ∷ [] }
 
 a_new_replay : end_of (new_replay tail 64) ≡ 0
 a_new_replay = refl
 
 abbrev with_three : ReplayState
-with_three = record (new_replay tail 64) { position = 1; hand = 2 ∷ 3 ∷ 4 ∷ []; }
+with_three = record (new_replay tail 64) { position = 1; hand = 2 ∷ 3 ∷ 4 ∷ [] }
 
-two_of_three : advanced 2 with_three ≡ record with_three { position = 3; hand = 4 ∷ []; }
+two_of_three : advanced 2 with_three ≡ record with_three { position = 3; hand = 4 ∷ [] }
 two_of_three = refl
 
-all_of_three : advanced 9 with_three ≡ record with_three { position = 4; hand = []; }
+all_of_three : advanced 9 with_three ≡ record with_three { position = 4; hand = [] }
 all_of_three = refl

@@ -1,5 +1,5 @@
 -- Fills of a replay: what a batch, and the bytes behind the full pages, add to what is at hand.
-use Rattle.std.proofs.Common.{◌≡◌, ◌⊎◌, inl, inr, ℕ, zero, suc, ◌+◌, ◌*◌, ◌-◌, ◌/◌, ◌%◌, ◌<◌, ◌≤◌, min, max, List, [], ◌∷◌, ◌++◌, length, take, drop, ◌^◌, refl, sym, ap, ◌∙◌, subst, arith, All, Bool, true, false, true≢false, Result, Ok, Err, append-nil, append_assoc, length-append, length-take, length-drop}
+use Rattle.std.proofs.Common.{◌≡◌, ◌⊎◌, inl, inr, ℕ, zero, suc, ◌+◌, ◌*◌, ◌-◌, ◌/◌, ◌%◌, ◌<◌, ◌≤◌, min, max, List, [], ◌∷◌, ◌++◌, length, take, drop, ◌^◌, refl, sym, ap, ◌∙◌, subst, arith, All, true, false, true≢false, Result, Ok, Err, length-append, length-drop}
 use Rattle.std.proofs.lemmas.Bool.{cases_lt, le-leb, lt-leb}
 use Rattle.std.proofs.lemmas.Nat.{div_below, mod_below, div-add-mod', le-div}
 use Rattle.std.proofs.lemmas.List.{drop_all, drop-drop, drop-take, take-take, take_all, take-append-le, drop-append-le, length-take-le}
@@ -18,7 +18,7 @@ use Rattle.crash.proofs.LookLaws.{looked_readable}
 use Rattle.crash.proofs.Pages.{drop-stored, fewer_fit, length-stored, stored_same, stored_suc, take-stored}
 use Rattle.crash.proofs.Texts.{AreFull_page}
 use Rattle.paged_read.specs.Hand.{payloads}
-use Rattle.paged_read.specs.ReadAhead.{AddsBatch, AreFullPages, AreNext, batch_bytes, behind, Follow, IsBatch, IsQueue, ReadsBatch}
+use Rattle.paged_read.specs.ReadAhead.{AddsBatch, AreFullPages, AreNext, behind, Follow, IsBatch, IsQueue, ReadsBatch}
 use Rattle.paged_read.specs.Replay.{advanced, CanReplay, end_of, Ensures, FillFault, Fills, FillsOnce, HasFilled, IsAhead, IsReplay, IsReplayOf, IsToppedUp, new_replay, ReplaysOn, ReplaysThrough, ReplayState}
 use Rattle.paged_read.specs.Snapshots.{IsTailOf}
 use Rattle.paged_read.specs.Tail.{HasFullPages, size_of, Tail, told}
@@ -191,7 +191,7 @@ module _ (sum : List ℕ → ℕ) (r : ReplayState) (is : IsReplay r) (more : en
   nothing_filled queue old new e can follow batches looked fault =
       let same = looked_readable old new looked in
       record {
-        fills = (record { tail = refl; batch = refl; position = refl; hand = omega arith; }, refl, refl, fault);
+        fills = (record { tail = refl; batch = refl; position = refl; hand = omega arith }, refl, refl, fault);
         can = record {
           there = omega (arith, can.there, ap (λ (l : List ℕ). length l) same);
           hand = subst (λ (l : List ℕ). r.hand ≡ take (length r.hand) (drop r.position (told r.tail l))) (sym same) can.hand;
@@ -236,12 +236,13 @@ module _ (sum : List ℕ → ℕ) (r : ReplayState) (is : IsReplay r) (more : en
       let big = at_least_one in
       record {
         fills = (
-          record { tail = refl; batch = refl; position = refl; hand = omega (arith, size); },
+          record { tail = refl; batch = refl; position = refl; hand = omega (arith, size) },
           refl,
           omega (arith, size, at, more),
           omega (arith, size, short, big),
           (λ page above under. absurd (omega (arith, above, under, last))),
-          inr (refl, refl, place ∙ sym last));
+          inr (refl, refl, place ∙ sym last),
+        );
         can = record {
           there = can.there;
           hand = made ∙ hand_more all r.hand added r.position can.hand whole_added ∙ ap (λ (l : List ℕ). take (length l) (drop r.position all)) (sym made);
@@ -302,12 +303,13 @@ module _ (sum : List ℕ → ℕ) (r : ReplayState) (is : IsReplay r) (more : en
       let same = looked_readable old new looked in
       record {
         fills = (
-          record { tail = refl; batch = refl; position = refl; hand = omega (arith, size); },
+          record { tail = refl; batch = refl; position = refl; hand = omega (arith, size) },
           refl,
           omega (arith, size, skip_less, one_page),
           omega (arith, size, few_pages),
           (λ p above below. reads.1 p above (omega (arith, below, place))),
-          inl (subst (λ (n : ℕ). AreNext 3 r.batch t.full_pages n queue) (sym place) next));
+          inl (subst (λ (n : ℕ). AreNext 3 r.batch t.full_pages n queue) (sym place) next),
+        );
         can = record {
           there = omega (arith, can.there, ap (λ (l : List ℕ). length l) same);
           hand = subst (λ (l : List ℕ). hand ≡ take (length hand) (drop r.position (told t l))) (sym same)
@@ -382,7 +384,7 @@ pub record Reached (sum : List ℕ → ℕ) (r : ReplayState) (count : ℕ) (now
 
 pub reach_start : (sum : List ℕ → ℕ) (r : ReplayState) (count : ℕ) (old : Life) → CanReplay r old.present → Reached sum r count r old old
 reach_start sum r count old can = record {
-  fills = record { tail = refl; batch = refl; position = refl; hand = omega arith; };
+  fills = record { tail = refl; batch = refl; position = refl; hand = omega arith };
   exhausted = refl;
   few = omega arith;
   filled = λ page above below. absurd (omega (arith, above, below));
@@ -435,13 +437,15 @@ reach_more sum r count mid now old between new so_far is less filled can looked 
 pub reach_fails : (sum : List ℕ → ℕ) (r : ReplayState) (count : ℕ) (mid now : ReplayState) (old between new : Life) (e : Error) → Reached sum r count mid old between
     → FillsOnce sum mid now between new (Err e) → Ensures sum r count now old new (Err e)
 reach_fails sum r count mid now old between new e so_far filled =
-    let fills = filled.0 in
-    (record {
-      tail = fills.tail ∙ so_far.fills.tail;
-      batch = fills.batch ∙ so_far.fills.batch;
-      position = fills.position ∙ so_far.fills.position;
-      hand = omega (arith, fills.hand, so_far.fills.hand);
-    }, fault e (subst (λ (u : Tail). FillFault sum u between new e) so_far.fills.tail filled.3))
+    let fills = filled.0 in (
+      record {
+        tail = fills.tail ∙ so_far.fills.tail;
+        batch = fills.batch ∙ so_far.fills.batch;
+        position = fills.position ∙ so_far.fills.position;
+        hand = omega (arith, fills.hand, so_far.fills.hand);
+      },
+      fault e (subst (λ (u : Tail). FillFault sum u between new e) so_far.fills.tail filled.3),
+    )
   where
     fault : (e : Error) → FillFault sum r.tail between new e → FillFault sum r.tail old new e
     fault ReadFailed failed = failed_later ReadFailed old.present between.present new.present so_far.looked.log failed
@@ -463,9 +467,15 @@ pub reach_ends : (sum : List ℕ → ℕ) (r : ReplayState) (count : ℕ) (now :
     → Ensures sum r count (record now { exhausted = true }) old new (Ok false)
 reach_ends sum r count now old new so_far few ends =
     let size : size_of now.tail ≡ size_of r.tail = ap (λ (u : Tail). size_of u) so_far.fills.tail in
-    let none : size_of r.tail < r.position + count = omega (arith, ends, size, so_far.fills.position, few) in
-    (record { tail = so_far.fills.tail; batch = so_far.fills.batch; position = so_far.fills.position; hand = so_far.fills.hand; },
-    sym (lt-leb (r.position + count) (size_of r.tail) none), (λ yes. absurd (true≢false (sym yes))), (λ _. (ends ∙ size, refl)), so_far.few, so_far.filled, so_far.ahead)
+    let none : size_of r.tail < r.position + count = omega (arith, ends, size, so_far.fills.position, few) in (
+      record { tail = so_far.fills.tail; batch = so_far.fills.batch; position = so_far.fills.position; hand = so_far.fills.hand },
+      sym (lt-leb (r.position + count) (size_of r.tail) none),
+      (λ yes. absurd (true≢false (sym yes))),
+      (λ _. (ends ∙ size, refl)),
+      so_far.few,
+      so_far.filled,
+      so_far.ahead,
+    )
 
 -- ---- what a replay gives it gives
 
@@ -496,11 +506,14 @@ advanced_can count r d can = record {
 }
 
 pub advanced_replays : (count : ℕ) (r : ReplayState) → ReplaysOn r (advanced count r)
-advanced_replays count r = (advanced_can count r, λ sum content d is. record {
-  tail = is.tail;
-  can = advanced_can count r d is.can;
-  hand = passed_over content r.hand r.position count is.hand;
-})
+advanced_replays count r = (
+  advanced_can count r,
+  λ sum content d is. record {
+    tail = is.tail;
+    can = advanced_can count r d is.can;
+    hand = passed_over content r.hand r.position count is.hand;
+  },
+)
 
 -- so by its fields
 pub moved_replays : (count : ℕ) (r was : ReplayState) (position : ℕ) (hand : List ℕ) → was ≡ r → position ≡ was.position + min count (length was.hand) → hand ≡ drop count was.hand
@@ -518,18 +531,19 @@ cleared_replays r was position hand view none =
   where
     cleared : (was : ReplayState) (position : ℕ) → ReplaysOn was (record was { position = position; hand = []; exhausted = false })
     cleared was position = (
-      λ d can. record { there = can.there; hand = refl; queue = can.queue; },
+      λ d can. record { there = can.there; hand = refl; queue = can.queue },
       λ sum content d is. record {
         tail = is.tail;
-        can = record { there = is.can.there; hand = refl; queue = is.can.queue; };
+        can = record { there = is.can.there; hand = refl; queue = is.can.queue };
         hand = refl;
-      })
+      },
+    )
 
 -- a new one
 pub new_replays : (sum : List ℕ → ℕ) (t : Tail) (buffer_size : ℕ) (content : List ℕ) (d : Disk) → IsTailOf sum t content d → IsReplayOf sum (new_replay t buffer_size) content d
 new_replays sum t buffer_size content d tail = record {
   tail = tail;
-  can = record { there = tail.there; hand = refl; queue = λ k a below. absurd (omega (arith, below)); };
+  can = record { there = tail.there; hand = refl; queue = λ k a below. absurd (omega (arith, below)) };
   hand = refl;
 }
 

@@ -165,12 +165,7 @@ impl Batches {
 
     /// The bytes of the batch that begins at a page: of the queue, where they were read ahead, and
     /// else read on demand, and nothing stays queued. What is queued then follows it.
-    fn fetch<B: Blob>(
-        self,
-        blob: &mut B,
-        queue: &mut Vec<Ahead>,
-        page: u64,
-    ) -> Result<IoBuf, Error>
+    fn fetch<B: Blob>(self, blob: &mut B, queue: &mut Vec<Ahead>, page: u64) -> Result<IoBuf, Error>
         requires below { page < self.full_pages }
         requires there { let size = non_zero_u16_get self.page_size + 12 in
             self.full_pages * size ≤ length (B.life blob.old).present.readable }

@@ -13,8 +13,8 @@ ghost use Rattle.paged_read.specs.Tail.{HasFullPages, size_of};
 
 use crate::ahead::{Ahead, Batches, MAX_READ_AHEAD};
 use crate::hand::{Hand, TooFew};
-use crate::search::physical_size;
 use crate::sealed::Sealed;
+use crate::search::physical_size;
 use disk::{Blob, Error, IoBuf, ReadOptions};
 use page::Sum;
 use std::marker::Model;
@@ -48,22 +48,22 @@ impl<B, H> Model for Replay<B, H> {
     ghost Value = { ReplayState };
 
     ghost view = { λ r. record {
-        tail = r.sealed;
-        batch = r.batches.batch;
-        position = r.position;
-        hand = r.hand.bytes;
-        queue = r.queue.items;
-        exhausted = r.exhausted;
+      tail = r.sealed;
+      batch = r.batches.batch;
+      position = r.position;
+      hand = r.hand.bytes;
+      queue = r.queue.items;
+      exhausted = r.exhausted;
     } };
 
     ghost invariant = { λ r. IsReplay (record {
-            tail = r.sealed;
-            batch = r.batches.batch;
-            position = r.position;
-            hand = r.hand.bytes;
-            queue = r.queue.items;
-            exhausted = r.exhausted;
-        })
+      tail = r.sealed;
+      batch = r.batches.batch;
+      position = r.position;
+      hand = r.hand.bytes;
+      queue = r.queue.items;
+      exhausted = r.exhausted;
+    })
         × (r.hand.page_size ≡ r.sealed.page_size)
         × (non_zero_u16_get r.batches.page_size ≡ r.sealed.page_size)
         × (r.batches.full_pages ≡ r.sealed.full_pages)

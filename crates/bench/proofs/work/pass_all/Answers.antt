@@ -11,7 +11,8 @@ pub loop-preserved : goal.loop-preserved
 loop-preserved g c = (
   c.advance.ensures.replays.0 (g.B.Blob.life c.ensure.new.blob).present c.ensure.ensures.can,
   looked_joins (g.B.Blob.life c.args.blob.now) (g.B.Blob.life c.loop.blob)
-  (g.B.Blob.life c.ensure.new.blob) c.loop.invariant.1 c.ensure.ensures.looked)
+      (g.B.Blob.life c.ensure.new.blob) c.loop.invariant.1 c.ensure.ensures.looked,
+)
 
 pub returns-in_err-ensure : goal.returns-in_err-ensure
 returns-in_err-ensure g c =

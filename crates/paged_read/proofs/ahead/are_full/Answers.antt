@@ -1,4 +1,4 @@
-use Rattle.std.proofs.Common.{◌≡◌, ◌∙◌, ap, sym, ◌<◌, ◌≤◌, arith, true≢false}
+use Rattle.std.proofs.Common.{◌≡◌, ◌∙◌, ap, sym, arith, true≢false}
 use Rattle.std.specs.Int.NonZero.{non_zero_u16_get}
 use Rattle.page.specs.Page.{value_len}
 use Rattle.paged_read.specs.Ranges.{page_at}
@@ -19,9 +19,11 @@ returns-then-not-is_full g c =
     let P = non_zero_u16_get c.args.page_size in
     let page = c.loop-page.page in
     let bytes = c.args.bytes.now in
-    let is = slice_is_page P c.physical_size-size.result page bytes c.physical_size-size.ensures in
-    (λ no. absurd (true≢false (sym no)), λ all.
-    let full : value_len g.H.Sum.sum_of P (page_at P page bytes) ≡ P =
-    all page (omega arith) c.loop-page-test.true in
-    let yes = c.is_full.ensures.1 (ap (λ l. value_len g.H.Sum.sum_of P l) is ∙ full) in
-    sym c.if-not-is_full.true ∙ yes)
+    let is = slice_is_page P c.physical_size-size.result page bytes c.physical_size-size.ensures in (
+      λ no. absurd (true≢false (sym no)),
+      λ all.
+          let full : value_len g.H.Sum.sum_of P (page_at P page bytes) ≡ P =
+          all page (omega arith) c.loop-page-test.true in
+          let yes = c.is_full.ensures.1 (ap (λ l. value_len g.H.Sum.sum_of P l) is ∙ full) in
+          sym c.if-not-is_full.true ∙ yes,
+    )

@@ -1,4 +1,4 @@
-use Rattle.std.proofs.Common.{◌≡◌, ◌≤◌, ◌<◌, ◌+◌, ◌-◌, ◌++◌, length, take, drop, arith, ap, ◌∙◌, sym, length-append, length-take, length-drop}
+use Rattle.std.proofs.Common.{◌≡◌, ◌≤◌, ◌+◌, length, take, drop, arith, ap, ◌∙◌, sym, length-take}
 use Rattle.std.proofs.lemmas.List.{drop-drop}
 use Rattle.paged_read.specs.Hand.{payloads_at}
 use Rattle.paged_read.proofs.Hands.{copied_more}
@@ -34,7 +34,7 @@ loop-at-preserved c =
       place = c.behind-at.ensures.place;
       within = omega (arith, part, least, more);
       copied = copied ∙ ap (λ n. take n told) (sym part);
-      rest = λ less. 
+      rest = λ less.
           let whole : len ≡ at.left = omega (arith, part, least, less, size, c.len.ensures) in
           sym c.behind-at.ensures.bytes ∙ ap (λ l. drop at.left l) rest ∙ drop-drop at.left done told ∙ ap (λ n. drop n told) (omega (arith, part, whole));
     }

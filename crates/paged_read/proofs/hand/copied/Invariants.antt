@@ -1,4 +1,4 @@
-use Rattle.std.proofs.Common.{◌≡◌, ◌≤◌, ◌<◌, ◌+◌, ◌-◌, ◌^◌, ◌++◌, length, drop, take}
+use Rattle.std.proofs.Common.{◌≡◌, ◌≤◌, ◌<◌, ◌-◌, length, drop, take}
 use Rattle.paged_read.specs.Hand.{payloads_at, IsPlace}
 use Rattle.paged_read.proofs.hand.copied.Given as goal
 

@@ -1,5 +1,4 @@
-use Rattle.std.proofs.Common.{◌≡◌, ◌+◌, ◌*◌, ◌/◌, ◌%◌, length, min, arith, ap, ◌∙◌, sym}
-use Rattle.paged_read.specs.Hand.{payloads}
+use Rattle.std.proofs.Common.{◌+◌, ◌*◌, ◌/◌, ◌%◌, min, arith, ap}
 use Rattle.paged_read.proofs.Hands.{payload_size}
 use Rattle.paged_read.proofs.hand.payload_bytes.Goals as goal
 

@@ -1,4 +1,4 @@
-use Rattle.std.proofs.Common.{◌≡◌, ◌≤◌, ◌∙◌, sym, arith}
+use Rattle.std.proofs.Common.{◌∙◌, sym, arith}
 use Rattle.paged_read.proofs.ReadAheads.{behind_last}
 use Rattle.paged_read.proofs.ahead.Batches.behind_queue.Goals as goal
 

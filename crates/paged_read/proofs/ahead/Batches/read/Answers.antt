@@ -1,4 +1,4 @@
-use Rattle.std.proofs.Common.{◌≡◌, ◌+◌, ◌-◌, ◌*◌, ℕ, List, length, take, drop, min, ap, ◌∙◌, sym, subst, arith, true≢false}
+use Rattle.std.proofs.Common.{◌+◌, ◌-◌, ◌*◌, ℕ, List, length, take, drop, min, ap, ◌∙◌, sym, subst, arith, true≢false}
 use Rattle.std.specs.Int.NonZero.{non_zero_u16_get}
 use Rattle.paged_read.specs.ReadAhead.{AreFullPages}
 use Rattle.paged_read.proofs.ReadAheads.{full_in_run, full_of_run, one_run, run_length}
@@ -10,8 +10,12 @@ are_full-requires g c =
     let d = (g.B.Blob.life c.args.blob.now).present in
     let size = run_length P c.args.self.batch c.args.self.full_pages c.args.page d.readable
     c.in_ok-bytes.bytes c.requires.below c.requires.there c.in_ok-bytes.ensures.fetches in
-    omega (arith, size, ap (λ l. length l) c.as_ref.ensures,
-    ap (λ n. n * (P + 12)) c.min-pages.ensures)
+    omega (
+      arith,
+      size,
+      ap (λ l. length l) c.as_ref.ensures,
+      ap (λ n. n * (P + 12)) c.min-pages.ensures,
+    )
 
 pub returns-then-are_full-clause-reads : goal.returns-then-are_full-clause-reads
 returns-then-are_full-clause-reads g c =
@@ -22,9 +26,11 @@ returns-then-are_full-clause-reads g c =
     let fetched = c.in_ok-bytes.ensures.fetches in
     let is = one_run run (take (k * (P + 12)) (drop (c.args.page * (P + 12)) readable)) fetched in
     let full = subst (λ (l : List ℕ). AreFullPages g.H.Sum.sum_of P 0 c.min-pages.result l)
-    c.as_ref.ensures (c.are_full.ensures.0 c.if-are_full.true) in
-    (fetched, full_of_run g.H.Sum.sum_of P k c.args.page readable run is
-    (subst (λ n. AreFullPages g.H.Sum.sum_of P 0 n run) c.min-pages.ensures full))
+    c.as_ref.ensures (c.are_full.ensures.0 c.if-are_full.true) in (
+      fetched,
+      full_of_run g.H.Sum.sum_of P k c.args.page readable run is
+          (subst (λ n. AreFullPages g.H.Sum.sum_of P 0 n run) c.min-pages.ensures full),
+    )
 
 pub returns-else-are_full-clause-reads : goal.returns-else-are_full-clause-reads
 returns-else-are_full-clause-reads g c = λ all.

@@ -1,4 +1,4 @@
-use Rattle.std.proofs.Common.{◌≡◌, [], ◌∷◌, List, ap, ◌∙◌, sym, subst, All, drop, slice_get}
+use Rattle.std.proofs.Common.{List, ap, ◌∙◌, sym, subst, All, slice_get}
 use Rattle.std.specs.Int.NonZero.{non_zero_u16_get}
 use Rattle.std.proofs.lemmas.List.Elements.{All-drop}
 use Rattle.paged_read.specs.declared.ahead.Ahead.{Ahead}

@@ -1,4 +1,4 @@
-use Rattle.std.proofs.Common.{◌≡◌, ◌⊎◌, inl, inr, ◌≤◌, ◌<◌, ◌+◌, ◌++◌, [], ◌∷◌, List, length, All, ap, ◌∙◌, sym, refl, subst, arith, vec_capacity, length-append}
+use Rattle.std.proofs.Common.{inl, ◌<◌, [], ◌∷◌, List, length, All, ap, ◌∙◌, sym, refl, subst, arith, length-append}
 use Rattle.std.specs.Int.NonZero.{non_zero_u16_get}
 use Rattle.disk.specs.Disk.{StartReadGoes}
 use Rattle.crash.specs.Looks.{looked_start, looked_joins}

@@ -1,4 +1,4 @@
-use Rattle.std.proofs.Common.{◌≡◌, ◌≤◌, ◌<◌, ◌+◌, ◌-◌, ◌^◌, ◌++◌, [], ◌∷◌, ℕ, List, length, drop, min, arith, ap, ◌∙◌, refl, sym, append-nil}
+use Rattle.std.proofs.Common.{◌≡◌, ◌-◌, ◌++◌, [], ◌∷◌, ℕ, List, length, drop, arith, ap, ◌∙◌, refl, sym, append-nil}
 use Rattle.std.specs.Int.NonZero.{non_zero_u16_get}
 use Rattle.paged_read.specs.Hand.{HandState, payloads, payloads_from}
 use Rattle.paged_read.proofs.Hands.{nothing_more, payloads_fewer, payloads_more, pushed, pushed_is, Pushed}
@@ -51,8 +51,10 @@ made c =
     c.beside-at.result.start c.beside-at.result.left c.self.invariant.1
     (omega (arith, less, view)) (omega (arith, more, size)) (omega (arith, size, c.len.type_inv))
     (λ some. c.requires.behind (rw (← bytes) some))
-    (λ none. let is = c.beside-at.ensures.none none in (ap (λ p. p.start) is,
-    ap (λ p. p.left) is ∙ omega (arith, other, page)))
+    (λ none. let is = c.beside-at.ensures.none none in (
+      ap (λ p. p.start) is,
+      ap (λ p. p.left) is ∙ omega (arith, other, page),
+    ))
     (λ some. let is = c.beside-at.ensures.some some in (ap (λ p. p.start) is, ap (λ p. p.left) is))
 
 at_first : (run was : ℕ) (runs : List (List ℕ)) → (runs ≡ [] → run ≡ 0) → ((runs ≡ [] → ⊥) → run ≡ was)
@@ -67,12 +69,14 @@ invariant_of-self-2 c =
     let is = c.payload_bytes.ensures c.args.run (sym c.len-3.ensures) in
     let page = c.from-page_size.ensures ∙ c.get.ensures.value in
     let more = c.if-len-skip.false in
-    let size = c.len.ensures in
-    (at_first c.beside-at.result.run was.at.run was.runs.items (λ none. ap (λ p. p.run) (c.beside-at.ensures.none none)) (λ some. ap (λ p. p.run) (c.beside-at.ensures.some some)) c.self.invariant.0, pushed_is P was.runs.items c.push_back_reserved.new.self.items was.at.start was.at.left
-    was.remaining c.args.run c.args.skip c.beside-at.result.start c.beside-at.result.left
-    (c.payload_bytes.result - c.args.skip) c.self.invariant.1 (made c)
-    (c.push_back_reserved.ensures.items ∙ ap (λ l. l ++ c.args.run ∷ []) c.in_ok-try_reserve.ensures.items)
-    (omega (arith, more, size)) (ap (λ n. n - c.args.skip) (rw (← page) is)))
+    let size = c.len.ensures in (
+      at_first c.beside-at.result.run was.at.run was.runs.items (λ none. ap (λ p. p.run) (c.beside-at.ensures.none none)) (λ some. ap (λ p. p.run) (c.beside-at.ensures.some some)) c.self.invariant.0,
+      pushed_is P was.runs.items c.push_back_reserved.new.self.items was.at.start was.at.left
+          was.remaining c.args.run c.args.skip c.beside-at.result.start c.beside-at.result.left
+          (c.payload_bytes.result - c.args.skip) c.self.invariant.1 (made c)
+          (c.push_back_reserved.ensures.items ∙ ap (λ l. l ++ c.args.run ∷ []) c.in_ok-try_reserve.ensures.items)
+          (omega (arith, more, size)) (ap (λ n. n - c.args.skip) (rw (← page) is)),
+    )
 
 pub returns-clause-bytes : goal.returns-clause-bytes
 returns-clause-bytes c =

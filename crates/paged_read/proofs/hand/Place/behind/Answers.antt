@@ -1,4 +1,4 @@
-use Rattle.std.proofs.Common.{◌≡◌, ◌≤◌, ◌+◌, ◌-◌, ℕ, length, arith, ap, ◌∙◌, sym, min}
+use Rattle.std.proofs.Common.{◌≡◌, ◌≤◌, ◌+◌, ◌-◌, length, arith, ap, ◌∙◌, sym}
 use Rattle.paged_read.specs.Hand.{payloads_at}
 use Rattle.paged_read.proofs.Hands.{place_in, behind_same, behind_next}
 use Rattle.paged_read.proofs.hand.Place.behind.Goals as goal

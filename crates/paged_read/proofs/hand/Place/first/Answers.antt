@@ -1,4 +1,4 @@
-use Rattle.std.proofs.Common.{◌≡◌, refl}
+use Rattle.std.proofs.Common.{refl}
 use Rattle.paged_read.proofs.Hands.{begins}
 use Rattle.paged_read.proofs.hand.Place.first.Goals as goal
 

@@ -1,6 +1,6 @@
-use Rattle.std.proofs.Common.{◌≡◌, ◌⊎◌, inl, inr, ◌≤◌, ◌<◌, ◌+◌, ◌-◌, ◌^◌, ℕ, length, arith, ap, ◌∙◌, refl, drop, sym}
-use Rattle.paged_read.specs.Hand.{payloads_at, IsPlace}
-use Rattle.paged_read.proofs.Hands.{some_left, step_passed, step_there, few_left, passed, passed_place}
+use Rattle.std.proofs.Common.{◌⊎◌, inl, inr, ◌≤◌, ◌<◌, arith, ◌∙◌, refl, drop, sym}
+use Rattle.paged_read.specs.Hand.{payloads_at}
+use Rattle.paged_read.proofs.Hands.{some_left, step_passed, step_there, few_left, passed}
 use Rattle.paged_read.proofs.hand.Place.passed.Goals as goal
 use Rattle.paged_read.proofs.hand.Place.passed.Goals.{then-loop-at-test+else-at-more, else-loop-at-test}
 

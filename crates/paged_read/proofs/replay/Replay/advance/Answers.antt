@@ -1,4 +1,4 @@
-use Rattle.std.proofs.Common.{◌+◌, arith, length}
+use Rattle.std.proofs.Common.{◌+◌, arith}
 use Rattle.paged_read.specs.Replay.{ReplayState}
 use Rattle.paged_read.proofs.Replays.{moved_replays}
 use Rattle.paged_read.proofs.replay.Replay.advance.Goals as goal

@@ -5,7 +5,7 @@ use Rattle.paged_read.specs.Replay.{end_of, IsReplay, ReplayState}
 use Rattle.paged_read.specs.Tail.{size_of}
 use Rattle.paged_read.proofs.Outliving.{look_leaves_reads, look_leaves_tails, look_leaves_writers}
 use Rattle.paged_read.proofs.OutlivingReplays.{look_leaves_replays}
-use Rattle.paged_read.proofs.Replays.{Reached, filled_replays, reach_ends, reach_enough, reach_fails, reach_more, reach_start}
+use Rattle.paged_read.proofs.Replays.{Reached, filled_replays, reach_ends, reach_fails, reach_more, reach_start}
 use Rattle.paged_read.proofs.replay.Replay.ensure.Goals as goal
 use Rattle.paged_read.proofs.replay.Replay.ensure.Goals.{After-remaining-2, then-loop-self-test+else-end-size, else-loop-self-test}
 use Rattle.paged_read.proofs.replay.Replay.ensure.Given.{Over}
@@ -21,8 +21,12 @@ loop-self-preserved g c =
     (g.B.Blob.life c.args.blob.now) (g.B.Blob.life c.loop-self.blob)
     (g.B.Blob.life c.fill.new.blob) c.loop-self.invariant
     (subst (λ (r : ReplayState). IsReplay r) c.self.view_is c.self.invariant.0)
-    (omega (arith, c.loop-self-test.true, c.remaining.ensures,
-    ap (λ (r : ReplayState). length r.hand) c.self.view_is))
+    (omega (
+      arith,
+      c.loop-self-test.true,
+      c.remaining.ensures,
+      ap (λ (r : ReplayState). length r.hand) c.self.view_is,
+    ))
     c.in_ok-fill.ensures.fills c.fill.ensures.can c.fill.ensures.looked
 
 pub returns-in_err-fill-clause-fetches : goal.returns-in_err-fill-clause-fetches
@@ -84,7 +88,7 @@ returns-clause-fetches g c =
 pub returns-clause-can : goal.returns-clause-can
 returns-clause-can g c =
     let can = (reached g (goal.at.returns-clause-can g c).After-remaining-2).can in
-    record { there = can.there; hand = can.hand; queue = can.queue; }
+    record { there = can.there; hand = can.hand; queue = can.queue }
 
 pub returns-clause-replays : goal.returns-clause-replays
 returns-clause-replays g c =
@@ -98,66 +102,66 @@ returns-clause-replays g c =
       position = so_far.fills.position;
       hand = so_far.fills.hand;
     })
-    (record { there = so_far.can.there; hand = so_far.can.hand; queue = so_far.can.queue; })
+    (record { there = so_far.can.there; hand = so_far.can.hand; queue = so_far.can.queue })
     so_far.looked
 
 -- what a call that only looked leaves
 pub returns-in_err-fill-clause-writers : goal.returns-in_err-fill-clause-writers
-returns-in_err-fill-clause-writers g c = 
+returns-in_err-fill-clause-writers g c =
     look_leaves_writers g.H.Sum.sum_of (g.B.Blob.life c.args.blob.now) (g.B.Blob.life c.fill.new.blob)
     (returns-in_err-fill-clause-looked g c)
 
 pub returns-in_err-fill-clause-tails : goal.returns-in_err-fill-clause-tails
-returns-in_err-fill-clause-tails g c = λ cache. 
+returns-in_err-fill-clause-tails g c = λ cache.
     look_leaves_tails g.H.Sum.sum_of cache (g.B.Blob.life c.args.blob.now) (g.B.Blob.life c.fill.new.blob)
     (returns-in_err-fill-clause-looked g c)
 
 pub returns-in_err-fill-clause-can_read : goal.returns-in_err-fill-clause-can_read
-returns-in_err-fill-clause-can_read g c = λ cache. 
+returns-in_err-fill-clause-can_read g c = λ cache.
     look_leaves_reads cache (g.B.Blob.life c.args.blob.now) (g.B.Blob.life c.fill.new.blob)
     (returns-in_err-fill-clause-looked g c)
 
 pub returns-in_err-fill-clause-others : goal.returns-in_err-fill-clause-others
-returns-in_err-fill-clause-others g c = 
+returns-in_err-fill-clause-others g c =
     look_leaves_replays (g.B.Blob.life c.args.blob.now) (g.B.Blob.life c.fill.new.blob)
     (returns-in_err-fill-clause-looked g c)
 
 pub returns-then-count-remaining-clause-writers : goal.returns-then-count-remaining-clause-writers
-returns-then-count-remaining-clause-writers g c = 
+returns-then-count-remaining-clause-writers g c =
     look_leaves_writers g.H.Sum.sum_of (g.B.Blob.life c.args.blob.now) (g.B.Blob.life c.loop-self.blob)
     (c.loop-self.invariant.looked)
 
 pub returns-then-count-remaining-clause-tails : goal.returns-then-count-remaining-clause-tails
-returns-then-count-remaining-clause-tails g c = λ cache. 
+returns-then-count-remaining-clause-tails g c = λ cache.
     look_leaves_tails g.H.Sum.sum_of cache (g.B.Blob.life c.args.blob.now) (g.B.Blob.life c.loop-self.blob)
     (c.loop-self.invariant.looked)
 
 pub returns-then-count-remaining-clause-can_read : goal.returns-then-count-remaining-clause-can_read
-returns-then-count-remaining-clause-can_read g c = λ cache. 
+returns-then-count-remaining-clause-can_read g c = λ cache.
     look_leaves_reads cache (g.B.Blob.life c.args.blob.now) (g.B.Blob.life c.loop-self.blob)
     (c.loop-self.invariant.looked)
 
 pub returns-then-count-remaining-clause-others : goal.returns-then-count-remaining-clause-others
-returns-then-count-remaining-clause-others g c = 
+returns-then-count-remaining-clause-others g c =
     look_leaves_replays (g.B.Blob.life c.args.blob.now) (g.B.Blob.life c.loop-self.blob)
     (c.loop-self.invariant.looked)
 
 pub returns-clause-writers : goal.returns-clause-writers
-returns-clause-writers g c = 
+returns-clause-writers g c =
     look_leaves_writers g.H.Sum.sum_of (g.B.Blob.life c.args.blob.now) (g.B.Blob.life c.loop-self.blob)
     (c.loop-self.invariant.looked)
 
 pub returns-clause-tails : goal.returns-clause-tails
-returns-clause-tails g c = λ cache. 
+returns-clause-tails g c = λ cache.
     look_leaves_tails g.H.Sum.sum_of cache (g.B.Blob.life c.args.blob.now) (g.B.Blob.life c.loop-self.blob)
     (c.loop-self.invariant.looked)
 
 pub returns-clause-can_read : goal.returns-clause-can_read
-returns-clause-can_read g c = λ cache. 
+returns-clause-can_read g c = λ cache.
     look_leaves_reads cache (g.B.Blob.life c.args.blob.now) (g.B.Blob.life c.loop-self.blob)
     (c.loop-self.invariant.looked)
 
 pub returns-clause-others : goal.returns-clause-others
-returns-clause-others g c = 
+returns-clause-others g c =
     look_leaves_replays (g.B.Blob.life c.args.blob.now) (g.B.Blob.life c.loop-self.blob)
     (c.loop-self.invariant.looked)

@@ -175,7 +175,8 @@ invariant_of-self-2 g c = (
   c.add.ensures.page_size ∙ c.self.invariant.1,
   c.self.invariant.2,
   c.self.invariant.3,
-  omega (arith, c.add.ensures.room, c.self.invariant.4))
+  omega (arith, c.add.ensures.room, c.self.invariant.4),
+)
 
 -- the replay as it was
 abbrev rest_was : (g : Over) (c : After-push g) → ReplayState
@@ -225,7 +226,7 @@ rest g c =
     let skip = c.end-end.result % c.from-page_size.result in
     let bytes = c.in_ok-rest.ensures.ok ∙ c.bytes.ensures in
     let more : drop skip (payloads hand.page_size c.in_ok-rest.rest)
-        ≡ drop (end_of (rest_was g c) % t.page_size) (payloads t.page_size t.bytes) =
+    ≡ drop (end_of (rest_was g c) % t.page_size) (payloads t.page_size t.bytes) =
     ap (λ n. drop n (payloads hand.page_size c.in_ok-rest.rest)) (rest_skip g c)
     ∙ ap (λ n. drop (end_of (rest_was g c) % t.page_size) (payloads n c.in_ok-rest.rest))
     c.self.invariant.1
@@ -255,4 +256,5 @@ invariant_of-self g c = (
   c.push.ensures.page_size ∙ c.self.invariant.1,
   c.self.invariant.2,
   c.self.invariant.3,
-  c.self.invariant.4)
+  c.self.invariant.4,
+)
