@@ -26,8 +26,8 @@ use std::num::NonZeroUsize;
 impl<B: Blob, H: Sum> Writer<B, H> {
     /// A replay of all that was appended until now, from the first byte on, and the writer. What
     /// isn't written is written first, a page that isn't full too, without a sync; the bytes behind
-    /// the full pages are copied. So it makes two device calls at most, a wait for the sync that was
-    /// started before and a write; and none where all is written. The replay reads nothing yet.
+    /// the full pages are copied. So it makes two device calls at most, a wait for the sync that
+    /// was started before and a write; and none where all is written. The replay reads nothing yet.
     ///
     /// It reads batches of a quarter of the pages that fit `buffer_size` bytes, and at least one,
     /// three batches ahead. What it gives isn't durable by it; a crash ends it, as it ends the

@@ -1,5 +1,6 @@
 -- Batches of pages that are read ahead.
-use Rattle.std.specs.Prelude.{◌≡◌, ◌≤◌, ◌<◌, ◌+◌, ◌-◌, ◌*◌, ◌/◌, ℕ, zero, suc, List, [], ◌∷◌, ◌++◌, drop}
+use Rattle.std.specs.Prelude.{◌≡◌, ◌≤◌, ◌<◌, ◌+◌, ◌-◌, ◌*◌, ◌/◌, ℕ, zero, suc, List, [], ◌∷◌, ◌++◌}
+use Rattle.std.specs.Prelude.{drop}
 use Rattle.std.specs.Prelude.{length, min, max, Result, Ok, Err}
 use Rattle.std.specs.Int.{div_ceil}
 use Rattle.disk.specs.Disk.{Disk, Life, bytes_of, HasFailed}

@@ -1,5 +1,6 @@
 -- A replay: what is at hand of the bytes that a blob had when it began, and what each call does.
-use Rattle.std.specs.Prelude.{◌≡◌, ◌⊎◌, ◌≤◌, ◌<◌, ◌+◌, ◌*◌, ◌/◌, ◌%◌, ◌^◌, ℕ, Bool, true, false, nat_le}
+use Rattle.std.specs.Prelude.{◌≡◌, ◌⊎◌, ◌≤◌, ◌<◌, ◌+◌, ◌*◌, ◌/◌, ◌%◌, ◌^◌, ℕ, Bool, true, false}
+use Rattle.std.specs.Prelude.{nat_le}
 use Rattle.std.specs.Prelude.{min, max, List, [], length, take, drop, All, Result, Ok, Err}
 use Rattle.disk.specs.Disk.{Disk, Life, HasFailed}
 use Rattle.disk.specs.declared.error.Error.{Error}

@@ -1,5 +1,6 @@
 // Batches of pages that are read ahead.
-ghost use Rattle.std.specs.Prelude.{◌≡◌, ◌≤◌, ◌<◌, ◌+◌, ◌-◌, ◌*◌, ◌^◌, ◌∷◌, [], ℕ, List, length, min};
+ghost use Rattle.std.specs.Prelude.{◌≡◌, ◌≤◌, ◌<◌, ◌+◌, ◌-◌, ◌*◌, ◌^◌, ◌∷◌, [], ℕ, List, length};
+ghost use Rattle.std.specs.Prelude.{min};
 ghost use Rattle.std.specs.Prelude.{All, IfSome, IsTrue, ◌↔◌, Ok, Err, vec_capacity, OnOk};
 ghost use Rattle.std.specs.Int.NonZero.{non_zero_u16_get};
 ghost use Rattle.crash.specs.Looks.{Looked};
@@ -230,7 +231,8 @@ impl Batches {
     }
 
     /// Adds the bytes of the batch that begins at a page to what is at hand, without so many of its
-    /// first page, and tops the queue up. Where that fails it adds nothing and starts no read ahead.
+    /// first page, and tops the queue up. Where that fails it adds nothing and starts no read
+    /// ahead.
     pub(crate) fn add<B: Blob, H: Sum>(
         self,
         blob: &mut B,

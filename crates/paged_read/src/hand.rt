@@ -281,8 +281,8 @@ impl Hand {
         self.remaining -= count;
     }
 
-    /// Adds pages, the first of them from a byte on where there is nothing yet. `OutOfMemory` alone,
-    /// and then there is what there was.
+    /// Adds pages, the first of them from a byte on where there is nothing yet. `OutOfMemory`
+    /// alone, and then there is what there was.
     pub fn push(&mut self, run: IoBuf, skip: usize) -> Result<(), Error>
         requires skip { skip < self.old.page_size }
         requires behind { 0 < length self.old.bytes → skip ≡ 0 }

@@ -1,5 +1,6 @@
 // Replays.
-ghost use Rattle.std.specs.Prelude.{◌≡◌, ◌≤◌, ◌<◌, ◌+◌, ◌*◌, [], ℕ, List, length, take, IfErr, IfOk};
+ghost use Rattle.std.specs.Prelude.{◌≡◌, ◌≤◌, ◌<◌, ◌+◌, ◌*◌, [], ℕ, List, length, take, IfErr};
+ghost use Rattle.std.specs.Prelude.{IfOk};
 ghost use Rattle.std.specs.Prelude.{IsErrOf, IsOkUnless, OnErr, OnOk};
 ghost use Rattle.std.specs.Int.NonZero.{non_zero_usize_get};
 ghost use Rattle.cache.specs.CacheState.{CacheState};
@@ -7,8 +8,10 @@ ghost use Rattle.crash.specs.Looks.{Looked};
 ghost use Rattle.disk.specs.Disk.{Disk};
 ghost use Rattle.paged_read.specs.Snapshots.{IsTailOf, LeavesAllReads, LeavesAllTails};
 ghost use Rattle.paged_read.specs.Snapshots.{LeavesWriters};
-ghost use Rattle.paged_read.specs.Replay.{advanced, CanReplay, Ensures, Gives, IsReplayOf, new_replay};
-ghost use Rattle.paged_read.specs.Replay.{end_of, FillsOnce, LeavesAllReplays, ReplaysOn, ReplaysThrough, Seeks};
+ghost use Rattle.paged_read.specs.Replay.{advanced, CanReplay, Ensures, Gives, IsReplayOf};
+ghost use Rattle.paged_read.specs.Replay.{new_replay};
+ghost use Rattle.paged_read.specs.Replay.{end_of, FillsOnce, LeavesAllReplays, ReplaysOn};
+ghost use Rattle.paged_read.specs.Replay.{ReplaysThrough, Seeks};
 ghost use Rattle.paged_read.specs.Tail.{HasFullPages, size_of};
 
 use crate::ahead::{Ahead, Batches, MAX_READ_AHEAD};
@@ -25,11 +28,11 @@ use std::num::NonZeroUsize;
 ///
 /// A replay gives the bytes that there were when it began, whatever the blob's writer does
 /// meanwhile: it holds their number and a copy of those behind the full pages, and full pages are
-/// never written again. It ends with a crash, and with a recovery of the blob, which may cut it. The
-/// blob is lent to each call that may read; no cache is asked.
+/// never written again. It ends with a crash, and with a recovery of the blob, which may cut it.
+/// The blob is lent to each call that may read; no cache is asked.
 ///
-/// Where a batch that was read ahead failed, it is read again once it is needed, and only what fails
-/// then is told.
+/// Where a batch that was read ahead failed, it is read again once it is needed, and only what
+/// fails then is told.
 #[derive(Drop)]
 pub struct Replay<B, H> {
     sealed: Sealed<B, H>,
