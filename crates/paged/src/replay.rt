@@ -23,7 +23,7 @@ use page::Sum;
 use paged_read::Replay;
 use std::num::NonZeroUsize;
 
-impl<B: Blob, H: Sum> Writer<B, H> {
+impl<B: Blob, H: Sum, Phase> Writer<B, H, Phase> {
     /// A replay of all that was appended until now, from the first byte on, and the writer. What
     /// isn't written is written first, a page that isn't full too, without a sync; the bytes behind
     /// the full pages are copied. So it makes two device calls at most, a wait for the sync that

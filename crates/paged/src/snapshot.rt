@@ -23,19 +23,7 @@ use disk::{Blob, Error, StartedSync};
 use page::{Buffer, Sum};
 use paged_read::Sealed;
 
-impl<B, H> Writer<B, H> {
-    /// A snapshot of all that was appended until now, for which nothing is written: `None` exactly
-    /// while a full page is buffered. It copies the bytes behind the full pages, less than a page,
-    /// and makes no device call. `OutOfMemory` alone; the writer stays as it is.
-    pub fn try_snapshot(&self) -> Result<Option<Sealed<B, H>>, Error>
-        ensures { TriesSnapshot self.now result }
-    {
-        if self.tip.len() >= usize::from(self.page_size.get()) {
-            return Ok(None);
-        }
-        Ok(Some(self.copy_tail()?))
-    }
-
+impl<B, H, Phase> Writer<B, H, Phase> {
     /// A snapshot, where no full page is buffered. `OutOfMemory` alone.
     pub(crate) fn copy_tail(&self) -> Result<Sealed<B, H>, Error>
         requires short { length self.now.tip < self.now.page_size }
@@ -50,6 +38,20 @@ impl<B, H> Writer<B, H> {
             size,
         )?;
         Ok(Sealed::new(self.alloc, self.page_size, self.id, tip))
+    }
+}
+
+impl<B, H> Writer<B, H> {
+    /// A snapshot of all that was appended until now, for which nothing is written: `None` exactly
+    /// while a full page is buffered. It copies the bytes behind the full pages, less than a page,
+    /// and makes no device call. `OutOfMemory` alone; the writer stays as it is.
+    pub fn try_snapshot(&self) -> Result<Option<Sealed<B, H>>, Error>
+        ensures { TriesSnapshot self.now result }
+    {
+        if self.tip.len() >= usize::from(self.page_size.get()) {
+            return Ok(None);
+        }
+        Ok(Some(self.copy_tail()?))
     }
 
     /// What the writer leaves where it ends, and no full page is buffered.

@@ -138,11 +138,11 @@ Promises sum steps was now old new earlier replies =
 
 -- without a writer
 abbrev pub closed : SessionState
-closed = record { writer = None; recovering = false; names = []; snapshots = [] }
+closed = record { writer = None; recovering = false; names = []; snapshots = []; replays = [] }
 
 -- with this one, in recovery
 abbrev pub session_of : WriterState → SessionState
-session_of w = record { writer = Some w; recovering = true; names = []; snapshots = [] }
+session_of w = record { writer = Some w; recovering = true; names = []; snapshots = []; replays = [] }
 
 -- with this content, all of it durable, and a buffer of so many bytes
 abbrev pub fresh : (P capacity : ℕ) → List ℕ → Standing
@@ -158,6 +158,7 @@ fresh P capacity content = record {
   awaited = None;
   covers = [];
   snapshots = [];
+  replays = [];
 }
 
 -- a recovery of these bytes at its end: the session that it gave stands for their text, all of it
@@ -236,6 +237,7 @@ opened w floor readable = record {
   awaited = pending_in w.sync;
   covers = [];
   snapshots = [];
+  replays = [];
 }
 
 -- over each blob on which the writer is sound

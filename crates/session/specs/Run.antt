@@ -1,8 +1,10 @@
 -- What a list of steps did to a session, moment by moment.
 use Rattle.std.specs.Prelude.{◌≡◌, ◌≢◌, ◌⊎◌, ◌<◌, ◌≤◌, ◌+◌, ◌%◌, ◌^◌, ◌++◌, ℕ, List, [], ◌∷◌}
 use Rattle.std.specs.Prelude.{length, take, drop, min, max, map, All, Bool, true, false, not}
-use Rattle.std.specs.Prelude.{nat_le, nat_lt, nat_eq, ◌||◌, ◌&&◌}
+use Rattle.std.specs.Prelude.{nat_le, nat_lt, nat_eq, ◌||◌, ◌&&◌, ◌*◌, ◌-◌}
+use Rattle.std.specs.Prelude.{option_map, slice_set}
 use Rattle.std.specs.Prelude.{if◌then◌else◌, is_some, slice_get, sum_by, Option, Some, None, Err}
+use Rattle.std.specs.Int.NonZero.{non_zero_usize_get}
 use Rattle.std.specs.List.{Contains, list_any, flat_map, range_with_len}
 use Rattle.disk.specs.Disk.{Disk, Life, after, HasFailed, coverings, had_failed}
 use Rattle.disk.specs.declared.started_sync.StartedSync.{StartedSync}
@@ -20,6 +22,8 @@ use Rattle.crash.specs.WriterState.SyncState.{Clean, Dirty, Pending}
 use Rattle.crash.specs.Sound.{IsSound, content as content_of}
 use Rattle.cache.specs.CacheState.{CacheState}
 use Rattle.paged_read.specs.Tail.{Tail, told, HasPages, HasFullPages, CanRead}
+use Rattle.paged_read.specs.ReadAhead.{batch_of}
+use Rattle.paged_read.specs.Replay.{ReplayState, IsReplayOf}
 use Rattle.paged.specs.Caches.{tail_of}
 use Rattle.paged.specs.Writer.{physical_size}
 use Rattle.paged.specs.Calls.{start_calls}
@@ -29,14 +33,24 @@ use Rattle.session.specs.declared.steps.Step.TheVariants.{Wait, WaitSync, Needs,
 use Rattle.session.specs.declared.steps.Step.TheVariants.{ReadUpTo, TryRead, Truncate}
 use Rattle.session.specs.declared.steps.Step.TheVariants.{ReadRanges, TryReadRanges}
 use Rattle.session.specs.declared.steps.Step.TheVariants.{Snapshot, TrySnapshot, Snap, Seal}
+use Rattle.session.specs.declared.steps.Step.TheVariants.{Replay, Ensure, Take, Seek}
 use Rattle.session.specs.declared.steps.Reply.{Reply}
 use Rattle.session.specs.declared.steps.Reply.TheVariants.{At, Nothing, Done, Started, Answer}
 use Rattle.session.specs.declared.steps.Reply.TheVariants.{Length, Bytes, Fault, Closed, NoSuch}
 use Rattle.session.specs.declared.steps.Reply.TheVariants.{NotRecovering}
 use Rattle.session.specs.declared.steps.Reply.TheVariants.{Served, Missed, BadRanges}
 use Rattle.session.specs.declared.steps.Reply.TheVariants.{Taken, Sealed, NotAppending}
+use Rattle.session.specs.declared.steps.Reply.TheVariants.{Replaying}
 
 -- ---- what a session stands for
+
+-- a replay: the bytes that it goes over, where it stands among them, how many from there on are at
+-- hand, and how many are read at once
+pub record Replayed : Type 0 where
+  pub content : List ℕ
+  pub position : ℕ
+  pub hand : ℕ
+  pub batch : ℕ
 
 pub record Standing : Type 0 where
   pub has_writer : Bool
@@ -59,6 +73,8 @@ pub record Standing : Type 0 where
   pub covers : List (ℕ × ℕ)
   -- what each snapshot tells, the oldest first
   pub snapshots : List (List ℕ)
+  -- the replays, the oldest first; none in the place of one that was forgotten
+  pub replays : List (Option Replayed)
 
 -- so many bytes more fit what is buffered
 abbrev pub has_room : Standing → ℕ → Bool
@@ -134,6 +150,34 @@ flushed P s = record s {
 abbrev pub left_by_seal : (P : ℕ) → StartedSync → Standing → Standing
 left_by_seal P sync s = record (noted (starting P sync s)) { has_writer = false }
 
+-- with all of it written, in pages of P bytes, without a sync: where something wasn't, a started
+-- sync was waited for
+abbrev pub rewritten : (P : ℕ) → Standing → Standing
+rewritten P s = record s {
+  buffered = s.buffered % P;
+  awaited = if s.written then s.awaited else None;
+}
+
+-- with a replay more, of all of the content, in batches of the pages that a buffer of this size
+-- asks for
+abbrev pub replaying : (P buffer_size : ℕ) → Standing → Standing
+replaying P buffer_size s = record s {
+  replays = s.replays ++ Some (record {
+    content = s.content;
+    position = 0;
+    hand = 0;
+    batch = batch_of P buffer_size * P;
+  }) ∷ [];
+}
+
+-- with this replay in the place of the one of this number
+abbrev pub moved : (index : ℕ) → Replayed → Standing → Standing
+moved index r s = record s { replays = slice_set s.replays index (Some r) }
+
+-- without its replays, whose numbers aren't given again
+abbrev pub forgetting : Standing → Standing
+forgetting s = record s { replays = map (λ r. None) s.replays }
+
 -- with no started sync to wait for
 abbrev pub waited : Standing → Standing
 waited s = record s { awaited = None }
@@ -167,9 +211,10 @@ lowered n s = record s {
   covers = map (λ c. (c.0, min n c.1)) s.covers;
 }
 
--- the standing as a step begins: where bytes are asked to be cut, they aren't kept from then on
+-- the standing as a step begins: where bytes are asked to be cut, they aren't kept from then on, and
+-- the replays are forgotten
 abbrev pub begun : Step → Standing → Standing
-begun (Truncate n) s = if s.has_writer && s.recovering then lowered n s else s
+begun (Truncate n) s = if s.has_writer && s.recovering then forgetting (lowered n s) else s
 begun step s = s
 
 -- ---- steps that are turned away
@@ -185,6 +230,19 @@ has_snapshot s index = nat_lt index (length s.snapshots)
 -- what it tells
 abbrev pub snapshot_at : Standing → ℕ → List ℕ
 snapshot_at s index = elim (slice_get s.snapshots index) [ None ↦ [] | Some content ↦ content ]
+
+-- the one of this number: none where there is none, or it was forgotten
+abbrev pub numbered : {A : Type 0} → List (Option A) → (index : ℕ) → Option A
+numbered replays index = elim (slice_get replays index) [ None ↦ None | Some one ↦ one ]
+
+-- there is a replay of this number
+abbrev pub has_replay : Standing → ℕ → Bool
+has_replay s index = is_some (numbered s.replays index)
+
+-- how many bytes it goes over
+abbrev pub replay_size : Standing → ℕ → ℕ
+replay_size s index =
+    elim (numbered s.replays index) [ None ↦ 0 | Some r ↦ length r.content ]
 
 -- each range, a place and a length, begins at or behind the end of the one before; the first at or
 -- behind this place
@@ -204,8 +262,8 @@ unless_appending s =
     if s.has_writer then (if s.recovering then Some NotAppending else None) else Some Closed
 
 -- the reply, where the session has not what the step needs: a writer, one in recovery, one whose
--- recovery has ended, a name that it was given, or a snapshot; or where one call can't take the
--- ranges
+-- recovery has ended, a name that it was given, a snapshot, or a replay; or where one call can't
+-- take the ranges
 abbrev pub turned_away : Step → Standing → Option Reply
 turned_away (WaitSync name) s = if has_name s name then None else Some NoSuch
 turned_away (Truncate n) s =
@@ -222,6 +280,9 @@ turned_away Snapshot s = unless_appending s
 turned_away TrySnapshot s = unless_appending s
 turned_away Seal s = unless_appending s
 turned_away (Snap index offset len) s = if has_snapshot s index then None else Some NoSuch
+turned_away (Ensure index count) s = if has_replay s index then None else Some NoSuch
+turned_away (Take index count) s = if has_replay s index then None else Some NoSuch
+turned_away (Seek index offset) s = if has_replay s index then None else Some NoSuch
 turned_away step s = if s.has_writer then None else Some Closed
 
 -- ---- steps that are accepted
@@ -253,6 +314,29 @@ abbrev pub NumbersSome : List ℕ → (ranges : List (ℕ × ℕ)) → List ℕ 
 NumbersSome content ranges numbers =
     RiseBelow 0 (length ranges) numbers
     × (EndWithin (length content) ranges ⊎ (numbers ≡ range_with_len 0 (length ranges)))
+
+-- a replay stands where it stood, with no fewer bytes at hand
+pub record HasFetched (was now : Replayed) : Type 0 where
+  pub stays : now ≡ record was { hand = now.hand }
+  pub more : was.hand ≤ now.hand
+  pub within : now.position + now.hand ≤ length now.content
+
+-- whether so many are: where not, all are that are left. Not more are fetched than are asked for,
+-- but for a batch
+pub record HasEnsured (was : Replayed) (count : ℕ) (answer : Bool) (now : Replayed) :
+    Type 0 where
+  pub fetched : HasFetched was now
+  pub exact : answer ≡ nat_le (was.position + count) (length was.content)
+  pub enough : answer ≡ true → count ≤ now.hand
+  pub rest : answer ≡ false → now.position + now.hand ≡ length now.content
+  pub most : now.hand ≤ max was.hand (count + was.batch)
+
+-- a replay without the first so many of the bytes at hand, or without all
+abbrev pub passed : (count : ℕ) → Replayed → Replayed
+passed count r = record r {
+  position = r.position + min count r.hand;
+  hand = r.hand - count;
+}
 
 -- what starting a sync answers: where all is written, the sync that is awaited, if one is, and else
 -- a new one, whose name is its number
@@ -313,6 +397,19 @@ Accepts P (Snap index offset len) (Bytes bytes) from to s behind =
     Slices (snapshot_at s index) offset len bytes.items × (behind ≡ s)
 Accepts P Seal (Sealed index sync) from to s behind =
     (index ≡ length s.snapshots) × (sync ≡ sealed_by s from) × (behind ≡ left_by_seal P sync s)
+Accepts P (Replay buffer_size) (Replaying index) from to s behind =
+    (index ≡ length s.replays)
+    × (behind ≡ replaying P (non_zero_usize_get buffer_size) (rewritten P s))
+Accepts P (Ensure index count) (Answer answer) from to s behind =
+    (was : Replayed) × (now : Replayed) × (numbered s.replays index ≡ Some was)
+    × HasEnsured was count answer now × (behind ≡ moved index now s)
+Accepts P (Take index count) (Bytes bytes) from to s behind =
+    (r : Replayed) × (numbered s.replays index ≡ Some r)
+    × (bytes.items ≡ take (min count r.hand) (drop r.position r.content))
+    × (behind ≡ moved index (passed count r) s)
+Accepts P (Seek index offset) Done from to s behind =
+    (r : Replayed) × (numbered s.replays index ≡ Some r) × (offset ≤ length r.content)
+    × (behind ≡ moved index (record r { position = offset; hand = 0 }) s)
 Accepts P step reply from to s behind = ⊥
 
 -- ---- steps that are refused
@@ -341,6 +438,10 @@ faults TrySnapshot = OutOfMemory ∷ []
 faults (Snap index offset len) =
     ReadFailed ∷ BlobInsufficientLength ∷ OffsetOverflow ∷ OutOfMemory ∷ []
 faults Seal = WriteFailed ∷ SyncFailed ∷ OutOfMemory ∷ []
+faults (Replay buffer_size) = WriteFailed ∷ SyncFailed ∷ OutOfMemory ∷ []
+faults (Ensure index count) = ReadFailed ∷ OutOfMemory ∷ []
+faults (Take index count) = OutOfMemory ∷ []
+faults (Seek index offset) = BlobInsufficientLength ∷ []
 
 -- a place, or the blob that the new size needs in pages of P bytes, passes the greatest number; of
 -- ranges the first that can't be read decides
@@ -353,7 +454,8 @@ Overflows P (Snap index offset len) s = 2 ^ 64 ≤ offset + len
 Overflows P (ReadRanges ranges) s = RangesGo (length s.content) ranges.items (Err OffsetOverflow)
 Overflows P step s = ⊥
 
--- a range passes the end, and no greatest number; or some bytes are asked for where there is none
+-- a range or a place passes the end, and no greatest number; or some bytes are asked for where there
+-- is none
 abbrev pub PassesEnd : Step → Standing → Type 0
 PassesEnd (Read offset len) s = (offset + len < 2 ^ 64) × (length s.content < offset + len)
 PassesEnd (Snap index offset len) s =
@@ -361,6 +463,7 @@ PassesEnd (Snap index offset len) s =
 PassesEnd (ReadUpTo offset len) s = (len ≢ 0) × (length s.content ≤ offset)
 PassesEnd (ReadRanges ranges) s =
     RangesGo (length s.content) ranges.items (Err BlobInsufficientLength)
+PassesEnd (Seek index offset) s = replay_size s index < offset
 PassesEnd step s = ⊥
 
 -- a step that may ask for memory
@@ -382,6 +485,7 @@ waits_for P (WaitSync name) s = Some name
 waits_for P (Truncate n) s = s.awaited
 waits_for P Snapshot s = if nat_lt s.buffered P then None else s.awaited
 waits_for P Seal s = s.awaited
+waits_for P (Replay buffer_size) s = if s.written then None else s.awaited
 waits_for P step s = None
 
 -- it had failed
@@ -409,8 +513,8 @@ content_after (TryAppend bytes) content = content ++ bytes.items
 content_after (Truncate n) content = take n content
 content_after step content = content
 
--- there was no memory for a name or a snapshot that the session would have been given: nothing was
--- done
+-- there was no memory for a name, a snapshot or a replay that the session would have been given:
+-- nothing was done
 abbrev pub HadNoRoom : Error → Disk → Disk → Standing → Standing → Type 0
 HadNoRoom e from to s behind = (e ≡ OutOfMemory) × (to ≡ from) × (behind ≡ s)
 
@@ -425,6 +529,11 @@ Refuses Wait e from to s behind = behind ≡ ended s.content s
 Refuses Snapshot e from to s behind =
     (behind ≡ ended s.content s) ⊎ HadNoRoom e from to s behind
 Refuses Seal e from to s behind = (behind ≡ ended s.content s) ⊎ HadNoRoom e from to s behind
+Refuses (Replay buffer_size) e from to s behind =
+    (behind ≡ ended s.content s) ⊎ HadNoRoom e from to s behind
+Refuses (Ensure index count) e from to s behind =
+    (was : Replayed) × (now : Replayed) × (numbered s.replays index ≡ Some was)
+    × HasFetched was now × (behind ≡ moved index now s)
 Refuses (Truncate n) e from to s behind = behind ≡ ended (take n s.content) s
 Refuses step e from to s behind = behind ≡ s
 
@@ -481,6 +590,10 @@ touch P (Truncate n) s = Changes (if nat_lt n (length s.content) then 8 else 2)
 touch P Snapshot s = if nat_lt s.buffered P then Leaves else Changes 2
 touch P TrySnapshot s = Leaves
 touch P (Snap index offset len) s = Looks
+touch P (Replay buffer_size) s = if s.written then Leaves else Changes 2
+touch P (Ensure index count) s = Looks
+touch P (Take index count) s = Leaves
+touch P (Seek index offset) s = Leaves
 touch P Seal s = if s.written then wait_touch s.awaited else Changes 3
 
 -- the last of some moments
@@ -531,12 +644,14 @@ Ran sum P (step ∷ steps) [] from moments s behind = ⊥
 
 -- ---- what a session has
 
--- as contracts see it: the syncs by their names, and the snapshots, the oldest first
+-- as contracts see it: the syncs by their names, and the snapshots and the replays, the oldest
+-- first; none in the place of a replay that was forgotten
 pub record SessionState : Type 0 where
   pub writer : Option WriterState
   pub recovering : Bool
   pub names : List ℕ
   pub snapshots : List Tail
+  pub replays : List (Option ReplayState)
 
 -- the one of two writers by which a session takes its steps
 abbrev pub writer_in : (recovering : Bool) → Option WriterState → Option WriterState
@@ -571,9 +686,18 @@ abbrev pub NamesFit : List ℕ → (covers : List (ℕ × ℕ)) → Type 0
 NamesFit names covers =
     (name : ℕ) → list_any (λ n. nat_eq n name) names ≡ list_any (λ c. nat_eq c.0 name) covers
 
+-- a replay as a standing tells it, over a disk of which this is readable
+abbrev pub replayed : (readable : List ℕ) → ReplayState → Replayed
+replayed readable r = record {
+  content = told r.tail readable;
+  position = r.position;
+  hand = length r.hand;
+  batch = r.batch * r.tail.page_size;
+}
+
 -- what a session stands for over this disk, in pages of P bytes: every image keeps the floor, and
 -- would keep what a started sync covers once that completed; and chance aside it has as its text a
--- prefix of one of the two contents. Each snapshot tells what it told.
+-- prefix of one of the two contents. Each snapshot and each replay tells what it told.
 pub record StandsFor (sum : List ℕ → ℕ) (P : ℕ) (session : SessionState) (s : Standing)
     (d : Disk) : Type 0 where
   pub fits : WriterFits P session.writer s d
@@ -585,16 +709,17 @@ pub record StandsFor (sum : List ℕ → ℕ) (P : ℕ) (session : SessionState)
   pub covered : AllCover sum P s.content s.covers d
   pub only : AllOnly sum P s.content s.otherwise d
   pub snapshots : s.snapshots ≡ map (λ t. told t d.readable) session.snapshots
+  pub replays : s.replays ≡ map (option_map (replayed d.readable)) session.replays
 
 -- the writer, if there is one, is sound over its blob
 abbrev pub HasSoundWriter : (List ℕ → ℕ) → Option WriterState → Disk → Type 0
 HasSoundWriter sum None d = Unit {0}
 HasSoundWriter sum (Some w) d = IsSound sum w d
 
--- the snapshot's full pages are among those of the writer, if there is one
+-- the full pages of a snapshot, or a replay, are among those of the writer, if there is one
 abbrev pub IsBelow : Option WriterState → Tail → Type 0
 IsBelow None t = Unit {0}
-IsBelow (Some w) t = t.full_pages ≤ w.full_pages
+IsBelow (Some w) t = (t.page_size ≡ w.page_size) × (t.full_pages ≤ w.full_pages)
 
 -- so the writer never writes them again; they are in the blob, and full
 pub record IsSnapshot (sum : List ℕ → ℕ) (writer : Option WriterState) (t : Tail)
@@ -603,13 +728,21 @@ pub record IsSnapshot (sum : List ℕ → ℕ) (writer : Option WriterState) (t 
   pub full : HasFullPages sum t d
   pub below : IsBelow writer t
 
+-- a replay that wasn't forgotten gives what it tells, in pages that the writer never writes again
+abbrev pub IsReplayIn : (List ℕ → ℕ) → Option WriterState → Disk → Option ReplayState → Type 0
+IsReplayIn sum writer d None = Unit {0}
+IsReplayIn sum writer d (Some r) =
+    IsReplayOf sum r (told r.tail d.readable) d × IsBelow writer r.tail
+
 -- so a session may take steps: and the syncs that it was given may be waited for, also where the
--- writer is gone, and its snapshots read; a writer in recovery, which may cut its blob, has none
+-- writer is gone, its snapshots read, and its replays go on; a writer in recovery, which may cut its
+-- blob, has no snapshot
 pub record IsReady (sum : List ℕ → ℕ) (session : SessionState) (d : Disk) : Type 0 where
   pub writer : HasSoundWriter sum session.writer d
   pub starts : (session.names ≡ []) ⊎ StartsStand d
   pub snapshots : All (λ t. IsSnapshot sum session.writer t d) session.snapshots
   pub begun : session.recovering ≡ true → session.snapshots ≡ []
+  pub replays : All (IsReplayIn sum session.writer d) session.replays
 
 -- the cache fits the writer, if there is one: it gave its id, and what it holds of its pages is
 -- theirs

@@ -1,5 +1,6 @@
 // The steps of a run, and their replies.
 use disk::{Error, StartedSync};
+use std::num::NonZeroUsize;
 
 /// A step of a run: one call of the layer.
 #[derive(Debug, PartialEq, Eq, Drop)]
@@ -35,6 +36,7 @@ pub enum Step {
     /// Ends the recovery: from then on the writer appends.
     Begin,
     /// Cuts the blob to its first so many logical bytes, durably, where the recovery hasn't ended.
+    /// The replays that were begun before are forgotten, also where the cut is refused.
     Truncate(u64),
     /// Makes a snapshot of all that was appended, where the recovery has ended. Full pages that are
     /// buffered are written first, without a sync: two device calls at most.
@@ -43,6 +45,15 @@ pub enum Step {
     TrySnapshot,
     /// Reads of the snapshot of this number, from this logical place, so many bytes.
     Snap(usize, u64, usize),
+    /// Begins a replay of all that was appended, with a buffer of so many bytes. What isn't written
+    /// is written first, without a sync: two device calls at most.
+    Replay(NonZeroUsize),
+    /// Asks the replay of this number to have so many bytes at hand.
+    Ensure(usize, usize),
+    /// Takes so many of the bytes that the replay of this number has at hand, or all of them.
+    Take(usize, usize),
+    /// Moves the replay of this number to this logical place.
+    Seek(usize, u64),
     /// Ends the writer by a snapshot and a started sync, where the recovery has ended: three device
     /// calls at most.
     Seal,
@@ -78,10 +89,13 @@ pub enum Reply {
     NotRecovering,
     /// The ranges overlap, aren't in order, or are too long together.
     BadRanges,
-    /// The session wasn't given a sync of this name, or a snapshot of this number.
+    /// The session wasn't given a sync of this name, or a snapshot or a replay of this number; or a
+    /// truncate has forgotten the replay.
     NoSuch,
     /// The number of the snapshot that was made.
     Taken(usize),
+    /// The number of the replay that was begun.
+    Replaying(usize),
     /// The number of the snapshot that the writer left, and what starting a sync answered.
     Sealed(usize, StartedSync),
     /// The step needs a writer whose recovery has ended, and it hasn't.
