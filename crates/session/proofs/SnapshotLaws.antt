@@ -529,7 +529,7 @@ seal_takes sum was now cache behind old new reply ready fits writer stay did = b
 -- ---- reads of snapshots
 
 -- a session stands for the same where only the log changed
-looked_stands : (sum : List ℕ → ℕ) (P : ℕ) (was : SessionState) (s : Standing) (d e : Disk) → SameButLog d e → StandsApart sum P was s d → StandsApart sum P was s e
+pub looked_stands : (sum : List ℕ → ℕ) (P : ℕ) (was : SessionState) (s : Standing) (d e : Disk) → SameButLog d e → StandsApart sum P was s d → StandsApart sum P was s e
 looked_stands sum P was s d e alike stands =
     let base : e.base ≡ d.base = ap (λ (x : Disk). x.base) alike in
     let since : e.since ≡ d.since = ap (λ (x : Disk). x.since) alike in
