@@ -1,17 +1,15 @@
 -- What the steps do that begin replays, and go on with them.
-use Rattle.std.proofs.Common.{◌≡◌, ◌⊎◌, ℕ, zero, suc, ◌+◌, ◌-◌, ◌*◌, ◌<◌, ◌≤◌, ◌%◌, List, [], ◌∷◌, ◌++◌, length, map, take, drop, min, max, refl, sym, ap, ◌∙◌, subst, arith, append-nil, inl, inr, Bool, true, false, Ok, Err, lit<, lit≤, length-take}
+use Rattle.std.proofs.Common.{◌≡◌, ◌⊎◌, ℕ, zero, suc, ◌+◌, ◌-◌, ◌*◌, ◌<◌, ◌≤◌, ◌%◌, List, [], ◌∷◌, ◌++◌, length, map, take, drop, min, refl, sym, ap, ◌∙◌, subst, arith, append-nil, inl, inr, Bool, true, false, Ok, Err, lit<, length-take}
 use Rattle.std.specs.Prelude.{All, Option, Some, None, nat_le, nat_eq, if◌then◌else◌, option_map, is_some, get_or, ⊤}
 use Rattle.std.specs.declared.num.NonZeroUsize.{NonZeroUsize}
 use Rattle.std.specs.Int.NonZero.{non_zero_usize_get}
-use Rattle.std.specs.List.{Contains, slice_get}
+use Rattle.std.specs.List.{Contains}
 use Rattle.std.proofs.Math.ListN.{set}
-use Rattle.std.proofs.Math.Bool.{or-false}
 use Rattle.std.proofs.lemmas.Bool.{false≢true}
-use Rattle.std.proofs.lemmas.Bool.Decides.{nat_tests}
 use Rattle.std.proofs.lemmas.List.{length-map, map-set, length-drop}
 use Rattle.std.proofs.lemmas.List.Elements.{All-append, All-set}
 use Rattle.std.proofs.lemmas.List.{take-take}
-use Rattle.disk.specs.Disk.{Disk, Life, after, coverings}
+use Rattle.disk.specs.Disk.{Disk, Life, after}
 use Rattle.disk.specs.declared.error.Error.{Error}
 use Rattle.disk.specs.declared.error.Error.TheVariants.{ReadFailed, WriteFailed, ResizeFailed, SyncFailed, InvalidChecksum, BlobInsufficientLength, OffsetOverflow, OutOfMemory, IdsExhausted}
 use Rattle.crash.specs.Kept.{AllKeep, AllOnly, Each, Moments, Through}
@@ -24,7 +22,7 @@ use Rattle.crash.specs.Sound.{IsSound, content as content_of}
 use Rattle.cache.specs.CacheState.{CacheState}
 use Rattle.paged_read.specs.Tail.{Tail, told, HasFullPages, size_of as size_of_tail}
 use Rattle.paged_read.specs.ReadAhead.{batch_of}
-use Rattle.paged_read.specs.Replay.{ReplayState, IsReplayOf, CanReplay, Ensures, Fills, FillFault, Seeks, advanced, end_of, new_replay, ReplaysOn, ReplaysThrough}
+use Rattle.paged_read.specs.Replay.{ReplayState, IsReplayOf, Fills, FillFault, Seeks, advanced, new_replay, ReplaysOn, ReplaysThrough}
 use Rattle.paged_read.proofs.Leaving.{length-told}
 use Rattle.paged_read.proofs.Outliving.{look_leaves_reads, look_leaves_tails, look_leaves_writers}
 use Rattle.paged_read.proofs.OutlivingReplays.{look_leaves_replays}
@@ -35,12 +33,12 @@ use Rattle.paged.specs.Replays.{BeginsAtOnce, replay_calls}
 use Rattle.session.specs.declared.steps.Step.{Step}
 use Rattle.session.specs.declared.steps.Step.TheVariants.{Replay, Ensure, Take, Seek}
 use Rattle.session.specs.declared.steps.Reply.{Reply}
-use Rattle.session.specs.declared.steps.Reply.TheVariants.{Done, Answer, Bytes, Fault, Closed, NoSuch, Replaying}
-use Rattle.session.specs.Run.{AllCover, Answers, begun, CacheFits, content_after, Did, ended, raised, WriterFits, faults, FitsWriter, Foretells, HadFailed, HasCause, HasEnsured, HasFetched, has_replay, HasSoundWriter, IsBelow, IsReady, IsReplayIn, last, moved, numbered, passed, pending_in, PassesEnd, Replayed, replayed, replaying, replay_size, rewritten, SessionState, Standing, StandsFor, Takes, touch, Touches, turned_away, WriterStandsFor, Overflows}
-use Rattle.session.specs.Run.Touch.{Leaves, Looks, Changes}
+use Rattle.session.specs.declared.steps.Reply.TheVariants.{Done, Answer, Bytes, Fault, NoSuch, Replaying}
+use Rattle.session.specs.Run.{AllCover, Answers, begun, CacheFits, content_after, Did, ended, raised, WriterFits, faults, FitsWriter, Foretells, HasCause, HasEnsured, HasFetched, has_replay, IsBelow, IsReady, IsReplayIn, last, moved, numbered, passed, pending_in, Replayed, replayed, replaying, replay_size, rewritten, SessionState, Standing, StandsFor, Takes, touch, Touches, turned_away, WriterStandsFor}
+use Rattle.session.specs.Run.Touch.{Leaves, Changes}
 use Rattle.session.specs.Calls.{AtReplay, CanGoOn, EnsuresOf, KeepsAllButReplays, KeepsButReplays, LeavesTaken, ReplaySays, SeeksOf, Steps, TakesOf, TakesReplay}
 use Rattle.session.proofs.Apart.{AlwaysApart, IsReadyApart, ready_apart, StandsApart, stands_apart, SteppedApart, StepsApart}
-use Rattle.session.proofs.Below.{AlwaysLeaves, AlwaysMakes, framed, framed_by, framed_same, HasReplays, leaves_all, Left, LeftAll, LeftReplay, left_by, of_each, map_both, maps_alike, sound_in}
+use Rattle.session.proofs.Below.{AlwaysLeaves, AlwaysMakes, framed, framed_by, framed_same, HasReplays, leaves_all, LeftAll, LeftReplay, left_by, of_each, map_both, maps_alike, sound_in}
 use Rattle.session.proofs.Numbered.{AtOne, numbered-map, numbered_there, put_back}
 use Rattle.session.proofs.StepLaws.{begun_covers, begun_keeps, answers_away, answers_here, closed_takes, each_end, few_calls, had_failed_as, had_without_room, held, held_same, last_is, leaves, left_buffered, no_moments, not_turned_away, only_there, owed_starts, raised_within, same_halves, stands_ended, stands_now, start_dirty, start_work, stepped, alike_stays_started, turned_closed, turned_here, unasked}
 use Rattle.session.proofs.StartLaws.{goes_through, refused_through}
@@ -314,7 +312,7 @@ record GoesOn (sum : List ℕ → ℕ) (step : Step) (index : ℕ) (was : Sessio
   foretells : (P : ℕ) (before : Standing) → numbered before.replays index ≡ Some (replayed old.present.readable r) → Foretells P step reply before
 
 module _ (sum : List ℕ → ℕ) (step : Step) (index : ℕ) (was : SessionState) (cache : CacheState) (old new : Life) (ready : IsReady sum was old.present) (fits : CacheFits was cache old.present) (looked : Looked old new) (seen : Moments (SameButLog old.present) old new)
-  (away : (s : Standing) → turned_away step s ≡ (if has_replay s index then None else Some NoSuch)) (stays : (content : List ℕ) → content_after step content ≡ content) (begins : (s : Standing) → begun step s ≡ s) where
+    (away : (s : Standing) → turned_away step s ≡ (if has_replay s index then None else Some NoSuch)) (stays : (content : List ℕ) → content_after step content ≡ content) (begins : (s : Standing) → begun step s ≡ s) where
   -- the disk is the same but for its log
   readable : new.present.readable ≡ old.present.readable
   readable = ap (λ (x : Disk). x.readable) looked.same
@@ -333,9 +331,11 @@ module _ (sum : List ℕ → ℕ) (step : Step) (index : ℕ) (was : SessionStat
             (stands.kept, each_then (SameButLog old.present) (AllKeep sum P before.content before.floor) seen.moments (λ d alike. (at_each d alike).kept) seen.each);
         covered = subst (λ (s : Standing). Each (AllCover sum P before.content s.covers) (old.present ∷ seen.moments)) (sym (begins before))
             (stands.covered, each_then (SameButLog old.present) (AllCover sum P before.content before.covers) seen.moments (λ d alike. (at_each d alike).covered) seen.each);
-        only = subst (λ (l : List ℕ). Each (AllOnly sum P before.content (if before.has_writer then l else before.otherwise)) (old.present ∷ seen.moments)) (sym (stays before.content))
-            (only_there sum P was.writer before old.present old.present stands.fits stands.only, each_then (SameButLog old.present) (AllOnly sum P before.content (if before.has_writer then before.content else before.otherwise)) seen.moments
-            (λ d alike. only_there sum P was.writer before old.present d stands.fits (at_each d alike).only) seen.each);
+        only = subst (λ (l : List ℕ). Each (AllOnly sum P before.content (if before.has_writer then l else before.otherwise)) (old.present ∷ seen.moments)) (sym (stays before.content)) (
+          only_there sum P was.writer before old.present old.present stands.fits stands.only,
+          each_then (SameButLog old.present) (AllOnly sum P before.content (if before.has_writer then before.content else before.otherwise)) seen.moments
+              (λ d alike. only_there sum P was.writer before old.present d stands.fits (at_each d alike).only) seen.each,
+        );
         within = within;
       }
 
@@ -414,7 +414,7 @@ module _ (sum : List ℕ → ℕ) (step : Step) (index : ℕ) (was : SessionStat
           let some : turned_away step before ≡ None = away before ∙ ap (λ (o : Option Replayed). if is_some o then None else Some NoSuch) here in
           let behind = moved index (replayed old.present.readable q) before in
           let after_it = moved_stands sum P was (set was.replays index (Some q)) index (replayed old.present.readable q) before new.present (looked_stands sum P was before old.present new.present looked.same (stands_apart sum P was before old.present all)) in
-              let end : new.present ≡ last old.present seen.moments = ap (λ (life : Life). life.present) seen.goes ∙ last_is old seen.moments in
+          let end : new.present ≡ last old.present seen.moments = ap (λ (life : Life). life.present) seen.goes ∙ last_is old seen.moments in
           subst (λ (l : List (List ℕ)). SteppedApart sum P step reply next old new before l behind.replays) (sym (append-nil before.snapshots))
           (record {
             moments = seen.moments;

@@ -1,4 +1,4 @@
-use Rattle.std.proofs.Common.{arith, length}
+use Rattle.std.proofs.Common.{arith}
 use Rattle.session.proofs.Numbered.{forgot_more}
 use Rattle.session.proofs.replays.forget.Goals as goal
 

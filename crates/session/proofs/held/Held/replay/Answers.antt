@@ -1,8 +1,8 @@
-use Rattle.std.proofs.Common.{rules, arith, ◌≡◌, Some, None, refl, sym, subst}
+use Rattle.std.proofs.Common.{rules, ◌≡◌, Some, None, refl, sym, subst}
 use Rattle.std.specs.Prelude.{Option}
 use Rattle.std.specs.Int.NonZero.{non_zero_usize_get}
 use Rattle.crash.specs.WriterState.{WriterState}
-use Rattle.session.specs.declared.steps.Reply.TheVariants.{Replaying, Fault}
+use Rattle.session.specs.declared.steps.Reply.TheVariants.{Replaying}
 use Rattle.session.specs.Calls.{TakesReplay}
 use Rattle.session.proofs.Below.{can_in, leaves_on, leaves_gone}
 use Rattle.session.proofs.held.Held.replay.Goals as goal
