@@ -3,7 +3,7 @@ use Rattle.std.proofs.Common.{◌≡◌, ◌⊎◌, inl, inr, ℕ, zero, suc, �
 use Rattle.std.proofs.lemmas.Bool.{cases_lt, le-leb, lt-leb}
 use Rattle.std.proofs.lemmas.Nat.{div_below, mod_below, div-add-mod', le-div}
 use Rattle.std.proofs.lemmas.List.{drop_all, drop-drop, drop-take, take-take, take_all, take-append-le, drop-append-le, length-take-le}
-use Rattle.std.proofs.Math.Nat.{mul-div_cancel, mul-le-mul_right, mul-mod_left, suc-mul}
+use Rattle.std.proofs.Math.Nat.{le-div_iff_mul-le, mul-div_cancel, mul-le-mul_right, mul-mod_left, suc-mul}
 use Rattle.std.proofs.Math.Seq.{take-add}
 use Rattle.std.specs.Prelude.{IsOkUnless, OnErr, OnOk}
 use Rattle.disk.specs.Disk.{Disk, Life}
@@ -19,7 +19,7 @@ use Rattle.crash.proofs.Pages.{drop-stored, fewer_fit, length-stored, stored_sam
 use Rattle.crash.proofs.Texts.{AreFull_page}
 use Rattle.paged_read.specs.Hand.{payloads}
 use Rattle.paged_read.specs.ReadAhead.{AddsBatch, AreFullPages, AreNext, behind, Follow, IsBatch, IsQueue, ReadsBatch}
-use Rattle.paged_read.specs.Replay.{advanced, CanReplay, end_of, Ensures, FillFault, Fills, FillsOnce, HasFilled, IsAhead, IsReplay, IsReplayOf, IsToppedUp, new_replay, ReplaysOn, ReplaysThrough, ReplayState}
+use Rattle.paged_read.specs.Replay.{IsHad, advanced, CanReplay, end_of, Ensures, FillFault, Fills, FillsOnce, HasFilled, IsAhead, IsReplay, IsReplayOf, IsToppedUp, new_replay, ReplaysOn, ReplaysThrough, ReplayState}
 use Rattle.paged_read.specs.Snapshots.{IsTailOf}
 use Rattle.paged_read.specs.Tail.{HasFullPages, size_of, Tail, told}
 use Rattle.paged_read.specs.declared.ahead.Ahead.{Ahead}
@@ -158,6 +158,10 @@ module _ (sum : List ℕ → ℕ) (r : ReplayState) (is : IsReplay r) (more : en
   page_within =
       let less : end_of r / r.tail.page_size < r.tail.full_pages + 1 = div_below (end_of r) r.tail.page_size (r.tail.full_pages + 1) some (omega (arith, more, is.short)) in
       omega (arith, less)
+
+  -- where it begins behind the full pages it is of none
+  pub page_behind : r.tail.full_pages * r.tail.page_size ≤ end_of r → r.tail.full_pages ≤ end_of r / r.tail.page_size
+  page_behind behind = (le-div_iff_mul-le {x = r.tail.full_pages} some).1 behind
 
   -- the first page is passed over in part only where nothing is at hand
   pub skips_none : 0 < length r.hand → end_of r % r.tail.page_size ≡ 0
@@ -379,6 +383,7 @@ pub record Reached (sum : List ℕ → ℕ) (r : ReplayState) (count : ℕ) (now
   pub few : length now.hand ≤ max (length r.hand) (count + r.batch * r.tail.page_size)
   pub filled : HasFilled sum r now old.present
   pub ahead : IsAhead r now old new
+  pub idle : IsHad r count → new ≡ old
   pub can : CanReplay now new.present
   pub looked : Looked old new
 
@@ -389,14 +394,24 @@ reach_start sum r count old can = record {
   few = omega arith;
   filled = λ page above below. absurd (omega (arith, above, below));
   ahead = inl (refl, refl);
+  idle = λ had. refl;
   can = can;
   looked = looked_start old;
 }
 
+-- a fill where no device is needed
+pub reach_idle : (sum : List ℕ → ℕ) (r : ReplayState) (count : ℕ) (mid : ReplayState) (old between new : Life) → Reached sum r count mid old between → length mid.hand < count → (mid.tail.full_pages * mid.tail.page_size ≤ end_of mid → new ≡ between) → IsHad r count → new ≡ old
+reach_idle sum r count mid old between new so_far less idle had = elim had [
+  | inl enough ↦ absurd (omega (arith, enough, less, so_far.fills.hand))
+  | inr rest ↦
+      let behind : r.tail.full_pages * r.tail.page_size ≤ end_of mid = omega (arith, rest, so_far.fills.position, so_far.fills.hand) in
+      idle (subst (λ (u : Tail). u.full_pages * u.page_size ≤ end_of mid) (sym so_far.fills.tail) behind) ∙ so_far.idle (inr rest)
+]
+
 -- a fill more
 pub reach_more : (sum : List ℕ → ℕ) (r : ReplayState) (count : ℕ) (mid now : ReplayState) (old between new : Life) → Reached sum r count mid old between → IsReplay mid → length mid.hand < count
-    → FillsOnce sum mid now between new (Ok (tt {0})) → CanReplay now new.present → Looked between new → Reached sum r count now old new
-reach_more sum r count mid now old between new so_far is less filled can looked =
+    → FillsOnce sum mid now between new (Ok (tt {0})) → (mid.tail.full_pages * mid.tail.page_size ≤ end_of mid → new ≡ between) → CanReplay now new.present → Looked between new → Reached sum r count now old new
+reach_more sum r count mid now old between new so_far is less filled idle can looked =
     let t = r.tail in
     let P = t.page_size in
     let fills = filled.0 in
@@ -419,6 +434,7 @@ reach_more sum r count mid now old between new so_far is less filled can looked 
         | inr behind ↦ next page (omega (arith, behind)) below
       ];
       ahead = goes_ahead filled.5 so_far.ahead;
+      idle = λ had. reach_idle sum r count mid old between new so_far less idle had;
       can = can;
       looked = looked_joins old between new so_far.looked looked;
     }

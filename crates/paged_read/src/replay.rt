@@ -9,7 +9,7 @@ ghost use Rattle.disk.specs.Disk.{Disk};
 ghost use Rattle.paged_read.specs.Snapshots.{IsTailOf, LeavesAllReads, LeavesAllTails};
 ghost use Rattle.paged_read.specs.Snapshots.{LeavesWriters};
 ghost use Rattle.paged_read.specs.Replay.{advanced, CanReplay, Ensures, Gives, IsReplayOf};
-ghost use Rattle.paged_read.specs.Replay.{new_replay};
+ghost use Rattle.paged_read.specs.Replay.{IsHad, new_replay};
 ghost use Rattle.paged_read.specs.Replay.{end_of, FillsOnce, LeavesAllReplays, ReplaysOn};
 ghost use Rattle.paged_read.specs.Replay.{ReplaysThrough, Seeks};
 ghost use Rattle.paged_read.specs.Tail.{HasFullPages, size_of};
@@ -200,7 +200,8 @@ impl<B: Blob, H: Sum> Replay<B, H> {
     /// Reads on until so many bytes are at hand, and answers whether they are: where not, all is at
     /// hand that is left. Each batch is read ahead, in one read of the device, before it is needed,
     /// or on demand where that failed or the replay went elsewhere; what is at hand was found full,
-    /// page by page.
+    /// page by page. Where they are at hand already, or all that is left is behind the full pages, the
+    /// device isn't asked.
     ///
     /// `ReadFailed` where a read failed that was needed, `InvalidChecksum` where a page isn't full,
     /// which it always is in a sound blob, `OutOfMemory`. The replay stands where it stood, with no
@@ -209,6 +210,7 @@ impl<B: Blob, H: Sum> Replay<B, H> {
         requires can { CanReplay self.old (B.life blob.old).present }
         ensures fetches { let old = B.life blob.old in let new = B.life blob.new in
             Ensures H.sum_of self.old count self.new old new result }
+        ensures idle { IsHad self.old count → B.life blob.new ≡ B.life blob.old }
         ensures replays { let old = B.life blob.old in let new = B.life blob.new in
             ReplaysThrough self.old self.new old new }
         ensures can { CanReplay self.new (B.life blob.new).present }
@@ -246,6 +248,8 @@ impl<B: Blob, H: Sum> Replay<B, H> {
         requires more { end_of self.old < size_of self.old.tail }
         ensures fills { let old = B.life blob.old in let new = B.life blob.new in
             FillsOnce H.sum_of self.old self.new old new result }
+        ensures idle { self.old.tail.full_pages * self.old.tail.page_size ≤ end_of self.old
+            → B.life blob.new ≡ B.life blob.old }
         ensures can { CanReplay self.new (B.life blob.new).present }
         ensures looked { Looked (B.life blob.old) (B.life blob.new) }
     {

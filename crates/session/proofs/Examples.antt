@@ -1,5 +1,5 @@
 -- Examples of what a run says.
-use Rattle.std.proofs.Common.{◌≡◌, ◌⊎◌, ◌+◌, ◌<◌, ℕ, zero, suc, Vec, List, [], ◌∷◌, ◌++◌, length, length-append, take, drop, refl, sym, ap, subst, ◌∙◌, inl, inr, arith, true, false}
+use Rattle.std.proofs.Common.{lit<, ◌≡◌, ◌⊎◌, ◌+◌, ◌<◌, ℕ, zero, suc, Vec, List, [], ◌∷◌, ◌++◌, length, length-append, take, drop, refl, sym, ap, subst, ◌∙◌, inl, inr, arith, true, false}
 use Rattle.std.specs.Prelude.{Some, None, if◌then◌else◌}
 use Rattle.std.specs.List.{Contains, flat_map}
 use Rattle.std.specs.declared.alloc.Global.{Global}
@@ -17,10 +17,11 @@ use Rattle.crash.proofs.CutLaws.{rest_only}
 use Rattle.crash.proofs.Disks.{base_is_image, base_is_whole}
 use Rattle.crash.proofs.Promise.{whole_is_chance_free}
 use Rattle.crash.proofs.Examples.{durable, six, all_keep}
+use Rattle.std.specs.declared.num.NonZeroUsize.{NonZeroUsize}
 use Rattle.session.specs.declared.steps.Step.{Step}
 use Rattle.session.specs.declared.steps.Step.TheVariants.{Append, Owned, TryAppend, Sync, StartSync, Wait, WaitSync, Needs, Size, Read, ReadUpTo, TryRead, ReadRanges, TryReadRanges, Begin, Truncate, Snapshot, TrySnapshot, Snap, Seal, Replay, Ensure, Take, Seek}
 use Rattle.session.specs.declared.steps.Reply.TheVariants.{At, Nothing, Done, Length, Bytes, Fault, Closed, NotRecovering, NoSuch, Served, Missed, BadRanges, Taken, Sealed, NotAppending}
-use Rattle.session.specs.Run.{Standing, buffered_after, awaited_after, appended, synced, starting, truncated, noted, flushed, left_by_seal, sealed_by, snapshot_at, waited, begun, needs_sync, raised, started_by, ended, fit_together, turned_away, Accepts, faults, HasCause, Allocates, waits_for, Refuses, Takes, Foretells, RiseBelow, Answers, touch, Ran}
+use Rattle.session.specs.Run.{HasEnsured, is_had, PassesEnd, passed, Replayed, replaying, rewritten, Standing, buffered_after, awaited_after, appended, synced, starting, truncated, noted, flushed, left_by_seal, sealed_by, snapshot_at, waited, begun, needs_sync, raised, started_by, ended, fit_together, turned_away, Accepts, faults, HasCause, Allocates, waits_for, Refuses, Takes, Foretells, RiseBelow, Answers, touch, Ran}
 use Rattle.session.specs.Run.Touch.{Leaves, Looks, Changes}
 use Rattle.session.specs.Promise.{Crashes, fresh}
 
@@ -522,6 +523,75 @@ no_such_snapshot = refl
 -- what is appended behind it isn't in it
 pub it_does_not_move : snapshot_at (appended 4 (103 ∷ []) six_noted) 0 ≡ six
 it_does_not_move = refl
+
+-- ---- replays
+
+-- of "abcdef", with a buffer of four pages of sixteen bytes: a page is read at once, and four bytes are
+-- in full pages
+abbrev six_replayed : Replayed
+six_replayed = record { content = six; whole = 4; position = 0; hand = 0; batch = 4 }
+
+pub a_replay_begins : (replaying 4 64 six_stand).replays ≡ Some six_replayed ∷ []
+a_replay_begins = refl
+
+-- all is written for it, and "ef" stays buffered; nothing is durable by it
+pub a_replay_that_writes : rewritten 4 none_synced ≡ record none_synced { buffered = 2 }
+a_replay_that_writes = refl
+
+pub it_writes : (buffer_size : NonZeroUsize) → touch 4 (Replay buffer_size) none_synced ≡ Changes 2
+it_writes buffer_size = refl
+
+pub it_leaves_what_is_written : (buffer_size : NonZeroUsize) → touch 4 (Replay buffer_size) six_stand ≡ Leaves
+it_leaves_what_is_written buffer_size = refl
+
+-- three bytes are taken of the six at hand, and of two at hand no more than two
+pub three_are_passed : passed 3 (record six_replayed { hand = 6 }) ≡ record six_replayed { position = 3; hand = 3 }
+three_are_passed = refl
+
+pub two_are_passed : passed 3 (record six_replayed { hand = 2 }) ≡ record six_replayed { position = 2; hand = 0 }
+two_are_passed = refl
+
+-- a fill that has a page at hand says that one byte is, and can't say that none is
+pub one_is_at_hand : HasEnsured six_replayed 1 true (record six_replayed { hand = 4 })
+one_is_at_hand = record {
+  fetched = record { stays = refl; more = omega arith; within = omega arith };
+  exact = refl;
+  enough = λ yes. omega arith;
+  rest = λ no. absurd (false≢true (sym no));
+  most = omega arith;
+}
+
+pub none_is_not_said : (now : Replayed) → HasEnsured six_replayed 1 false now → ⊥
+none_is_not_said now says = false≢true says.exact
+
+-- nor may it fetch the whole blob for one byte
+pub not_all_is_fetched : HasEnsured six_replayed 1 true (record six_replayed { hand = 6 }) → ⊥
+not_all_is_fetched says = absurd (omega (arith, says.most))
+
+-- where all that is left is behind the full pages no device is asked
+pub the_rest_is_had : is_had (Some (record six_replayed { position = 4 })) 2 ≡ true
+the_rest_is_had = refl
+
+pub a_page_is_not : is_had (Some six_replayed) 1 ≡ false
+a_page_is_not = refl
+
+-- a place past the end is refused, and the end is not
+pub past_the_end : PassesEnd (Seek 0 7) (replaying 4 64 six_stand)
+past_the_end = lit< tt
+
+-- a truncate that is called forgets it, and its number isn't given again
+pub a_cut_forgets : (begun (Truncate 2) (replaying 4 64 six_stand)).replays ≡ None ∷ []
+a_cut_forgets = refl
+
+pub it_is_gone : turned_away (Ensure 0 1) (begun (Truncate 2) (replaying 4 64 six_stand)) ≡ Some NoSuch
+it_is_gone = refl
+
+pub no_such_replay : turned_away (Take 0 1) six_stand ≡ Some NoSuch
+no_such_replay = refl
+
+-- it goes on in a closed session
+pub it_goes_on_closed : turned_away (Ensure 0 1) (ended six (replaying 4 64 six_stand)) ≡ None
+it_goes_on_closed = refl
 
 -- a crash of a blob in which all is durable may leave it as it is, and that is fair
 pub a_crash : Crashes add_sum 4 true durable durable

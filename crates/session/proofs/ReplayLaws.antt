@@ -1,11 +1,13 @@
 -- What the steps do that begin replays, and go on with them.
 use Rattle.std.proofs.Common.{◌≡◌, ◌⊎◌, ℕ, zero, suc, ◌+◌, ◌-◌, ◌*◌, ◌<◌, ◌≤◌, ◌%◌, List, [], ◌∷◌, ◌++◌, length, map, take, drop, min, refl, sym, ap, ◌∙◌, subst, arith, append-nil, inl, inr, Bool, true, false, Ok, Err, lit<, length-take}
-use Rattle.std.specs.Prelude.{All, Option, Some, None, nat_le, nat_eq, if◌then◌else◌, option_map, is_some, get_or, ⊤}
+use Rattle.std.specs.Prelude.{All, Option, Some, None, nat_le, nat_eq, if◌then◌else◌, option_map, is_some, get_or, ⊤, ◌||◌, ◌/◌}
 use Rattle.std.specs.declared.num.NonZeroUsize.{NonZeroUsize}
 use Rattle.std.specs.Int.NonZero.{non_zero_usize_get}
 use Rattle.std.specs.List.{Contains}
 use Rattle.std.proofs.Math.ListN.{set}
+use Rattle.std.proofs.Math.Nat.{div-add-mod'}
 use Rattle.std.proofs.lemmas.Bool.{false≢true}
+use Rattle.std.proofs.lemmas.Bool.Decides.{nat_tests}
 use Rattle.std.proofs.lemmas.List.{length-map, map-set, length-drop}
 use Rattle.std.proofs.lemmas.List.Elements.{All-append, All-set}
 use Rattle.std.proofs.lemmas.List.{take-take}
@@ -22,25 +24,26 @@ use Rattle.crash.specs.Sound.{IsSound, content as content_of}
 use Rattle.cache.specs.CacheState.{CacheState}
 use Rattle.paged_read.specs.Tail.{Tail, told, HasFullPages, size_of as size_of_tail}
 use Rattle.paged_read.specs.ReadAhead.{batch_of}
-use Rattle.paged_read.specs.Replay.{ReplayState, IsReplayOf, Fills, FillFault, Seeks, advanced, new_replay, ReplaysOn, ReplaysThrough}
+use Rattle.paged_read.specs.Replay.{ReplayState, IsReplayOf, Fills, FillFault, IsHad, Seeks, advanced, new_replay, ReplaysOn, ReplaysThrough}
 use Rattle.paged_read.proofs.Leaving.{length-told}
 use Rattle.paged_read.proofs.Outliving.{look_leaves_reads, look_leaves_tails, look_leaves_writers}
 use Rattle.paged_read.proofs.OutlivingReplays.{look_leaves_replays}
 use Rattle.paged.specs.Caches.{tail_of}
-use Rattle.paged.specs.Calls.{HasCause as CallCause, AsksAtMost, start_calls, wait_calls, unstarted_calls}
+use Rattle.paged.specs.Calls.{GoesOn as CallGoesOn, HasCause as CallCause, AsksAtMost, start_calls, wait_calls, unstarted_calls}
 use Rattle.paged.specs.Flush.{has_work}
 use Rattle.paged.specs.Replays.{BeginsAtOnce, replay_calls}
 use Rattle.session.specs.declared.steps.Step.{Step}
 use Rattle.session.specs.declared.steps.Step.TheVariants.{Replay, Ensure, Take, Seek}
 use Rattle.session.specs.declared.steps.Reply.{Reply}
 use Rattle.session.specs.declared.steps.Reply.TheVariants.{Done, Answer, Bytes, Fault, NoSuch, Replaying}
-use Rattle.session.specs.Run.{AllCover, Answers, begun, CacheFits, content_after, Did, ended, raised, WriterFits, faults, FitsWriter, Foretells, HasCause, HasEnsured, HasFetched, has_replay, IsBelow, IsReady, IsReplayIn, last, moved, numbered, passed, pending_in, Replayed, replayed, replaying, replay_size, rewritten, SessionState, Standing, StandsFor, Takes, touch, Touches, turned_away, WriterStandsFor}
-use Rattle.session.specs.Run.Touch.{Leaves, Changes}
-use Rattle.session.specs.Calls.{AtReplay, CanGoOn, EnsuresOf, KeepsAllButReplays, KeepsButReplays, LeavesTaken, ReplaySays, SeeksOf, Steps, TakesOf, TakesReplay}
+use Rattle.session.specs.Run.{is_had, AllCover, Answers, begun, CacheFits, content_after, Did, ended, raised, WriterFits, faults, FitsWriter, Foretells, HasCause, HasEnsured, HasFetched, has_replay, IsBelow, IsReady, IsReplayIn, last, moved, numbered, passed, pending_in, Replayed, replayed, replaying, replay_size, rewritten, SessionState, Standing, StandsFor, Takes, touch, Touches, turned_away, WriterStandsFor}
+use Rattle.session.specs.Run.Touch.{Leaves, Looks, Changes}
+use Rattle.session.specs.Calls.{AtReplay, CanGoOn, EnsureSays, KeepsAllButReplays, KeepsButReplays, LeavesTaken, ReplaySays, SeeksOf, Steps, TakesOf, TakesReplay}
 use Rattle.session.proofs.Apart.{AlwaysApart, IsReadyApart, ready_apart, StandsApart, stands_apart, SteppedApart, StepsApart}
 use Rattle.session.proofs.Below.{AlwaysLeaves, AlwaysMakes, framed, framed_by, framed_same, HasReplays, leaves_all, LeftAll, LeftReplay, left_by, of_each, map_both, maps_alike, sound_in}
 use Rattle.session.proofs.Numbered.{AtOne, numbered-map, numbered_there, put_back}
 use Rattle.session.proofs.StepLaws.{begun_covers, begun_keeps, answers_away, answers_here, closed_takes, each_end, few_calls, had_failed_as, had_without_room, held, held_same, last_is, leaves, left_buffered, no_moments, not_turned_away, only_there, owed_starts, raised_within, same_halves, stands_ended, stands_now, start_dirty, start_work, stepped, alike_stays_started, turned_closed, turned_here, unasked}
+use Rattle.session.proofs.PromiseLaws.{tip_is}
 use Rattle.session.proofs.StartLaws.{goes_through, refused_through}
 use Rattle.session.proofs.SnapshotLaws.{fits_on, looked_stands, same_takes, snapshot_few, sound_on, stands_held}
 
@@ -170,24 +173,33 @@ no_room_to_replay sum was w buffer_size life = λ P before stands.
     (λ none. absurd none, λ none. absurd none) stands
 
 -- the replays with one more, as they are told
-begun_told : (v : WriterState) (size P : ℕ) (content readable : List ℕ) → told (tail_of v) readable ≡ content → v.page_size ≡ P
-    → replayed readable (new_replay (tail_of v) size) ≡ record { content = content; position = 0; hand = 0; batch = batch_of P size * P }
-begun_told v size P content readable is page =
-    let one : List ℕ → ℕ → Replayed = λ c p. record { content = c; position = 0; hand = 0; batch = batch_of p size * p } in
-    ap (λ (c : List ℕ). one c v.page_size) is ∙ ap (λ (p : ℕ). one content p) page
+begun_told : (v : WriterState) (size P : ℕ) (content readable : List ℕ) → told (tail_of v) readable ≡ content → v.page_size ≡ P → v.full_pages * v.page_size ≡ length content / v.page_size * v.page_size
+    → replayed readable (new_replay (tail_of v) size) ≡ record { content = content; whole = length content / P * P; position = 0; hand = 0; batch = batch_of P size * P }
+begun_told v size P content readable is page whole =
+    let one : List ℕ → ℕ → ℕ → Replayed = λ c f p. record { content = c; whole = f; position = 0; hand = 0; batch = batch_of p size * p } in
+    ap (λ (c : List ℕ). one c (v.full_pages * v.page_size) v.page_size) is ∙ ap (λ (f : ℕ). one content f v.page_size) whole ∙ ap (λ (p : ℕ). one content (length content / p * p) p) page
+
+-- the full pages of a writer all of whose bytes are written
+whole_written : (sum : List ℕ → ℕ) (w v : WriterState) (old new : Life) → CallGoesOn sum w old [] v new → length v.tip < v.page_size → v.full_pages * v.page_size ≡ length (content_of w old.present.readable) / v.page_size * v.page_size
+whole_written sum w v old new goes short =
+    let tip = tip_is sum v new goes.sound short in
+    let same : length (content_of v new.present.readable) ≡ length (content_of w old.present.readable) = ap length (goes.content ∙ append-nil (content_of w old.present.readable)) in
+    let parts = div-add-mod' (length (content_of v new.present.readable)) v.page_size in
+    let whole : v.full_pages * v.page_size ≡ length (content_of v new.present.readable) / v.page_size * v.page_size = omega (arith, goes.size, tip, parts) in
+    whole ∙ ap (λ (n : ℕ). n / v.page_size * v.page_size) same
 
 more_replays : (sum : List ℕ → ℕ) (was : SessionState) (w v : WriterState) (r : ReplayState) (size : ℕ) (old new : Life) → was.writer ≡ Some w → All (LeftReplay sum (Some v) old.present new.present) was.replays → v.page_size ≡ w.page_size → r ≡ new_replay (tail_of v) size
-    → IsReplayOf sum r (content_of w old.present.readable) new.present → HasReplays sum was (with_replays was (Some v) (was.replays ++ Some r ∷ [])) old.present new.present (λ P s. (replaying P size s).replays)
-more_replays sum was w v r size old new at left page is gives = record {
+    → v.full_pages * v.page_size ≡ length (content_of w old.present.readable) / v.page_size * v.page_size → IsReplayOf sum r (content_of w old.present.readable) new.present → HasReplays sum was (with_replays was (Some v) (was.replays ++ Some r ∷ [])) old.present new.present (λ P s. (replaying P size s).replays)
+more_replays sum was w v r size old new at left page is whole gives = record {
   ready = All-append (IsReplayIn sum (Some v) new.present) was.replays (Some r ∷ []) (λ k o lt. (left k o lt).replay) one;
   gives = λ P before all.
       let fits = (stands_held sum P was w before old.present at all).fits in
       let f : Option ReplayState → Option Replayed = option_map (replayed new.present.readable) in
       let tells : map f was.replays ≡ map (option_map (replayed old.present.readable)) was.replays = maps_alike f (option_map (replayed old.present.readable)) was.replays (λ k o lt. (left k o lt).tells) in
       let content : told (tail_of v) new.present.readable ≡ before.content = ap (λ (t : Tail). told t new.present.readable) (sym tail) ∙ gives.tail.is ∙ sym fits.content in
-      let it : replayed new.present.readable r ≡ record { content = before.content; position = 0; hand = 0; batch = batch_of P size * P } =
-      ap (λ (x : ReplayState). replayed new.present.readable x) is ∙ begun_told v size P before.content new.present.readable content (page ∙ fits.page_size) in
-      ap (λ (l : List (Option Replayed)). l ++ Some (record { content = before.content; position = 0; hand = 0; batch = batch_of P size * P }) ∷ []) (all.replays ∙ sym tells) ∙ ap (λ (x : Replayed). map f was.replays ++ Some x ∷ []) (sym it)
+      let it : replayed new.present.readable r ≡ record { content = before.content; whole = length before.content / P * P; position = 0; hand = 0; batch = batch_of P size * P } =
+      ap (λ (x : ReplayState). replayed new.present.readable x) is ∙ begun_told v size P before.content new.present.readable content (page ∙ fits.page_size) (whole ∙ ap (λ (l : List ℕ). length l / v.page_size * v.page_size) (sym fits.content)) in
+      ap (λ (l : List (Option Replayed)). l ++ Some (record { content = before.content; whole = length before.content / P * P; position = 0; hand = 0; batch = batch_of P size * P }) ∷ []) (all.replays ∙ sym tells) ∙ ap (λ (x : Replayed). map f was.replays ++ Some x ∷ []) (sym it)
       ∙ sym (map_both f was.replays (Some r ∷ []));
 }
   where
@@ -237,7 +249,7 @@ replay_takes sum was now cache behind buffer_size old new reply ready fits write
         let begun_next : next.recovering ≡ true → next.snapshots ≡ [] = ready.begun in
         let all : Steps sum (Replay buffer_size) (Replaying (length was.replays)) was next old new × CacheFits next behind new.present =
         framed_by sum (Replay buffer_size) (Replaying (length was.replays)) was next behind old new [] (λ P s. (replaying P size s).replays) (sym (append-nil was.snapshots)) begun_next (record { writer = begins.sound; starts = inr says.owes.starts })
-        (subst (λ (o : Option WriterState). FitsWriter o behind new.present) writes writer) left.snapshots (more_replays sum was w v r size old new at left.replays begins.same.page_size says.begins.2 gives) (λ k t lt. absurd (omega (arith, lt)))
+        (subst (λ (o : Option WriterState). FitsWriter o behind new.present) writes writer) left.snapshots (more_replays sum was w v r size old new at left.replays begins.same.page_size says.begins.2 (whole_written sum w v old new begins says.begins.1.short) gives) (λ k t lt. absurd (omega (arith, lt)))
         (replay_steps sum was w v r buffer_size old new at sound says) in
         subst (λ (n : ℕ). Steps sum (Replay buffer_size) (Replaying n) was now old new × CacheFits now behind new.present) (sym number)
         (subst (λ (s : SessionState). Steps sum (Replay buffer_size) (Replaying (length was.replays)) was s old new × CacheFits s behind new.present) (sym is) all)
@@ -307,7 +319,7 @@ moved_stands sum P was replays index x s d stands = record {
 record GoesOn (sum : List ℕ → ℕ) (step : Step) (index : ℕ) (was : SessionState) (r q : ReplayState) (old new : Life) (reply : Reply) (moments : List Disk) : Type 0 where
   tail : q.tail ≡ r.tail
   through : (content : List ℕ) → IsReplayOf sum r content old.present → IsReplayOf sum q content new.present
-  touched : (P : ℕ) (before : Standing) → Touches (touch P step before) old.present moments
+  touched : (P : ℕ) (before : Standing) → numbered before.replays index ≡ Some (replayed old.present.readable r) → Touches (touch P step before) old.present moments
   takes : (P : ℕ) (before : Standing) → numbered before.replays index ≡ Some (replayed old.present.readable r) → Takes P step reply old.present new.present before (moved index (replayed old.present.readable q) before)
   foretells : (P : ℕ) (before : Standing) → numbered before.replays index ≡ Some (replayed old.present.readable r) → Foretells P step reply before
 
@@ -422,7 +434,7 @@ module _ (sum : List ℕ → ℕ) (step : Step) (index : ℕ) (was : SessionStat
             behind = behind;
             did = step_did P before behind reply all
                 (subst (λ (to : Disk). Answers P step reply old.present to before behind) end (answers_here P step reply old.present new.present before behind some (goes.takes P before here) (goes.foretells P before here)))
-                (goes.touched P before) (not_turned_away step before seen.moments some) (raised_within sum P next old new behind seen.moments seen.goes after_it);
+                (goes.touched P before here) (not_turned_away step before seen.moments some) (raised_within sum P next old new behind seen.moments seen.goes after_it);
             stands = after_it;
             same = refl;
             alike = refl;
@@ -469,7 +481,7 @@ hand_within sum q content d gives =
 
 fetched_of : (sum : List ℕ → ℕ) (r q : ReplayState) (readable : List ℕ) (d : Disk) → Fills r q → IsReplayOf sum q (told r.tail readable) d → HasFetched (replayed readable r) (replayed readable q)
 fetched_of sum r q readable d fills gives =
-    let one : Tail → ℕ → ℕ → Replayed = λ t p b. record { content = told t readable; position = p; hand = length q.hand; batch = b * t.page_size } in
+    let one : Tail → ℕ → ℕ → Replayed = λ t p b. record { content = told t readable; whole = t.full_pages * t.page_size; position = p; hand = length q.hand; batch = b * t.page_size } in
     record {
       stays = ap (λ (t : Tail). one t q.position q.batch) fills.tail ∙ ap (λ (p : ℕ). one r.tail p q.batch) fills.position ∙ ap (λ (b : ℕ). one r.tail r.position b) fills.batch;
       more = fills.hand;
@@ -487,13 +499,30 @@ ensure_cause sum P index count t before old new OffsetOverflow full fault = absu
 ensure_cause sum P index count t before old new OutOfMemory full fault = ((1, lit< tt, refl), tt)
 ensure_cause sum P index count t before old new IdsExhausted full fault = absurd fault
 
+-- where so many are had
+had_of : (a b c d : ℕ) → (nat_le a b || nat_le c d) ≡ true → (a ≤ b) ⊎ (c ≤ d)
+had_of a b c d is = by_test (nat_le a b) refl is
+  where
+    by_test : (first : Bool) → nat_le a b ≡ first → (first || nat_le c d) ≡ true → (a ≤ b) ⊎ (c ≤ d)
+    by_test true is some = let enough : a ≤ b = grind (arith, nat_tests, is) in inl enough
+    by_test false isnt some = let past : c ≤ d = grind (arith, nat_tests, some) in inr past
+
+-- the device is asked only where they aren't
+ensure_touched : (P : ℕ) (index count : ℕ) (r : ReplayState) (before : Standing) (old new : Life) (seen : Moments (SameButLog old.present) old new) → (IsHad r count → new ≡ old) → numbered before.replays index ≡ Some (replayed old.present.readable r) → Touches (touch P (Ensure index count) before) old.present seen.moments
+ensure_touched P index count r before old new seen idle here =
+    subst (λ (o : Option Replayed). Touches (if is_had o count then Leaves else Looks) old.present seen.moments) (sym here) (by_test (is_had (Some (replayed old.present.readable r)) count) refl)
+  where
+    by_test : (had : Bool) → is_had (Some (replayed old.present.readable r)) count ≡ had → Touches (if had then Leaves else Looks) old.present seen.moments
+    by_test true so = no_moments old new seen.moments seen.goes (idle (had_of count (length r.hand) (r.tail.full_pages * r.tail.page_size) (r.position + length r.hand) so))
+    by_test false isnt = seen.each
+
 -- how it goes on
-ensure_goes : (sum : List ℕ → ℕ) (index count : ℕ) (was : SessionState) (old new : Life) (seen : Moments (SameButLog old.present) old new) (r q : ReplayState) → IsReplayOf sum r (told r.tail old.present.readable) old.present → (reply : Reply) → EnsuresOf sum r q count old new reply
-    → ReplaysThrough r q old new → GoesOn sum (Ensure index count) index was r q old new reply seen.moments
-ensure_goes sum index count was old new seen r q gives (Answer answer) e through = record {
+ensure_goes : (sum : List ℕ → ℕ) (index count : ℕ) (was : SessionState) (old new : Life) (seen : Moments (SameButLog old.present) old new) (r q : ReplayState) → IsReplayOf sum r (told r.tail old.present.readable) old.present → (reply : Reply) → EnsureSays sum r q count old new reply
+    → GoesOn sum (Ensure index count) index was r q old new reply seen.moments
+ensure_goes sum index count was old new seen r q gives (Answer answer) says = let e = says.ensures in record {
   tail = e.0.tail;
-  through = λ content g. through sum content g;
-  touched = λ P before. seen.each;
+  through = λ content g. says.through sum content g;
+  touched = λ P before here. ensure_touched P index count r before old new seen says.idle here;
   takes = λ P before here. (replayed old.present.readable r, replayed old.present.readable q, here, ensured, refl);
   foretells = λ P before here. (λ none. absurd none, λ none. absurd none);
 }
@@ -503,29 +532,29 @@ ensure_goes sum index count was old new seen r q gives (Answer answer) e through
 
     ensured : HasEnsured (replayed old.present.readable r) count answer (replayed old.present.readable q)
     ensured = record {
-      fetched = fetched_of sum r q old.present.readable new.present e.0 (through sum (told r.tail old.present.readable) gives);
-      exact = e.1 ∙ ap (λ (n : ℕ). nat_le (r.position + count) n) size;
-      enough = e.2;
-      rest = λ no. (e.3 no).0 ∙ size ∙ ap (λ (t : Tail). length (told t old.present.readable)) (sym e.0.tail);
-      most = e.4;
+      fetched = fetched_of sum r q old.present.readable new.present says.ensures.0 (says.through sum (told r.tail old.present.readable) gives);
+      exact = says.ensures.1 ∙ ap (λ (n : ℕ). nat_le (r.position + count) n) size;
+      enough = says.ensures.2;
+      rest = λ no. (says.ensures.3 no).0 ∙ size ∙ ap (λ (t : Tail). length (told t old.present.readable)) (sym says.ensures.0.tail);
+      most = says.ensures.4;
     }
-ensure_goes sum index count was old new seen r q gives (Fault error) e through = record {
+ensure_goes sum index count was old new seen r q gives (Fault error) says = let e = says.ensures in record {
   tail = e.0.tail;
-  through = λ content g. through sum content g;
-  touched = λ P before. seen.each;
+  through = λ content g. says.through sum content g;
+  touched = λ P before here. ensure_touched P index count r before old new seen says.idle here;
   takes = λ P before here.
       let cause = ensure_cause sum P index count r.tail before old new error gives.tail.full e.1 in
-      (cause.0, cause.1, (replayed old.present.readable r, replayed old.present.readable q, here, fetched_of sum r q old.present.readable new.present e.0 (through sum (told r.tail old.present.readable) gives), refl));
+      (cause.0, cause.1, (replayed old.present.readable r, replayed old.present.readable q, here, fetched_of sum r q old.present.readable new.present says.ensures.0 (says.through sum (told r.tail old.present.readable) gives), refl));
   foretells = λ P before here. (λ none. absurd none, λ none. absurd none);
 }
-ensure_goes sum index count was old new seen r q gives other e through = absurd e
+ensure_goes sum index count was old new seen r q gives other says = absurd says.ensures
 
 pub ensure_takes : (sum : List ℕ → ℕ) (was now : SessionState) (cache : CacheState) (index count : ℕ) (old new : Life) (reply : Reply) → IsReady sum was old.present → CacheFits was cache old.present → Looked old new
-    → AtReplay index was.replays now.replays reply (new ≡ old) (λ r q. EnsuresOf sum r q count old new reply × ReplaysThrough r q old new) → KeepsAllButReplays was now → Steps sum (Ensure index count) reply was now old new × CacheFits now cache new.present
+    → AtReplay index was.replays now.replays reply (new ≡ old) (λ r q. EnsureSays sum r q count old new reply) → KeepsAllButReplays was now → Steps sum (Ensure index count) reply was now old new × CacheFits now cache new.present
 unfolding Through
 ensure_takes sum was now cache index count old new reply ready fits looked did rest =
-    one_takes sum (Ensure index count) index was cache old new ready fits looked looked.through (λ s. refl) (λ content. refl) (λ s. refl) now reply (λ r q. EnsuresOf sum r q count old new reply × ReplaysThrough r q old new) did rest
-    (λ r q gives went. ensure_goes sum index count was old new looked.through r q gives reply went.0 went.1)
+    one_takes sum (Ensure index count) index was cache old new ready fits looked looked.through (λ s. refl) (λ content. refl) (λ s. refl) now reply (λ r q. EnsureSays sum r q count old new reply) did rest
+    (λ r q gives went. ensure_goes sum index count was old new looked.through r q gives reply went)
 
 -- one that is put back leaves the standing
 moved_back : (index : ℕ) (x : Replayed) (s : Standing) → numbered s.replays index ≡ Some x → moved index x s ≡ s
@@ -537,7 +566,7 @@ take_goes : (sum : List ℕ → ℕ) (index count : ℕ) (was : SessionState) (l
 take_goes sum index count was life moments none r q gives (Bytes bytes) (takes, is) on = record {
   tail = ap (λ (x : ReplayState). x.tail) is;
   through = λ content g. on.1 sum content life.present g;
-  touched = λ P before. none;
+  touched = λ P before here. none;
   takes = λ P before here. (replayed life.present.readable r, here, given, ap (λ (x : Replayed). moved index x before) (ap (λ (x : ReplayState). replayed life.present.readable x) is ∙ left));
   foretells = λ P before here. (λ fault. absurd fault, λ fault. absurd fault);
 }
@@ -547,14 +576,14 @@ take_goes sum index count was life moments none r q gives (Bytes bytes) (takes, 
 
     left : replayed life.present.readable (advanced (min count (length r.hand)) r) ≡ passed count (replayed life.present.readable r)
     left =
-        let one : ℕ → ℕ → Replayed = λ p h. record { content = told r.tail life.present.readable; position = p; hand = h; batch = r.batch * r.tail.page_size } in
+        let one : ℕ → ℕ → Replayed = λ p h. record { content = told r.tail life.present.readable; whole = r.tail.full_pages * r.tail.page_size; position = p; hand = h; batch = r.batch * r.tail.page_size } in
         let place : r.position + min (min count (length r.hand)) (length r.hand) ≡ r.position + min count (length r.hand) = omega arith in
         let rest : length (drop (min count (length r.hand)) r.hand) ≡ length r.hand - count = length-drop (min count (length r.hand)) r.hand ∙ omega arith in
         ap (λ (p : ℕ). one p (length (drop (min count (length r.hand)) r.hand))) place ∙ ap (λ (h : ℕ). one (r.position + min count (length r.hand)) h) rest
 take_goes sum index count was life moments none r q gives (Fault e) (fault, is) on = record {
   tail = ap (λ (x : ReplayState). x.tail) is;
   through = λ content g. on.1 sum content life.present g;
-  touched = λ P before. none;
+  touched = λ P before here. none;
   takes = λ P before here.
       let same : moved index (replayed life.present.readable q) before ≡ before = ap (λ (x : ReplayState). moved index (replayed life.present.readable x) before) is ∙ moved_back index (replayed life.present.readable r) before here in
       subst (λ (x : Error). Takes P (Take index count) (Fault x) life.present life.present before (moved index (replayed life.present.readable q) before)) (sym fault) ((0, lit< tt, refl), tt, same);
@@ -584,7 +613,7 @@ seek_fails : (sum : List ℕ → ℕ) (index offset : ℕ) (was : SessionState) 
 seek_fails sum index offset was life moments none r q gives BlobInsufficientLength (past, is) on = record {
   tail = ap (λ (x : ReplayState). x.tail) is;
   through = λ content g. on.1 sum content life.present g;
-  touched = λ P before. none;
+  touched = λ P before here. none;
   takes = λ P before here.
       let same : moved index (replayed life.present.readable q) before ≡ before = ap (λ (x : ReplayState). moved index (replayed life.present.readable x) before) is ∙ moved_back index (replayed life.present.readable r) before here in
       let beyond : replay_size before index < offset = omega (arith, past, replay_has sum r life.present gives, size_found before index (replayed life.present.readable r) here) in
@@ -598,7 +627,7 @@ seek_goes : (sum : List ℕ → ℕ) (index offset : ℕ) (was : SessionState) (
 seek_goes sum index offset was life moments none r q gives Done (within, is) on = record {
   tail = ap (λ (x : ReplayState). x.tail) is;
   through = λ content g. on.1 sum content life.present g;
-  touched = λ P before. none;
+  touched = λ P before here. none;
   takes = λ P before here. let enough : offset ≤ length (told r.tail life.present.readable) = omega (arith, within, replay_has sum r life.present gives) in (replayed life.present.readable r, here, enough, ap (λ (x : ReplayState). moved index (replayed life.present.readable x) before) is);
   foretells = λ P before here. (λ fault. absurd fault, λ beyond. absurd (omega (arith, beyond, within, replay_has sum r life.present gives, size_found before index (replayed life.present.readable r) here)));
 }

@@ -30,6 +30,7 @@ use Rattle.cache.specs.CacheState.{CacheState}
 use Rattle.paged_read.specs.Tail.{Tail, size_of as size_of_tail}
 use Rattle.paged_read.specs.Snapshots.{StandsOn}
 use Rattle.paged_read.specs.Replay.{ReplayState, IsReplayOf, CanReplay, Ensures, Seeks, advanced}
+use Rattle.paged_read.specs.Replay.{IsHad, ReplaysThrough}
 use Rattle.paged_read.specs.Ranges.{Reads, ReadsUpTo, TriesRead, is_served}
 use Rattle.paged_read.specs.Ranges.{ReadsMany, AsksOnce, Misses}
 use Rattle.paged.specs.Caches.{tail_of}
@@ -506,6 +507,13 @@ abbrev pub EnsuresOf : (List ℕ → ℕ) → (r q : ReplayState) → (count : �
 EnsuresOf sum r q count old new (Answer answer) = Ensures sum r count q old new (Ok answer)
 EnsuresOf sum r q count old new (Fault e) = Ensures sum r count q old new (Err e)
 EnsuresOf sum r q count old new _ = ⊥
+
+-- what a step that asks for so many bytes at hand says of it
+pub record EnsureSays (sum : List ℕ → ℕ) (r q : ReplayState) (count : ℕ) (old new : Life)
+    (reply : Reply) : Type 0 where
+  pub ensures : EnsuresOf sum r q count old new reply
+  pub idle : IsHad r count → new ≡ old
+  pub through : ReplaysThrough r q old new
 
 abbrev pub TakesOf : (r q : ReplayState) → (count : ℕ) → Reply → Type 0
 TakesOf r q count (Bytes bytes) =

@@ -1,7 +1,7 @@
 -- What a list of steps did to a session, moment by moment.
 use Rattle.std.specs.Prelude.{◌≡◌, ◌≢◌, ◌⊎◌, ◌<◌, ◌≤◌, ◌+◌, ◌%◌, ◌^◌, ◌++◌, ℕ, List, [], ◌∷◌}
 use Rattle.std.specs.Prelude.{length, take, drop, min, max, map, All, Bool, true, false, not}
-use Rattle.std.specs.Prelude.{nat_le, nat_lt, nat_eq, ◌||◌, ◌&&◌, ◌*◌, ◌-◌}
+use Rattle.std.specs.Prelude.{nat_le, nat_lt, nat_eq, ◌||◌, ◌&&◌, ◌*◌, ◌-◌, ◌/◌}
 use Rattle.std.specs.Prelude.{option_map, slice_set}
 use Rattle.std.specs.Prelude.{if◌then◌else◌, is_some, slice_get, sum_by, Option, Some, None, Err}
 use Rattle.std.specs.Int.NonZero.{non_zero_usize_get}
@@ -44,10 +44,11 @@ use Rattle.session.specs.declared.steps.Reply.TheVariants.{Replaying}
 
 -- ---- what a session stands for
 
--- a replay: the bytes that it goes over, where it stands among them, how many from there on are at
--- hand, and how many are read at once
+-- a replay: the bytes that it goes over, how many of them are in full pages, where it stands, how many
+-- from there on are at hand, and how many are read at once
 pub record Replayed : Type 0 where
   pub content : List ℕ
+  pub whole : ℕ
   pub position : ℕ
   pub hand : ℕ
   pub batch : ℕ
@@ -164,6 +165,7 @@ abbrev pub replaying : (P buffer_size : ℕ) → Standing → Standing
 replaying P buffer_size s = record s {
   replays = s.replays ++ Some (record {
     content = s.content;
+    whole = length s.content / P * P;
     position = 0;
     hand = 0;
     batch = batch_of P buffer_size * P;
@@ -565,6 +567,12 @@ pub data Touch : Type 0 where
   Looks : Touch
   Changes : (most : ℕ) → Touch
 
+-- a replay has so many bytes at hand, or all that is left is behind the full pages: no device is
+-- needed; nor is it where there is no replay
+abbrev pub is_had : Option Replayed → (count : ℕ) → Bool
+is_had None count = true
+is_had (Some r) count = nat_le count r.hand || nat_le r.whole (r.position + r.hand)
+
 -- a wait for a started sync, if one is awaited
 abbrev pub wait_touch : Option ℕ → Touch
 wait_touch None = Leaves
@@ -591,7 +599,8 @@ touch P Snapshot s = if nat_lt s.buffered P then Leaves else Changes 2
 touch P TrySnapshot s = Leaves
 touch P (Snap index offset len) s = Looks
 touch P (Replay buffer_size) s = if s.written then Leaves else Changes 2
-touch P (Ensure index count) s = Looks
+touch P (Ensure index count) s =
+    if is_had (numbered s.replays index) count then Leaves else Looks
 touch P (Take index count) s = Leaves
 touch P (Seek index offset) s = Leaves
 touch P Seal s = if s.written then wait_touch s.awaited else Changes 3
@@ -690,6 +699,7 @@ NamesFit names covers =
 abbrev pub replayed : (readable : List ℕ) → ReplayState → Replayed
 replayed readable r = record {
   content = told r.tail readable;
+  whole = r.tail.full_pages * r.tail.page_size;
   position = r.position;
   hand = length r.hand;
   batch = r.batch * r.tail.page_size;

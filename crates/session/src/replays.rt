@@ -3,8 +3,8 @@ ghost use Rattle.std.specs.Prelude.{◌≡◌, All, map, None, ⊤};
 ghost use Rattle.std.specs.Int.NonZero.{non_zero_usize_get};
 ghost use Rattle.cache.specs.Pages.{IsFresh};
 ghost use Rattle.crash.specs.Looks.{Looked};
-ghost use Rattle.paged_read.specs.Replay.{ReplaysOn, ReplaysThrough};
-ghost use Rattle.session.specs.Calls.{AtReplay, CanGoOn, EnsuresOf, KeepsAllButReplays};
+ghost use Rattle.paged_read.specs.Replay.{ReplaysOn};
+ghost use Rattle.session.specs.Calls.{AtReplay, CanGoOn, EnsureSays, KeepsAllButReplays};
 ghost use Rattle.session.specs.Calls.{KeepsButReplays, LeavesTaken, OfReplay, SeeksOf, TakesOf};
 ghost use Rattle.session.specs.Calls.{TakesReplay};
 ghost use Rattle.session.specs.Run.{FitsWriter, HasSoundWriter};
@@ -109,7 +109,7 @@ impl<B: Blob, H: Sum> Session<B, H> {
             All (λ o. CanGoOn o old) self.old.replays }
         ensures goes { let old = B.life blob.old in let new = B.life blob.new in
             AtReplay index self.old.replays self.new.replays result (new ≡ old) (λ r q.
-            EnsuresOf H.sum_of r q count old new result × ReplaysThrough r q old new) }
+            EnsureSays H.sum_of r q count old new result) }
         ensures rest { KeepsAllButReplays self.old self.new }
         ensures looked { Looked (B.life blob.old) (B.life blob.new) }
     {
@@ -161,7 +161,7 @@ fn ensure_at<B: Blob, H: Sum>(
         All (λ o. CanGoOn o old) replays.old.items }
     ensures goes { let old = B.life blob.old in let new = B.life blob.new in
         AtReplay index replays.old.items replays.new.items result (new ≡ old) (λ r q.
-        EnsuresOf H.sum_of r q count old new result × ReplaysThrough r q old new) }
+        EnsureSays H.sum_of r q count old new result) }
     ensures looked { Looked (B.life blob.old) (B.life blob.new) }
 {
     match replays.get_mut(index) {
@@ -208,7 +208,7 @@ fn ensure_of<B: Blob, H: Sum>(
     requires can { CanGoOn replay.old (B.life blob.old).present }
     ensures goes { let old = B.life blob.old in let new = B.life blob.new in
         OfReplay replay.old replay.new result (new ≡ old) (λ r q.
-        EnsuresOf H.sum_of r q count old new result × ReplaysThrough r q old new) }
+        EnsureSays H.sum_of r q count old new result) }
     ensures looked { Looked (B.life blob.old) (B.life blob.new) }
 {
     let Some(replay) = replay else {

@@ -5,7 +5,7 @@ use Rattle.paged_read.specs.Replay.{end_of, IsReplay, ReplayState}
 use Rattle.paged_read.specs.Tail.{size_of}
 use Rattle.paged_read.proofs.Outliving.{look_leaves_reads, look_leaves_tails, look_leaves_writers}
 use Rattle.paged_read.proofs.OutlivingReplays.{look_leaves_replays}
-use Rattle.paged_read.proofs.Replays.{Reached, filled_replays, reach_ends, reach_fails, reach_more, reach_start}
+use Rattle.paged_read.proofs.Replays.{Reached, filled_replays, reach_ends, reach_fails, reach_idle, reach_more, reach_start}
 use Rattle.paged_read.proofs.replay.Replay.ensure.Goals as goal
 use Rattle.paged_read.proofs.replay.Replay.ensure.Goals.{After-remaining-2, then-loop-self-test+else-end-size, else-loop-self-test}
 use Rattle.paged_read.proofs.replay.Replay.ensure.Given.{Over}
@@ -27,7 +27,7 @@ loop-self-preserved g c =
       c.remaining.ensures,
       ap (λ (r : ReplayState). length r.hand) c.self.view_is,
     ))
-    c.in_ok-fill.ensures.fills c.fill.ensures.can c.fill.ensures.looked
+    c.in_ok-fill.ensures.fills c.fill.ensures.idle c.fill.ensures.can c.fill.ensures.looked
 
 pub returns-in_err-fill-clause-fetches : goal.returns-in_err-fill-clause-fetches
 returns-in_err-fill-clause-fetches g c =
@@ -36,6 +36,19 @@ returns-in_err-fill-clause-fetches g c =
     (g.B.Blob.life c.args.blob.now) (g.B.Blob.life c.loop-self.blob)
     (g.B.Blob.life c.fill.new.blob) c.in_err-fill.field-0.0 c.loop-self.invariant
     c.in_err-fill.ensures.fills)
+
+pub returns-in_err-fill-clause-idle : goal.returns-in_err-fill-clause-idle
+returns-in_err-fill-clause-idle g c =
+    reach_idle g.H.Sum.sum_of c.args.self.now c.args.count c.loop-self.self
+    (g.B.Blob.life c.args.blob.now) (g.B.Blob.life c.loop-self.blob) (g.B.Blob.life c.fill.new.blob)
+    c.loop-self.invariant
+    (omega (
+      arith,
+      c.loop-self-test.true,
+      c.remaining.ensures,
+      ap (λ (r : ReplayState). length r.hand) c.self.view_is,
+    ))
+    c.fill.ensures.idle
 
 pub returns-in_err-fill-clause-looked : goal.returns-in_err-fill-clause-looked
 returns-in_err-fill-clause-looked g c =

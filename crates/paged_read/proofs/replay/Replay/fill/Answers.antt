@@ -8,7 +8,7 @@ use Rattle.paged_read.specs.Hand.{HandState, payloads}
 use Rattle.paged_read.specs.ReadAhead.{IsBatch}
 use Rattle.paged_read.specs.Replay.{CanReplay, end_of, FillsOnce, ReplayState}
 use Rattle.paged_read.specs.Tail.{size_of}
-use Rattle.paged_read.proofs.Replays.{Filled, filled_batch, filled_rest, grows, page_within}
+use Rattle.paged_read.proofs.Replays.{Filled, filled_batch, filled_rest, grows, page_behind, page_within}
 use Rattle.paged_read.proofs.replay.Replay.fill.Goals as goal
 use Rattle.paged_read.proofs.replay.Replay.fill.Goals.{After-add, After-from-page_size, After-push}
 use Rattle.paged_read.proofs.replay.Replay.fill.Given.{Over}
@@ -73,12 +73,17 @@ ask_can g c =
     subst (λ (r : ReplayState). CanReplay r (g.B.Blob.life c.args.blob.now).present)
     (sym c.self.view_is) c.requires.can
 
+-- the page at the end is below the last, where it isn't that
+add_below : (g : Over) (c : After-from-page_size g) → (c.end-end.result / c.from-page_size.result ≡ c.self.inside.batches.full_pages → ⊥)
+    → c.end-end.result / c.from-page_size.result < c.self.inside.batches.full_pages
+add_below g c isnt =
+    let within = page_within g.H.Sum.sum_of (ask_was g c) c.self.invariant.0 (ask_more g c) in
+    not_last (c.end-end.result / c.from-page_size.result) c.self.inside.batches.full_pages
+    (omega (arith, within, ask_page g c, c.self.invariant.3)) isnt
+
 pub add-requires-clause-below : goal.add-requires-clause-below
 add-requires-clause-below g c =
-    let here = (goal.at.add-requires-clause-below g c).After-from-page_size in
-    let within = page_within g.H.Sum.sum_of (ask_was g here) c.self.invariant.0 (ask_more g here) in
-    not_last (c.end-end.result / c.from-page_size.result) c.self.inside.batches.full_pages
-    (omega (arith, within, ask_page g here, c.self.invariant.3)) c.if-page-self.false
+    add_below g (goal.at.add-requires-clause-below g c).After-from-page_size c.if-page-self.false
 
 pub add-requires-clause-batches : goal.add-requires-clause-batches
 add-requires-clause-batches g c =
@@ -258,3 +263,13 @@ invariant_of-self g c = (
   c.self.invariant.3,
   c.self.invariant.4,
 )
+
+pub returns-clause-idle : goal.returns-clause-idle
+returns-clause-idle g c = λ behind.
+    let here = goal.at.returns-clause-idle g c in
+    let was = batch_was g here.After-add in
+    let past : was.tail.full_pages * was.tail.page_size ≤ end_of was =
+    subst (λ (r : ReplayState). r.tail.full_pages * r.tail.page_size ≤ end_of r) (sym c.self.view_is) behind in
+    let under = add_below g here.After-from-page_size c.if-page-self.false in
+    let page = page_behind g.H.Sum.sum_of was c.self.invariant.0 (batch_more g here.After-add) past in
+    absurd (omega (arith, under, page, batch_page g here.After-add, c.self.invariant.3))
