@@ -9,6 +9,7 @@ mod flush;
 mod read;
 mod recovery;
 mod replay;
+mod scan;
 mod snapshot;
 mod start;
 mod truncate;

@@ -9,3 +9,4 @@ pub mod Snapshots
 pub mod Hand
 pub mod ReadAhead
 pub mod Replay
+pub mod Scans

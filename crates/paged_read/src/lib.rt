@@ -21,7 +21,7 @@ pub use hand::TooFew;
 pub use prefix::{Partial, Prefix};
 pub use replay::Replay;
 pub use sealed::Sealed;
-pub use search::{last_pages, pages_of, physical_size, scan};
+pub use search::{last_pages, pages_of, physical_size, scan, scan_from};
 pub use view::View;
 
 #[cfg(test)]
