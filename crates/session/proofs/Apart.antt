@@ -1,13 +1,14 @@
--- What a step does to a session but for its snapshots.
-use Rattle.std.proofs.Common.{◌≡◌, ◌⊎◌, ℕ, ◌≤◌, List, [], length}
-use Rattle.std.specs.Prelude.{All, map}
+-- What a step does to a session but for its snapshots and its replays.
+use Rattle.std.proofs.Common.{◌≡◌, ◌⊎◌, ℕ, ◌≤◌, List, [], length, Bool, true, false}
+use Rattle.std.specs.Prelude.{All, map, Option, Some, None, option_map}
 use Rattle.disk.specs.Disk.{Disk, Life, after}
 use Rattle.crash.specs.Kept.{AllKeep, AllOnly}
 use Rattle.crash.specs.Started.{StartsStand}
 use Rattle.paged_read.specs.Tail.{told}
+use Rattle.paged_read.specs.Replay.{ReplayState}
 use Rattle.session.specs.declared.steps.Step.{Step}
 use Rattle.session.specs.declared.steps.Reply.{Reply}
-use Rattle.session.specs.Run.{AllCover, Did, HasSoundWriter, IsReady, NamesFit, SessionState, Standing, StandsFor, WriterFits}
+use Rattle.session.specs.Run.{AllCover, Did, HasSoundWriter, IsReady, NamesFit, Replayed, replayed, SessionState, Standing, StandsFor, WriterFits}
 
 -- what a session stands for
 pub record StandsApart (sum : List ℕ → ℕ) (P : ℕ) (session : SessionState) (s : Standing) (d : Disk) : Type 0 where
@@ -25,25 +26,39 @@ pub record IsReadyApart (sum : List ℕ → ℕ) (session : SessionState) (d : D
   pub writer : HasSoundWriter sum session.writer d
   pub starts : (session.names ≡ []) ⊎ StartsStand d
 
--- one step by a session that stood for this, after which its snapshots tell these contents
-pub record SteppedApart (sum : List ℕ → ℕ) (P : ℕ) (step : Step) (reply : Reply) (session : SessionState) (old new : Life) (before : Standing) (snapshots : List (List ℕ)) : Type 0 where
+-- one step by a session that stood for this, after which its snapshots tell these contents, and its
+-- replays are these
+pub record SteppedApart (sum : List ℕ → ℕ) (P : ℕ) (step : Step) (reply : Reply) (session : SessionState) (old new : Life) (before : Standing) (snapshots : List (List ℕ)) (replays : List (Option Replayed)) : Type 0 where
   pub moments : List Disk
   pub goes : new ≡ after old moments
   pub behind : Standing
   pub did : Did sum P step reply old.present moments before behind
   pub stands : StandsApart sum P session behind new.present
   pub same : behind.snapshots ≡ snapshots
+  pub alike : behind.replays ≡ replays
 
--- one that makes no snapshot, whatever the session stood for
-abbrev pub AlwaysApart : (List ℕ → ℕ) → Step → Reply → SessionState → SessionState → Life → Life → Type 0
-AlwaysApart sum step reply was now old new = (P : ℕ) (before : Standing) → StandsApart sum P was before old.present → SteppedApart sum P step reply now old new before before.snapshots
+-- the replays as they were, or all forgotten
+abbrev pub left_replays : (cuts : Bool) → List (Option Replayed) → List (Option Replayed)
+left_replays false replays = replays
+left_replays true replays = map (λ r. None) replays
+
+-- one that makes no snapshot, and leaves the replays or forgets them, whatever the session stood for
+abbrev pub AlwaysBy : (cuts : Bool) → (List ℕ → ℕ) → Step → Reply → SessionState → SessionState → Life → Life → Type 0
+AlwaysBy cuts sum step reply was now old new = (P : ℕ) (before : Standing) → StandsApart sum P was before old.present → SteppedApart sum P step reply now old new before before.snapshots (left_replays cuts before.replays)
 
 -- it may take another then
-pub record StepsApart (sum : List ℕ → ℕ) (step : Step) (reply : Reply) (was now : SessionState) (old new : Life) : Type 0 where
+pub record StepsBy (cuts : Bool) (sum : List ℕ → ℕ) (step : Step) (reply : Reply) (was now : SessionState) (old new : Life) : Type 0 where
   pub ready : IsReadyApart sum now new.present
-  pub always : AlwaysApart sum step reply was now old new
+  pub always : AlwaysBy cuts sum step reply was now old new
 
--- ---- of what stands with the snapshots
+-- one that leaves the replays
+abbrev pub AlwaysApart : (List ℕ → ℕ) → Step → Reply → SessionState → SessionState → Life → Life → Type 0
+AlwaysApart sum step reply was now old new = AlwaysBy false sum step reply was now old new
+
+abbrev pub StepsApart : (List ℕ → ℕ) → Step → Reply → SessionState → SessionState → Life → Life → Type 0
+StepsApart sum step reply was now old new = StepsBy false sum step reply was now old new
+
+-- ---- of what stands with the snapshots and the replays
 
 pub stands_apart : (sum : List ℕ → ℕ) (P : ℕ) (session : SessionState) (s : Standing) (d : Disk) → StandsFor sum P session s d → StandsApart sum P session s d
 stands_apart sum P session s d stands = record {
@@ -58,8 +73,9 @@ stands_apart sum P session s d stands = record {
 }
 
 -- and with them
-pub whole : (sum : List ℕ → ℕ) (P : ℕ) (session : SessionState) (s : Standing) (d : Disk) → s.snapshots ≡ map (λ t. told t d.readable) session.snapshots → StandsApart sum P session s d → StandsFor sum P session s d
-whole sum P session s d tells stands = record {
+pub whole : (sum : List ℕ → ℕ) (P : ℕ) (session : SessionState) (s : Standing) (d : Disk) → s.snapshots ≡ map (λ t. told t d.readable) session.snapshots → s.replays ≡ map (option_map (replayed d.readable)) session.replays → StandsApart sum P session s d
+    → StandsFor sum P session s d
+whole sum P session s d tells gives stands = record {
   fits = stands.fits;
   phase = stands.phase;
   names = stands.names;
@@ -69,7 +85,32 @@ whole sum P session s d tells stands = record {
   covered = stands.covered;
   only = stands.only;
   snapshots = tells;
+  replays = gives;
 }
 
 pub ready_apart : (sum : List ℕ → ℕ) (session : SessionState) (d : Disk) → IsReady sum session d → IsReadyApart sum session d
 ready_apart sum session d ready = record { writer = ready.writer; starts = ready.starts }
+
+-- ---- of a session with other replays
+
+-- it stands for what it stood for
+stands_with : (sum : List ℕ → ℕ) (P : ℕ) (session : SessionState) (replays : List (Option ReplayState)) (s : Standing) (d : Disk) → StandsApart sum P session s d → StandsApart sum P (record session { replays = replays }) s d
+stands_with sum P session replays s d stands = record {
+  fits = stands.fits;
+  phase = stands.phase;
+  names = stands.names;
+  floor = stands.floor;
+  within = stands.within;
+  kept = stands.kept;
+  covered = stands.covered;
+  only = stands.only;
+}
+
+-- and a step to it was one
+pub steps_with : (cuts : Bool) (sum : List ℕ → ℕ) (step : Step) (reply : Reply) (was now : SessionState) (replays : List (Option ReplayState)) (old new : Life) → StepsBy cuts sum step reply was now old new → StepsBy cuts sum step reply was (record now { replays = replays }) old new
+steps_with cuts sum step reply was now replays old new steps = record {
+  ready = record { writer = steps.ready.writer; starts = steps.ready.starts };
+  always = λ P before stands.
+      let a = steps.always P before stands in
+      record { moments = a.moments; goes = a.goes; behind = a.behind; did = a.did; stands = stands_with sum P now replays a.behind new.present a.stands; same = a.same; alike = a.alike };
+}

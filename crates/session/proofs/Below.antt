@@ -1,6 +1,6 @@
--- What a step leaves of the session's snapshots.
-use Rattle.std.proofs.Common.{◌≡◌, ℕ, suc, ◌<◌, ◌≤◌, List, [], ◌∷◌, ◌++◌, length, map, refl, sym, ap, ◌∙◌, subst, arith, append-nil, inl, Bool, true, false}
-use Rattle.std.specs.Prelude.{All, Option, Some, None, nat_lt, get_or}
+-- What a step leaves of the session's snapshots, and of its replays.
+use Rattle.std.proofs.Common.{◌≡◌, ℕ, suc, ◌<◌, ◌≤◌, zero, List, [], ◌∷◌, ◌++◌, length, map, refl, sym, ap, ◌∙◌, subst, arith, append-nil, inl, Bool, true, false}
+use Rattle.std.specs.Prelude.{All, Option, Some, None, nat_lt, get_or, option_map}
 use Rattle.std.proofs.lemmas.List.Elements.{All-append}
 use Rattle.std.proofs.lemmas.Bool.{false≢true}
 use Rattle.std.proofs.lemmas.Bool.Decides.{nat_tests}
@@ -11,14 +11,16 @@ use Rattle.crash.specs.WriterState.{WriterState}
 use Rattle.crash.specs.Sound.{IsSound}
 use Rattle.cache.specs.CacheState.{CacheState}
 use Rattle.paged_read.specs.Tail.{Tail, told, CanRead}
-use Rattle.paged_read.specs.Snapshots.{LeavesTails}
+use Rattle.paged_read.specs.Replay.{ReplayState, IsReplayOf, LeavesAllReplays, LeavesReplays}
+use Rattle.paged_read.specs.Snapshots.{LeavesAllTails, LeavesTails}
 use Rattle.paged.specs.Caches.{tail_of}
+use Rattle.paged.specs.Calls.{IsSameWriter}
 use Rattle.session.specs.declared.steps.Step.{Step}
 use Rattle.session.specs.declared.steps.Reply.{Reply}
-use Rattle.session.specs.Run.{CacheFits, FitsWriter, HasSoundWriter, IsBelow, IsReady, IsSnapshot, SessionState, Standing, StandsFor, writer_in}
+use Rattle.session.specs.Run.{CacheFits, FitsWriter, HasSoundWriter, IsBelow, IsReady, IsReplayIn, IsSnapshot, Replayed, replayed, SessionState, Standing, StandsFor, writer_in}
 use Rattle.session.specs.Promise.{session_of}
-use Rattle.session.specs.Calls.{LeavesSnapshots, Steps}
-use Rattle.session.proofs.Apart.{IsReadyApart, SteppedApart, StepsApart, stands_apart, whole}
+use Rattle.session.specs.Calls.{LeavesTaken, Steps}
+use Rattle.session.proofs.Apart.{IsReadyApart, left_replays, SteppedApart, StepsApart, StepsBy, stands_apart, whole}
 
 -- ---- of a writer
 
@@ -41,27 +43,56 @@ in_appending true recovery appending is = absurd (false≢true (sym is))
 
 -- ---- what a call of the writer leaves
 
--- what is below its full pages is below those of the writer that goes on
-pub leaves_on : (sum : List ℕ → ℕ) (o : Option WriterState) (w v : WriterState) (cache behind : CacheState) (old new : Life) → o ≡ Some w → w.full_pages ≤ v.full_pages → LeavesTails sum w.full_pages cache behind old new
-    → LeavesSnapshots sum o (Some v) cache behind old new
-leaves_on sum o w v cache behind old new at more leaves = λ t content below stands.
-    let under : t.full_pages ≤ w.full_pages = subst (λ (x : Option WriterState). IsBelow x t) at below in
-    (leaves t content under stands, omega (arith, under, more))
+-- what is of its full pages is of those of the writer that goes on
+pub leaves_on : (sum : List ℕ → ℕ) (o : Option WriterState) (w v : WriterState) (cache behind : CacheState) (old new : Life) → o ≡ Some w → IsSameWriter w v → LeavesTails sum w.full_pages cache behind old new → LeavesReplays w.page_size w.full_pages old new
+    → LeavesTaken sum o (Some v) cache behind old new
+leaves_on sum o w v cache behind old new at same tails replays = record {
+  snapshots = λ t content below stands.
+      let under : IsBelow (Some w) t = subst (λ (x : Option WriterState). IsBelow x t) at below in
+      let more : t.full_pages ≤ v.full_pages = omega (arith, under.1, same.full_pages) in
+      (tails t content under.1 stands, (under.0 ∙ sym same.page_size, more));
+  replays = λ r content below gives.
+      let under : IsBelow (Some w) r.tail = subst (λ (x : Option WriterState). IsBelow x r.tail) at below in
+      let more : r.tail.full_pages ≤ v.full_pages = omega (arith, under.1, same.full_pages) in
+      (replays sum content r under.0 under.1 gives, (under.0 ∙ sym same.page_size, more));
+}
 
 -- and of none
-pub leaves_gone : (sum : List ℕ → ℕ) (o now : Option WriterState) (w : WriterState) (cache behind : CacheState) (old new : Life) → o ≡ Some w → now ≡ None → LeavesTails sum w.full_pages cache behind old new
-    → LeavesSnapshots sum o now cache behind old new
-leaves_gone sum o now w cache behind old new at none leaves = λ t content below stands.
-    let under : t.full_pages ≤ w.full_pages = subst (λ (x : Option WriterState). IsBelow x t) at below in
-    (leaves t content under stands, subst (λ (x : Option WriterState). IsBelow x t) (sym none) tt)
+pub leaves_gone : (sum : List ℕ → ℕ) (o now : Option WriterState) (w : WriterState) (cache behind : CacheState) (old new : Life) → o ≡ Some w → now ≡ None → LeavesTails sum w.full_pages cache behind old new → LeavesReplays w.page_size w.full_pages old new
+    → LeavesTaken sum o now cache behind old new
+leaves_gone sum o now w cache behind old new at none tails replays = record {
+  snapshots = λ t content below stands.
+      let under : IsBelow (Some w) t = subst (λ (x : Option WriterState). IsBelow x t) at below in
+      (tails t content under.1 stands, subst (λ (x : Option WriterState). IsBelow x t) (sym none) tt);
+  replays = λ r content below gives.
+      let under : IsBelow (Some w) r.tail = subst (λ (x : Option WriterState). IsBelow x r.tail) at below in
+      (replays sum content r under.0 under.1 gives, subst (λ (x : Option WriterState). IsBelow x r.tail) (sym none) tt);
+}
 
 -- and of one that stays as it is
-pub leaves_same : (sum : List ℕ → ℕ) (o : Option WriterState) (w : WriterState) (cache behind : CacheState) (old new : Life) → o ≡ Some w → LeavesTails sum w.full_pages cache behind old new → LeavesSnapshots sum o o cache behind old new
-leaves_same sum o w cache behind old new at leaves = λ t content below stands.
-    let under : t.full_pages ≤ w.full_pages = subst (λ (x : Option WriterState). IsBelow x t) at below in
-    (leaves t content under stands, below)
+pub leaves_same : (sum : List ℕ → ℕ) (o : Option WriterState) (w : WriterState) (cache behind : CacheState) (old new : Life) → o ≡ Some w → LeavesTails sum w.full_pages cache behind old new → LeavesAllReplays old new → LeavesTaken sum o o cache behind old new
+leaves_same sum o w cache behind old new at tails replays = record {
+  snapshots = λ t content below stands.
+      let under : IsBelow (Some w) t = subst (λ (x : Option WriterState). IsBelow x t) at below in
+      (tails t content under.1 stands, below);
+  replays = λ r content below gives. (replays sum content r gives, below);
+}
 
--- ---- what a step leaves of one snapshot
+-- a call that asks nothing of the device
+pub leaves_here : (sum : List ℕ → ℕ) (o : Option WriterState) (cache : CacheState) (life : Life) → LeavesTaken sum o o cache cache life life
+leaves_here sum o cache life = record {
+  snapshots = λ t content below stands. (stands, below);
+  replays = λ r content below gives. (gives, below);
+}
+
+-- one that leaves all of them
+pub leaves_all : (sum : List ℕ → ℕ) (o : Option WriterState) (cache behind : CacheState) (old new : Life) → LeavesAllTails sum cache behind old new → LeavesAllReplays old new → LeavesTaken sum o o cache behind old new
+leaves_all sum o cache behind old new tails replays = record {
+  snapshots = λ t content below stands. (tails t content stands, below);
+  replays = λ r content below gives. (replays sum content r gives, below);
+}
+
+-- ---- what a step leaves of one snapshot, and of one replay
 
 -- it is one still, can be read, and tells what it told
 pub record Left (sum : List ℕ → ℕ) (now : Option WriterState) (behind : CacheState) (old new : Disk) (t : Tail) : Type 0 where
@@ -69,20 +100,48 @@ pub record Left (sum : List ℕ → ℕ) (now : Option WriterState) (behind : Ca
   pub can : CanRead t behind new
   pub tells : told t new.readable ≡ told t old.readable
 
+-- it is one still, and tells what it told
+pub record LeftReplay (sum : List ℕ → ℕ) (now : Option WriterState) (old new : Disk) (o : Option ReplayState) : Type 0 where
+  pub replay : IsReplayIn sum now new o
+  pub tells : option_map (replayed new.readable) o ≡ option_map (replayed old.readable) o
+
 -- of all
-pub left_by : (sum : List ℕ → ℕ) (was : SessionState) (now : Option WriterState) (cache behind : CacheState) (old new : Life) → IsReady sum was old.present → CacheFits was cache old.present → LeavesSnapshots sum was.writer now cache behind old new
-    → All (Left sum now behind old.present new.present) was.snapshots
-left_by sum was now cache behind old new ready fits leaves = λ k t lt.
-    let s = ready.snapshots k t lt in
-    let after_it = leaves _ _ s.below (record { tail = record { there = s.there; full = s.full; is = refl }; can = fits.snapshots k t lt }) in
-    let tail = after_it.0.tail in
-    record { snapshot = record { there = tail.there; full = tail.full; below = after_it.1 }; can = after_it.0.can; tells = tail.is }
+pub record LeftAll (sum : List ℕ → ℕ) (was : SessionState) (now : Option WriterState) (behind : CacheState) (old new : Disk) : Type 0 where
+  pub snapshots : All (Left sum now behind old new) was.snapshots
+  pub replays : All (LeftReplay sum now old new) was.replays
+
+-- of one replay
+replay_left : (sum : List ℕ → ℕ) (was now : Option WriterState) (cache behind : CacheState) (old new : Life) (o : Option ReplayState) → LeavesTaken sum was now cache behind old new → IsReplayIn sum was old.present o → LeftReplay sum now old.present new.present o
+replay_left sum was now cache behind old new None leaves is = record { replay = tt; tells = refl }
+replay_left sum was now cache behind old new (Some r) leaves (gives, below) =
+    let after_it = leaves.replays r (told r.tail old.present.readable) below gives in
+    let tells : told r.tail new.present.readable ≡ told r.tail old.present.readable = after_it.0.tail.is in
+    record {
+      replay = (subst (λ (content : List ℕ). IsReplayOf sum r content new.present) (sym tells) after_it.0, after_it.1);
+      tells = ap (λ (content : List ℕ). Some (record (replayed old.present.readable r) { content = content })) tells;
+    }
+
+pub left_by : (sum : List ℕ → ℕ) (was : SessionState) (now : Option WriterState) (cache behind : CacheState) (old new : Life) → IsReady sum was old.present → CacheFits was cache old.present → LeavesTaken sum was.writer now cache behind old new
+    → LeftAll sum was now behind old.present new.present
+left_by sum was now cache behind old new ready fits leaves = record {
+  snapshots = λ k t lt.
+      let s = ready.snapshots k t lt in
+      let after_it = leaves.snapshots _ _ s.below (record { tail = record { there = s.there; full = s.full; is = refl }; can = fits.snapshots k t lt }) in
+      let tail = after_it.0.tail in
+      record { snapshot = record { there = tail.there; full = tail.full; below = after_it.1 }; can = after_it.0.can; tells = tail.is };
+  replays = λ k o lt. replay_left sum was.writer now cache behind old new (get_or was.replays k o) leaves (ready.replays k o lt);
+}
 
 -- by a step that asks nothing of the device
+pub replays_same : (sum : List ℕ → ℕ) (was : SessionState) (now : Option WriterState) (old new : Life) → IsReady sum was old.present → now ≡ was.writer → new ≡ old → All (LeftReplay sum now old.present new.present) was.replays
+replays_same sum was now old new ready writer life = rw (writer, life) (λ k o lt. record { replay = ready.replays k o lt; tells = refl })
+
 pub left_same : (sum : List ℕ → ℕ) (was : SessionState) (now : Option WriterState) (cache behind : CacheState) (old new : Life) → IsReady sum was old.present → CacheFits was cache old.present → now ≡ was.writer → behind ≡ cache → new ≡ old
-    → All (Left sum now behind old.present new.present) was.snapshots
-left_same sum was now cache behind old new ready fits writer same life =
-    rw (writer, same, life) (λ k t lt. record { snapshot = ready.snapshots k t lt; can = fits.snapshots k t lt; tells = refl })
+    → LeftAll sum was now behind old.present new.present
+left_same sum was now cache behind old new ready fits writer same life = record {
+  snapshots = rw (writer, same, life) (λ k t lt. record { snapshot = ready.snapshots k t lt; can = fits.snapshots k t lt; tells = refl });
+  replays = replays_same sum was now old new ready writer life;
+}
 
 -- one of them
 pub of_each : {X : Type 0} (Q : X → Type 0) (xs : List X) (i : ℕ) (x : X) → slice_get xs i ≡ Some x → All Q xs → Q x
@@ -95,68 +154,129 @@ at_place xs ys i x same within is =
 
 -- ---- a step
 
--- what is told of each
-told_alike : (d e : Disk) (ts : List Tail) → All (λ t. told t e.readable ≡ told t d.readable) ts → map (λ t. told t e.readable) ts ≡ map (λ t. told t d.readable) ts
-told_alike d e [] alike = refl
-told_alike d e (t ∷ ts) alike =
-    let rest = told_alike d e ts (λ k x lt. alike (suc k) x (omega (arith, lt))) in
-    let first : told t e.readable ≡ told t d.readable = alike 0 t (omega arith) in
+-- two functions that agree on each
+maps_alike : {X Y : Type 0} (f g : X → Y) (xs : List X) → All (λ x. f x ≡ g x) xs → map f xs ≡ map g xs
+maps_alike f g [] alike = refl
+maps_alike f g (x ∷ xs) alike =
+    let rest = maps_alike f g xs (λ k y lt. alike (suc k) y (omega (arith, lt))) in
+    let first : f x ≡ g x = alike 0 x (omega arith) in
     rw (first, rest) refl
 
-map_both : (d : Disk) (ts more : List Tail) → map (λ t. told t d.readable) (ts ++ more) ≡ map (λ t. told t d.readable) ts ++ map (λ t. told t d.readable) more
-map_both d [] more = refl
-map_both d (t ∷ ts) more = ap (λ (l : List (List ℕ)). told t d.readable ∷ l) (map_both d ts more)
+map_both : {X Y : Type 0} (f : X → Y) (xs more : List X) → map f (xs ++ more) ≡ map f xs ++ map f more
+map_both f [] more = refl
+map_both f (x ∷ xs) more = ap (λ (l : List _). f x ∷ l) (map_both f xs more)
 
 -- a snapshot that was made
 pub record Made (sum : List ℕ → ℕ) (now : Option WriterState) (behind : CacheState) (new : Disk) (t : Tail) : Type 0 where
   pub snapshot : IsSnapshot sum now t new
   pub can : CanRead t behind new
 
--- a step that makes these snapshots, whatever the session stood for
+-- a step that makes these snapshots, and leaves these replays, whatever the session stood for
+abbrev pub AlwaysLeaves : (List ℕ → ℕ) → Step → Reply → SessionState → SessionState → Life → Life → (more : List Tail) → (replays : (P : ℕ) → Standing → List (Option Replayed)) → Type 0
+AlwaysLeaves sum step reply was now old new more replays =
+    (P : ℕ) (before : Standing) → StandsFor sum P was before old.present → SteppedApart sum P step reply now old new before (before.snapshots ++ map (λ t. told t new.present.readable) more) (replays P before)
+
+-- one that leaves the replays as they were
 abbrev pub AlwaysMakes : (List ℕ → ℕ) → Step → Reply → SessionState → SessionState → Life → Life → (more : List Tail) → Type 0
-AlwaysMakes sum step reply was now old new more =
-    (P : ℕ) (before : Standing) → StandsFor sum P was before old.present → SteppedApart sum P step reply now old new before (before.snapshots ++ map (λ t. told t new.present.readable) more)
+AlwaysMakes sum step reply was now old new more = AlwaysLeaves sum step reply was now old new more (λ P s. s.replays)
+
+-- the replays of a session, and of what it stands for
+pub record HasReplays (sum : List ℕ → ℕ) (was now : SessionState) (old new : Disk) (replays : (P : ℕ) → Standing → List (Option Replayed)) : Type 0 where
+  pub ready : All (IsReplayIn sum now.writer new) now.replays
+  pub gives : (P : ℕ) (before : Standing) → StandsFor sum P was before old → replays P before ≡ map (option_map (replayed new.readable)) now.replays
 
 -- the whole of what it did
-pub framed : (sum : List ℕ → ℕ) (step : Step) (reply : Reply) (was now : SessionState) (behind : CacheState) (old new : Life) (more : List Tail) → now.snapshots ≡ was.snapshots ++ more → (now.recovering ≡ true → now.snapshots ≡ []) → IsReadyApart sum now new.present
-    → FitsWriter now.writer behind new.present → All (Left sum now.writer behind old.present new.present) was.snapshots → All (Made sum now.writer behind new.present) more → AlwaysMakes sum step reply was now old new more
-    → Steps sum step reply was now old new × CacheFits now behind new.present
-framed sum step reply was now behind old new more is begun ready fits left made always =
+pub framed_by : (sum : List ℕ → ℕ) (step : Step) (reply : Reply) (was now : SessionState) (behind : CacheState) (old new : Life) (more : List Tail) (replays : (P : ℕ) → Standing → List (Option Replayed)) → now.snapshots ≡ was.snapshots ++ more → (now.recovering ≡ true → now.snapshots ≡ [])
+    → IsReadyApart sum now new.present → FitsWriter now.writer behind new.present → All (Left sum now.writer behind old.present new.present) was.snapshots → HasReplays sum was now old.present new.present replays → All (Made sum now.writer behind new.present) more
+    → AlwaysLeaves sum step reply was now old new more replays → Steps sum step reply was now old new × CacheFits now behind new.present
+framed_by sum step reply was now behind old new more replays is begun ready fits left has made always =
     let ts = was.snapshots in
     let snapshots : All (λ t. IsSnapshot sum now.writer t new.present) (ts ++ more) =
     All-append (λ t. IsSnapshot sum now.writer t new.present) ts more (λ k t lt. (left k t lt).snapshot) (λ k t lt. (made k t lt).snapshot) in
     let can : All (λ t. CanRead t behind new.present) (ts ++ more) = All-append (λ t. CanRead t behind new.present) ts more (λ k t lt. (left k t lt).can) (λ k t lt. (made k t lt).can) in
-    let tells : map (λ t. told t new.present.readable) ts ≡ map (λ t. told t old.present.readable) ts = told_alike old.present new.present ts (λ k t lt. (left k t lt).tells) in (
+    let tells : map (λ t. told t new.present.readable) ts ≡ map (λ t. told t old.present.readable) ts =
+    maps_alike (λ (t : Tail). told t new.present.readable) (λ (t : Tail). told t old.present.readable) ts (λ k t lt. (left k t lt).tells) in (
       record {
         ready = record {
           writer = ready.writer;
           starts = ready.starts;
           snapshots = subst (λ (l : List Tail). All (λ t. IsSnapshot sum now.writer t new.present) l) (sym is) snapshots;
           begun = begun;
+          replays = has.ready;
         };
         always = λ P before stands.
             let a = always P before stands in
             let all : a.behind.snapshots ≡ map (λ t. told t new.present.readable) now.snapshots =
             a.same ∙ ap (λ (l : List (List ℕ)). l ++ map (λ t. told t new.present.readable) more) (stands.snapshots ∙ sym tells)
-            ∙ sym (map_both new.present ts more) ∙ ap (λ (l : List Tail). map (λ t. told t new.present.readable) l) (sym is) in
-            record { moments = a.moments; goes = a.goes; behind = a.behind; did = a.did; stands = whole sum P now a.behind new.present all a.stands };
+            ∙ sym (map_both (λ (t : Tail). told t new.present.readable) ts more) ∙ ap (λ (l : List Tail). map (λ t. told t new.present.readable) l) (sym is) in
+            record { moments = a.moments; goes = a.goes; behind = a.behind; did = a.did; stands = whole sum P now a.behind new.present all (a.alike ∙ has.gives P before stands) a.stands };
       },
       record { writer = fits; snapshots = subst (λ (l : List Tail). All (λ t. CanRead t behind new.present) l) (sym is) can },
     )
 
--- of one that makes none
-pub framed_same : (sum : List ℕ → ℕ) (step : Step) (reply : Reply) (was now : SessionState) (behind : CacheState) (old new : Life) → now.snapshots ≡ was.snapshots → (now.recovering ≡ true → now.snapshots ≡ []) → FitsWriter now.writer behind new.present
-    → All (Left sum now.writer behind old.present new.present) was.snapshots → StepsApart sum step reply was now old new → Steps sum step reply was now old new × CacheFits now behind new.present
-framed_same sum step reply was now behind old new is begun fits left apart =
-    framed sum step reply was now behind old new [] (is ∙ sym (append-nil was.snapshots)) begun apart.ready fits left (λ k t lt. absurd (omega (arith, lt)))
+-- replays that are left are as they were
+same_replays : (sum : List ℕ → ℕ) (was now : SessionState) (behind : CacheState) (old new : Disk) → now.replays ≡ was.replays → LeftAll sum was now.writer behind old new → HasReplays sum was now old new (λ P s. s.replays)
+same_replays sum was now behind old new is left = record {
+  ready = subst (λ (l : List (Option ReplayState)). All (IsReplayIn sum now.writer new) l) (sym is) (λ k o lt. (left.replays k o lt).replay);
+  gives = λ P before stands.
+      let tells : map (option_map (replayed new.readable)) was.replays ≡ map (option_map (replayed old.readable)) was.replays =
+      maps_alike (option_map (replayed new.readable)) (option_map (replayed old.readable)) was.replays (λ k o lt. (left.replays k o lt).tells) in
+      stands.replays ∙ sym tells ∙ ap (λ (l : List (Option ReplayState)). map (option_map (replayed new.readable)) l) (sym is);
+}
+
+-- of one that leaves the replays
+pub framed : (sum : List ℕ → ℕ) (step : Step) (reply : Reply) (was now : SessionState) (behind : CacheState) (old new : Life) (more : List Tail) → now.snapshots ≡ was.snapshots ++ more → now.replays ≡ was.replays → (now.recovering ≡ true → now.snapshots ≡ [])
+    → IsReadyApart sum now new.present → FitsWriter now.writer behind new.present → LeftAll sum was now.writer behind old.present new.present → All (Made sum now.writer behind new.present) more → AlwaysMakes sum step reply was now old new more
+    → Steps sum step reply was now old new × CacheFits now behind new.present
+framed sum step reply was now behind old new more is kept begun ready fits left made always =
+    framed_by sum step reply was now behind old new more (λ P s. s.replays) is begun ready fits left.snapshots (same_replays sum was now behind old.present new.present kept left) made always
+
+-- of one that makes no snapshot, by what it leaves of the replays
+framed_alone : (cuts : Bool) (sum : List ℕ → ℕ) (step : Step) (reply : Reply) (was now : SessionState) (behind : CacheState) (old new : Life) → now.snapshots ≡ was.snapshots → (now.recovering ≡ true → now.snapshots ≡ []) → FitsWriter now.writer behind new.present
+    → All (Left sum now.writer behind old.present new.present) was.snapshots → HasReplays sum was now old.present new.present (λ P s. left_replays cuts s.replays) → StepsBy cuts sum step reply was now old new
+    → Steps sum step reply was now old new × CacheFits now behind new.present
+framed_alone cuts sum step reply was now behind old new is begun fits left has apart =
+    framed_by sum step reply was now behind old new [] (λ P s. left_replays cuts s.replays) (is ∙ sym (append-nil was.snapshots)) begun apart.ready fits left has (λ k t lt. absurd (omega (arith, lt)))
     (λ P before stands.
-    subst (λ (l : List (List ℕ)). SteppedApart sum P step reply now old new before l) (sym (append-nil before.snapshots)) (apart.always P before (stands_apart sum P was before old.present stands)))
+    subst (λ (l : List (List ℕ)). SteppedApart sum P step reply now old new before l (left_replays cuts before.replays)) (sym (append-nil before.snapshots))
+    (apart.always P before (stands_apart sum P was before old.present stands)))
+
+-- of one that leaves both
+pub framed_same : (sum : List ℕ → ℕ) (step : Step) (reply : Reply) (was now : SessionState) (behind : CacheState) (old new : Life) → now.snapshots ≡ was.snapshots → now.replays ≡ was.replays → (now.recovering ≡ true → now.snapshots ≡ [])
+    → FitsWriter now.writer behind new.present → LeftAll sum was now.writer behind old.present new.present → StepsApart sum step reply was now old new → Steps sum step reply was now old new × CacheFits now behind new.present
+framed_same sum step reply was now behind old new is kept begun fits left apart =
+    framed_alone false sum step reply was now behind old new is begun fits left.snapshots (same_replays sum was now behind old.present new.present kept left) apart
+
+-- of one that forgets the replays
+none_left : (sum : List ℕ → ℕ) (writer : Option WriterState) (d : Disk) (os : List (Option ReplayState)) → All (IsReplayIn sum writer d) (map (λ o. None) os)
+none_left sum writer d [] = λ k o lt. absurd (omega (arith, lt))
+none_left sum writer d (o ∷ os) = both
+  where
+    both : All (IsReplayIn sum writer d) (None ∷ map (λ x. None) os)
+    both zero x lt = tt
+    both (suc k) x lt = none_left sum writer d os k x (omega (arith, lt))
+
+pub framed_cut : (sum : List ℕ → ℕ) (step : Step) (reply : Reply) (was now : SessionState) (behind : CacheState) (old new : Life) → now.snapshots ≡ was.snapshots → now.replays ≡ map (λ o. None) was.replays → (now.recovering ≡ true → now.snapshots ≡ [])
+    → FitsWriter now.writer behind new.present → All (Left sum now.writer behind old.present new.present) was.snapshots → StepsBy true sum step reply was now old new → Steps sum step reply was now old new × CacheFits now behind new.present
+framed_cut sum step reply was now behind old new is forgot begun fits left apart =
+    framed_alone true sum step reply was now behind old new is begun fits left
+    (record {
+      ready = subst (λ (l : List (Option ReplayState)). All (IsReplayIn sum now.writer new.present) l) (sym forgot) (none_left sum now.writer new.present was.replays);
+      gives = λ P before stands.
+          ap (λ (l : List (Option Replayed)). map (λ x. None) l) stands.replays ∙ all_nothing old.present.readable new.present.readable was.replays
+          ∙ ap (λ (l : List (Option ReplayState)). map (option_map (replayed new.present.readable)) l) (sym forgot);
+    })
+    apart
+  where
+    all_nothing : (a b : List ℕ) (os : List (Option ReplayState)) → map (λ x. None) (map (option_map (replayed a)) os) ≡ map (option_map (replayed b)) (map (λ o. None) os)
+    all_nothing a b [] = refl
+    all_nothing a b (o ∷ os) = ap (λ (l : List (Option Replayed)). None ∷ l) (all_nothing a b os)
 
 -- ---- a session that begins
 
 pub begun_ready : (sum : List ℕ → ℕ) (w : WriterState) (session : SessionState) (d : Disk) → session ≡ session_of w → IsSound sum w d → IsReady sum session d
 begun_ready sum w session d is sound =
-    subst (λ (s : SessionState). IsReady sum s d) (sym is) (record { writer = sound; starts = inl refl; snapshots = λ k t lt. absurd (omega (arith, lt)); begun = λ phase. refl })
+    subst (λ (s : SessionState). IsReady sum s d) (sym is) (record { writer = sound; starts = inl refl; snapshots = λ k t lt. absurd (omega (arith, lt)); begun = λ phase. refl; replays = λ k o lt. absurd (omega (arith, lt)) })
 
 pub begun_fits : (w : WriterState) (session : SessionState) (cache : CacheState) (d : Disk) → session ≡ session_of w → CanRead (tail_of w) cache d → CacheFits session cache d
 begun_fits w session cache d is can = subst (λ (s : SessionState). CacheFits s cache d) (sym is) (record { writer = can; snapshots = λ k t lt. absurd (omega (arith, lt)) })

@@ -261,6 +261,7 @@ away_steps sum step reply was w life away same = λ P before stands.
       };
       stands = stands;
       same = refl;
+      alike = refl;
     }
 
 -- of a session with a writer

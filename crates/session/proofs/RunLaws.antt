@@ -75,6 +75,7 @@ raised_stands sum P session s d stands = record {
   covered = stands.covered;
   only = stands.only;
   snapshots = stands.snapshots;
+  replays = stands.replays;
 }
 
 -- ---- a run

@@ -25,6 +25,7 @@ use Rattle.crash.proofs.StartedLaws.{alike_would}
 use Rattle.cache.specs.CacheState.{CacheState}
 use Rattle.paged_read.specs.Tail.{Tail, told, HasPages, CanRead, size_of as size_of_tail}
 use Rattle.paged_read.specs.Ranges.{Reads}
+use Rattle.paged_read.specs.Replay.{LeavesAllReplays}
 use Rattle.paged_read.specs.Snapshots.{LeavesAllReads, LeavesAllTails, LeavesWriters, StandsOn}
 use Rattle.paged_read.proofs.Leaving.{length-told}
 use Rattle.paged.specs.Caches.{tail_of}
@@ -36,14 +37,14 @@ use Rattle.session.specs.declared.steps.Step.{Step}
 use Rattle.session.specs.declared.steps.Step.TheVariants.{Snapshot, TrySnapshot, Snap, Seal}
 use Rattle.session.specs.declared.steps.Reply.{Reply}
 use Rattle.session.specs.declared.steps.Reply.TheVariants.{Nothing, Bytes, Fault, Closed, NoSuch, Taken, Sealed, NotAppending}
-use Rattle.session.specs.Run.{Standing, SessionState, begun, noted, flushed, starting, left_by_seal, ended, sealed_by, snapshot_at, has_snapshot, turned_away, faults, HasCause, HadFailed, Takes, Foretells, Answers, Touches, wait_touch, last, AllCover, pending_in, WriterStandsFor, WriterFits, NamesFit, HasSoundWriter, FitsWriter, CacheFits, IsReady, IsBelow, IsSnapshot, StandsFor}
+use Rattle.session.specs.Run.{Replayed, Standing, SessionState, begun, noted, flushed, starting, left_by_seal, ended, sealed_by, snapshot_at, has_snapshot, turned_away, faults, HasCause, HadFailed, Takes, Foretells, Answers, Touches, wait_touch, last, AllCover, pending_in, WriterStandsFor, WriterFits, NamesFit, HasSoundWriter, FitsWriter, CacheFits, IsReady, IsBelow, IsSnapshot, StandsFor}
 use Rattle.session.specs.Run.Touch.{Leaves, Looks, Changes}
-use Rattle.session.specs.Calls.{IfAppending, SnapshotSays, with_snapshot, TakesSnapshot, TriesSnapshot, SealSays, sealed_with, SealsSession, DidSnapshot, DidTrySnapshot, DidSeal, DidSnap, ReadsBytes, ReadSays, LeavesSnapshots, Steps}
+use Rattle.session.specs.Calls.{IfAppending, SnapshotSays, with_snapshot, TakesSnapshot, TriesSnapshot, SealSays, sealed_with, SealsSession, DidSnapshot, DidTrySnapshot, DidSeal, DidSnap, ReadsBytes, ReadSays, LeavesTaken, Steps}
 use Rattle.session.proofs.Apart.{AlwaysApart, IsReadyApart, StandsApart, SteppedApart, StepsApart, stands_apart, ready_apart}
-use Rattle.session.proofs.Below.{AlwaysMakes, Left, Made, can_in, framed, framed_same, left_by, left_same, of_each, sound_in}
+use Rattle.session.proofs.Below.{AlwaysMakes, Left, Made, can_in, framed, framed_same, leaves_all, leaves_here, LeftAll, left_by, left_same, of_each, sound_in}
 use Rattle.session.proofs.StepLaws.{held, held_same, last_is, no_moments, answers_away, answers_here, leaves, few_calls, raised_within, only_there, Halves, each_end, stepped, unasked, unasked_over, stands_now, stands_ended, full_work, start_work, start_dirty, had_without_room, had_failed_as, wait_none, wait_one, owed_starts, same_halves, left_buffered, alike_stays_started, closed_takes}
 use Rattle.session.proofs.RangeLaws.{away_steps}
-use Rattle.session.proofs.StartLaws.{goes_through, refused_through, name_more, waited_fits, all_more}
+use Rattle.session.proofs.StartLaws.{starting_keeps, goes_through, refused_through, name_more, waited_fits, all_more}
 
 -- ---- by the two tests of a writer that appends
 
@@ -62,10 +63,10 @@ gone false b none = refl
 gone true b none = absurd (false≢true (sym none))
 
 -- a step that leaves the session
-same_takes : (sum : List ℕ → ℕ) (step : Step) (reply : Reply) (was now : SessionState) (cache behind : CacheState) (old new : Life) → IsReady sum was old.present → CacheFits was cache old.present → FitsWriter now.writer behind new.present
-    → LeavesSnapshots sum was.writer now.writer cache behind old new → now ≡ was → StepsApart sum step reply was now old new → Steps sum step reply was now old new × CacheFits now behind new.present
+pub same_takes : (sum : List ℕ → ℕ) (step : Step) (reply : Reply) (was now : SessionState) (cache behind : CacheState) (old new : Life) → IsReady sum was old.present → CacheFits was cache old.present → FitsWriter now.writer behind new.present
+    → LeavesTaken sum was.writer now.writer cache behind old new → now ≡ was → StepsApart sum step reply was now old new → Steps sum step reply was now old new × CacheFits now behind new.present
 same_takes sum step reply was now cache behind old new ready fits writer stay is apart =
-    framed_same sum step reply was now behind old new (ap (λ (s : SessionState). s.snapshots) is) (subst (λ (s : SessionState). s.recovering ≡ true → s.snapshots ≡ []) (sym is) ready.begun) writer (left_by sum was now.writer cache behind old new ready fits stay) apart
+    framed_same sum step reply was now behind old new (ap (λ (s : SessionState). s.snapshots) is) (ap (λ (s : SessionState). s.replays) is) (subst (λ (s : SessionState). s.recovering ≡ true → s.snapshots ≡ []) (sym is) ready.begun) writer (left_by sum was now.writer cache behind old new ready fits stay) apart
 
 -- one of a writer that appends, by a session in recovery, or closed
 module _ (sum : List ℕ → ℕ) (step : Step) (was now : SessionState) (old new : Life) (ready : IsReady sum was old.present) (appends : (s : Standing) → turned_away step s ≡ (if s.has_writer then (if s.recovering then Some NotAppending else None) else Some Closed)) where
@@ -134,7 +135,7 @@ noted_stands sum P was w t s d stands = record {
 }
 
 -- what stands of a session with this writer
-stands_held : (sum : List ℕ → ℕ) (P : ℕ) (was : SessionState) (w : WriterState) (s : Standing) (d : Disk) → was.writer ≡ Some w → StandsFor sum P was s d → StandsApart sum P (held was (Some w)) s d
+pub stands_held : (sum : List ℕ → ℕ) (P : ℕ) (was : SessionState) (w : WriterState) (s : Standing) (d : Disk) → was.writer ≡ Some w → StandsFor sum P was s d → StandsApart sum P (held was (Some w)) s d
 stands_held sum P was w s d at stands = subst (λ (x : SessionState). StandsApart sum P x s d) (held_same was (Some w) at) (stands_apart sum P was s d stands)
 
 -- a snapshot has the number of those before it
@@ -143,10 +144,10 @@ number_is sum P was s d stands = sym (ap length stands.snapshots ∙ length-map 
 
 -- and tells the content
 one_more : (sum : List ℕ → ℕ) (step : Step) (P : ℕ) (reply : Reply) (now : SessionState) (old new : Life) (before : Standing) (t : Tail) → told t new.present.readable ≡ before.content
-    → SteppedApart sum P step reply now old new before (before.snapshots ++ before.content ∷ []) → SteppedApart sum P step reply now old new before (before.snapshots ++ map (λ u. told u new.present.readable) (t ∷ []))
-one_more sum step P reply now old new before t tells stepped_on = subst (λ (l : List ℕ). SteppedApart sum P step reply now old new before (before.snapshots ++ l ∷ [])) (sym tells) stepped_on
+    → SteppedApart sum P step reply now old new before (before.snapshots ++ before.content ∷ []) before.replays → SteppedApart sum P step reply now old new before (before.snapshots ++ map (λ u. told u new.present.readable) (t ∷ [])) before.replays
+one_more sum step P reply now old new before t tells stepped_on = subst (λ (l : List ℕ). SteppedApart sum P step reply now old new before (before.snapshots ++ l ∷ []) before.replays) (sym tells) stepped_on
 
-snapshot_few : (work : Bool) (state : SyncState) → (if work then wait_calls state + 1 else 0) ≤ 2
+pub snapshot_few : (work : Bool) (state : SyncState) → (if work then wait_calls state + 1 else 0) ≤ 2
 snapshot_few true Clean = lit≤ tt
 snapshot_few true Dirty = lit≤ tt
 snapshot_few true (Pending name) = lit≤ tt
@@ -161,7 +162,7 @@ snapshot_steps sum was w v t behind old new at phase sound says on = λ P before
     one_more sum Snapshot P (Taken (length was.snapshots)) (with_snapshot was (Some v) t) old new before t (on.tail.is ∙ sym stands.fits.content) (by_work P before all stands (has_work w false) refl)
   where
     by_work : (P : ℕ) (before : Standing) → StandsFor sum P was before old.present → StandsApart sum P (held was (Some w)) before old.present → (work : Bool) → has_work w false ≡ work
-        → SteppedApart sum P Snapshot (Taken (length was.snapshots)) (with_snapshot was (Some v) t) old new before (before.snapshots ++ before.content ∷ [])
+        → SteppedApart sum P Snapshot (Taken (length was.snapshots)) (with_snapshot was (Some v) t) old new before (before.snapshots ++ before.content ∷ []) before.replays
     by_work P before all stands false none =
         let fits = stands.fits in
         let idle = says.idle none in
@@ -253,16 +254,16 @@ no_room_for_one sum was w life phase = λ P before stands.
 
 -- a snapshot by a session
 pub snapshot_takes : (sum : List ℕ → ℕ) (was now : SessionState) (cache behind : CacheState) (old new : Life) (reply : Reply) → IsReady sum was old.present → CacheFits was cache old.present → FitsWriter now.writer behind new.present
-    → LeavesSnapshots sum was.writer now.writer cache behind old new → DidSnapshot sum was now behind old new reply → Steps sum Snapshot reply was now old new × CacheFits now behind new.present
+    → LeavesTaken sum was.writer now.writer cache behind old new → DidSnapshot sum was now behind old new reply → Steps sum Snapshot reply was now old new × CacheFits now behind new.present
 snapshot_takes sum was now cache behind old new reply ready fits writer stay did = by_state was.recovering was.writer refl refl did
   where
     made : (w : WriterState) → was.writer ≡ Some w → was.recovering ≡ false → (r : Reply) → TakesSnapshot sum w was now behind old new r → Steps sum Snapshot r was now old new × CacheFits now behind new.present
     made w at phase (Taken index) (v, t, number, is, says, on) =
         let sound = sound_in sum was.writer w old.present at ready.writer in
         let goes = says.makes.0 in
-        let below : IsBelow (Some v) t = subst (λ (u : Tail). u.full_pages ≤ v.full_pages) (sym says.makes.2) (omega arith) in
+        let below : IsBelow (Some v) t = subst (λ (u : Tail). IsBelow (Some v) u) (sym says.makes.2) (refl, omega arith) in
         subst (λ (n : ℕ). Steps sum Snapshot (Taken n) was now old new × CacheFits now behind new.present) (sym number)
-        (framed sum Snapshot (Taken (length was.snapshots)) was now behind old new (t ∷ []) (ap (λ (s : SessionState). s.snapshots) is) (λ other. absurd (false≢true (sym phase ∙ sym (ap (λ (s : SessionState). s.recovering) is) ∙ other)))
+        (framed sum Snapshot (Taken (length was.snapshots)) was now behind old new (t ∷ []) (ap (λ (s : SessionState). s.snapshots) is) (ap (λ (s : SessionState). s.replays) is) (λ other. absurd (false≢true (sym phase ∙ sym (ap (λ (s : SessionState). s.recovering) is) ∙ other)))
         (subst (λ (s : SessionState). IsReadyApart sum s new.present) (sym is) (record { writer = goes.sound; starts = inr says.owes.starts })) writer (left_by sum was now.writer cache behind old new ready fits stay)
         (subst (λ (s : SessionState). All (Made sum s.writer behind new.present) (t ∷ [])) (sym is) (one_made (Some v) t below on))
         (subst (λ (s : SessionState). AlwaysMakes sum Snapshot (Taken (length was.snapshots)) was s old new (t ∷ [])) (sym is) (snapshot_steps sum was w v t behind old new at phase sound says on)))
@@ -272,7 +273,7 @@ snapshot_takes sum was now cache behind old new reply ready fits writer stay did
         one_made o t below on (suc k) d lt = absurd (omega (arith, lt))
     made w at phase (Fault e) goes = elim goes [
       | inl (is, says) ↦
-          framed_same sum Snapshot (Fault e) was now behind old new (ap (λ (s : SessionState). s.snapshots) is) (λ other. absurd (false≢true (sym phase ∙ sym (ap (λ (s : SessionState). s.recovering) is) ∙ other))) writer
+          framed_same sum Snapshot (Fault e) was now behind old new (ap (λ (s : SessionState). s.snapshots) is) (ap (λ (s : SessionState). s.replays) is) (λ other. absurd (false≢true (sym phase ∙ sym (ap (λ (s : SessionState). s.recovering) is) ∙ other))) writer
           (left_by sum was now.writer cache behind old new ready fits stay)
           (subst (λ (s : SessionState). StepsApart sum Snapshot (Fault e) was s old new) (sym is)
           (record {
@@ -302,7 +303,7 @@ snapshot_takes sum was now cache behind old new reply ready fits writer stay did
 -- ---- snapshots for which nothing is written
 
 copy_made : (sum : List ℕ → ℕ) (w : WriterState) (cache : CacheState) (d : Disk) → IsSound sum w d → CanRead (tail_of w) cache d → All (Made sum (Some w) cache d) (tail_of w ∷ [])
-copy_made sum w cache d sound can zero t lt = record { snapshot = record { there = sound_there sum w d sound; full = sound_full sum w d sound; below = omega arith }; can = can }
+copy_made sum w cache d sound can zero t lt = record { snapshot = record { there = sound_there sum w d sound; full = sound_full sum w d sound; below = (refl, omega arith) }; can = can }
 copy_made sum w cache d sound can (suc k) t lt = absurd (omega (arith, lt))
 
 try_snapshot_steps : (sum : List ℕ → ℕ) (was : SessionState) (w : WriterState) (life : Life) → was.writer ≡ Some w → was.recovering ≡ false → length w.tip < w.page_size
@@ -328,7 +329,7 @@ try_snapshot_takes sum was now cache life reply ready fits did = by_state was.re
     same_session : (r : Reply) → now ≡ was → StepsApart sum TrySnapshot r was now life life → Steps sum TrySnapshot r was now life life × CacheFits now cache life.present
     same_session r is apart =
         same_takes sum TrySnapshot r was now cache cache life life ready fits (subst (λ (s : SessionState). FitsWriter s.writer cache life.present) (sym is) fits.writer)
-        (subst (λ (s : SessionState). LeavesSnapshots sum was.writer s.writer cache cache life life) (sym is) (λ t content below stands. (stands, below))) is apart
+        (subst (λ (s : SessionState). LeavesTaken sum was.writer s.writer cache cache life life) (sym is) (leaves_here sum was.writer cache life)) is apart
 
     same_apart : (r : Reply) (w : WriterState) → was.writer ≡ Some w → was.recovering ≡ false → now ≡ was → ((P : ℕ) (s : Standing) → WriterStandsFor P w s life.present → Takes P TrySnapshot r life.present life.present s s) → StepsApart sum TrySnapshot r was now life life
     same_apart r w at phase is takes =
@@ -345,7 +346,7 @@ try_snapshot_takes sum was now cache life reply ready fits did = by_state was.re
         let next = with_snapshot was (Some w) (tail_of w) in
         subst (λ (n : ℕ). Steps sum TrySnapshot (Taken n) was now life life × CacheFits now cache life.present) (sym number)
         (subst (λ (s : SessionState). Steps sum TrySnapshot (Taken (length was.snapshots)) was s life life × CacheFits s cache life.present) (sym is)
-        (framed sum TrySnapshot (Taken (length was.snapshots)) was next cache life life (tail_of w ∷ []) refl (λ other. absurd (false≢true (sym phase ∙ other))) (record { writer = sound; starts = ready.starts }) can
+        (framed sum TrySnapshot (Taken (length was.snapshots)) was next cache life life (tail_of w ∷ []) refl refl (λ other. absurd (false≢true (sym phase ∙ other))) (record { writer = sound; starts = ready.starts }) can
         (left_same sum was (Some w) cache cache life life ready fits (sym at) refl refl) (copy_made sum w cache life.present sound can) (try_snapshot_steps sum was w life at phase short)))
     tries w at phase Nothing (full, is) =
         same_session Nothing is (same_apart Nothing w at phase is (λ P s stands. let more : P ≤ s.buffered = omega (arith, full, stands.buffered, stands.page_size) in (more, refl)))
@@ -445,10 +446,11 @@ seal_steps sum was w t sync behind old new at phase says on = λ P before all.
     let answer : sync ≡ sealed_by before old.present =
     says.answers ∙ ap (λ (b : Bool). if b then AllDone else Named (length old.present.started)) (seal_waits (has_work w true) w.sync ∙ sym fits.written) in
     one_more sum Seal P (Sealed (length was.snapshots) sync) (sealed_with was t sync) old new before t (on.tail.is ∙ sym fits.content)
-    (subst (λ (l : List (List ℕ)). SteppedApart sum P Seal (Sealed (length was.snapshots) sync) (sealed_with was t sync) old new before l) (left_content P sync before)
+    (subst (λ (l : List (List ℕ)). SteppedApart sum P Seal (Sealed (length was.snapshots) sync) (sealed_with was t sync) old new before l before.replays) (left_content P sync before)
+    (subst (λ (rs : List (Option Replayed)). SteppedApart sum P Seal (Sealed (length was.snapshots) sync) (sealed_with was t sync) old new before (left_by_seal P sync before).snapshots rs) (starting_keeps P sync before)
     (stepped sum P Seal (Sealed (length was.snapshots) sync) (sealed_with was t sync) old new before (left_by_seal P sync before) through.moments fits.has_writer (here before.has_writer before.recovering fits.has_writer (sym stands.phase ∙ phase)) h
     (seal_touch w P before old new through.moments fits h.goes says.calls (λ none. (says.idle none).1)) (number_is sum P was before old.present all, answer, refl) (λ none. absurd none, λ none. absurd none)
-    (sealed_stands sum P was w t sync old new before through.moments stands starts.3 h)))
+    (sealed_stands sum P was w t sync old new before through.moments stands starts.3 h))))
 
 -- why one isn't
 seal_cause : (P : ℕ) (w : WriterState) (before : Standing) (old new : Life) (e : Error) → before.awaited ≡ pending_in w.sync → CallCause w.sync old new e → Contains (faults Seal) e × HasCause P Seal before old.present new.present e
@@ -480,7 +482,7 @@ no_room_to_seal sum was w life phase = λ P before stands.
     (λ none. absurd none, λ none. absurd none) stands
 
 pub seal_takes : (sum : List ℕ → ℕ) (was now : SessionState) (cache behind : CacheState) (old new : Life) (reply : Reply) → IsReady sum was old.present → CacheFits was cache old.present → FitsWriter now.writer behind new.present
-    → LeavesSnapshots sum was.writer now.writer cache behind old new → DidSeal sum was now behind old new reply → Steps sum Seal reply was now old new × CacheFits now behind new.present
+    → LeavesTaken sum was.writer now.writer cache behind old new → DidSeal sum was now behind old new reply → Steps sum Seal reply was now old new × CacheFits now behind new.present
 seal_takes sum was now cache behind old new reply ready fits writer stay did = by_state was.recovering was.writer refl refl did
   where
     one_made : (t : Tail) (content : List ℕ) → StandsOn sum t content behind new.present → All (Made sum None behind new.present) (t ∷ [])
@@ -491,13 +493,13 @@ seal_takes sum was now cache behind old new reply ready fits writer stay did = b
     seals w at phase (Sealed index sync) (t, number, is, says, on) =
         let next = sealed_with was t sync in
         subst (λ (n : ℕ). Steps sum Seal (Sealed n sync) was now old new × CacheFits now behind new.present) (sym number)
-        (framed sum Seal (Sealed (length was.snapshots) sync) was now behind old new (t ∷ []) (ap (λ (s : SessionState). s.snapshots) is) (λ other. absurd (false≢true (sym phase ∙ sym (ap (λ (s : SessionState). s.recovering) is) ∙ other)))
+        (framed sum Seal (Sealed (length was.snapshots) sync) was now behind old new (t ∷ []) (ap (λ (s : SessionState). s.snapshots) is) (ap (λ (s : SessionState). s.replays) is) (λ other. absurd (false≢true (sym phase ∙ sym (ap (λ (s : SessionState). s.recovering) is) ∙ other)))
         (subst (λ (s : SessionState). IsReadyApart sum s new.present) (sym is) (record { writer = tt; starts = inr says.owes.starts })) writer (left_by sum was now.writer cache behind old new ready fits stay)
         (subst (λ (s : SessionState). All (Made sum s.writer behind new.present) (t ∷ [])) (sym is) (one_made t (content_of w old.present.readable) on))
         (subst (λ (s : SessionState). AlwaysMakes sum Seal (Sealed (length was.snapshots) sync) was s old new (t ∷ [])) (sym is) (seal_steps sum was w t sync behind old new at phase says on)))
     seals w at phase (Fault e) goes = elim goes [
       | inl (is, says) ↦
-          framed_same sum Seal (Fault e) was now behind old new (ap (λ (s : SessionState). s.snapshots) is) (λ other. absurd (false≢true (sym phase ∙ sym (ap (λ (s : SessionState). s.recovering) is) ∙ other))) writer
+          framed_same sum Seal (Fault e) was now behind old new (ap (λ (s : SessionState). s.snapshots) is) (ap (λ (s : SessionState). s.replays) is) (λ other. absurd (false≢true (sym phase ∙ sym (ap (λ (s : SessionState). s.recovering) is) ∙ other))) writer
           (left_by sum was now.writer cache behind old new ready fits stay)
           (subst (λ (s : SessionState). StepsApart sum Seal (Fault e) was s old new) (sym is)
           (record {
@@ -581,7 +583,7 @@ snap_steps sum was t cache index offset len old new reply at there says = λ P b
     let after_it = at_each new.present says.looked.same in
     let end : new.present ≡ last old.present seen.moments = ap (λ (life : Life). life.present) seen.goes ∙ last_is old seen.moments in
     let foretold : Foretells P (Snap index offset len) reply before = (says.overflow, λ passes. says.end passes.0 (omega (arith, size, passes.1))) in
-    subst (λ (l : List (List ℕ)). SteppedApart sum P (Snap index offset len) reply was old new before l) (sym (append-nil before.snapshots))
+    subst (λ (l : List (List ℕ)). SteppedApart sum P (Snap index offset len) reply was old new before l before.replays) (sym (append-nil before.snapshots))
     (record {
       moments = seen.moments;
       goes = seen.goes;
@@ -602,6 +604,7 @@ snap_steps sum was t cache index offset len old new reply at there says = λ P b
       };
       stands = after_it;
       same = refl;
+      alike = refl;
     })
 
 -- one that there isn't
@@ -610,7 +613,7 @@ no_snap_steps sum was index offset len life past = λ P before all.
     let stands = stands_apart sum P was before life.present all in
     let number = number_is sum P was before life.present all in
     let none : has_snapshot before index ≡ false = grind (arith, nat_tests, past, number) in
-    subst (λ (l : List (List ℕ)). SteppedApart sum P (Snap index offset len) NoSuch was life life before l) (sym (append-nil before.snapshots))
+    subst (λ (l : List (List ℕ)). SteppedApart sum P (Snap index offset len) NoSuch was life life before l before.replays) (sym (append-nil before.snapshots))
     (record {
       moments = [];
       goes = refl;
@@ -626,28 +629,29 @@ no_snap_steps sum was index offset len life past = λ P before all.
       };
       stands = stands;
       same = refl;
+      alike = refl;
     })
 
 -- the writer stays as it is
-sound_on : (sum : List ℕ → ℕ) (o : Option WriterState) (old new : Life) → LeavesWriters sum old new → HasSoundWriter sum o old.present → HasSoundWriter sum o new.present
+pub sound_on : (sum : List ℕ → ℕ) (o : Option WriterState) (old new : Life) → LeavesWriters sum old new → HasSoundWriter sum o old.present → HasSoundWriter sum o new.present
 sound_on sum None old new stay sound = tt
 sound_on sum (Some w) old new stay sound = (stay w sound).sound
 
-fits_on : (o : Option WriterState) (cache behind : CacheState) (old new : Life) → LeavesAllReads cache behind old new → FitsWriter o cache old.present → FitsWriter o behind new.present
+pub fits_on : (o : Option WriterState) (cache behind : CacheState) (old new : Life) → LeavesAllReads cache behind old new → FitsWriter o cache old.present → FitsWriter o behind new.present
 fits_on None cache behind old new stay fits = tt
 fits_on (Some w) cache behind old new stay fits = stay (tail_of w) fits
 
 pub snap_takes : (sum : List ℕ → ℕ) (was : SessionState) (cache behind : CacheState) (index offset len : ℕ) (old new : Life) (reply : Reply) → IsReady sum was old.present → CacheFits was cache old.present
-    → DidSnap sum (slice_get was.snapshots index) cache offset len old new reply → LeavesWriters sum old new → LeavesAllTails sum cache behind old new → LeavesAllReads cache behind old new
+    → DidSnap sum (slice_get was.snapshots index) cache offset len old new reply → LeavesWriters sum old new → LeavesAllTails sum cache behind old new → LeavesAllReplays old new → LeavesAllReads cache behind old new
     → Steps sum (Snap index offset len) reply was was old new × CacheFits was behind new.present
-snap_takes sum was cache behind index offset len old new reply ready fits did writers tails reads = by_place (slice_get was.snapshots index) refl did
+snap_takes sum was cache behind index offset len old new reply ready fits did writers tails replays reads = by_place (slice_get was.snapshots index) refl did
   where
-    left : All (Left sum was.writer behind old.present new.present) was.snapshots
-    left = left_by sum was was.writer cache behind old new ready fits (λ t content below stands. (tails t content stands, below))
+    left : LeftAll sum was was.writer behind old.present new.present
+    left = left_by sum was was.writer cache behind old new ready fits (leaves_all sum was.writer cache behind old new tails replays)
 
     whole_of : (r : Reply) → (was.names ≡ []) ⊎ StartsStand new.present → AlwaysMakes sum (Snap index offset len) r was was old new [] → Steps sum (Snap index offset len) r was was old new × CacheFits was behind new.present
     whole_of r starts always =
-        framed sum (Snap index offset len) r was was behind old new [] (sym (append-nil was.snapshots)) ready.begun (record { writer = sound_on sum was.writer old new writers ready.writer; starts = starts })
+        framed sum (Snap index offset len) r was was behind old new [] (sym (append-nil was.snapshots)) refl ready.begun (record { writer = sound_on sum was.writer old new writers ready.writer; starts = starts })
         (fits_on was.writer cache behind old new reads fits.writer) left (λ k t lt. absurd (omega (arith, lt))) always
 
     past : slice_get was.snapshots index ≡ None → length was.snapshots ≤ index

@@ -24,7 +24,7 @@ use Rattle.paged.specs.Calls.{HasCause as CallCause, GoesOn, Refuses as CallRefu
 use Rattle.session.specs.declared.steps.Step.TheVariants.{StartSync, Wait, WaitSync, Needs, Begin}
 use Rattle.session.specs.declared.steps.Reply.{Reply}
 use Rattle.session.specs.declared.steps.Reply.TheVariants.{At, Nothing, Done, Started, Answer, Length, Bytes, Fault, Closed, NotRecovering, NoSuch, Served, Missed, BadRanges, Taken, Sealed, NotAppending}
-use Rattle.session.specs.Run.{Standing, SessionState, ended, starting, waited, started_by, is_complete, HasCompleted, turned_away, Answers, faults, HasCause, HadFailed, Takes, wait_touch, last, Touches, AllCover, pending_in, WriterStandsFor, WriterFits, NamesFit, HasSoundWriter}
+use Rattle.session.specs.Run.{Replayed, Standing, SessionState, ended, starting, waited, started_by, is_complete, HasCompleted, turned_away, Answers, faults, HasCause, HadFailed, Takes, wait_touch, last, Touches, AllCover, pending_in, WriterStandsFor, WriterFits, NamesFit, HasSoundWriter}
 use Rattle.session.specs.Run.Touch.{Leaves, Changes}
 use Rattle.session.specs.Calls.{KeepsRest, StartSays, names_after, Starts, WaitSays, Waits, WaitsFor, is_given, NeedsSync as SaysNeeds, Begins, KeepsSnapshots}
 use Rattle.session.proofs.StepLaws.{held, held_same, last_is, no_moments, answers_away, answers_here, turned_here, turned_closed, leaves, few_calls, raised_within, only_there, Halves, each_end, stepped, unasked, stands_now, stands_ended, written_no_work, needs_is, had_failed_as, wait_none, wait_one, owed_starts, same_halves, left_buffered, synced_stands, closed_takes, held_takes, sound_of, same_rest}
@@ -147,6 +147,11 @@ pub starting_same : (P : ℕ) (sync : StartedSync) (s : Standing) → (starting 
 starting_same P AllDone s = refl
 starting_same P (Named name) s = refl
 
+-- and the replays
+pub starting_keeps : (P : ℕ) (sync : StartedSync) (s : Standing) → (starting P sync s).replays ≡ s.replays
+starting_keeps P AllDone s = refl
+starting_keeps P (Named name) s = refl
+
 -- a sync that is started
 start_steps : (sum : List ℕ → ℕ) (was : SessionState) (w v : WriterState) (sync : StartedSync) (old new : Life) → IsSound sum w old.present → StartSays sum w old new (Ok (v, sync))
     → AlwaysApart sum StartSync (Started sync) (held was (Some w)) (record was { writer = Some v; names = names_after sync was.names }) old new
@@ -155,11 +160,12 @@ start_steps sum was w v sync old new sound says = λ P before stands.
     let fits = stands.fits in
     let through = goes_through sum P was w v old new before stands says.starts_sync.0 in
     let h = same_halves sum was P w old new before stands through (owed_starts sum P was w old new before stands says.owes) in
-    subst (λ (l : List (List ℕ)). SteppedApart sum P StartSync (Started sync) (record was { writer = Some v; names = names_after sync was.names }) old new before l) (starting_same P sync before)
+    subst (λ (l : List (List ℕ)). SteppedApart sum P StartSync (Started sync) (record was { writer = Some v; names = names_after sync was.names }) old new before l before.replays) (starting_same P sync before)
+    (subst (λ (rs : List (Option Replayed)). SteppedApart sum P StartSync (Started sync) (record was { writer = Some v; names = names_after sync was.names }) old new before (starting P sync before).snapshots rs) (starting_keeps P sync before)
     (stepped sum P StartSync (Started sync) (record was { writer = Some v; names = names_after sync was.names }) old new before (starting P sync before) through.moments fits.has_writer (turned_here before.has_writer fits.has_writer) h
     (start_touch w P before old new through.moments fits h.goes says.calls (λ none. (says.idle none).1))
     (start_answer sum w v sync P before old new fits says, refl) (λ none. absurd none, λ none. absurd none)
-    (started_stands sum P was w v sync old new before through.moments sound stands says h))
+    (started_stands sum P was w v sync old new before through.moments sound stands says h)))
 
 -- why one isn't
 start_cause : (P : ℕ) (w : WriterState) (before : Standing) (old new : Life) (e : Error) → before.written ≡ false → before.awaited ≡ pending_in w.sync → CallCause w.sync old new e
@@ -424,6 +430,7 @@ named_steps sum was name reply old new answer given stand goes takes = λ P befo
       };
       stands = after_it;
       same = refl;
+      alike = refl;
     }
 
 -- one that it wasn't given
@@ -443,6 +450,7 @@ unnamed_steps sum was name life given = λ P before stands. record {
   };
   stands = stands;
   same = refl;
+  alike = refl;
 }
 
 -- why one is refused

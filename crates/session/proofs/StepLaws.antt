@@ -40,10 +40,10 @@ use Rattle.session.specs.declared.steps.Step.{Step}
 use Rattle.session.specs.declared.steps.Step.TheVariants.{Append, Owned, TryAppend, Sync, StartSync, Wait, WaitSync, Needs, Size, Read, ReadUpTo, TryRead, ReadRanges, TryReadRanges, Begin, Truncate, Snapshot, TrySnapshot, Snap, Seal}
 use Rattle.session.specs.declared.steps.Reply.{Reply}
 use Rattle.session.specs.declared.steps.Reply.TheVariants.{At, Nothing, Done, Started, Answer, Length, Bytes, Fault, Closed, NotRecovering, NoSuch, Served, Missed, BadRanges, Taken, Sealed, NotAppending}
-use Rattle.session.specs.Run.{Standing, SessionState, has_room, buffered_after, written_after, awaited_after, appended, synced, ended, needs_sync, is_complete, raise, raised, lowered, begun, turned_away, faults, HasCause, HadFailed, content_after, Takes, Foretells, Answers, Touch, touch, wait_touch, last, Touches, AllCover, pending_in, WriterStandsFor, WriterFits, NamesFit, HasSoundWriter, FitsWriter}
+use Rattle.session.specs.Run.{Standing, SessionState, has_room, buffered_after, written_after, awaited_after, appended, synced, ended, needs_sync, is_complete, raise, raised, lowered, forgetting, begun, turned_away, faults, HasCause, HadFailed, content_after, Takes, Foretells, Answers, Touch, touch, wait_touch, last, Touches, AllCover, pending_in, WriterStandsFor, WriterFits, NamesFit, HasSoundWriter, FitsWriter}
 use Rattle.session.specs.Run.Touch.{Leaves, Looks, Changes}
 use Rattle.session.specs.Calls.{IsClosed, KeepsRest, OwesStarts, AppendSays, Appended, TriedAppend, SyncSays, Synced, Sized, IsBytes, ReadsBytes, ReadSays, DidRead}
-use Rattle.session.proofs.Apart.{AlwaysApart, IsReadyApart, StandsApart, SteppedApart, StepsApart}
+use Rattle.session.proofs.Apart.{AlwaysApart, AlwaysBy, IsReadyApart, StandsApart, SteppedApart, StepsApart, StepsBy}
 
 -- a session with another writer, or none
 abbrev pub held : SessionState → Option WriterState → SessionState
@@ -184,10 +184,10 @@ lowered_covers sum P n s d covered =
     all_lowered (λ c. WouldKeep sum P s.content c.0 c.1 d) (λ c. WouldKeep sum P s.content c.0 c.1 d) n s.covers (λ c would. would_fewer sum P s.content c.0 (min n c.1) c.1 d (omega arith) would) covered
 
 -- what holds of the standing and of the lowered one holds of what stands as a step begins
-begun_either : (Q : Standing → Type 0) (step : Step) (s : Standing) → Q s → ((n : ℕ) → Q (lowered n s)) → Q (begun step s)
+begun_either : (Q : Standing → Type 0) (step : Step) (s : Standing) → Q s → ((n : ℕ) → Q (forgetting (lowered n s))) → Q (begun step s)
 begun_either Q (Truncate n) s same less = by_phase (s.has_writer && s.recovering)
   where
-    by_phase : (cuts : Bool) → Q (if cuts then lowered n s else s)
+    by_phase : (cuts : Bool) → Q (if cuts then forgetting (lowered n s) else s)
     by_phase true = less n
     by_phase false = same
 begun_either Q (Append bytes) s same less = same
@@ -277,7 +277,7 @@ raised_within sum P now old new behind moments goes stands = raise_within (last 
 pub stepped_by : (sum : List ℕ → ℕ) (P : ℕ) (step : Step) (reply : Reply) (now : SessionState) (old new : Life) (before behind : Standing) (moments : List Disk) → before.has_writer ≡ true → turned_away step before ≡ None
     → new ≡ after old moments → Each (AllKeep sum P before.content (begun step before).floor) (old.present ∷ moments) → Each (AllCover sum P before.content (begun step before).covers) (old.present ∷ moments)
     → Each (AllOnly sum P before.content (content_after step before.content)) (old.present ∷ moments) → Touches (touch P step before) old.present moments → Takes P step reply old.present new.present before behind → Foretells P step reply before
-    → StandsApart sum P now behind new.present → SteppedApart sum P step reply now old new before behind.snapshots
+    → StandsApart sum P now behind new.present → SteppedApart sum P step reply now old new before behind.snapshots behind.replays
 stepped_by sum P step reply now old new before behind moments has here goes kept covered only touches takes foretells stands = record {
   moments = moments;
   goes = goes;
@@ -293,12 +293,13 @@ stepped_by sum P step reply now old new before behind moments has here goes kept
   };
   stands = stands;
   same = refl;
+  alike = refl;
 }
 
 -- from both halves
 pub stepped : (sum : List ℕ → ℕ) (P : ℕ) (step : Step) (reply : Reply) (now : SessionState) (old new : Life) (before behind : Standing) (moments : List Disk) → before.has_writer ≡ true → turned_away step before ≡ None
     → Halves sum P before.content (content_after step before.content) (begun step before).floor (begun step before).covers old new moments → Touches (touch P step before) old.present moments → Takes P step reply old.present new.present before behind
-    → Foretells P step reply before → StandsApart sum P now behind new.present → SteppedApart sum P step reply now old new before behind.snapshots
+    → Foretells P step reply before → StandsApart sum P now behind new.present → SteppedApart sum P step reply now old new before behind.snapshots behind.replays
 stepped sum P step reply now old new before behind moments has here h touches takes foretells stands =
     stepped_by sum P step reply now old new before behind moments has here h.goes h.kept h.covered h.only touches takes foretells stands
 
@@ -315,7 +316,7 @@ pub closed_steps : (sum : List ℕ → ℕ) (step : Step) (was now : SessionStat
     → new ≡ old → AlwaysApart sum step reply was now old new
 closed_steps sum step was now old new reply none away replied same_session same = λ P before stands.
     let fits : WriterFits P None before old.present = subst (λ (o : Option WriterState). WriterFits P o before old.present) none stands.fits in
-    let is : SteppedApart sum P step Closed was old old before before.snapshots = record {
+    let is : SteppedApart sum P step Closed was old old before before.snapshots before.replays = record {
       moments = [];
       goes = refl;
       behind = before;
@@ -330,14 +331,15 @@ closed_steps sum step was now old new reply none away replied same_session same 
       };
       stands = stands;
       same = refl;
+      alike = refl;
     } in
-    subst (λ (r : Reply). SteppedApart sum P step r now old new before before.snapshots) (sym replied)
-    (subst (λ (v : SessionState). SteppedApart sum P step Closed v old new before before.snapshots) (sym same_session)
-    (subst (λ (life : Life). SteppedApart sum P step Closed was old life before before.snapshots) (sym same) is))
+    subst (λ (r : Reply). SteppedApart sum P step r now old new before before.snapshots before.replays) (sym replied)
+    (subst (λ (v : SessionState). SteppedApart sum P step Closed v old new before before.snapshots before.replays) (sym same_session)
+    (subst (λ (life : Life). SteppedApart sum P step Closed was old life before before.snapshots before.replays) (sym same) is))
 
 -- a step by a session with a writer that asks the device nothing
 pub unasked : (sum : List ℕ → ℕ) (P : ℕ) (was : SessionState) (w : WriterState) (step : Step) (reply : Reply) (now : SessionState) (life : Life) (before behind : Standing) → turned_away step before ≡ None → StandsApart sum P (held was (Some w)) before life.present
-    → Takes P step reply life.present life.present before behind → Foretells P step reply before → StandsApart sum P now behind life.present → SteppedApart sum P step reply now life life before behind.snapshots
+    → Takes P step reply life.present life.present before behind → Foretells P step reply before → StandsApart sum P now behind life.present → SteppedApart sum P step reply now life life before behind.snapshots behind.replays
 unasked sum P was w step reply now life before behind here stands takes foretells after =
     let has = stands.fits.has_writer in
     let only : AllOnly sum P before.content (content_after step before.content) life.present = λ image is_image free.
@@ -360,13 +362,14 @@ unasked sum P was w step reply now life before behind here stands takes foretell
       };
       stands = after;
       same = refl;
+      alike = refl;
     }
 
 -- the same, over a blob that stayed
 pub unasked_over : (sum : List ℕ → ℕ) (P : ℕ) (was : SessionState) (w : WriterState) (step : Step) (reply : Reply) (now : SessionState) (old new : Life) (before behind : Standing) → new ≡ old → turned_away step before ≡ None
-    → StandsApart sum P (held was (Some w)) before old.present → Takes P step reply old.present old.present before behind → Foretells P step reply before → StandsApart sum P now behind old.present → SteppedApart sum P step reply now old new before behind.snapshots
+    → StandsApart sum P (held was (Some w)) before old.present → Takes P step reply old.present old.present before behind → Foretells P step reply before → StandsApart sum P now behind old.present → SteppedApart sum P step reply now old new before behind.snapshots behind.replays
 unasked_over sum P was w step reply now old new before behind same here stands takes foretells after =
-    subst (λ (life : Life). SteppedApart sum P step reply now old life before behind.snapshots) (sym same) (unasked sum P was w step reply now old before behind here stands takes foretells after)
+    subst (λ (life : Life). SteppedApart sum P step reply now old life before behind.snapshots behind.replays) (sym same) (unasked sum P was w step reply now old before behind here stands takes foretells after)
 
 -- what a session with this writer stands for, once its call was done, or had not taken it
 pub stands_now : (sum : List ℕ → ℕ) (P : ℕ) (was : SessionState) (v : WriterState) (old new : Life) (behind : Standing) → WriterStandsFor P v behind new.present → was.recovering ≡ behind.recovering → NamesFit was.names behind.covers
@@ -645,7 +648,7 @@ append_steps sum was w v bytes n old new sound says = λ P before stands. by_roo
     foretold : (P : ℕ) (before : Standing) → StandsApart sum P (held was (Some w)) before old.present → Foretells P (Append bytes) (At n) before
     foretold P before stands = append_foretold sum was P w bytes old new (Ok (v, n)) (At n) before sound stands says (λ is. absurd (cc is))
 
-    by_room : (P : ℕ) (before : Standing) → StandsApart sum P (held was (Some w)) before old.present → (room : Bool) → has_room before (length bytes.items) ≡ room → SteppedApart sum P (Append bytes) (At n) (held was (Some v)) old new before before.snapshots
+    by_room : (P : ℕ) (before : Standing) → StandsApart sum P (held was (Some w)) before old.present → (room : Bool) → has_room before (length bytes.items) ≡ room → SteppedApart sum P (Append bytes) (At n) (held was (Some v)) old new before before.snapshots before.replays
     by_room P before stands true is =
         let fits = stands.fits in
         let all : (v ≡ record w { tip = w.tip ++ bytes.items }) × (new ≡ old) = says.buffered (fit before w (length bytes.items) fits.buffered fits.capacity is) in
@@ -910,7 +913,7 @@ alike_stays_started d e alike stand = subst StartsStand (sym alike) stand
 -- a step that only reads and leaves the standing
 pub looked_steps : (sum : List ℕ → ℕ) (was : SessionState) (P : ℕ) (w : WriterState) (step : Step) (reply : Reply) (old new : Life) (before : Standing) → content_after step before.content ≡ before.content → begun step before ≡ before → turned_away step before ≡ None
     → IsSound sum w old.present → Looked old new → (seen : Moments (SameButLog old.present) old new) → Touches (touch P step before) old.present seen.moments → StandsApart sum P (held was (Some w)) before old.present → Takes P step reply old.present new.present before before → Foretells P step reply before
-    → SteppedApart sum P step reply (held was (Some w)) old new before before.snapshots
+    → SteppedApart sum P step reply (held was (Some w)) old new before before.snapshots before.replays
 unfolding Through IsSound
 looked_steps sum was P w step reply old new before same begins here sound looked seen touches stands takes foretells =
     let fits = stands.fits in
@@ -1065,15 +1068,20 @@ closed_rest sum step was now old new reply away none ready rest closed =
     closed_takes sum step was now old new reply away none ready closed.replied (rest ∙ ap (λ (o : Option WriterState). held was o) (closed.writer ∙ sym none) ∙ sym (held_same was was.writer refl)) closed.life
 
 -- a step of a session with a writer, in the words of that and of the rest
-pub held_takes : (sum : List ℕ → ℕ) (step : Step) (reply : Reply) (was now : SessionState) (w : WriterState) (o : Option WriterState) (old new : Life) → was.writer ≡ Some w → KeepsRest was now → now.writer ≡ o → HasSoundWriter sum o new.present
-    → (was.names ≡ []) ⊎ StartsStand new.present → AlwaysApart sum step reply (held was (Some w)) (held was o) old new → StepsApart sum step reply was now old new
-held_takes sum step reply was now w o old new at rest is sound starts always =
+pub held_by : (cuts : Bool) (sum : List ℕ → ℕ) (step : Step) (reply : Reply) (was now : SessionState) (w : WriterState) (o : Option WriterState) (old new : Life) → was.writer ≡ Some w → KeepsRest was now → now.writer ≡ o → HasSoundWriter sum o new.present
+    → (was.names ≡ []) ⊎ StartsStand new.present → AlwaysBy cuts sum step reply (held was (Some w)) (held was o) old new → StepsBy cuts sum step reply was now old new
+held_by cuts sum step reply was now w o old new at rest is sound starts always =
     let after_it : now ≡ held was o = rest ∙ ap (λ (x : Option WriterState). held was x) is in
-    subst (λ (x : SessionState). StepsApart sum step reply was x old new) (sym after_it)
+    subst (λ (x : SessionState). StepsBy cuts sum step reply was x old new) (sym after_it)
     (record {
       ready = record { writer = sound; starts = starts };
-      always = subst (λ (x : SessionState). AlwaysApart sum step reply x (held was o) old new) (sym (held_same was (Some w) at)) always;
+      always = subst (λ (x : SessionState). AlwaysBy cuts sum step reply x (held was o) old new) (sym (held_same was (Some w) at)) always;
     })
+
+-- and leaves the replays
+pub held_takes : (sum : List ℕ → ℕ) (step : Step) (reply : Reply) (was now : SessionState) (w : WriterState) (o : Option WriterState) (old new : Life) → was.writer ≡ Some w → KeepsRest was now → now.writer ≡ o → HasSoundWriter sum o new.present
+    → (was.names ≡ []) ⊎ StartsStand new.present → AlwaysApart sum step reply (held was (Some w)) (held was o) old new → StepsApart sum step reply was now old new
+held_takes sum step reply was now w o old new at rest is sound starts always = held_by false sum step reply was now w o old new at rest is sound starts always
 
 -- its writer is sound
 pub sound_of : (sum : List ℕ → ℕ) (was : SessionState) (w : WriterState) (d : Disk) → was.writer ≡ Some w → IsReadyApart sum was d → IsSound sum w d
@@ -1171,6 +1179,7 @@ owned_steps sum was now bytes old new reply steps = record {
         };
         stands = a.stands;
         same = a.same;
+        alike = a.alike;
       };
 }
 

@@ -25,13 +25,13 @@ use Rattle.paged.specs.Truncate.{TruncateCause, shorten_calls, truncate_calls}
 use Rattle.paged.proofs.Flushes.{size_is_length}
 use Rattle.session.specs.declared.steps.Step.TheVariants.{Truncate}
 use Rattle.session.specs.declared.steps.Reply.{Reply}
-use Rattle.session.specs.declared.steps.Reply.TheVariants.{At, Nothing, Done, Started, Answer, Length, Bytes, Fault, Closed, NotRecovering, NoSuch, Served, Missed, BadRanges, Taken, Sealed, NotAppending}
-use Rattle.session.specs.Run.{Standing, SessionState, truncated, lowered, begun, ended, turned_away, faults, HasCause, Takes, pending_in, AllCover, NamesFit}
+use Rattle.session.specs.declared.steps.Reply.TheVariants.{At, Nothing, Done, Started, Answer, Length, Bytes, Fault, Closed, NotRecovering, NoSuch, Served, Missed, BadRanges, Taken, Sealed, NotAppending, Replaying}
+use Rattle.session.specs.Run.{Standing, SessionState, truncated, lowered, forgetting, begun, ended, turned_away, faults, HasCause, Takes, pending_in, AllCover, NamesFit}
 use Rattle.session.specs.Run.Touch.{Changes}
-use Rattle.session.specs.Calls.{KeepsRest, TruncateSays, Cuts, Truncated}
-use Rattle.session.proofs.StepLaws.{held, held_same, keeps_fewer, would_longer, cover_stays, all_lowered, begun_keeps, begun_covers, through_each, each_end, few_calls, raised_within, leaves, answers_away, stepped_by, had_failed_as, calls_few, settled_started, settled_awaits, closed_takes, held_takes, sound_of}
+use Rattle.session.specs.Calls.{IsClosed, KeepsRest, TruncateSays, Cuts, Truncated}
+use Rattle.session.proofs.StepLaws.{held, held_same, keeps_fewer, would_longer, cover_stays, all_lowered, begun_keeps, begun_covers, through_each, each_end, few_calls, raised_within, leaves, answers_away, stepped_by, had_failed_as, calls_few, settled_started, settled_awaits, closed_takes, held_by, held_takes, sound_of}
 use Rattle.session.proofs.PromiseLaws.{tip_is}
-use Rattle.session.proofs.Apart.{AlwaysApart, IsReadyApart, StandsApart, SteppedApart, StepsApart}
+use Rattle.session.proofs.Apart.{AlwaysApart, AlwaysBy, StepsBy, IsReadyApart, StandsApart, SteppedApart, StepsApart}
 
 -- ---- the first bytes
 
@@ -151,10 +151,10 @@ truncate_few w n size is = by_test (nat_lt n size) (nat_lt n (size_of w)) (ap (�
 -- ---- one step
 
 -- the standing as it begins
-lowers : (n : ℕ) (s : Standing) → s.has_writer ≡ true → s.recovering ≡ true → begun (Truncate n) s ≡ lowered n s
+lowers : (n : ℕ) (s : Standing) → s.has_writer ≡ true → s.recovering ≡ true → begun (Truncate n) s ≡ forgetting (lowered n s)
 lowers n s has phase = by_phase s.has_writer s.recovering has phase
   where
-    by_phase : (a b : Bool) → a ≡ true → b ≡ true → (if a && b then lowered n s else s) ≡ lowered n s
+    by_phase : (a b : Bool) → a ≡ true → b ≡ true → (if a && b then forgetting (lowered n s) else s) ≡ forgetting (lowered n s)
     by_phase true true one two = refl
     by_phase false b one two = absurd (false≢true one)
     by_phase true false one two = absurd (false≢true two)
@@ -170,8 +170,8 @@ not_turned n s has phase = by_phase s.has_writer s.recovering has phase
 -- by what each moment says
 cut_steps : (sum : List ℕ → ℕ) (P n : ℕ) (was : SessionState) (w : WriterState) (reply : Reply) (now : SessionState) (old new : Life) (before behind : Standing) (moments : List Disk) → was.recovering ≡ true → IsSound sum w old.present
     → StandsApart sum P (held was (Some w)) before old.present → CutHalves sum P n before old new moments → length new.present.log ≤ length old.present.log + truncate_calls w n
-    → ((s : Standing) → s ≡ lowered n before → begun (Truncate n) before ≡ s → Takes P (Truncate n) reply old.present new.present before behind)
-    → StandsApart sum P now behind new.present → SteppedApart sum P (Truncate n) reply now old new before behind.snapshots
+    → ((s : Standing) → s ≡ forgetting (lowered n before) → begun (Truncate n) before ≡ s → Takes P (Truncate n) reply old.present new.present before behind)
+    → StandsApart sum P now behind new.present → SteppedApart sum P (Truncate n) reply now old new before behind.snapshots behind.replays
 cut_steps sum P n was w reply now old new before behind moments recovering sound stands h few takes after_it =
     let has = stands.fits.has_writer in
     let phase : before.recovering ≡ true = sym stands.phase ∙ recovering in
@@ -180,11 +180,11 @@ cut_steps sum P n was w reply now old new before behind moments recovering sound
     let most = truncate_few w n (length before.content) size in
     stepped_by sum P (Truncate n) reply now old new before behind moments has (not_turned n before has phase) h.goes (subst (λ (s : Standing). Each (AllKeep sum P before.content s.floor) (old.present ∷ moments)) (sym lower) h.kept)
     (subst (λ (s : Standing). Each (AllCover sum P before.content s.covers) (old.present ∷ moments)) (sym lower) h.covered) h.only
-    (few_calls old new moments (if nat_lt n (length before.content) then 8 else 2) h.goes (omega (arith, few, most))) (takes (lowered n before) refl lower) (λ none. absurd none, λ none. absurd none) after_it
+    (few_calls old new moments (if nat_lt n (length before.content) then 8 else 2) h.goes (omega (arith, few, most))) (takes (forgetting (lowered n before)) refl lower) (λ none. absurd none, λ none. absurd none) after_it
 
 -- a truncate that is done
 truncate_steps : (sum : List ℕ → ℕ) (was : SessionState) (w v : WriterState) (n : ℕ) (old new : Life) → was.recovering ≡ true → IsSound sum w old.present → TruncateSays sum w n old new (Ok v)
-    → AlwaysApart sum (Truncate n) (Length (size_of v)) (held was (Some w)) (held was (Some v)) old new
+    → AlwaysBy true sum (Truncate n) (Length (size_of v)) (held was (Some w)) (held was (Some v)) old new
 unfolding Through
 truncate_steps sum was w v n old new recovering sound says = λ P before stands.
     let fits = stands.fits in
@@ -197,7 +197,7 @@ truncate_steps sum was w v n old new recovering sound says = λ P before stands.
     let room : v.capacity ≡ before.capacity = is.same.capacity ∙ fits.capacity in
     let buffered : length v.tip ≡ length (take n before.content) % P =
     tip_is sum v new says.sound is.settled.short ∙ ap (λ (l : List ℕ). length l % v.page_size) holds ∙ ap (λ (p : ℕ). length (take n before.content) % p) page in
-    let after_it : StandsApart sum P (held was (Some v)) (truncated P n (lowered n before)) new.present = record {
+    let after_it : StandsApart sum P (held was (Some v)) (truncated P n (forgetting (lowered n before))) new.present = record {
       fits = record {
         page_size = page;
         has_writer = fits.has_writer;
@@ -219,8 +219,8 @@ truncate_steps sum was w v n old new recovering sound says = λ P before stands.
       only = subst (λ (p : ℕ). AllOnly sum p (take n before.content) (take n before.content) new.present) page
           (subst (λ (l : List ℕ). AllOnly sum v.page_size l l new.present) holds (sound_leaves sum v new.present says.sound));
     } in
-    cut_steps sum P n was w (Length (size_of v)) (held was (Some v)) old new before (truncated P n (lowered n before)) through.moments recovering sound stands h says.calls
-    (λ s lower begins. subst (λ (x : Standing). (size_of v ≡ min n (length x.content)) × (truncated P n (lowered n before) ≡ truncated P n x)) (sym (begins ∙ lower)) (is.size ∙ ap (λ (k : ℕ). min n k) size, refl)) after_it
+    cut_steps sum P n was w (Length (size_of v)) (held was (Some v)) old new before (truncated P n (forgetting (lowered n before))) through.moments recovering sound stands h says.calls
+    (λ s lower begins. subst (λ (x : Standing). (size_of v ≡ min n (length x.content)) × (truncated P n (forgetting (lowered n before)) ≡ truncated P n x)) (sym (begins ∙ lower)) (is.size ∙ ap (λ (k : ℕ). min n k) size, refl)) after_it
 
 -- why one is refused
 truncate_cause : (sum : List ℕ → ℕ) (P n : ℕ) (w : WriterState) (before : Standing) (old new : Life) (e : Error) → IsSound sum w old.present → before.awaited ≡ pending_in w.sync → TruncateCause sum n w old new e
@@ -236,13 +236,13 @@ truncate_cause sum P n w before old new OutOfMemory sound awaited cause = ((4, l
 truncate_cause sum P n w before old new IdsExhausted sound awaited cause = absurd cause
 
 truncate_refused_steps : (sum : List ℕ → ℕ) (was : SessionState) (w : WriterState) (n : ℕ) (e : Error) (old new : Life) → was.recovering ≡ true → IsSound sum w old.present → TruncateSays sum w n old new (Err e)
-    → AlwaysApart sum (Truncate n) (Fault e) (held was (Some w)) (held was None) old new
+    → AlwaysBy true sum (Truncate n) (Fault e) (held was (Some w)) (held was None) old new
 unfolding Through
 truncate_refused_steps sum was w n e old new recovering sound says = λ P before stands.
     let through = says_only sum P was w n old new before stands says.only in
     let h = cut_halves sum P n before old new stands.floor stands.within stands.kept stands.covered (says_floors sum P was w n old new before stands says.floors) (says_covers sum P was w n old new before stands says.covers) through in
     let cause = truncate_cause sum P n w before old new e sound stands.fits.awaited says.truncates.0 in
-    let after_it : StandsApart sum P (held was None) (ended (take n before.content) (lowered n before)) new.present = record {
+    let after_it : StandsApart sum P (held was None) (ended (take n before.content) (forgetting (lowered n before))) new.present = record {
       fits = refl;
       phase = stands.phase;
       names = lowered_names n was.names before stands.names;
@@ -252,8 +252,8 @@ truncate_refused_steps sum was w n e old new recovering sound says = λ P before
       covered = each_end (AllCover sum P before.content (lowered n before).covers) old new through.moments h.goes h.covered;
       only = each_end (AllOnly sum P before.content (take n before.content)) old new through.moments h.goes h.only;
     } in
-    cut_steps sum P n was w (Fault e) (held was None) old new before (ended (take n before.content) (lowered n before)) through.moments recovering sound stands h says.calls
-    (λ s lower begins. (cause.0, cause.1, subst (λ (x : Standing). ended (take n before.content) (lowered n before) ≡ ended (take n x.content) x) (sym (begins ∙ lower)) refl)) after_it
+    cut_steps sum P n was w (Fault e) (held was None) old new before (ended (take n before.content) (forgetting (lowered n before))) through.moments recovering sound stands h says.calls
+    (λ s lower begins. (cause.0, cause.1, subst (λ (x : Standing). ended (take n before.content) (forgetting (lowered n before)) ≡ ended (take n x.content) x) (sym (begins ∙ lower)) refl)) after_it
 
 -- where the recovery has ended it is turned away
 turned_steps : (sum : List ℕ → ℕ) (was : SessionState) (w : WriterState) (n : ℕ) (life : Life) → was.recovering ≡ false → AlwaysApart sum (Truncate n) NotRecovering (held was (Some w)) (held was (Some w)) life life
@@ -279,6 +279,7 @@ turned_steps sum was w n life ends = λ P before stands.
       };
       stands = stands;
       same = refl;
+      alike = refl;
     }
   where
     away : (a b : Bool) → a ≡ true → b ≡ false → (if a then (if b then None else Some NotRecovering) else Some Closed) ≡ Some NotRecovering
@@ -297,12 +298,12 @@ closed_turned n s none = by_writer s.has_writer none
 
 -- a truncate by a session with a writer in recovery
 cuts_takes : (sum : List ℕ → ℕ) (was now : SessionState) (w : WriterState) (n : ℕ) (old new : Life) (reply : Reply) → was.writer ≡ Some w → was.recovering ≡ true → IsSound sum w old.present → KeepsRest was now → Cuts sum w now.writer n old new reply
-    → StepsApart sum (Truncate n) reply was now old new
+    → StepsBy true sum (Truncate n) reply was now old new
 cuts_takes sum was now w n old new (Length m) at recovering sound rest (v, is, size, says) =
-    subst (λ (k : ℕ). StepsApart sum (Truncate n) (Length k) was now old new) (sym size)
-    (held_takes sum (Truncate n) (Length (size_of v)) was now w (Some v) old new at rest is says.sound (inr says.starts) (truncate_steps sum was w v n old new recovering sound says))
+    subst (λ (k : ℕ). StepsBy true sum (Truncate n) (Length k) was now old new) (sym size)
+    (held_by true sum (Truncate n) (Length (size_of v)) was now w (Some v) old new at rest is says.sound (inr says.starts) (truncate_steps sum was w v n old new recovering sound says))
 cuts_takes sum was now w n old new (Fault e) at recovering sound rest (is, says) =
-    held_takes sum (Truncate n) (Fault e) was now w None old new at rest is tt (inr says.starts) (truncate_refused_steps sum was w n e old new recovering sound says)
+    held_by true sum (Truncate n) (Fault e) was now w None old new at rest is tt (inr says.starts) (truncate_refused_steps sum was w n e old new recovering sound says)
 cuts_takes sum was now w n old new (At m) at recovering sound rest cuts = absurd cuts
 cuts_takes sum was now w n old new Nothing at recovering sound rest cuts = absurd cuts
 cuts_takes sum was now w n old new Done at recovering sound rest cuts = absurd cuts
@@ -318,6 +319,7 @@ cuts_takes sum was now w n old new (Taken index) at recovering sound rest cuts =
 cuts_takes sum was now w n old new (Sealed index sync) at recovering sound rest cuts = absurd cuts
 cuts_takes sum was now w n old new NotAppending at recovering sound rest cuts = absurd cuts
 cuts_takes sum was now w n old new NoSuch at recovering sound rest cuts = absurd cuts
+cuts_takes sum was now w n old new (Replaying index) at recovering sound rest cuts = absurd cuts
 
 -- what a call of the writer did, by the session's state
 pub cuts_here : (sum : List ℕ → ℕ) (recovering : Bool) (o : Option WriterState) (w : WriterState) (now : Option WriterState) (n : ℕ) (old new : Life) (reply : Reply) → recovering ≡ true → o ≡ Some w → Cuts sum w now n old new reply
@@ -325,17 +327,22 @@ pub cuts_here : (sum : List ℕ → ℕ) (recovering : Bool) (o : Option WriterS
 cuts_here sum recovering o w now n old new reply phase at cuts =
     subst (λ (b : Bool). Truncated sum b o now n old new reply) (sym phase) (subst (λ (x : Option WriterState). Truncated sum true x now n old new reply) (sym at) cuts)
 
--- a truncate by a session
-pub truncated_takes : (sum : List ℕ → ℕ) (was now : SessionState) (n : ℕ) (old new : Life) (reply : Reply) → IsReadyApart sum was old.present → KeepsRest was now → Truncated sum was.recovering was.writer now.writer n old new reply
+-- a truncate by a session that is closed
+pub truncated_closed : (sum : List ℕ → ℕ) (was now : SessionState) (n : ℕ) (old new : Life) (reply : Reply) → IsReadyApart sum was old.present → was.writer ≡ None → KeepsRest was now → IsClosed now.writer old new reply
     → StepsApart sum (Truncate n) reply was now old new
-truncated_takes sum was now n old new reply ready rest goes = by_state was.recovering was.writer refl refl goes
-  where
-    by_state : (phase : Bool) (o : Option WriterState) → was.recovering ≡ phase → was.writer ≡ o → Truncated sum phase o now.writer n old new reply → StepsApart sum (Truncate n) reply was now old new
-    by_state phase None in_phase at closed =
-        closed_takes sum (Truncate n) was now old new reply (λ before none. closed_turned n before none) at ready closed.replied
-        (rest ∙ ap (λ (o : Option WriterState). held was o) (closed.writer ∙ sym at) ∙ sym (held_same was was.writer refl)) closed.life
-    by_state true (Some w) in_phase at cuts = cuts_takes sum was now w n old new reply at in_phase (sound_of sum was w old.present at ready) rest cuts
-    by_state false (Some w) in_phase at (replied, is, same) =
-        subst (λ (r : Reply). StepsApart sum (Truncate n) r was now old new) (sym replied)
-        (subst (λ (life : Life). StepsApart sum (Truncate n) NotRecovering was now old life) (sym same)
-        (held_takes sum (Truncate n) NotRecovering was now w (Some w) old old at rest is (sound_of sum was w old.present at ready) ready.starts (turned_steps sum was w n old in_phase)))
+truncated_closed sum was now n old new reply ready at rest closed =
+    closed_takes sum (Truncate n) was now old new reply (λ before none. closed_turned n before none) at ready closed.replied
+    (rest ∙ ap (λ (o : Option WriterState). held was o) (closed.writer ∙ sym at) ∙ sym (held_same was was.writer refl)) closed.life
+
+-- by one in recovery
+pub truncated_cut : (sum : List ℕ → ℕ) (was now : SessionState) (w : WriterState) (n : ℕ) (old new : Life) (reply : Reply) → IsReadyApart sum was old.present → was.recovering ≡ true → was.writer ≡ Some w → KeepsRest was now → Cuts sum w now.writer n old new reply
+    → StepsBy true sum (Truncate n) reply was now old new
+truncated_cut sum was now w n old new reply ready phase at rest cuts = cuts_takes sum was now w n old new reply at phase (sound_of sum was w old.present at ready) rest cuts
+
+-- and by one whose recovery has ended
+pub truncated_turned : (sum : List ℕ → ℕ) (was now : SessionState) (w : WriterState) (n : ℕ) (old new : Life) (reply : Reply) → IsReadyApart sum was old.present → was.recovering ≡ false → was.writer ≡ Some w → KeepsRest was now → Truncated sum false (Some w) now.writer n old new reply
+    → StepsApart sum (Truncate n) reply was now old new
+truncated_turned sum was now w n old new reply ready phase at rest (replied, is, same) =
+    subst (λ (r : Reply). StepsApart sum (Truncate n) r was now old new) (sym replied)
+    (subst (λ (life : Life). StepsApart sum (Truncate n) NotRecovering was now old life) (sym same)
+    (held_takes sum (Truncate n) NotRecovering was now w (Some w) old old at rest is (sound_of sum was w old.present at ready) ready.starts (turned_steps sum was w n old phase)))

@@ -1,26 +1,27 @@
 -- What one step of a session does, with its snapshots.
 use Rattle.std.proofs.Common.{◌≡◌, ℕ, List, [], refl, sym, ap, ◌∙◌, subst, arith, Bool, true, false}
-use Rattle.std.specs.Prelude.{All, Option, Some, None}
+use Rattle.std.specs.Prelude.{All, Option, Some, None, is_some, map, ◌&&◌, if◌then◌else◌}
 use Rattle.std.proofs.lemmas.Bool.{false≢true}
 use Rattle.disk.specs.Disk.{Life}
 use Rattle.crash.specs.WriterState.{WriterState}
 use Rattle.crash.proofs.BuiltLaws.{IsSmall}
 use Rattle.cache.specs.CacheState.{CacheState}
 use Rattle.paged_read.specs.Tail.{Tail, CanRead}
+use Rattle.paged_read.specs.Replay.{LeavesAllReplays}
 use Rattle.paged_read.specs.Snapshots.{LeavesAllTails}
 use Rattle.paged.specs.Caches.{tail_of}
 use Rattle.session.specs.declared.steps.Step.{Step}
-use Rattle.session.specs.declared.steps.Step.TheVariants.{Append, Owned, TryAppend, Sync, StartSync, Wait, WaitSync, Needs, Size, Read, ReadUpTo, TryRead, ReadRanges, TryReadRanges, Begin, Truncate, Snapshot, TrySnapshot, Snap, Seal}
+use Rattle.session.specs.declared.steps.Step.TheVariants.{Append, Owned, TryAppend, Sync, StartSync, Wait, WaitSync, Needs, Size, Read, ReadUpTo, TryRead, ReadRanges, TryReadRanges, Begin, Truncate, Snapshot, TrySnapshot, Snap, Seal, Replay, Ensure, Take, Seek}
 use Rattle.session.specs.declared.steps.Reply.{Reply}
 use Rattle.session.specs.Run.{SessionState, CacheFits, FitsWriter, IsReady}
-use Rattle.session.specs.Calls.{Begins, is_given, KeepsRest, KeepsSnapshots, LeavesSnapshots, LeavesWriterState, Steps, TakenBy, Truncated, WaitsFor}
-use Rattle.session.proofs.Apart.{IsReadyApart, StepsApart, ready_apart}
-use Rattle.session.proofs.Below.{Left, framed_same, left_by, left_same}
+use Rattle.session.specs.Calls.{Begins, is_given, IsClosed, KeepsRest, KeepsSnapshots, KeepsUncut, LeavesTaken, LeavesWriterState, Steps, TakenBy, Truncated, WaitsFor}
+use Rattle.session.proofs.Apart.{IsReadyApart, ready_apart, StepsApart, StepsBy, steps_with}
+use Rattle.session.proofs.Below.{framed_cut, framed_same, leaves_all, Left, LeftAll, left_by, left_same, replays_same}
 use Rattle.session.proofs.StepLaws.{appended_takes, owned_steps, tried_takes, synced_takes, sized_takes, read_takes}
 use Rattle.session.proofs.StartLaws.{started_takes, waited_takes, named_takes, needed_takes, begun_takes, both_same}
 use Rattle.session.proofs.ReadLaws.{read_up_to_takes, try_read_takes}
 use Rattle.session.proofs.RangeLaws.{read_ranges_takes, try_read_ranges_takes}
-use Rattle.session.proofs.TruncateLaws.{truncated_takes}
+use Rattle.session.proofs.TruncateLaws.{truncated_closed, truncated_cut, truncated_turned}
 
 -- ---- steps that a writer takes in either phase
 
@@ -65,15 +66,19 @@ module _ (sum : List ℕ → ℕ) (was now : SessionState) (cache : CacheState) 
   taken_apart TrySnapshot taken = absurd taken
   taken_apart (Snap index offset len) taken = absurd taken
   taken_apart Seal taken = absurd taken
+  taken_apart (Replay buffer_size) taken = absurd taken
+  taken_apart (Ensure index count) taken = absurd taken
+  taken_apart (Take index count) taken = absurd taken
+  taken_apart (Seek index offset) taken = absurd taken
 
 -- such a step, with the session's snapshots
 pub writer_takes : (sum : List ℕ → ℕ) (step : Step) (was now : SessionState) (cache behind : CacheState) (old new : Life) (reply : Reply) → IsReady sum was old.present → CacheFits was cache old.present
-    → TakenBy sum step was.writer now.writer was.names now.names cache old new reply → KeepsSnapshots was now → FitsWriter now.writer behind new.present → LeavesSnapshots sum was.writer now.writer cache behind old new
+    → TakenBy sum step was.writer now.writer was.names now.names cache old new reply → KeepsSnapshots was now → FitsWriter now.writer behind new.present → LeavesTaken sum was.writer now.writer cache behind old new
     → Steps sum step reply was now old new × CacheFits now behind new.present
 writer_takes sum step was now cache behind old new reply ready fits taken rest writer stay =
     let same : now.snapshots ≡ was.snapshots = ap (λ (s : SessionState). s.snapshots) rest in
     let phase : now.recovering ≡ was.recovering = ap (λ (s : SessionState). s.recovering) rest in
-    framed_same sum step reply was now behind old new same (λ is. same ∙ ready.begun (sym phase ∙ is)) writer (left_by sum was now.writer cache behind old new ready fits stay)
+    framed_same sum step reply was now behind old new same (ap (λ (s : SessionState). s.replays) rest) (λ is. same ∙ ready.begun (sym phase ∙ is)) writer (left_by sum was now.writer cache behind old new ready fits stay)
     (taken_apart sum was now cache old new reply (ready_apart sum was old.present ready) fits.writer rest step taken)
 
 -- ---- steps of the session
@@ -84,10 +89,10 @@ waits_fit None cache old new can fits = tt
 waits_fit (Some w) cache old new can fits = can (tail_of w) cache fits
 
 pub name_takes : (sum : List ℕ → ℕ) (was : SessionState) (cache : CacheState) (name : ℕ) (old new : Life) (reply : Reply) → IsSmall sum → IsReady sum was old.present → CacheFits was cache old.present → WaitsFor (is_given was.names name) name old new reply
-    → ((t : Tail) (cache : CacheState) → CanRead t cache old.present → CanRead t cache new.present) → ((cache : CacheState) → LeavesAllTails sum cache cache old new) → Steps sum (WaitSync name) reply was was old new × CacheFits was cache new.present
-name_takes sum was cache name old new reply small ready fits goes can tails =
-    framed_same sum (WaitSync name) reply was was cache old new refl ready.begun (waits_fit was.writer cache old new can fits.writer)
-    (left_by sum was was.writer cache cache old new ready fits (λ t content below stands. (tails cache t content stands, below)))
+    → ((t : Tail) (cache : CacheState) → CanRead t cache old.present → CanRead t cache new.present) → ((cache : CacheState) → LeavesAllTails sum cache cache old new) → LeavesAllReplays old new → Steps sum (WaitSync name) reply was was old new × CacheFits was cache new.present
+name_takes sum was cache name old new reply small ready fits goes can tails replays =
+    framed_same sum (WaitSync name) reply was was cache old new refl refl ready.begun (waits_fit was.writer cache old new can fits.writer)
+    (left_by sum was was.writer cache cache old new ready fits (leaves_all sum was.writer cache cache old new (tails cache) replays))
     (named_takes sum was name old new reply small (ready_apart sum was old.present ready) goes)
 
 -- the end of a recovery
@@ -95,23 +100,56 @@ pub begin_takes : (sum : List ℕ → ℕ) (was now : SessionState) (cache : Cac
     → Steps sum Begin reply was now life life × CacheFits now cache life.present
 begin_takes sum was now cache life reply ready fits goes =
     let same = begun_same was.writer refl goes in
-    framed_same sum Begin reply was now cache life life same.1.0 same.1.1 (subst (λ (o : Option WriterState). FitsWriter o cache life.present) (sym same.0) fits.writer) (left_same sum was now.writer cache cache life life ready fits same.0 refl refl)
+    framed_same sum Begin reply was now cache life life same.1.0 same.2 same.1.1 (subst (λ (o : Option WriterState). FitsWriter o cache life.present) (sym same.0) fits.writer) (left_same sum was now.writer cache cache life life ready fits same.0 refl refl)
     (begun_takes sum was now life reply (ready_apart sum was life.present ready) goes)
   where
-    begun_same : (o : Option WriterState) → was.writer ≡ o → Begins o was now reply → (now.writer ≡ was.writer) × ((now.snapshots ≡ was.snapshots) × (now.recovering ≡ true → now.snapshots ≡ []))
-    begun_same None at (replied, is) = (ap (λ (s : SessionState). s.writer) is, (ap (λ (s : SessionState). s.snapshots) is, subst (λ (s : SessionState). s.recovering ≡ true → s.snapshots ≡ []) (sym is) ready.begun))
+    begun_same : (o : Option WriterState) → was.writer ≡ o → Begins o was now reply → (now.writer ≡ was.writer) × ((now.snapshots ≡ was.snapshots) × (now.recovering ≡ true → now.snapshots ≡ [])) × (now.replays ≡ was.replays)
+    begun_same None at (replied, is) = (ap (λ (s : SessionState). s.writer) is, (ap (λ (s : SessionState). s.snapshots) is, subst (λ (s : SessionState). s.recovering ≡ true → s.snapshots ≡ []) (sym is) ready.begun), ap (λ (s : SessionState). s.replays) is)
     begun_same (Some w) at (replied, is) =
         (ap (λ (s : SessionState). s.writer) is, (ap (λ (s : SessionState). s.snapshots) is, λ other. absurd (false≢true (sym (ap (λ (s : SessionState). s.recovering) is) ∙ other))))
 
--- a truncate, by a session in recovery, which has no snapshot, or turned away
+-- a truncate, by a session in recovery, which has no snapshot, and no replay from then on; or turned
+-- away
 pub cut_takes : (sum : List ℕ → ℕ) (was now : SessionState) (cache behind : CacheState) (n : ℕ) (old new : Life) (reply : Reply) → IsReady sum was old.present → CacheFits was cache old.present → Truncated sum was.recovering was.writer now.writer n old new reply
-    → KeepsRest was now → FitsWriter now.writer behind new.present → (was.recovering ≡ false → behind ≡ cache) → Steps sum (Truncate n) reply was now old new × CacheFits now behind new.present
-cut_takes sum was now cache behind n old new reply ready fits goes rest writer turned =
-    let same : now.snapshots ≡ was.snapshots = ap (λ (s : SessionState). s.snapshots) rest in
-    let phase : now.recovering ≡ was.recovering = ap (λ (s : SessionState). s.recovering) rest in
-    framed_same sum (Truncate n) reply was now behind old new same (λ is. same ∙ ready.begun (sym phase ∙ is)) writer (left was.recovering was.writer refl refl goes) (truncated_takes sum was now n old new reply (ready_apart sum was old.present ready) rest goes)
+    → KeepsUncut was now → FitsWriter now.writer behind new.present → (was.recovering ≡ false → behind ≡ cache) → Steps sum (Truncate n) reply was now old new × CacheFits now behind new.present
+cut_takes sum was now cache behind n old new reply ready fits goes rest writer turned = by_state was.recovering was.writer refl refl goes
   where
-    left : (phase : Bool) (o : Option WriterState) → was.recovering ≡ phase → was.writer ≡ o → Truncated sum phase o now.writer n old new reply → All (Left sum now.writer behind old.present new.present) was.snapshots
-    left true o phase at goes = subst (λ (ts : List Tail). All (Left sum now.writer behind old.present new.present) ts) (sym (ready.begun phase)) (λ k t lt. absurd (omega (arith, lt)))
-    left false None phase at closed = left_same sum was now.writer cache behind old new ready fits (closed.writer ∙ sym at) (turned phase) closed.life
-    left false (Some w) phase at (replied, is, life) = left_same sum was now.writer cache behind old new ready fits (is ∙ sym at) (turned phase) life
+    same : now.snapshots ≡ was.snapshots
+    same = ap (λ (s : SessionState). s.snapshots) rest
+
+    begun : now.recovering ≡ true → now.snapshots ≡ []
+    begun is = same ∙ ready.begun (sym (ap (λ (s : SessionState). s.recovering) rest) ∙ is)
+
+    -- the session but for its replays
+    steps : (cuts : Bool) → StepsBy cuts sum (Truncate n) reply was (record was { writer = now.writer }) old new → StepsBy cuts sum (Truncate n) reply was now old new
+    steps cuts is = subst (λ (s : SessionState). StepsBy cuts sum (Truncate n) reply was s old new) (sym rest) (steps_with cuts sum (Truncate n) reply was (record was { writer = now.writer }) _ old new is)
+
+    kept : (cuts : Bool) → (was.recovering && is_some was.writer) ≡ cuts → now.replays ≡ (if cuts then map (λ r. None) was.replays else was.replays)
+    kept cuts is = ap (λ (s : SessionState). s.replays) rest ∙ ap (λ (b : Bool). if b then map (λ r. None) was.replays else was.replays) is
+
+    uncut : StepsApart sum (Truncate n) reply was (record was { writer = now.writer }) old new → (was.recovering && is_some was.writer) ≡ false → LeftAll sum was now.writer behind old.present new.present
+        → Steps sum (Truncate n) reply was now old new × CacheFits now behind new.present
+    uncut apart none left = framed_same sum (Truncate n) reply was now behind old new same (kept false none) begun writer left (steps false apart)
+
+    by_state : (phase : Bool) (o : Option WriterState) → was.recovering ≡ phase → was.writer ≡ o → Truncated sum phase o now.writer n old new reply → Steps sum (Truncate n) reply was now old new × CacheFits now behind new.present
+    by_state phase None in_phase at closed =
+        let by_phase : (b : Bool) → (b && false) ≡ false = λ b. elim b as (λ x. (x && false) ≡ false) [ true ↦ refl | false ↦ refl ] in
+        let none : (was.recovering && is_some was.writer) ≡ false = ap (λ (o : Option WriterState). was.recovering && is_some o) at ∙ by_phase was.recovering in
+        uncut (truncated_closed sum was (record was { writer = now.writer }) n old new reply (ready_apart sum was old.present ready) at refl closed) none
+        (closed_left phase in_phase at closed)
+    by_state true (Some w) in_phase at cuts =
+        let both : (was.recovering && is_some was.writer) ≡ true = ap (λ (b : Bool). b && is_some was.writer) in_phase ∙ ap (λ (o : Option WriterState). is_some o) at in
+        framed_cut sum (Truncate n) reply was now behind old new same (kept true both) begun writer
+        (subst (λ (ts : List Tail). All (Left sum now.writer behind old.present new.present) ts) (sym (ready.begun in_phase)) (λ k t lt. absurd (omega (arith, lt))))
+        (steps true (truncated_cut sum was (record was { writer = now.writer }) w n old new reply (ready_apart sum was old.present ready) in_phase at refl cuts))
+    by_state false (Some w) in_phase at turns =
+        let none : (was.recovering && is_some was.writer) ≡ false = ap (λ (b : Bool). b && is_some was.writer) in_phase in
+        uncut (truncated_turned sum was (record was { writer = now.writer }) w n old new reply (ready_apart sum was old.present ready) in_phase at refl turns) none
+        (left_same sum was now.writer cache behind old new ready fits (turns.1 ∙ sym at) (turned in_phase) turns.2)
+
+    closed_left : (phase : Bool) → was.recovering ≡ phase → was.writer ≡ None → IsClosed now.writer old new reply → LeftAll sum was now.writer behind old.present new.present
+    closed_left false in_phase at closed = left_same sum was now.writer cache behind old new ready fits (closed.writer ∙ sym at) (turned in_phase) closed.life
+    closed_left true in_phase at closed = record {
+      snapshots = subst (λ (ts : List Tail). All (Left sum now.writer behind old.present new.present) ts) (sym (ready.begun in_phase)) (λ k t lt. absurd (omega (arith, lt)));
+      replays = replays_same sum was now.writer old new ready (closed.writer ∙ sym at) closed.life;
+    }

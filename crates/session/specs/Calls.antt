@@ -2,7 +2,8 @@
 use Rattle.std.specs.Prelude.{◌≡◌, ◌≢◌, ◌⊎◌, ◌<◌, ◌≤◌, ◌+◌, ◌^◌, ◌++◌, ℕ, List, [], ◌∷◌}
 use Rattle.std.specs.Prelude.{length, Bool}
 use Rattle.std.specs.Prelude.{true, false, nat_eq, nat_lt, Option, Some, None, Result, Ok, Err}
-use Rattle.std.specs.Prelude.{IfOk, OnOk, take, nat_le, ◌&&◌}
+use Rattle.std.specs.Prelude.{IfOk, OnOk, take, min, nat_le, ◌&&◌, slice_set, map, is_some}
+use Rattle.std.specs.Prelude.{if◌then◌else◌}
 use Rattle.std.specs.List.{concat, list_any}
 use Rattle.disk.specs.Disk.{Disk, Life, after, WaitGoes}
 use Rattle.disk.specs.declared.started_sync.StartedSync.{StartedSync}
@@ -24,9 +25,11 @@ use Rattle.paged.specs.Calls.{started_already, WaitsForSync, SettlesBy}
 use Rattle.paged.specs.Flush.{outcome, has_work}
 use Rattle.paged.specs.Snapshots.{MakesSnapshot, CopiesTail, SealsWriter, snapshot_calls}
 use Rattle.paged.specs.Snapshots.{answer_of_seal, seal_calls}
+use Rattle.paged.specs.Replays.{BeginsReplay, BeginsAtOnce, replay_calls}
 use Rattle.cache.specs.CacheState.{CacheState}
 use Rattle.paged_read.specs.Tail.{Tail, size_of as size_of_tail}
 use Rattle.paged_read.specs.Snapshots.{StandsOn}
+use Rattle.paged_read.specs.Replay.{ReplayState, IsReplayOf, CanReplay, Ensures, Seeks, advanced}
 use Rattle.paged_read.specs.Ranges.{Reads, ReadsUpTo, TriesRead, is_served}
 use Rattle.paged_read.specs.Ranges.{ReadsMany, AsksOnce, Misses}
 use Rattle.paged.specs.Caches.{tail_of}
@@ -42,14 +45,27 @@ use Rattle.session.specs.declared.steps.Step.TheVariants.{Wait, WaitSync, Needs,
 use Rattle.session.specs.declared.steps.Step.TheVariants.{ReadUpTo, TryRead, Truncate}
 use Rattle.session.specs.declared.steps.Step.TheVariants.{ReadRanges, TryReadRanges}
 use Rattle.session.specs.declared.steps.Step.TheVariants.{Snapshot, TrySnapshot, Snap, Seal}
+use Rattle.session.specs.declared.steps.Step.TheVariants.{Replay, Ensure, Take, Seek}
 use Rattle.session.specs.declared.steps.Reply.TheVariants.{Served, Missed, BadRanges}
 use Rattle.session.specs.declared.steps.Reply.TheVariants.{Taken, Sealed, NotAppending}
+use Rattle.session.specs.declared.steps.Reply.TheVariants.{Replaying}
 use Rattle.session.specs.Run.{Standing, SessionState, Did, StandsFor, IsReady, IsBelow}
-use Rattle.session.specs.Run.{fit_together}
+use Rattle.session.specs.Run.{fit_together, numbered}
 
 -- what a call of the writer leaves of the session but the writer
 abbrev pub KeepsRest : SessionState → SessionState → Type 0
 KeepsRest was now = now ≡ record was { writer = now.writer }
+
+-- and but the replays
+abbrev pub KeepsButReplays : SessionState → SessionState → Type 0
+KeepsButReplays was now = now ≡ record was { writer = now.writer; replays = now.replays }
+
+-- which a truncate forgets, where it is called
+abbrev pub KeepsUncut : SessionState → SessionState → Type 0
+KeepsUncut was now =
+    let cuts = was.recovering && is_some was.writer in
+    let left = if cuts then map (λ r. None) was.replays else was.replays in
+    now ≡ record was { writer = now.writer; replays = left }
 
 -- what each call of a writer owes to the started syncs, whatever it answers
 pub record OwesStarts (sum : List ℕ → ℕ) (w : WriterState) (old new : Life) : Type 0 where
@@ -451,15 +467,91 @@ DidSnap sum None cache offset len old new reply = (reply ≡ NoSuch) × (new ≡
 DidSnap sum (Some t) cache offset len old new reply =
     ReadSays sum t cache offset len old new reply
 
+-- ---- steps of replays
+
+-- what the beginning of a replay, with a buffer of this size, says of its answer
+pub record ReplaySays (sum : List ℕ → ℕ) (w : WriterState) (buffer_size : ℕ) (old new : Life)
+    (result : Result (WriterState × ReplayState) Error) : Type 0 where
+  pub begins : BeginsReplay sum w buffer_size old new result
+  pub within : IfOk result (λ r. HoldsWithin r.0)
+  pub calls : AsksAtMost (replay_calls w) old new
+  pub idle : has_work w true ≡ false → BeginsAtOnce w buffer_size result × (new ≡ old)
+  pub dirty : has_work w true ≡ true → IfOk result (λ r. r.0.sync ≡ Dirty)
+  pub owes : OwesStarts sum w old new
+
+-- there was no memory for a replay: nothing was done
+pub record HadNoRoomForReplay (e : Error) (w : WriterState) (now : Option WriterState)
+    (replays more : List (Option ReplayState)) (old new : Life) : Type 0 where
+  pub fault : e ≡ OutOfMemory
+  pub writer : now ≡ Some w
+  pub given : more ≡ replays
+  pub life : new ≡ old
+
+-- a replay by a session with this writer and these replays: it gives the content
+abbrev pub TakesReplay : (List ℕ → ℕ) → (was now : Option WriterState)
+    → (replays more : List (Option ReplayState)) → (buffer_size : ℕ) → Life → Life → Reply → Type 0
+TakesReplay sum None now replays more buffer_size old new reply =
+    IsClosed now old new reply × (more ≡ replays)
+TakesReplay sum (Some w) now replays more buffer_size old new (Replaying index) =
+    (v : WriterState) × (r : ReplayState) × (now ≡ Some v) × (index ≡ length replays)
+    × (more ≡ replays ++ Some r ∷ []) × ReplaySays sum w buffer_size old new (Ok (v, r))
+    × IsReplayOf sum r (content_of w old.present.readable) new.present
+TakesReplay sum (Some w) now replays more buffer_size old new (Fault e) =
+    ((now ≡ None) × (more ≡ replays) × ReplaySays sum w buffer_size old new (Err e))
+    ⊎ HadNoRoomForReplay e w now replays more old new
+TakesReplay sum (Some w) now replays more buffer_size old new _ = ⊥
+
+-- what each step of a replay does to it: it goes on as q
+abbrev pub EnsuresOf : (List ℕ → ℕ) → (r q : ReplayState) → (count : ℕ) → Life → Life → Reply → Type 0
+EnsuresOf sum r q count old new (Answer answer) = Ensures sum r count q old new (Ok answer)
+EnsuresOf sum r q count old new (Fault e) = Ensures sum r count q old new (Err e)
+EnsuresOf sum r q count old new _ = ⊥
+
+abbrev pub TakesOf : (r q : ReplayState) → (count : ℕ) → Reply → Type 0
+TakesOf r q count (Bytes bytes) =
+    (bytes.items ≡ take (min count (length r.hand)) r.hand)
+    × (q ≡ advanced (min count (length r.hand)) r)
+TakesOf r q count (Fault e) = (e ≡ OutOfMemory) × (q ≡ r)
+TakesOf r q count _ = ⊥
+
+abbrev pub SeeksOf : (r q : ReplayState) → (offset : ℕ) → Reply → Type 0
+SeeksOf r q offset Done = Seeks r offset q (Ok tt)
+SeeksOf r q offset (Fault e) = Seeks r offset q (Err e)
+SeeksOf r q offset _ = ⊥
+
+-- a replay that wasn't forgotten can go on
+abbrev pub CanGoOn : Option ReplayState → Disk → Type 0
+CanGoOn None d = Unit {0}
+CanGoOn (Some r) d = CanReplay r d
+
+-- a step of one replay, which goes on so, or of one that was forgotten
+abbrev pub OfReplay : (was now : Option ReplayState) → Reply → (same : Type 0)
+    → (goes : ReplayState → ReplayState → Type 0) → Type 0
+OfReplay None now reply same goes = (reply ≡ NoSuch) × (now ≡ None) × same
+OfReplay (Some r) now reply same goes = (q : ReplayState) × (now ≡ Some q) × goes r q
+
+-- a step of the replay of this number, if there is one: that goes on so, and all else of the session
+-- stays
+abbrev pub StepsReplay : (index : ℕ) → (was now : SessionState) → Life → Life → Reply
+    → (goes : ReplayState → ReplayState → Type 0) → Type 0
+StepsReplay index was now old new reply goes = elim (numbered was.replays index) [
+  | None ↦ (reply ≡ NoSuch) × (now ≡ was) × (new ≡ old)
+  | Some r ↦ (q : ReplayState)
+    × (now ≡ record was { replays = slice_set was.replays index (Some q) }) × goes r q
+]
+
 -- ---- a step of a session
 
--- what a call of a session's writer leaves of each snapshot below its full pages: it stands as it
--- stood, and is below them still
-abbrev pub LeavesSnapshots : (List ℕ → ℕ) → (was now : Option WriterState) → CacheState → CacheState
-    → Life → Life → Type 0
-LeavesSnapshots sum was now cache behind old new =
-    (t : Tail) (content : List ℕ) → IsBelow was t → StandsOn sum t content cache old.present
-    → StandsOn sum t content behind new.present × IsBelow now t
+-- what a call of a session's writer leaves: each snapshot and each replay of its full pages stands
+-- as it stood, and is of them still
+pub record LeavesTaken (sum : List ℕ → ℕ) (was now : Option WriterState) (cache behind : CacheState)
+    (old new : Life) : Type 0 where
+  pub snapshots : (t : Tail) (content : List ℕ) → IsBelow was t
+      → StandsOn sum t content cache old.present
+      → StandsOn sum t content behind new.present × IsBelow now t
+  pub replays : (r : ReplayState) (content : List ℕ) → IsBelow was r.tail
+      → IsReplayOf sum r content old.present
+      → IsReplayOf sum r content new.present × IsBelow now r.tail
 
 -- a step that a writer takes in recovery, and when it appends
 abbrev pub IsOfEither : Step → Type 0
@@ -470,6 +562,10 @@ IsOfEither Snapshot = ⊥
 IsOfEither TrySnapshot = ⊥
 IsOfEither (Snap index offset len) = ⊥
 IsOfEither Seal = ⊥
+IsOfEither (Replay buffer_size) = ⊥
+IsOfEither (Ensure index count) = ⊥
+IsOfEither (Take index count) = ⊥
+IsOfEither (Seek index offset) = ⊥
 IsOfEither step = Unit {0}
 
 -- what only looks at a writer

@@ -2,11 +2,12 @@
 ghost use Rattle.std.specs.Prelude.{◌≡◌, option_map, IfOk};
 ghost use Rattle.cache.specs.Pages.{IsFresh};
 ghost use Rattle.crash.specs.Sound.{IsSound};
+ghost use Rattle.paged_read.specs.Replay.{LeavesReplays};
 ghost use Rattle.paged_read.specs.Snapshots.{LeavesTails};
 ghost use Rattle.paged_read.specs.Tail.{CanRead};
 ghost use Rattle.paged.specs.Caches.{tail_of};
 ghost use Rattle.paged.specs.Reads.{size_of};
-ghost use Rattle.session.specs.Calls.{Appended, AppendSays, LeavesSnapshots, NeedsSync, Sized};
+ghost use Rattle.session.specs.Calls.{Appended, AppendSays, LeavesTaken, NeedsSync, Sized};
 ghost use Rattle.session.specs.Calls.{Starts, Synced, TriedAppend, Waits};
 ghost use Rattle.session.specs.Calls.{IsOfEither, TakenBy};
 ghost use Rattle.cache.specs.CacheState.{CacheState};
@@ -91,7 +92,7 @@ impl<B: Blob, H: Sum, Phase> Held<B, H, Phase> {
         ensures cached { FitsWriter self.new cache.new (B.life blob.new).present }
         ensures fresh_ids { IsFresh cache.old → IsFresh cache.new }
         ensures tails { let old = B.life blob.old in let new = B.life blob.new in
-            LeavesSnapshots H.sum_of self.old self.new cache.old cache.new old new }
+            LeavesTaken H.sum_of self.old self.new cache.old cache.new old new }
     {
         match step {
             Step::Append(bytes) => self.append(blob, cache, bytes),
@@ -119,7 +120,7 @@ impl<B: Blob, H: Sum, Phase> Held<B, H, Phase> {
         ensures cached { FitsWriter self.new cache.new (B.life blob.new).present }
         ensures fresh_ids { IsFresh cache.old → IsFresh cache.new }
         ensures tails { let old = B.life blob.old in let new = B.life blob.new in
-            LeavesSnapshots H.sum_of self.old self.new cache.old cache.new old new }
+            LeavesTaken H.sum_of self.old self.new cache.old cache.new old new }
     {
         let Some(writer) = self.writer.take() else {
             return Reply::Closed;
@@ -141,7 +142,7 @@ impl<B: Blob, H: Sum, Phase> Held<B, H, Phase> {
         ensures cached { FitsWriter self.new cache.new (B.life blob.new).present }
         ensures fresh_ids { IsFresh cache.old → IsFresh cache.new }
         ensures tails { let old = B.life blob.old in let new = B.life blob.new in
-            LeavesSnapshots H.sum_of self.old self.new cache.old cache.new old new }
+            LeavesTaken H.sum_of self.old self.new cache.old cache.new old new }
     {
         let Some(writer) = self.writer.take() else {
             return Reply::Closed;
@@ -177,7 +178,7 @@ impl<B: Blob, H: Sum, Phase> Held<B, H, Phase> {
         ensures cached { FitsWriter self.new cache.new (B.life blob.new).present }
         ensures fresh_ids { IsFresh cache.old → IsFresh cache.new }
         ensures tails { let old = B.life blob.old in let new = B.life blob.new in
-            LeavesSnapshots H.sum_of self.old self.new cache.old cache.new old new }
+            LeavesTaken H.sum_of self.old self.new cache.old cache.new old new }
     {
         let Some(writer) = self.writer.take() else {
             return Reply::Closed;
@@ -200,7 +201,7 @@ impl<B: Blob, H: Sum, Phase> Held<B, H, Phase> {
         ensures cached { FitsWriter self.new cache.new (B.life blob.new).present }
         ensures fresh_ids { IsFresh cache.old → IsFresh cache.new }
         ensures tails { let old = B.life blob.old in let new = B.life blob.new in
-            LeavesSnapshots H.sum_of self.old self.new cache.old cache.new old new }
+            LeavesTaken H.sum_of self.old self.new cache.old cache.new old new }
     {
         let Some(writer) = self.writer.take() else {
             return Reply::Closed;
@@ -229,7 +230,7 @@ impl<B: Blob, H: Sum, Phase> Held<B, H, Phase> {
             FitsOn self.old self.new old.present new.present }
         ensures tails { let old = B.life blob.old in let new = B.life blob.new in
             (cache : CacheState) → FitsWriter self.old cache old.present
-            → LeavesSnapshots H.sum_of self.old self.new cache cache old new }
+            → LeavesTaken H.sum_of self.old self.new cache cache old new }
     {
         let Some(writer) = self.writer.take() else {
             return Reply::Closed;
@@ -262,6 +263,8 @@ fn append_copy<B: Blob, H: Sum, Phase>(
     ensures fresh_ids { IsFresh cache.old → IsFresh cache.new }
     ensures tails { let old = B.life blob.old in let new = B.life blob.new in
         LeavesTails H.sum_of writer.full_pages cache.old cache.new old new }
+    ensures replays { let old = B.life blob.old in let new = B.life blob.new in
+        LeavesReplays writer.page_size writer.full_pages old new }
 {
     match IoBuf::copy_from_slice(alloc, bytes) {
         Ok(bytes) => writer.append_owned(blob, cache, bytes),

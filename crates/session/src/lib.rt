@@ -5,6 +5,7 @@
 mod held;
 mod reads;
 mod recoveries;
+mod replays;
 mod sessions;
 mod snapshots;
 mod steps;

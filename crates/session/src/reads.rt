@@ -9,8 +9,9 @@ ghost use Rattle.paged_read.specs.Tail.{CanRead};
 ghost use Rattle.paged_read.specs.Ranges.{Misses};
 ghost use Rattle.paged.specs.Caches.{tail_of};
 ghost use Rattle.session.specs.Run.{HasSoundWriter, FitsWriter, fit_together};
+ghost use Rattle.paged_read.specs.Replay.{LeavesAllReplays};
 ghost use Rattle.paged_read.specs.Snapshots.{LeavesTails};
-ghost use Rattle.session.specs.Calls.{LeavesSnapshots};
+ghost use Rattle.session.specs.Calls.{LeavesTaken};
 ghost use Rattle.session.specs.Calls.{DidRead, DidReadUpTo, DidTryRead, IsBytes};
 ghost use Rattle.session.specs.Calls.{ReadRangesSays, DidReadRanges, DidTryReadRanges};
 
@@ -31,7 +32,7 @@ impl<B: Blob, H: Sum, Phase> Held<B, H, Phase> {
         ensures cached { FitsWriter self.now cache.new (B.life blob.new).present }
         ensures fresh_ids { IsFresh cache.old → IsFresh cache.new }
         ensures tails { let old = B.life blob.old in let new = B.life blob.new in
-            LeavesSnapshots H.sum_of self.now self.now cache.old cache.new old new }
+            LeavesTaken H.sum_of self.now self.now cache.old cache.new old new }
     {
         let Some(writer) = &self.writer else {
             return Reply::Closed;
@@ -56,7 +57,7 @@ impl<B: Blob, H: Sum, Phase> Held<B, H, Phase> {
         ensures cached { FitsWriter self.now cache.new (B.life blob.new).present }
         ensures fresh_ids { IsFresh cache.old → IsFresh cache.new }
         ensures tails { let old = B.life blob.old in let new = B.life blob.new in
-            LeavesSnapshots H.sum_of self.now self.now cache.old cache.new old new }
+            LeavesTaken H.sum_of self.now self.now cache.old cache.new old new }
     {
         let Some(writer) = &self.writer else {
             return Reply::Closed;
@@ -103,7 +104,7 @@ impl<B: Blob, H: Sum, Phase> Held<B, H, Phase> {
         ensures cached { FitsWriter self.now cache.new (B.life blob.new).present }
         ensures fresh_ids { IsFresh cache.old → IsFresh cache.new }
         ensures tails { let old = B.life blob.old in let new = B.life blob.new in
-            LeavesSnapshots H.sum_of self.now self.now cache.old cache.new old new }
+            LeavesTaken H.sum_of self.now self.now cache.old cache.new old new }
     {
         match (&self.writer, len_together(ranges)) {
             (None, _) => Reply::Closed,
@@ -131,6 +132,7 @@ impl<B: Blob, H: Sum, Phase> Held<B, H, Phase> {
         ensures fresh_ids { IsFresh cache.old → IsFresh cache.new }
         ensures tails { let old = B.life blob.old in let new = B.life blob.new in
             LeavesTails H.sum_of writer.now.full_pages cache.old cache.new old new }
+        ensures replays { LeavesAllReplays (B.life blob.old) (B.life blob.new) }
     {
         if let Err(error) = validate_read_ranges(len, ranges, writer.size()) {
             return Reply::Fault(error);

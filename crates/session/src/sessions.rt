@@ -2,6 +2,7 @@
 ghost use Rattle.std.specs.Prelude.{◌≡◌, option_map, IsOkUnless, OnOk, OnErr, false};
 ghost use Rattle.cache.specs.CacheState.{CacheState};
 ghost use Rattle.cache.specs.Pages.{IsFresh};
+ghost use Rattle.paged_read.specs.Replay.{LeavesAllReplays};
 ghost use Rattle.paged_read.specs.Snapshots.{LeavesAllTails};
 ghost use Rattle.paged_read.specs.Tail.{CanRead, Tail};
 ghost use Rattle.crash.specs.Sound.{IsSound};
@@ -11,7 +12,8 @@ ghost use Rattle.paged.specs.Reads.{size_of};
 ghost use Rattle.session.specs.Run.{CacheFits, FitsWriter, HasSoundWriter, IsReady, RunsAlways};
 ghost use Rattle.session.specs.Promise.{Promises, StandsWhereSound, closed, session_of};
 ghost use Rattle.session.specs.Calls.{Begins, is_given, IsOfEither, KeepsRest, KeepsSnapshots};
-ghost use Rattle.session.specs.Calls.{LeavesSnapshots, Steps, TakenBy, Truncated, WaitsFor};
+ghost use Rattle.session.specs.Calls.{KeepsUncut};
+ghost use Rattle.session.specs.Calls.{LeavesTaken, Steps, TakenBy, Truncated, WaitsFor};
 
 use crate::held::Held;
 use crate::steps::{Reply, Step};
@@ -19,15 +21,16 @@ use cache::CacheRef;
 use disk::{Blob, Error, StartedSync};
 use page::Sum;
 use paged::{Append, Recovering, Recovery, Writer, wait_sync};
-use paged_read::Sealed;
+use paged_read::{Replay, Sealed};
 use std::alloc::Global;
 use std::marker::Model;
 
 /// A writer that steps are taken on, or none, the names of the syncs that it started, and the
-/// snapshots that were made of it.
+/// snapshots and the replays that were made of it.
 ///
 /// A step whose call takes the writer and is refused closes the session, and so does a seal. Its
-/// names stay, and its snapshots: what was started can be waited for, and the snapshots be read.
+/// names stay, its snapshots and its replays: what was started can be waited for, the snapshots be
+/// read, and the replays go on. A truncate forgets the replays.
 #[derive(Drop)]
 pub struct Session<B, H> {
     pub(crate) alloc: Global,
@@ -37,6 +40,8 @@ pub struct Session<B, H> {
     pub(crate) appending: Held<B, H, Append>,
     pub(crate) names: Vec<u64>,
     pub(crate) snapshots: Vec<Sealed<B, H>>,
+    // None in the place of one that was forgotten.
+    pub(crate) replays: Vec<Option<Replay<B, H>>>,
 }
 
 impl<B, H> Model for Session<B, H> {
@@ -49,6 +54,7 @@ impl<B, H> Model for Session<B, H> {
       recovering = s.recovering;
       names = s.names.items;
       snapshots = s.snapshots.items;
+      replays = s.replays.items;
     } };
 }
 
@@ -64,6 +70,7 @@ impl<B, H> Session<B, H> {
             appending: Held::none(alloc),
             names: Vec::new(alloc),
             snapshots: Vec::new(alloc),
+            replays: Vec::new(alloc),
         }
     }
 }
@@ -87,6 +94,7 @@ impl<B: Blob, H: Sum> Session<B, H> {
             appending: Held::none(alloc),
             names: Vec::new(alloc),
             snapshots: Vec::new(alloc),
+            replays: Vec::new(alloc),
         }
     }
 
@@ -118,6 +126,10 @@ impl<B: Blob, H: Sum> Session<B, H> {
             Step::TrySnapshot => self.try_snapshot(),
             Step::Snap(index, offset, len) => self.snap(blob, cache, *index, *offset, *len),
             Step::Seal => self.seal(blob, cache),
+            Step::Replay(buffer_size) => self.replay(blob, cache, *buffer_size),
+            Step::Ensure(index, count) => self.ensure(blob, *index, *count),
+            Step::Take(index, count) => self.take(*index, *count),
+            Step::Seek(index, offset) => self.seek(*index, *offset),
             _ => self.step_writer(blob, cache, step),
         }
     }
@@ -134,7 +146,7 @@ impl<B: Blob, H: Sum> Session<B, H> {
         ensures cached { FitsWriter self.new.writer cache.new (B.life blob.new).present }
         ensures fresh_ids { IsFresh cache.old → IsFresh cache.new }
         ensures tails { let old = B.life blob.old in let new = B.life blob.new in
-            LeavesSnapshots H.sum_of self.old.writer self.new.writer cache.old cache.new old new }
+            LeavesTaken H.sum_of self.old.writer self.new.writer cache.old cache.new old new }
     {
         if self.recovering {
             self.recovery.step(&mut self.names, blob, cache, step)
@@ -152,6 +164,7 @@ impl<B: Blob, H: Sum> Session<B, H> {
             → CanRead t cache (B.life blob.new).present }
         ensures tails { (cache : CacheState)
             → LeavesAllTails H.sum_of cache cache (B.life blob.old) (B.life blob.new) }
+        ensures replays { LeavesAllReplays (B.life blob.old) (B.life blob.new) }
     {
         if !self.names.contains(&name) {
             return Reply::NoSuch;
@@ -179,7 +192,25 @@ impl<B: Blob, H: Sum> Session<B, H> {
         Reply::Done
     }
 
+    // Where it is called, no replay is left behind it.
     fn truncate(&mut self, blob: &mut B, cache: &mut CacheRef, size: u64) -> Reply
+        requires sound { HasSoundWriter H.sum_of self.old.writer (B.life blob.old).present }
+        requires cached { FitsWriter self.old.writer cache.old (B.life blob.old).present }
+        ensures goes { let old = B.life blob.old in let new = B.life blob.new in
+            Truncated H.sum_of self.old.recovering self.old.writer self.new.writer size old new
+            result }
+        ensures rest { KeepsUncut self.old self.new }
+        ensures cached { FitsWriter self.new.writer cache.new (B.life blob.new).present }
+        ensures fresh_ids { IsFresh cache.old → IsFresh cache.new }
+        ensures turned { self.old.recovering ≡ false → cache.new ≡ cache.old }
+    {
+        if self.recovering && self.recovery.writer.is_some() {
+            self.forget_replays();
+        }
+        self.cut(blob, cache, size)
+    }
+
+    fn cut(&mut self, blob: &mut B, cache: &mut CacheRef, size: u64) -> Reply
         requires sound { HasSoundWriter H.sum_of self.old.writer (B.life blob.old).present }
         requires cached { FitsWriter self.old.writer cache.old (B.life blob.old).present }
         ensures goes { let old = B.life blob.old in let new = B.life blob.new in
@@ -214,14 +245,15 @@ impl<B: Blob, H: Sum> Session<B, H> {
 /// session's writer, if it has one, is sound over the blob, the cache is the one that it was made
 /// with, and both stay so.
 ///
-/// An append, a sync, a start of one, a wait of the writer, a truncate or a snapshot that is
-/// refused ends the writer, as a seal does at every answer; each step after it that needs one
-/// replies `Closed`. But a start, a snapshot or a seal for whose name or number there is no memory
-/// changes nothing. A try, a read, of the writer or of a snapshot, or a wait for a name that is
+/// An append, a sync, a start of one, a wait of the writer, a truncate, a snapshot or a replay that
+/// is refused ends the writer, as a seal does at every answer; each step after it that needs one
+/// replies `Closed`. But a start, a snapshot, a replay or a seal for whose name or number there is
+/// no memory changes nothing. A try, a read, of the writer or of a snapshot, or a wait for a name that is
 /// refused leaves the session as it was, and so does a try that can't be met without the device.
 ///
 /// A snapshot tells for good what was appended before it, also where the session is closed. What it
-/// tells is durable only by a sync or a seal, and a crash ends it.
+/// tells is durable only by a sync or a seal, and a crash ends it. A replay gives, in order, what
+/// was appended before it, until a truncate is called, which forgets it, or a crash.
 ///
 /// Room for all the replies is made first. `OutOfMemory` where it is refused: then no step was
 /// taken.

@@ -1,10 +1,11 @@
 // Steps that make snapshots and read them.
 ghost use Rattle.std.specs.Prelude.{◌≡◌, All, slice_get, true};
 ghost use Rattle.cache.specs.Pages.{IsFresh};
+ghost use Rattle.paged_read.specs.Replay.{LeavesAllReplays};
 ghost use Rattle.paged_read.specs.Snapshots.{LeavesAllReads, LeavesAllTails, LeavesWriters};
 ghost use Rattle.paged_read.specs.Tail.{CanRead, HasFullPages};
 ghost use Rattle.session.specs.Calls.{DidSeal, DidSnap, DidSnapshot, DidTrySnapshot};
-ghost use Rattle.session.specs.Calls.{LeavesSnapshots, RefusesAppending};
+ghost use Rattle.session.specs.Calls.{LeavesTaken, RefusesAppending};
 ghost use Rattle.session.specs.Run.{FitsWriter, HasSoundWriter};
 
 use crate::Session;
@@ -37,7 +38,7 @@ impl<B: Blob, H: Sum> Session<B, H> {
         ensures cached { FitsWriter self.new.writer cache.new (B.life blob.new).present }
         ensures fresh_ids { IsFresh cache.old → IsFresh cache.new }
         ensures tails { let old = B.life blob.old in let new = B.life blob.new in
-            LeavesSnapshots H.sum_of self.old.writer self.new.writer cache.old cache.new old new }
+            LeavesTaken H.sum_of self.old.writer self.new.writer cache.old cache.new old new }
     {
         if self.recovering {
             return self.not_appending();
@@ -92,7 +93,7 @@ impl<B: Blob, H: Sum> Session<B, H> {
         ensures cached { FitsWriter self.new.writer cache.new (B.life blob.new).present }
         ensures fresh_ids { IsFresh cache.old → IsFresh cache.new }
         ensures tails { let old = B.life blob.old in let new = B.life blob.new in
-            LeavesSnapshots H.sum_of self.old.writer self.new.writer cache.old cache.new old new }
+            LeavesTaken H.sum_of self.old.writer self.new.writer cache.old cache.new old new }
     {
         if self.recovering {
             return self.not_appending();
@@ -137,6 +138,7 @@ impl<B: Blob, H: Sum> Session<B, H> {
         ensures writers { LeavesWriters H.sum_of (B.life blob.old) (B.life blob.new) }
         ensures tails { let old = B.life blob.old in let new = B.life blob.new in
             LeavesAllTails H.sum_of cache.old cache.new old new }
+        ensures replays { LeavesAllReplays (B.life blob.old) (B.life blob.new) }
         ensures can_read { let old = B.life blob.old in let new = B.life blob.new in
             LeavesAllReads cache.old cache.new old new }
     {

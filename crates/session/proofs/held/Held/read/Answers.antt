@@ -19,8 +19,8 @@ returns-in-Ok-clause-goes g c =
 
 pub returns-in-Ok-clause-tails : goal.returns-in-Ok-clause-tails
 returns-in-Ok-clause-tails g c =
-    leaves_same g.H.Sum.sum_of c.args.self.now c.in-Some.writer c.args.cache.now c.read_at.new.cache (g.B.Blob.life c.args.blob.now) (g.B.Blob.life c.read_at.new.blob) (sym c.self.view_is ∙ c.in-Some.is) c.in-Ok.ensures.tails
+    leaves_same g.H.Sum.sum_of c.args.self.now c.in-Some.writer c.args.cache.now c.read_at.new.cache (g.B.Blob.life c.args.blob.now) (g.B.Blob.life c.read_at.new.blob) (sym c.self.view_is ∙ c.in-Some.is) c.in-Ok.ensures.tails c.in-Ok.ensures.replays
 
 pub returns-in-Err-clause-tails : goal.returns-in-Err-clause-tails
 returns-in-Err-clause-tails g c =
-    leaves_same g.H.Sum.sum_of c.args.self.now c.in-Some.writer c.args.cache.now c.read_at.new.cache (g.B.Blob.life c.args.blob.now) (g.B.Blob.life c.read_at.new.blob) (sym c.self.view_is ∙ c.in-Some.is) c.in-Err.ensures.tails
+    leaves_same g.H.Sum.sum_of c.args.self.now c.in-Some.writer c.args.cache.now c.read_at.new.cache (g.B.Blob.life c.args.blob.now) (g.B.Blob.life c.read_at.new.blob) (sym c.self.view_is ∙ c.in-Some.is) c.in-Err.ensures.tails c.in-Err.ensures.replays

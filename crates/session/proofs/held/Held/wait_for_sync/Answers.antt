@@ -11,8 +11,8 @@ pub returns-in-Ok-clause-tails : goal.returns-in-Ok-clause-tails
 returns-in-Ok-clause-tails g c =
     let at : c.args.self.now ≡ Some c.in-Some.writer = search rules in
     λ cache fits.
-    leaves_on g.H.Sum.sum_of c.args.self.now c.in-Some.writer c.in-Ok.writer cache cache (g.B.Blob.life c.args.blob.now) (g.B.Blob.life c.wait_for_sync.new.blob) at c.in-Ok.ensures.waits.0.same.full_pages
-    (c.in-Ok.ensures.tails cache (can_in c.args.self.now c.in-Some.writer cache (g.B.Blob.life c.args.blob.now).present at fits).page_size)
+    leaves_on g.H.Sum.sum_of c.args.self.now c.in-Some.writer c.in-Ok.writer cache cache (g.B.Blob.life c.args.blob.now) (g.B.Blob.life c.wait_for_sync.new.blob) at c.in-Ok.ensures.waits.0.same
+    (c.in-Ok.ensures.tails cache (can_in c.args.self.now c.in-Some.writer cache (g.B.Blob.life c.args.blob.now).present at fits).page_size) c.in-Ok.ensures.replays
 
 pub returns-in-Err-clause-tails : goal.returns-in-Err-clause-tails
 returns-in-Err-clause-tails g c =
@@ -20,4 +20,4 @@ returns-in-Err-clause-tails g c =
     let none : c.take.new.self ≡ None = search rules in
     λ cache fits.
     leaves_gone g.H.Sum.sum_of c.args.self.now c.take.new.self c.in-Some.writer cache cache (g.B.Blob.life c.args.blob.now) (g.B.Blob.life c.wait_for_sync.new.blob) at none
-    (c.in-Err.ensures.tails cache (can_in c.args.self.now c.in-Some.writer cache (g.B.Blob.life c.args.blob.now).present at fits).page_size)
+    (c.in-Err.ensures.tails cache (can_in c.args.self.now c.in-Some.writer cache (g.B.Blob.life c.args.blob.now).present at fits).page_size) c.in-Err.ensures.replays

@@ -1,7 +1,7 @@
 use Rattle.std.proofs.Common.{rules, ◌≡◌, Some, None, sym, subst}
 use Rattle.std.specs.Prelude.{Option}
 use Rattle.crash.specs.WriterState.{WriterState}
-use Rattle.session.specs.Calls.{LeavesSnapshots}
+use Rattle.session.specs.Calls.{LeavesTaken}
 use Rattle.session.proofs.Below.{can_in, in_appending, leaves_gone}
 use Rattle.session.proofs.sessions.Session.seal.Goals as goal
 
@@ -14,7 +14,7 @@ pub returns-after-started-clause-tails : goal.returns-after-started-clause-tails
 returns-after-started-clause-tails g c =
     let at : c.args.self.now.writer ≡ Some c.in-Some.writer = search rules in
     let none : c.match-started.self.writer ≡ None = search rules in
-    leaves_gone g.H.Sum.sum_of c.args.self.now.writer c.match-started.self.writer c.in-Some.writer c.args.cache.now c.seal.new.cache (g.B.Blob.life c.args.blob.now) (g.B.Blob.life c.seal.new.blob) at none c.in-Ok.ensures.tails
+    leaves_gone g.H.Sum.sum_of c.args.self.now.writer c.match-started.self.writer c.in-Some.writer c.args.cache.now c.seal.new.cache (g.B.Blob.life c.args.blob.now) (g.B.Blob.life c.seal.new.blob) at none c.in-Ok.ensures.tails c.in-Ok.ensures.replays
 
 pub returns-in-Err-clause-fresh_ids : goal.returns-in-Err-clause-fresh_ids
 returns-in-Err-clause-fresh_ids g c =
@@ -28,5 +28,5 @@ returns-in-Err-clause-tails g c =
     let inside = c.self-inside.inside in
     let at : c.args.self.now.writer ≡ Some c.in-Some.writer = search rules in
     let none : c.take.new.self ≡ None = search rules in
-    subst (λ (o : Option WriterState). LeavesSnapshots g.H.Sum.sum_of c.args.self.now.writer o c.args.cache.now c.seal.new.cache old new) (sym (in_appending inside.0.1.0 inside.0.1.1.0 c.take.new.self (search rules)))
-    (leaves_gone g.H.Sum.sum_of c.args.self.now.writer c.take.new.self c.in-Some.writer c.args.cache.now c.seal.new.cache old new at none c.in-Err.ensures.tails)
+    subst (λ (o : Option WriterState). LeavesTaken g.H.Sum.sum_of c.args.self.now.writer o c.args.cache.now c.seal.new.cache old new) (sym (in_appending inside.0.1.0 inside.0.1.1.0 c.take.new.self (search rules)))
+    (leaves_gone g.H.Sum.sum_of c.args.self.now.writer c.take.new.self c.in-Some.writer c.args.cache.now c.seal.new.cache old new at none c.in-Err.ensures.tails c.in-Err.ensures.replays)

@@ -5,12 +5,12 @@ use Rattle.session.proofs.sessions.Session.step.Goals as goal
 pub returns-in-WaitSync-clause-goes : goal.returns-in-WaitSync-clause-goes
 returns-in-WaitSync-clause-goes g c =
     let is = c.wait_sync.ensures in
-    rw c.in-WaitSync.is (name_takes g.H.Sum.sum_of c.args.self.now c.args.cache.now c.in-WaitSync.name (g.B.Blob.life c.args.blob.now) (g.B.Blob.life c.wait_sync.new.blob) c.wait_sync.result g.met.H.Sum.small c.requires.ready c.requires.cached is.goes is.can_read is.tails).0
+    rw c.in-WaitSync.is (name_takes g.H.Sum.sum_of c.args.self.now c.args.cache.now c.in-WaitSync.name (g.B.Blob.life c.args.blob.now) (g.B.Blob.life c.wait_sync.new.blob) c.wait_sync.result g.met.H.Sum.small c.requires.ready c.requires.cached is.goes is.can_read is.tails is.replays).0
 
 pub returns-in-WaitSync-clause-cached : goal.returns-in-WaitSync-clause-cached
 returns-in-WaitSync-clause-cached g c =
     let is = c.wait_sync.ensures in
-    (name_takes g.H.Sum.sum_of c.args.self.now c.args.cache.now c.in-WaitSync.name (g.B.Blob.life c.args.blob.now) (g.B.Blob.life c.wait_sync.new.blob) c.wait_sync.result g.met.H.Sum.small c.requires.ready c.requires.cached is.goes is.can_read is.tails).1
+    (name_takes g.H.Sum.sum_of c.args.self.now c.args.cache.now c.in-WaitSync.name (g.B.Blob.life c.args.blob.now) (g.B.Blob.life c.wait_sync.new.blob) c.wait_sync.result g.met.H.Sum.small c.requires.ready c.requires.cached is.goes is.can_read is.tails is.replays).1
 
 pub returns-in-Begin-clause-goes : goal.returns-in-Begin-clause-goes
 returns-in-Begin-clause-goes g c =
@@ -55,12 +55,12 @@ returns-in-TrySnapshot-clause-cached g c =
 pub returns-in-Snap-clause-goes : goal.returns-in-Snap-clause-goes
 returns-in-Snap-clause-goes g c =
     let is = c.snap.ensures in
-    rw c.in-Snap.is (snap_takes g.H.Sum.sum_of c.args.self.now c.args.cache.now c.snap.new.cache c.in-Snap.index c.in-Snap.offset c.in-Snap.len (g.B.Blob.life c.args.blob.now) (g.B.Blob.life c.snap.new.blob) c.snap.result c.requires.ready c.requires.cached is.goes is.writers is.tails is.can_read).0
+    rw c.in-Snap.is (snap_takes g.H.Sum.sum_of c.args.self.now c.args.cache.now c.snap.new.cache c.in-Snap.index c.in-Snap.offset c.in-Snap.len (g.B.Blob.life c.args.blob.now) (g.B.Blob.life c.snap.new.blob) c.snap.result c.requires.ready c.requires.cached is.goes is.writers is.tails is.replays is.can_read).0
 
 pub returns-in-Snap-clause-cached : goal.returns-in-Snap-clause-cached
 returns-in-Snap-clause-cached g c =
     let is = c.snap.ensures in
-    (snap_takes g.H.Sum.sum_of c.args.self.now c.args.cache.now c.snap.new.cache c.in-Snap.index c.in-Snap.offset c.in-Snap.len (g.B.Blob.life c.args.blob.now) (g.B.Blob.life c.snap.new.blob) c.snap.result c.requires.ready c.requires.cached is.goes is.writers is.tails is.can_read).1
+    (snap_takes g.H.Sum.sum_of c.args.self.now c.args.cache.now c.snap.new.cache c.in-Snap.index c.in-Snap.offset c.in-Snap.len (g.B.Blob.life c.args.blob.now) (g.B.Blob.life c.snap.new.blob) c.snap.result c.requires.ready c.requires.cached is.goes is.writers is.tails is.replays is.can_read).1
 
 pub returns-in-Seal-clause-goes : goal.returns-in-Seal-clause-goes
 returns-in-Seal-clause-goes g c =

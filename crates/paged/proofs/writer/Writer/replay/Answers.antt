@@ -9,7 +9,7 @@ use Rattle.paged.proofs.Caching.{caches_law_same, fresh_law, reads_behind}
 use Rattle.paged.proofs.Covers.{completed}
 use Rattle.paged.proofs.Serves.{sound_there}
 use Rattle.paged.proofs.Snapshotting.{begin_keeps, begin_leaves, begun_gives, made_stands}
-use Rattle.paged.proofs.replay.Writer.replay.Goals as goal
+use Rattle.paged.proofs.writer.Writer.replay.Goals as goal
 
 pub returns-clause-there : goal.returns-clause-there
 returns-clause-there g c =

@@ -1,0 +1,182 @@
+// Steps that begin replays, and go on with them.
+ghost use Rattle.std.specs.Prelude.{◌≡◌, All, map, None, ⊤};
+ghost use Rattle.std.specs.Int.NonZero.{non_zero_usize_get};
+ghost use Rattle.cache.specs.Pages.{IsFresh};
+ghost use Rattle.crash.specs.Looks.{Looked};
+ghost use Rattle.disk.specs.Disk.{Life};
+ghost use Rattle.paged_read.specs.Replay.{ReplaysOn, ReplaysThrough};
+ghost use Rattle.session.specs.Calls.{CanGoOn, EnsuresOf, KeepsButReplays, LeavesTaken, OfReplay};
+ghost use Rattle.session.specs.Calls.{SeeksOf, StepsReplay, TakesOf, TakesReplay};
+ghost use Rattle.session.specs.Run.{FitsWriter, HasSoundWriter, IsReplayIn};
+
+use crate::Session;
+use crate::held::Held;
+use crate::steps::Reply;
+use cache::CacheRef;
+use disk::{Blob, Error, ReadOptions};
+use page::Sum;
+use paged_read::Replay;
+use std::alloc::Global;
+use std::num::NonZeroUsize;
+
+impl<B: Blob, H: Sum, Phase> Held<B, H, Phase> {
+    // Room for the replay is made first: refused there, nothing is done and the writer stays.
+    fn replay(
+        &mut self,
+        replays: &mut Vec<Option<Replay<B, H>>>,
+        blob: &mut B,
+        cache: &mut CacheRef,
+        buffer_size: NonZeroUsize,
+    ) -> Reply
+        requires sound { HasSoundWriter H.sum_of self.old (B.life blob.old).present }
+        requires cached { FitsWriter self.old cache.old (B.life blob.old).present }
+        ensures goes { let old = B.life blob.old in let new = B.life blob.new in
+            TakesReplay H.sum_of self.old self.new replays.old.items replays.new.items
+            (non_zero_usize_get buffer_size) old new result }
+        ensures cached { FitsWriter self.new cache.new (B.life blob.new).present }
+        ensures fresh_ids { IsFresh cache.old → IsFresh cache.new }
+        ensures tails { let old = B.life blob.old in let new = B.life blob.new in
+            LeavesTaken H.sum_of self.old self.new cache.old cache.new old new }
+    {
+        let Some(writer) = self.writer.take() else {
+            return Reply::Closed;
+        };
+        if replays.try_reserve(1).is_err() {
+            self.writer = Some(writer);
+            return Reply::Fault(Error::OutOfMemory);
+        }
+        match writer.replay(blob, cache, buffer_size, ReadOptions::default()) {
+            Ok((writer, replay)) => {
+                self.writer = Some(writer);
+                let index = replays.len();
+                replays.push_reserved(Some(replay));
+                Reply::Replaying(index)
+            }
+            Err(error) => Reply::Fault(error),
+        }
+    }
+}
+
+impl<B, H> Session<B, H> {
+    pub(crate) fn forget_replays(&mut self)
+        ensures { self.new ≡ record self.old { replays = map (λ o. None) self.old.replays } }
+    {
+        for replay in &mut self.replays {
+            *replay = None;
+        }
+    }
+
+    pub(crate) fn take(&mut self, index: usize, count: usize) -> Reply
+        ensures { (life : Life) → StepsReplay index self.old self.new life life result (λ r q.
+            TakesOf r q count result × ReplaysOn r q) }
+    {
+        match self.replays.get_mut(index) {
+            Some(replay) => take_of(self.alloc, replay, count),
+            None => Reply::NoSuch,
+        }
+    }
+
+    pub(crate) fn seek(&mut self, index: usize, offset: u64) -> Reply
+        ensures { (life : Life) → StepsReplay index self.old self.new life life result (λ r q.
+            SeeksOf r q offset result × ReplaysOn r q) }
+    {
+        match self.replays.get_mut(index) {
+            Some(replay) => seek_of(replay, offset),
+            None => Reply::NoSuch,
+        }
+    }
+}
+
+impl<B: Blob, H: Sum> Session<B, H> {
+    /// Begins a replay of the writer's blob, in its phase.
+    pub(crate) fn replay(
+        &mut self,
+        blob: &mut B,
+        cache: &mut CacheRef,
+        buffer_size: NonZeroUsize,
+    ) -> Reply
+        requires sound { HasSoundWriter H.sum_of self.old.writer (B.life blob.old).present }
+        requires cached { FitsWriter self.old.writer cache.old (B.life blob.old).present }
+        ensures goes { let old = B.life blob.old in let new = B.life blob.new in
+            TakesReplay H.sum_of self.old.writer self.new.writer self.old.replays self.new.replays
+            (non_zero_usize_get buffer_size) old new result }
+        ensures rest { KeepsButReplays self.old self.new }
+        ensures cached { FitsWriter self.new.writer cache.new (B.life blob.new).present }
+        ensures fresh_ids { IsFresh cache.old → IsFresh cache.new }
+        ensures tails { let old = B.life blob.old in let new = B.life blob.new in
+            LeavesTaken H.sum_of self.old.writer self.new.writer cache.old cache.new old new }
+    {
+        if self.recovering {
+            self.recovery
+                .replay(&mut self.replays, blob, cache, buffer_size)
+        } else {
+            self.appending
+                .replay(&mut self.replays, blob, cache, buffer_size)
+        }
+    }
+
+    // Behind the back of the writer, which may be gone.
+    pub(crate) fn ensure(&mut self, blob: &mut B, index: usize, count: usize) -> Reply
+        requires replays { let old = (B.life blob.old).present in
+            All (IsReplayIn H.sum_of self.old.writer old) self.old.replays }
+        ensures goes { let old = B.life blob.old in let new = B.life blob.new in
+            StepsReplay index self.old self.new old new result (λ r q.
+            EnsuresOf H.sum_of r q count old new result × ReplaysThrough r q old new) }
+        ensures looked { Looked (B.life blob.old) (B.life blob.new) }
+    {
+        match self.replays.get_mut(index) {
+            Some(replay) => ensure_of(replay, blob, count),
+            None => Reply::NoSuch,
+        }
+    }
+}
+
+fn take_of<B, H>(alloc: Global, replay: &mut Option<Replay<B, H>>, count: usize) -> Reply
+    ensures { OfReplay replay.old replay.new result ⊤ (λ r q.
+        TakesOf r q count result × ReplaysOn r q) }
+{
+    let Some(replay) = replay else {
+        return Reply::NoSuch;
+    };
+    let mut bytes = Vec::new(alloc);
+    if bytes.resize(count.min(replay.remaining()), 0).is_err() {
+        return Reply::Fault(Error::OutOfMemory);
+    }
+    match replay.try_copy_to_slice(&mut bytes) {
+        Ok(()) => Reply::Bytes(bytes),
+        Err(_) => unreachable!(),
+    }
+}
+
+fn seek_of<B, H>(replay: &mut Option<Replay<B, H>>, offset: u64) -> Reply
+    ensures { OfReplay replay.old replay.new result ⊤ (λ r q.
+        SeeksOf r q offset result × ReplaysOn r q) }
+{
+    let Some(replay) = replay else {
+        return Reply::NoSuch;
+    };
+    match replay.seek_to(offset) {
+        Ok(()) => Reply::Done,
+        Err(error) => Reply::Fault(error),
+    }
+}
+
+fn ensure_of<B: Blob, H: Sum>(
+    replay: &mut Option<Replay<B, H>>,
+    blob: &mut B,
+    count: usize,
+) -> Reply
+    requires can { CanGoOn replay.old (B.life blob.old).present }
+    ensures goes { let old = B.life blob.old in let new = B.life blob.new in
+        OfReplay replay.old replay.new result (new ≡ old) (λ r q.
+        EnsuresOf H.sum_of r q count old new result × ReplaysThrough r q old new) }
+    ensures looked { Looked (B.life blob.old) (B.life blob.new) }
+{
+    let Some(replay) = replay else {
+        return Reply::NoSuch;
+    };
+    match replay.ensure(blob, count) {
+        Ok(answer) => Reply::Answer(answer),
+        Err(error) => Reply::Fault(error),
+    }
+}
