@@ -1,4 +1,5 @@
 use Rattle.std.proofs.Common.{◌≡◌, ℕ, ◌+◌, ◌*◌, ◌/◌, ◌≤◌, max, length, refl, ap, ◌∙◌, arith, subst, sym}
+use Rattle.std.proofs.Math.Nat.{mul-le-mul_left}
 use Rattle.std.proofs.lemmas.Result.{err_from_is_err_and}
 use Rattle.std.specs.Int.NonZero.{non_zero_u16_get, non_zero_usize_get}
 use Rattle.paged_read.specs.Scans.{prefix_from, ReadsForward}
@@ -7,7 +8,7 @@ use Rattle.crash.specs.Looks.{looked_start}
 use Rattle.crash.proofs.LookLaws.{read_gives}
 use Rattle.paged_read.proofs.Looking.{looked_on, read_there, look_fault, look_memory}
 use Rattle.paged_read.specs.Searches.{scan_bytes}
-use Rattle.paged_read.proofs.Searching.{forward_start, forward_batch, next_batch, scan_bytes_is}
+use Rattle.paged_read.proofs.Searching.{forward_start, forward_end, forward_batch, next_batch, scan_bytes_is}
 use Rattle.paged_read.proofs.search.scan_from.Given.{Over}
 use Rattle.paged_read.proofs.search.scan_from.Goals as goal
 use Rattle.paged_read.proofs.search.scan_from.Goals.{After-read_at}
@@ -165,3 +166,17 @@ loop-done-init g c =
       none = λ still. refl;
       reads = forward_start (c.max-most.result * (P + 12)) (c.args.first * (P + 12)) old;
     }
+
+pub returns-clause-reads : goal.returns-clause-reads
+returns-clause-reads g c =
+    let life = g.B.Blob.life in
+    let P = non_zero_u16_get c.args.page_size in
+    let most = c.max-most.result in
+    let k = c.loop-done.done in
+    let from = c.args.first * (P + 12) in
+    let to = c.args.pages * (P + 12) in
+    let old = life c.args.blob.now in
+    let now = life c.loop-done.blob in
+    let is : most * (P + 12) ≡ scan_bytes P (non_zero_usize_get c.args.buffer_size) = scan_bytes_is P c.physical_size-size.result (non_zero_usize_get c.args.buffer_size) most c.physical_size-size.ensures (c.max-most.ensures ∙ ap (λ (n : ℕ). max (n / c.physical_size-size.result) 1) c.get.ensures.value) in
+    let more : (P + 12) * k ≤ (P + 12) * c.args.pages = mul-le-mul_left (P + 12) c.loop-done.invariant.within in
+    subst (λ (n : ℕ). ReadsForward n from to old now) is (forward_end (most * (P + 12)) from (k * (P + 12)) to old now (omega (arith, more)) c.loop-done.invariant.reads)
