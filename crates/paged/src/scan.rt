@@ -12,7 +12,7 @@ ghost use Rattle.paged_read.specs.Scans.{scan_start, scan_to, Scans, text_of_fir
 ghost use Rattle.paged_read.specs.Searches.{scan_bytes};
 ghost use Rattle.paged_read.specs.Snapshots.{LeavesAllReads, LeavesAllTails, LeavesWriters};
 ghost use Rattle.paged.specs.Recovery.{IsAsOpened};
-ghost use Rattle.paged.specs.Scans.{flushed_pages};
+ghost use Rattle.paged.specs.Scans.{flushed_pages, IdlesAt};
 
 use crate::Writer;
 use crate::recovery::size_of;
@@ -63,9 +63,9 @@ impl<B: Blob, H: Sum, Phase> Writer<B, H, Phase> {
             let start = scan_start P w.full_pages end proven in
             let most = scan_bytes P (non_zero_usize_get buffer_size) in
             ReadsForward most (start * (P + 12)) (end * (P + 12)) old new }
-        ensures idle { let w = self.now in let end = flushed_pages w in
-            scan_start w.page_size w.full_pages end proven ≡ end
-            → B.life blob.new ≡ B.life blob.old }
+        ensures idle { let w = self.now in let P = w.page_size in let end = flushed_pages w in
+            scan_start P w.full_pages end proven ≡ end
+            → IdlesAt P end (B.life blob.old) (B.life blob.new) result }
         ensures looked { Looked (B.life blob.old) (B.life blob.new) }
 
         // Where the proven bytes are told, so are all that it counts.
@@ -85,7 +85,7 @@ impl<B: Blob, H: Sum, Phase> Writer<B, H, Phase> {
             IsSound H.sum_of self.now old.present ⊎ IsAsOpened H.sum_of self.now old.present
             → IsWithinBlob result }
 
-        // It stays sound, and a crash at any moment of the scan keeps and leaves what it did before.
+        // It stays sound, and a crash at any moment of the scan keeps and leaves what it did.
         ensures sound { let old = B.life blob.old in let new = B.life blob.new in
             IsSound H.sum_of self.now old.present → IsSound H.sum_of self.now new.present }
         ensures kept { let old = B.life blob.old in let new = B.life blob.new in
@@ -133,9 +133,6 @@ impl<B: Blob, H: Sum, Phase> Writer<B, H, Phase> {
             let start = scan_start P w.full_pages end proven in
             let most = scan_bytes P (non_zero_usize_get buffer_size) in
             ReadsForward most (start * (P + 12)) (end * (P + 12)) old new }
-        ensures idle { let w = self.now in let end = scan_end w.page_size (flushed_pages w) max_size in
-            scan_start w.page_size w.full_pages end proven ≡ end
-            → B.life blob.new ≡ B.life blob.old }
         ensures none { max_size ≡ 0 → (result ≡ Ok 0) × (B.life blob.new ≡ B.life blob.old) }
         ensures looked { Looked (B.life blob.old) (B.life blob.new) }
 
@@ -156,7 +153,7 @@ impl<B: Blob, H: Sum, Phase> Writer<B, H, Phase> {
             IsSound H.sum_of self.now old.present ⊎ IsAsOpened H.sum_of self.now old.present
             → IsWithinBlob result }
 
-        // It stays sound, and a crash at any moment of the scan keeps and leaves what it did before.
+        // It stays sound, and a crash at any moment of the scan keeps and leaves what it did.
         ensures sound { let old = B.life blob.old in let new = B.life blob.new in
             IsSound H.sum_of self.now old.present → IsSound H.sum_of self.now new.present }
         ensures kept { let old = B.life blob.old in let new = B.life blob.new in
@@ -182,7 +179,7 @@ impl<B: Blob, H: Sum, Phase> Writer<B, H, Phase> {
         let met = max_size.div_ceil(u64::from(self.page_size.get()));
         let end = self.flushed_pages().min(met);
         let len = self.scan_to(blob, proven, end, buffer_size, options)?;
-        Ok(len.min(max_size))
+        Ok(max_size.min(len))
     }
 
     /// Scans the blob up to the page `end`, which was flushed or is one behind those that were.
@@ -204,9 +201,12 @@ impl<B: Blob, H: Sum, Phase> Writer<B, H, Phase> {
             let start = scan_start P w.full_pages end proven in
             let most = scan_bytes P (non_zero_usize_get buffer_size) in
             ReadsForward most (start * (P + 12)) (end * (P + 12)) old new }
-        ensures idle { let w = self.now in
-            scan_start w.page_size w.full_pages end proven ≡ end
-            → B.life blob.new ≡ B.life blob.old }
+        ensures idle { let w = self.now in let P = w.page_size in
+            scan_start P w.full_pages end proven ≡ end
+            → IdlesAt P end (B.life blob.old) (B.life blob.new) result }
+        ensures never { let old = B.life blob.old in
+            IsSound H.sum_of self.now old.present ⊎ IsAsOpened H.sum_of self.now old.present
+            → IsWithinBlob result }
     {
         if end.checked_mul(physical_size(self.page_size)).is_none() {
             return Err(Error::OffsetOverflow);

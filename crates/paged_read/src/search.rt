@@ -1,6 +1,6 @@
 // Looking through the pages of a blob.
 ghost use Rattle.std.specs.Prelude.{◌≡◌, ◌==◌, ◌+◌, ◌-◌, ◌*◌, ◌≤◌, ◌<◌, ◌^◌, ℕ, length, take, drop};
-ghost use Rattle.std.specs.Prelude.{slice_index, IfOk, IsOkUnless, MatchOption};
+ghost use Rattle.std.specs.Prelude.{slice_index, Ok, IfOk, IsOkUnless, MatchOption, None};
 ghost use Rattle.std.specs.Int.NonZero.{non_zero_u16_get, non_zero_usize_get};
 ghost use Rattle.page.specs.Page.{active, pages, pieces};
 ghost use Rattle.crash.specs.Built.{kept_len};
@@ -142,7 +142,9 @@ pub fn scan_from<B: Blob, H: Sum>(
         let P = non_zero_u16_get page_size in
         let most = scan_bytes P (non_zero_usize_get buffer_size) in
         ReadsForward most (first * (P + 12)) (pages * (P + 12)) old new }
-    ensures idle { first ≡ pages → B.life blob.new ≡ B.life blob.old }
+    ensures idle { first ≡ pages
+        → (result ≡ Ok (record { full_pages = pages; partial = None }))
+        × (B.life blob.new ≡ B.life blob.old) }
 {
     let size = physical_size(page_size);
     let most = (buffer_size.get() as u64 / size).max(1);
