@@ -46,9 +46,9 @@ module _ (sum : List ℕ → ℕ) (P first pages : ℕ) (readable : List ℕ) (p
       omega (arith, ap (λ (q : Prefix). length (tip_of q.partial)) is, (prefix_is sum P (pages_from P (pages - first) first readable)).tip some)
 
 -- its size is what the scan counts, with the numbers that a program has
-pub scanned_size : (sum : List ℕ → ℕ) (P full end proven page start size : ℕ) (readable : List ℕ) (p : Prefix) → start ≡ scan_start P full end proven → p ≡ prefix_from sum P start end readable → size ≡ prefix_size P p
+pub scanned_size : (sum : List ℕ → ℕ) (P full end proven start size : ℕ) (readable : List ℕ) (p : Prefix) → start ≡ scan_start P full end proven → p ≡ prefix_from sum P start end readable → size ≡ prefix_size P p
     → size ≡ scan_to sum P full end proven readable
-scanned_size sum P full end proven page start size readable p begins is counts =
+scanned_size sum P full end proven start size readable p begins is counts =
     counts ∙ ap (λ (q : Prefix). prefix_size P q) is
     ∙ ap (λ (n : ℕ). prefix_size P (prefix_from sum P n end readable)) begins
     ∙ prefix_from_counts sum P (scan_start P full end proven) end readable
