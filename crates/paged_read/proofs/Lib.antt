@@ -24,3 +24,4 @@ pub mod Replays
 pub mod ReplayExamples
 pub mod OutlivingReplays
 pub mod Scanning
+pub mod RawReading

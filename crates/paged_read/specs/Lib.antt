@@ -10,3 +10,4 @@ pub mod Hand
 pub mod ReadAhead
 pub mod Replay
 pub mod Scans
+pub mod RawReads
