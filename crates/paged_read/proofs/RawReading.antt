@@ -11,7 +11,7 @@ use Rattle.disk.proofs.Logs.{failed_once, failed_later}
 use Rattle.page.specs.Page.{active, value, value_len}
 use Rattle.page.specs.declared.slot.ActiveChecksum.{ActiveChecksum}
 use Rattle.crash.specs.Looks.{Looked, looked_joins, looked_start}
-use Rattle.crash.proofs.LookLaws.{looked_read, looked_none}
+use Rattle.crash.proofs.LookLaws.{looked_read, looked_none, looked_readable}
 use Rattle.crash.proofs.Texts.{active_is, active_none}
 use Rattle.paged_read.specs.Ranges.{page_at}
 use Rattle.paged_read.specs.RawReads.{all_of, behind_told, ending_at, joined, part_of, parts_told, range_end, range_told, ReadsTold, some_of, tail_told, value_told}
@@ -211,9 +211,9 @@ module _ (sum : List ℕ → ℕ) (P from to first end : ℕ) (readable : List �
       is ∙ ap (λ (r : Result (List ℕ) Error). joined (Ok found) r) (rest_is page less ∙ ap (λ (r : Result (List ℕ) Error). joined r (rest (page + 1))) told)
 
   -- all of them
-  pub found_all : (found : List ℕ) → IsFound end found → all ≡ Ok found
-  found_all found is =
-      is ∙ ap (λ (n : ℕ). joined (Ok found) (parts_told sum P from to n end readable)) (let e : end - end ≡ 0 = omega arith in e) ∙ joined_last found
+  pub found_all : (page : ℕ) (found : List ℕ) → end ≤ page → IsFound page found → all ≡ Ok found
+  found_all page found le is =
+      is ∙ ap (λ (n : ℕ). joined (Ok found) (parts_told sum P from to n page readable)) (let e : end - page ≡ 0 = omega (arith, le) in e) ∙ joined_last found
 
 module _ (sum : List ℕ → ℕ) (P offset len : ℕ) (readable : List ℕ) where
   abbrev pages : Result (List ℕ) Error
@@ -328,3 +328,17 @@ part_missed P from to page len start skip stop bytes told is front back le value
 -- a page's value that isn't told is no part
 pub part_fault : (P from to page : ℕ) (told : Result (List ℕ) Error) (e : Error) → told ≡ Err e → part_of P from to page told ≡ Err e
 part_fault P from to page told e is = ap (λ (r : Result (List ℕ) Error). part_of P from to page r) is
+
+-- the pages that a range meets
+pub same_pages : (sum : List ℕ → ℕ) (P offset len size end : ℕ) (readable : List ℕ) → size ≡ P → end ≡ offset + len
+    → parts_told sum P offset (offset + len) (range_end P offset len - offset / P) (offset / P) readable ≡ parts_told sum P offset end ((end - 1) / size + 1 - offset / size) (offset / size) readable
+same_pages sum P offset len size end readable size_is end_is =
+    sym (ap (λ (n : ℕ). parts_told sum P offset end ((end - 1) / n + 1 - offset / n) (offset / n) readable) size_is
+    ∙ ap (λ (e : ℕ). parts_told sum P offset e ((e - 1) / P + 1 - offset / P) (offset / P) readable) end_is)
+
+-- what is told of a blob that was looked at
+pub told_before : (sum : List ℕ → ℕ) (P from to page : ℕ) (start old new : Life) (result : Result (List ℕ) Error) → Looked start old
+    → ReadsTold (λ (b : List ℕ). b) (part_of P from to page (value_told sum P page old.present.readable)) old new result
+    → ReadsTold (λ (b : List ℕ). b) (part_of P from to page (value_told sum P page start.present.readable)) old new result
+told_before sum P from to page start old new result looked reads =
+    subst (λ (l : List ℕ). ReadsTold (λ (b : List ℕ). b) (part_of P from to page (value_told sum P page l)) old new result) (looked_readable start old looked) reads
