@@ -1,6 +1,7 @@
 -- What the pages of a blob that nobody opened tell.
 use Rattle.std.proofs.Common.{◌≡◌, ◌≢◌, inl, inr, ℕ, zero, suc, ◌+◌, ◌-◌, ◌*◌, ◌/◌, ◌%◌, ◌<◌, ◌≤◌, ◌^◌, min, List, [], ◌∷◌, ◌++◌, length, take, drop, refl, sym, ◌∙◌, ap, subst, arith, append-nil, append_assoc, Result, Ok, Err}
 use Rattle.std.specs.Prelude.{Option, Some, None, ◌==◌, nat_le, nat_lt, if◌then◌else◌, slice_range, IfOk, IsOkUnless}
+use Rattle.std.specs.List.{concat}
 use Rattle.std.proofs.lemmas.Bool.{cases_lt, cond-true, cond-false, eq-eqb, ne_eqb, le-leb, lt-leb, lt-ltb, le-ltb}
 use Rattle.std.proofs.lemmas.List.{length-drop, length-take, length-take-le, take-take, take_all}
 use Rattle.bytes.proofs.Ranges.{drop-take_less}
@@ -342,3 +343,44 @@ pub told_before : (sum : List ℕ → ℕ) (P from to page : ℕ) (start old new
     → ReadsTold (λ (b : List ℕ). b) (part_of P from to page (value_told sum P page start.present.readable)) old new result
 told_before sum P from to page start old new result looked reads =
     subst (λ (l : List ℕ). ReadsTold (λ (b : List ℕ). b) (part_of P from to page (value_told sum P page l)) old new result) (looked_readable start old looked) reads
+
+-- the last bytes, with the numbers that a program has
+module _ (sum : List ℕ → ℕ) (P page len start end offset before tail_len : ℕ) (readable tail : List ℕ) (start_is : start ≡ page * P) (within : tail_len ≤ length tail) (end_is : end ≡ start + tail_len) (le : len ≤ end)
+    (offset_is : offset ≡ end - len) (before_is : before ≡ start - offset) (value : value_told sum P page readable ≡ Ok (take tail_len tail)) where
+  abbrev told_value : List ℕ
+  told_value = take tail_len tail
+
+  many : length told_value ≡ tail_len
+  many = length-take-le tail_len tail within
+
+  ends_there : page * P + length told_value ≡ end
+  ends_there = omega (arith, many, start_is, end_is)
+
+  begins_there : page * P + length told_value - len ≡ offset
+  begins_there = omega (arith, ends_there, offset_is)
+
+  front_is : range_told sum P (page * P + length told_value - len) (page * P - (page * P + length told_value - len)) readable ≡ range_told sum P offset before readable
+  front_is =
+      ap (λ (n : ℕ). range_told sum P n (page * P - n) readable) begins_there
+      ∙ ap (λ (n : ℕ). range_told sum P offset n readable) (let e : page * P - offset ≡ before = omega (arith, start_is, before_is) in e)
+
+  pub behind_refused : (e : Error) → range_told sum P offset before readable ≡ Err e → behind_told sum P page len readable (value_told sum P page readable) ≡ Err e
+  behind_refused e told =
+      ap (λ (r : Result (List ℕ) Error). behind_told sum P page len readable r) value
+      ∙ behind_fault sum P page len readable told_value e (omega (arith, le, ends_there)) (front_is ∙ told)
+
+  pub behind_given : (skip : ℕ) (found : List ℕ) → skip ≡ offset - start → range_told sum P offset before readable ≡ Ok found
+      → behind_told sum P page len readable (value_told sum P page readable) ≡ Ok (end, found ++ slice_range tail skip tail_len)
+  behind_given skip found skip_is told =
+      let few : skip ≤ tail_len = omega (arith, skip_is, offset_is, end_is) in
+      let same : page * P + length told_value - len - page * P ≡ skip = omega (arith, begins_there, start_is, skip_is) in
+      ap (λ (r : Result (List ℕ) Error). behind_told sum P page len readable r) value
+      ∙ behind_found sum P page len readable told_value found (omega (arith, le, ends_there)) (front_is ∙ told)
+      ∙ ap (λ (n : ℕ). Ok (n, found ++ drop (page * P + length told_value - len - page * P) told_value)) ends_there
+      ∙ ap (λ (l : List ℕ). Ok (end, found ++ l)) (ap (λ (n : ℕ). drop n told_value) same ∙ drop-take_less tail skip tail_len few)
+
+-- how a range is told of a blob that was looked at
+pub range_before : (sum : List ℕ → ℕ) (P offset len : ℕ) (start old new : Life) (result : Result (List (List ℕ)) Error) → Looked start old
+    → ReadsTold concat (range_told sum P offset len old.present.readable) old new result → ReadsTold concat (range_told sum P offset len start.present.readable) old new result
+range_before sum P offset len start old new result looked reads =
+    subst (λ (l : List ℕ). ReadsTold concat (range_told sum P offset len l) old new result) (looked_readable start old looked) reads
