@@ -6,6 +6,7 @@ mod append;
 mod build;
 mod direct;
 mod flush;
+mod raw;
 mod read;
 mod recovery;
 mod replay;

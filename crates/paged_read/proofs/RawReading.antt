@@ -312,8 +312,8 @@ part_sliced P from to page len start skip stop bytes told old new (Ok b) is fron
     let last : stop ≡ min (to - page * P) len = back ∙ ap (λ (n : ℕ). min (to - n) len) is in
     let cut = ap (λ (n : ℕ). slice_range bytes n stop) first ∙ ap (λ (n : ℕ). slice_range bytes (from - page * P) n) last in (
       ap (λ (r : Result (List ℕ) Error). part_of P from to page r) value
-      ∙ part_some P from to page len bytes (omega (arith, less, first, last)) (omega (arith, fits, last))
-      ∙ ap (λ (l : List ℕ). Ok l) (sym (ok ∙ cut)),
+          ∙ part_some P from to page len bytes (omega (arith, less, first, last)) (omega (arith, fits, last))
+          ∙ ap (λ (l : List ℕ). Ok l) (sym (ok ∙ cut)),
       looked,
     )
 part_sliced P from to page len start skip stop bytes told old new (Err e) is front back less fits value looked ok err = told_memory (λ (b : List ℕ). b) (part_of P from to page told) old new e looked err

@@ -55,13 +55,13 @@ module _ (sum : List ℕ → ℕ) (P : ℕ) where
   prefix_counts [] = omega arith
   prefix_counts (page ∷ rest) = elim (cases_eq (value_len sum P page) P) [
     | inl full ↦ omega (
-        arith,
-        ap (λ (p : Prefix). prefix_size P p) (prefix_full sum P page rest full),
-        ap (λ (l : List ℕ). length l) (text_full sum P page rest full),
-        length-append (take P page) (text_of_pages sum P rest),
-        prefix_counts rest,
-        full_payload page full,
-      )
+      arith,
+      ap (λ (p : Prefix). prefix_size P p) (prefix_full sum P page rest full),
+      ap (λ (l : List ℕ). length l) (text_full sum P page rest full),
+      length-append (take P page) (text_of_pages sum P rest),
+      prefix_counts rest,
+      full_payload page full,
+    )
     | inr part ↦
         let less : value_len sum P page < P = omega (arith, value_len_le sum P page, part) in
         omega (

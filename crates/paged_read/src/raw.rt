@@ -98,9 +98,7 @@ pub fn read_range<B: Blob, H: Sum>(
     ensures looked { Looked (B.life blob.old) (B.life blob.new) }
     ensures writers { LeavesWriters H.sum_of (B.life blob.old) (B.life blob.new) }
 {
-    let end = offset
-        .checked_add(len as u64)
-        .ok_or(Error::OffsetOverflow)?;
+    let end = offset.checked_add(len as u64).ok_or(Error::OffsetOverflow)?;
     let mut bytes = IoBufs::new(alloc);
     if len == 0 {
         return Ok(bytes);

@@ -47,7 +47,7 @@ pub returns-then-len-eq0-clause-told : goal.returns-then-len-eq0-clause-told
 returns-then-len-eq0-clause-told g c =
     let old = g.B.Blob.life c.args.blob.now in (
       range_empty g.H.Sum.sum_of (non_zero_u16_get c.args.page_size) c.args.offset c.args.len old.present.readable (fits g (goal.at.returns-then-len-eq0-clause-told g c).In_ok-end) (omega (arith, c.if-len-eq0.true))
-      ∙ ap (λ (bufs : List (List ℕ)). Ok (concat bufs)) (sym c.new-bytes.ensures),
+          ∙ ap (λ (bufs : List (List ℕ)). Ok (concat bufs)) (sym c.new-bytes.ensures),
       looked_start old,
     )
 
@@ -64,7 +64,7 @@ loop-page-init g c =
     let first : IsFound g.H.Sum.sum_of (non_zero_u16_get c.args.page_size) c.args.offset c.in_ok-end.end (c.args.offset / size) ((c.in_ok-end.end - 1) / size + 1) old.present.readable (c.args.offset / size) (concat c.new-bytes.result) =
     subst (λ (bufs : List (List ℕ)). IsFound g.H.Sum.sum_of (non_zero_u16_get c.args.page_size) c.args.offset c.in_ok-end.end (c.args.offset / size) ((c.in_ok-end.end - 1) / size + 1) old.present.readable (c.args.offset / size) (concat bufs)) (sym c.new-bytes.ensures)
     (found_first g.H.Sum.sum_of (non_zero_u16_get c.args.page_size) c.args.offset c.in_ok-end.end (c.args.offset / size) ((c.in_ok-end.end - 1) / size + 1) old.present.readable) in
-    record { found = first; looked = looked_start old; }
+    record { found = first; looked = looked_start old }
 
 -- a part that was read, told of the blob as it was at the start
 part_read : (g : Over) (c : After-read_part g) → let old = g.B.Blob.life c.args.blob.now in let P = non_zero_u16_get c.args.page_size in
@@ -157,7 +157,7 @@ returns-then-len-clause-told g c =
     let some : c.args.len ≢ 0 = λ none. omega (arith, none, c.if-len-eq0.false) in
     let few : length (concat c.loop-page.bytes) ≢ c.args.len = λ same. c.if-len.true (c.len.ensures ∙ same) in (
       range_short g.H.Sum.sum_of (non_zero_u16_get c.args.page_size) c.args.offset c.args.len (g.B.Blob.life c.args.blob.now).present.readable (concat c.loop-page.bytes) (fits g at.In_ok-end) some
-      (met g at.After-from-size ∙ all_found g at.After-loop-page c.loop-page-test.false) few,
+          (met g at.After-from-size ∙ all_found g at.After-loop-page c.loop-page-test.false) few,
       c.loop-page.invariant.looked,
     )
 
@@ -166,7 +166,7 @@ returns-clause-told g c =
     let at = goal.at.returns-clause-told g c in
     let some : c.args.len ≢ 0 = λ none. omega (arith, none, c.if-len-eq0.false) in (
       range_found g.H.Sum.sum_of (non_zero_u16_get c.args.page_size) c.args.offset c.args.len (g.B.Blob.life c.args.blob.now).present.readable (concat c.loop-page.bytes) (fits g at.In_ok-end) some
-      (met g at.After-from-size ∙ all_found g at.After-loop-page c.loop-page-test.false) (sym c.len.ensures ∙ c.if-len.false),
+          (met g at.After-from-size ∙ all_found g at.After-loop-page c.loop-page-test.false) (sym c.len.ensures ∙ c.if-len.false),
       c.loop-page.invariant.looked,
     )
 

@@ -30,7 +30,7 @@ returns-clause-told g c =
     let old = g.B.Blob.life c.args.blob.now in
     let whole : c.args.physical_size % (P + 12) ≡ 0 = subst (λ (n : ℕ). c.args.physical_size % n ≡ 0) c.physical_size-size.ensures (omega (arith, c.if-physical_size-size-ne0.false)) in (
       tail_empty g.H.Sum.sum_of P c.args.physical_size c.args.len old.present.readable whole (omega (arith, c.if-physical_size-gt0.false)) (omega (arith, c.if-len-gt0.false))
-      ∙ ap (λ (bufs : List (List ℕ)). Ok (0, concat bufs)) (sym c.new.ensures),
+          ∙ ap (λ (bufs : List (List ℕ)). Ok (0, concat bufs)) (sym c.new.ensures),
       looked_start old,
     )
 

@@ -65,8 +65,8 @@ returns-clause-scans g c =
     let Q = non_zero_u16_get c.self.inside.page_size in
     let full = c.args.self.now.full_pages in (
       scanned_size g.H.Sum.sum_of Q full c.args.end c.args.proven c.min-start.result c.size_of.result old.present.readable c.in_ok-prefix.prefix
-      (begins g (goal.at.returns-clause-scans g c).After-scan_from) c.in_ok-prefix.ensures.finds.0 c.size_of.ensures
-      ∙ ap (λ (n : ℕ). scan_to g.H.Sum.sum_of n full c.args.end c.args.proven old.present.readable) (same_size g (goal.at.returns-clause-scans g c).After-scan_from),
+          (begins g (goal.at.returns-clause-scans g c).After-scan_from) c.in_ok-prefix.ensures.finds.0 c.size_of.ensures
+          ∙ ap (λ (n : ℕ). scan_to g.H.Sum.sum_of n full c.args.end c.args.proven old.present.readable) (same_size g (goal.at.returns-clause-scans g c).After-scan_from),
       c.in_ok-prefix.ensures.finds.1,
     )
 
