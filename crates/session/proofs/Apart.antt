@@ -1,6 +1,6 @@
 -- What a step does to a session but for its snapshots and its replays.
 use Rattle.std.proofs.Common.{◌≡◌, ◌⊎◌, ℕ, ◌≤◌, List, [], length, Bool, true, false}
-use Rattle.std.specs.Prelude.{All, map, Option, Some, None, option_map}
+use Rattle.std.specs.Prelude.{All, map, Option, None, option_map}
 use Rattle.disk.specs.Disk.{Disk, Life, after}
 use Rattle.crash.specs.Kept.{AllKeep, AllOnly}
 use Rattle.crash.specs.Started.{StartsStand}

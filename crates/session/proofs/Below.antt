@@ -155,14 +155,14 @@ at_place xs ys i x same within is =
 -- ---- a step
 
 -- two functions that agree on each
-maps_alike : {X Y : Type 0} (f g : X → Y) (xs : List X) → All (λ x. f x ≡ g x) xs → map f xs ≡ map g xs
+pub maps_alike : {X Y : Type 0} (f g : X → Y) (xs : List X) → All (λ x. f x ≡ g x) xs → map f xs ≡ map g xs
 maps_alike f g [] alike = refl
 maps_alike f g (x ∷ xs) alike =
     let rest = maps_alike f g xs (λ k y lt. alike (suc k) y (omega (arith, lt))) in
     let first : f x ≡ g x = alike 0 x (omega arith) in
     rw (first, rest) refl
 
-map_both : {X Y : Type 0} (f : X → Y) (xs more : List X) → map f (xs ++ more) ≡ map f xs ++ map f more
+pub map_both : {X Y : Type 0} (f : X → Y) (xs more : List X) → map f (xs ++ more) ≡ map f xs ++ map f more
 map_both f [] more = refl
 map_both f (x ∷ xs) more = ap (λ (l : List _). f x ∷ l) (map_both f xs more)
 
@@ -249,12 +249,9 @@ framed_same sum step reply was now behind old new is kept begun fits left apart 
 
 -- of one that forgets the replays
 none_left : (sum : List ℕ → ℕ) (writer : Option WriterState) (d : Disk) (os : List (Option ReplayState)) → All (IsReplayIn sum writer d) (map (λ o. None) os)
-none_left sum writer d [] = λ k o lt. absurd (omega (arith, lt))
-none_left sum writer d (o ∷ os) = both
-  where
-    both : All (IsReplayIn sum writer d) (None ∷ map (λ x. None) os)
-    both zero x lt = tt
-    both (suc k) x lt = none_left sum writer d os k x (omega (arith, lt))
+none_left sum writer d [] k o lt = absurd (omega (arith, lt))
+none_left sum writer d (p ∷ os) zero o lt = tt
+none_left sum writer d (p ∷ os) (suc k) o lt = none_left sum writer d os k o (omega (arith, lt))
 
 pub framed_cut : (sum : List ℕ → ℕ) (step : Step) (reply : Reply) (was now : SessionState) (behind : CacheState) (old new : Life) → now.snapshots ≡ was.snapshots → now.replays ≡ map (λ o. None) was.replays → (now.recovering ≡ true → now.snapshots ≡ [])
     → FitsWriter now.writer behind new.present → All (Left sum now.writer behind old.present new.present) was.snapshots → StepsBy true sum step reply was now old new → Steps sum step reply was now old new × CacheFits now behind new.present

@@ -18,7 +18,7 @@ use Rattle.crash.proofs.Disks.{base_is_image, base_is_whole}
 use Rattle.crash.proofs.Promise.{whole_is_chance_free}
 use Rattle.crash.proofs.Examples.{durable, six, all_keep}
 use Rattle.session.specs.declared.steps.Step.{Step}
-use Rattle.session.specs.declared.steps.Step.TheVariants.{Append, Owned, TryAppend, Sync, StartSync, Wait, WaitSync, Needs, Size, Read, ReadUpTo, TryRead, ReadRanges, TryReadRanges, Begin, Truncate, Snapshot, TrySnapshot, Snap, Seal}
+use Rattle.session.specs.declared.steps.Step.TheVariants.{Append, Owned, TryAppend, Sync, StartSync, Wait, WaitSync, Needs, Size, Read, ReadUpTo, TryRead, ReadRanges, TryReadRanges, Begin, Truncate, Snapshot, TrySnapshot, Snap, Seal, Replay, Ensure, Take, Seek}
 use Rattle.session.specs.declared.steps.Reply.TheVariants.{At, Nothing, Done, Length, Bytes, Fault, Closed, NotRecovering, NoSuch, Served, Missed, BadRanges, Taken, Sealed, NotAppending}
 use Rattle.session.specs.Run.{Standing, buffered_after, awaited_after, appended, synced, starting, truncated, noted, flushed, left_by_seal, sealed_by, snapshot_at, waited, begun, needs_sync, raised, started_by, ended, fit_together, turned_away, Accepts, faults, HasCause, Allocates, waits_for, Refuses, Takes, Foretells, RiseBelow, Answers, touch, Ran}
 use Rattle.session.specs.Run.Touch.{Leaves, Looks, Changes}
@@ -38,6 +38,7 @@ six_stand = record {
   awaited = None;
   covers = [];
   snapshots = [];
+  replays = [];
 }
 
 -- the same, with nothing synced yet, and all of it buffered
@@ -309,6 +310,10 @@ nothing_is_of_a_try P TrySnapshot from to before behind accepts = inr (inr refl)
 nothing_is_of_a_try P Snapshot from to before behind accepts = absurd accepts
 nothing_is_of_a_try P (Snap index offset len) from to before behind accepts = absurd accepts
 nothing_is_of_a_try P Seal from to before behind accepts = absurd accepts
+nothing_is_of_a_try P (Replay buffer_size) from to before behind accepts = absurd accepts
+nothing_is_of_a_try P (Ensure index count) from to before behind accepts = absurd accepts
+nothing_is_of_a_try P (Take index count) from to before behind accepts = absurd accepts
+nothing_is_of_a_try P (Seek index offset) from to before behind accepts = absurd accepts
 nothing_is_of_a_try P (Append bytes) from to before behind accepts = absurd accepts
 nothing_is_of_a_try P (Owned bytes) from to before behind accepts = absurd accepts
 nothing_is_of_a_try P Sync from to before behind accepts = absurd accepts

@@ -6,6 +6,8 @@ pub mod RangeLaws
 pub mod StartLaws
 pub mod TruncateLaws
 pub mod SnapshotLaws
+pub mod Numbered
+pub mod ReplayLaws
 pub mod WholeLaws
 pub mod RunLaws
 pub mod PromiseLaws

@@ -184,7 +184,7 @@ unfolding IsSound
 stands_where_sound sum w = λ d floor sound within enough keeps.
     let s : Standing = opened w floor d.readable in
     let life : Life = record { present = d; past = [] } in
-    whole sum w.page_size (session_of w) s d refl (stands_now sum w.page_size (session_of w) w life life s
+    whole sum w.page_size (session_of w) s d refl refl (stands_now sum w.page_size (session_of w) w life life s
     (record {
       page_size = refl;
       has_writer = refl;
@@ -219,7 +219,7 @@ fresh_stands sum w cache capacity old new recovers within durable =
     let stays : Stays sum P T new.present new.present =
     subst (λ (n : ℕ). Stays sum n T new.present new.present) size
     (subst (λ (l : List ℕ). Stays sum w.page_size l new.present new.present) holds (stays_itself sum w.page_size (content_of w new.present.readable) new.present recovers.sound.truthful)) in
-    whole sum P (session_of w) (fresh P (adjusted capacity P) T) new.present refl (stands_now sum P (session_of w) w new new (fresh P (adjusted capacity P) T)
+    whole sum P (session_of w) (fresh P (adjusted capacity P) T) new.present refl refl (stands_now sum P (session_of w) w new new (fresh P (adjusted capacity P) T)
     (record {
       page_size = size;
       has_writer = refl;

@@ -25,7 +25,7 @@ use Rattle.paged.proofs.There.{reads_keep_sound}
 use Rattle.session.specs.declared.steps.Step.{Step}
 use Rattle.session.specs.declared.steps.Step.TheVariants.{ReadRanges, TryReadRanges}
 use Rattle.session.specs.declared.steps.Reply.{Reply}
-use Rattle.session.specs.declared.steps.Reply.TheVariants.{At, Nothing, Done, Started, Answer, Length, Bytes, Fault, Closed, NotRecovering, NoSuch, Served, Missed, BadRanges, Taken, Sealed, NotAppending}
+use Rattle.session.specs.declared.steps.Reply.TheVariants.{At, Nothing, Done, Started, Answer, Length, Bytes, Fault, Closed, NotRecovering, NoSuch, Served, Missed, BadRanges, Taken, Sealed, NotAppending, Replaying}
 use Rattle.session.specs.Run.{Standing, SessionState, in_order_from, fit_together, turned_away, content_after, faults, HasCause, Takes, Foretells, RiseBelow, NumbersSome, touch}
 use Rattle.session.specs.Calls.{ReadsRanges, ReadRangesSays, DidReadRanges, TriedRanges, DidTryReadRanges}
 use Rattle.session.proofs.StepLaws.{held, answers_away, leaves, begun_keeps, begun_covers, only_there, raised_within, unasked, looked_steps, alike_stays_started, closed_takes, held_takes, sound_of, same_rest}
@@ -112,6 +112,7 @@ overflow_told sum w cache ranges old new BadRanges small reads goes = absurd rea
 overflow_told sum w cache ranges old new (Taken index) small reads goes = absurd reads
 overflow_told sum w cache ranges old new (Sealed index sync) small reads goes = absurd reads
 overflow_told sum w cache ranges old new NotAppending small reads goes = absurd reads
+overflow_told sum w cache ranges old new (Replaying number) small reads goes = absurd reads
 overflow_told sum w cache ranges old new NoSuch small reads goes = absurd reads
 
 end_told : (sum : List ℕ → ℕ) (w : WriterState) (cache : CacheState) (ranges : List (ℕ × ℕ)) (old new : Life) (reply : Reply) → size_of w < 2 ^ 64 → ReadsRanges sum w cache ranges old new reply → RangesGo (size_of w) ranges (Err BlobInsufficientLength) → reply ≡ Fault BlobInsufficientLength
@@ -139,6 +140,7 @@ end_told sum w cache ranges old new BadRanges small reads goes = absurd reads
 end_told sum w cache ranges old new (Taken index) small reads goes = absurd reads
 end_told sum w cache ranges old new (Sealed index sync) small reads goes = absurd reads
 end_told sum w cache ranges old new NotAppending small reads goes = absurd reads
+end_told sum w cache ranges old new (Replaying number) small reads goes = absurd reads
 end_told sum w cache ranges old new NoSuch small reads goes = absurd reads
 
 -- ---- what a read of them says
@@ -327,6 +329,7 @@ read_ranges_steps sum was w cache ranges old new reply fits sound says = λ P be
     taken (Taken index) P before stands size full reads = absurd reads
     taken (Sealed index sync) P before stands size full reads = absurd reads
     taken NotAppending P before stands size full reads = absurd reads
+    taken (Replaying number) P before stands size full reads = absurd reads
     taken NoSuch P before stands size full reads = absurd reads
     taken (Missed numbers) P before stands size full reads = absurd reads
 
@@ -393,6 +396,7 @@ try_read_ranges_steps sum was w cache ranges life reply fits sound tried = λ P 
     taken (Taken index) P before size tried = absurd tried
     taken (Sealed index sync) P before size tried = absurd tried
     taken NotAppending P before size tried = absurd tried
+    taken (Replaying number) P before size tried = absurd tried
     taken NoSuch P before size tried = absurd tried
     taken (Served count bytes) P before size tried = absurd tried
 

@@ -20,7 +20,7 @@ use Rattle.paged.proofs.Flushes.{size_is_length}
 use Rattle.paged.proofs.There.{reads_keep_sound}
 use Rattle.session.specs.declared.steps.Step.TheVariants.{ReadUpTo, TryRead}
 use Rattle.session.specs.declared.steps.Reply.{Reply}
-use Rattle.session.specs.declared.steps.Reply.TheVariants.{At, Nothing, Done, Started, Answer, Length, Bytes, Fault, Closed, NotRecovering, NoSuch, Served, Missed, BadRanges, Taken, Sealed, NotAppending}
+use Rattle.session.specs.declared.steps.Reply.TheVariants.{At, Nothing, Done, Started, Answer, Length, Bytes, Fault, Closed, NotRecovering, NoSuch, Served, Missed, BadRanges, Taken, Sealed, NotAppending, Replaying}
 use Rattle.session.specs.Run.{Standing, SessionState, faults, HasCause, Takes, Foretells, FitsWriter}
 use Rattle.session.specs.Calls.{ReadsBytesUpTo, ReadUpToSays, DidReadUpTo, TriedBytes, DidTryRead}
 use Rattle.session.proofs.StepLaws.{held, turned_here, turned_closed, unasked, looked_steps, alike_stays_started, closed_takes, held_takes, sound_of, can_of, same_rest}
@@ -81,6 +81,7 @@ read_up_to_steps sum was w cache offset len old new reply sound says = λ P befo
     taken (Taken index) P before stands size full reads = absurd reads
     taken (Sealed index sync) P before stands size full reads = absurd reads
     taken NotAppending P before stands size full reads = absurd reads
+    taken (Replaying number) P before stands size full reads = absurd reads
     taken (Length n) P before stands size full reads = absurd reads
     taken Closed P before stands size full reads = absurd reads
 
@@ -125,6 +126,7 @@ try_read_steps sum was w cache offset len life reply sound can tried = λ P befo
     taken (Taken index) P before stands size tried = absurd tried
     taken (Sealed index sync) P before stands size tried = absurd tried
     taken NotAppending P before stands size tried = absurd tried
+    taken (Replaying number) P before stands size tried = absurd tried
 
 -- by a session
 pub try_read_takes : (sum : List ℕ → ℕ) (was : SessionState) (cache : CacheState) (offset len : ℕ) (life : Life) (reply : Reply) → IsReadyApart sum was life.present → FitsWriter was.writer cache life.present → DidTryRead was.writer cache offset len reply

@@ -41,7 +41,7 @@ use Rattle.session.specs.Run.{Replayed, Standing, SessionState, begun, noted, fl
 use Rattle.session.specs.Run.Touch.{Leaves, Looks, Changes}
 use Rattle.session.specs.Calls.{IfAppending, SnapshotSays, with_snapshot, TakesSnapshot, TriesSnapshot, SealSays, sealed_with, SealsSession, DidSnapshot, DidTrySnapshot, DidSeal, DidSnap, ReadsBytes, ReadSays, LeavesTaken, Steps}
 use Rattle.session.proofs.Apart.{AlwaysApart, IsReadyApart, StandsApart, SteppedApart, StepsApart, stands_apart, ready_apart}
-use Rattle.session.proofs.Below.{AlwaysMakes, Left, Made, can_in, framed, framed_same, leaves_all, leaves_here, LeftAll, left_by, left_same, of_each, sound_in}
+use Rattle.session.proofs.Below.{AlwaysMakes, Made, can_in, framed, framed_same, leaves_all, leaves_here, LeftAll, left_by, left_same, of_each, sound_in}
 use Rattle.session.proofs.StepLaws.{held, held_same, last_is, no_moments, answers_away, answers_here, leaves, few_calls, raised_within, only_there, Halves, each_end, stepped, unasked, unasked_over, stands_now, stands_ended, full_work, start_work, start_dirty, had_without_room, had_failed_as, wait_none, wait_one, owed_starts, same_halves, left_buffered, alike_stays_started, closed_takes}
 use Rattle.session.proofs.RangeLaws.{away_steps}
 use Rattle.session.proofs.StartLaws.{starting_keeps, goes_through, refused_through, name_more, waited_fits, all_more}
@@ -529,7 +529,7 @@ seal_takes sum was now cache behind old new reply ready fits writer stay did = b
 -- ---- reads of snapshots
 
 -- a session stands for the same where only the log changed
-looked_stands : (sum : List ℕ → ℕ) (P : ℕ) (was : SessionState) (s : Standing) (d e : Disk) → SameButLog d e → StandsApart sum P was s d → StandsApart sum P was s e
+pub looked_stands : (sum : List ℕ → ℕ) (P : ℕ) (was : SessionState) (s : Standing) (d e : Disk) → SameButLog d e → StandsApart sum P was s d → StandsApart sum P was s e
 looked_stands sum P was s d e alike stands =
     let base : e.base ≡ d.base = ap (λ (x : Disk). x.base) alike in
     let since : e.since ≡ d.since = ap (λ (x : Disk). x.since) alike in

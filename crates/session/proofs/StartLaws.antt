@@ -23,7 +23,7 @@ use Rattle.paged.specs.Flush.{has_work}
 use Rattle.paged.specs.Calls.{HasCause as CallCause, GoesOn, Refuses as CallRefuses, IsSettled, started_already, started_state, sync_calls, start_calls, wait_calls, unstarted_calls, waited_state, waited as waited_writer, SettlesBy}
 use Rattle.session.specs.declared.steps.Step.TheVariants.{StartSync, Wait, WaitSync, Needs, Begin}
 use Rattle.session.specs.declared.steps.Reply.{Reply}
-use Rattle.session.specs.declared.steps.Reply.TheVariants.{At, Nothing, Done, Started, Answer, Length, Bytes, Fault, Closed, NotRecovering, NoSuch, Served, Missed, BadRanges, Taken, Sealed, NotAppending}
+use Rattle.session.specs.declared.steps.Reply.TheVariants.{At, Nothing, Done, Started, Answer, Length, Bytes, Fault, Closed, NotRecovering, NoSuch, Served, Missed, BadRanges, Taken, Sealed, NotAppending, Replaying}
 use Rattle.session.specs.Run.{Replayed, Standing, SessionState, ended, starting, waited, started_by, is_complete, HasCompleted, turned_away, Answers, faults, HasCause, HadFailed, Takes, wait_touch, last, Touches, AllCover, pending_in, WriterStandsFor, WriterFits, NamesFit, HasSoundWriter}
 use Rattle.session.specs.Run.Touch.{Leaves, Changes}
 use Rattle.session.specs.Calls.{KeepsRest, StartSays, names_after, Starts, WaitSays, Waits, WaitsFor, is_given, NeedsSync as SaysNeeds, Begins, KeepsSnapshots}
@@ -533,6 +533,7 @@ started_takes sum was now old new reply ready rest goes = by_writer was.writer r
     by_writer (Some w) at (Taken index) goes = absurd goes
     by_writer (Some w) at (Sealed index sync) goes = absurd goes
     by_writer (Some w) at NotAppending goes = absurd goes
+    by_writer (Some w) at (Replaying number) goes = absurd goes
 
 -- a wait by a session
 pub waited_takes : (sum : List ℕ → ℕ) (was now : SessionState) (old new : Life) (reply : Reply) → IsReadyApart sum was old.present → KeepsRest was now → Waits sum was.writer now.writer old new reply → StepsApart sum Wait reply was now old new
@@ -559,6 +560,7 @@ waited_takes sum was now old new reply ready rest goes = by_writer was.writer re
     by_writer (Some w) at (Taken index) goes = absurd goes
     by_writer (Some w) at (Sealed index sync) goes = absurd goes
     by_writer (Some w) at NotAppending goes = absurd goes
+    by_writer (Some w) at (Replaying number) goes = absurd goes
 
 -- a wait for a name, also where there is no writer
 pub named_takes : (sum : List ℕ → ℕ) (was : SessionState) (name : ℕ) (old new : Life) (reply : Reply) → IsSmall sum → IsReadyApart sum was old.present → WaitsFor (is_given was.names name) name old new reply → StepsApart sum (WaitSync name) reply was was old new
@@ -597,6 +599,7 @@ named_takes sum was name old new reply small ready goes = by_name (is_given was.
     by_name true is (Taken index) goes = absurd goes
     by_name true is (Sealed index sync) goes = absurd goes
     by_name true is NotAppending goes = absurd goes
+    by_name true is (Replaying number) goes = absurd goes
 
 -- whether a sync has something to do
 pub needed_takes : (sum : List ℕ → ℕ) (was : SessionState) (life : Life) (reply : Reply) → IsReadyApart sum was life.present → SaysNeeds was.writer reply → StepsApart sum Needs reply was was life life

@@ -37,9 +37,9 @@ use Rattle.page.specs.Page.{text}
 use Rattle.paged.proofs.There.{reads_keep_sound}
 use Rattle.paged.proofs.Halves.{appends_stay, syncs_stay, sync_keeps_all}
 use Rattle.session.specs.declared.steps.Step.{Step}
-use Rattle.session.specs.declared.steps.Step.TheVariants.{Append, Owned, TryAppend, Sync, StartSync, Wait, WaitSync, Needs, Size, Read, ReadUpTo, TryRead, ReadRanges, TryReadRanges, Begin, Truncate, Snapshot, TrySnapshot, Snap, Seal}
+use Rattle.session.specs.declared.steps.Step.TheVariants.{Append, Owned, TryAppend, Sync, StartSync, Wait, WaitSync, Needs, Size, Read, ReadUpTo, TryRead, ReadRanges, TryReadRanges, Begin, Truncate, Snapshot, TrySnapshot, Snap, Seal, Replay, Ensure, Take, Seek}
 use Rattle.session.specs.declared.steps.Reply.{Reply}
-use Rattle.session.specs.declared.steps.Reply.TheVariants.{At, Nothing, Done, Started, Answer, Length, Bytes, Fault, Closed, NotRecovering, NoSuch, Served, Missed, BadRanges, Taken, Sealed, NotAppending}
+use Rattle.session.specs.declared.steps.Reply.TheVariants.{At, Nothing, Done, Started, Answer, Length, Bytes, Fault, Closed, NotRecovering, NoSuch, Served, Missed, BadRanges, Taken, Sealed, NotAppending, Replaying}
 use Rattle.session.specs.Run.{Standing, SessionState, has_room, buffered_after, written_after, awaited_after, appended, synced, ended, needs_sync, is_complete, raise, raised, lowered, forgetting, begun, turned_away, faults, HasCause, HadFailed, content_after, Takes, Foretells, Answers, Touch, touch, wait_touch, last, Touches, AllCover, pending_in, WriterStandsFor, WriterFits, NamesFit, HasSoundWriter, FitsWriter}
 use Rattle.session.specs.Run.Touch.{Leaves, Looks, Changes}
 use Rattle.session.specs.Calls.{IsClosed, KeepsRest, OwesStarts, AppendSays, Appended, TriedAppend, SyncSays, Synced, Sized, IsBytes, ReadsBytes, ReadSays, DidRead}
@@ -130,7 +130,7 @@ pub turned_closed : (has_writer : Bool) → has_writer ≡ false → (if has_wri
 turned_closed true has = absurd (false≢true (sym has))
 turned_closed false has = refl
 
-not_turned_away : (step : Step) (s : Standing) (moments : List Disk) → turned_away step s ≡ None → is_some (turned_away step s) ≡ true → moments ≡ []
+pub not_turned_away : (step : Step) (s : Standing) (moments : List Disk) → turned_away step s ≡ None → is_some (turned_away step s) ≡ true → moments ≡ []
 not_turned_away step s moments here away =
     let stays : is_some (turned_away step s) ≡ false = ap (λ (o : Option Reply). is_some o) here in
     absurd (false≢true (sym stays ∙ away))
@@ -209,6 +209,10 @@ begun_either Q Snapshot s same less = same
 begun_either Q TrySnapshot s same less = same
 begun_either Q (Snap index offset len) s same less = same
 begun_either Q Seal s same less = same
+begun_either Q (Replay buffer_size) s same less = same
+begun_either Q (Ensure index count) s same less = same
+begun_either Q (Take index count) s same less = same
+begun_either Q (Seek index offset) s same less = same
 
 pub begun_keeps : (sum : List ℕ → ℕ) (P : ℕ) (step : Step) (s : Standing) (d : Disk) → AllKeep sum P s.content s.floor d → AllKeep sum P s.content (begun step s).floor d
 begun_keeps sum P step s d keeps = begun_either (λ x. AllKeep sum P s.content x.floor d) step s keeps (λ n. lowered_keeps sum P n s d keeps)
@@ -1003,6 +1007,7 @@ read_says sum t cache offset len old new bufs BadRanges reads overflow end looke
 read_says sum t cache offset len old new bufs (Taken index) reads overflow end looked is = absurd is
 read_says sum t cache offset len old new bufs (Sealed index sync) reads overflow end looked is = absurd is
 read_says sum t cache offset len old new bufs NotAppending reads overflow end looked is = absurd is
+read_says sum t cache offset len old new bufs (Replaying number) reads overflow end looked is = absurd is
 
 -- so is why none was
 abbrev pub no_bufs : Error → Result (List (List ℕ)) Error
@@ -1043,6 +1048,7 @@ read_steps sum was w cache offset len old new reply sound says = λ P before sta
     taken (Taken index) P before stands size full reads = absurd reads
     taken (Sealed index sync) P before stands size full reads = absurd reads
     taken NotAppending P before stands size full reads = absurd reads
+    taken (Replaying number) P before stands size full reads = absurd reads
     taken (Length n) P before stands size full reads = absurd reads
     taken Closed P before stands size full reads = absurd reads
 
@@ -1117,6 +1123,7 @@ appended_takes sum was now bytes old new reply ready rest goes = by_writer was.w
     by_writer (Some w) at (Taken index) goes = absurd goes
     by_writer (Some w) at (Sealed index sync) goes = absurd goes
     by_writer (Some w) at NotAppending goes = absurd goes
+    by_writer (Some w) at (Replaying number) goes = absurd goes
 
 -- a cause of an append is one of an append of a buffer
 owned_cause : (P : ℕ) (bytes : Vec ℕ Global) (s : Standing) (from to : Disk) (e : Error) → HasCause P (Append bytes) s from to e → HasCause P (Owned bytes) s from to e
@@ -1149,6 +1156,7 @@ owned_takes P bytes BadRanges s behind from to takes = takes
 owned_takes P bytes (Taken index) s behind from to takes = takes
 owned_takes P bytes (Sealed index sync) s behind from to takes = takes
 owned_takes P bytes NotAppending s behind from to takes = takes
+owned_takes P bytes (Replaying number) s behind from to takes = takes
 
 owned_answers : (P : ℕ) (bytes : Vec ℕ Global) (reply : Reply) (s behind : Standing) (from to : Disk) → Answers P (Append bytes) reply from to s behind → Answers P (Owned bytes) reply from to s behind
 owned_answers P bytes reply s behind from to = by_turn (if s.has_writer then None else Some Closed)
@@ -1214,6 +1222,7 @@ tried_takes sum was now bytes life reply ready rest goes = by_writer was.writer 
     by_writer (Some w) at (Taken index) goes = absurd goes
     by_writer (Some w) at (Sealed index sync) goes = absurd goes
     by_writer (Some w) at NotAppending goes = absurd goes
+    by_writer (Some w) at (Replaying number) goes = absurd goes
 
 -- a sync by a session
 pub synced_takes : (sum : List ℕ → ℕ) (was now : SessionState) (old new : Life) (reply : Reply) → IsReadyApart sum was old.present → KeepsRest was now → Synced sum was.writer now.writer old new reply → StepsApart sum Sync reply was now old new
@@ -1238,6 +1247,7 @@ synced_takes sum was now old new reply ready rest goes = by_writer was.writer re
     by_writer (Some w) at (Taken index) goes = absurd goes
     by_writer (Some w) at (Sealed index sync) goes = absurd goes
     by_writer (Some w) at NotAppending goes = absurd goes
+    by_writer (Some w) at (Replaying number) goes = absurd goes
 
 -- what is read of a session leaves all of it
 pub same_rest : (was : SessionState) → KeepsRest was was

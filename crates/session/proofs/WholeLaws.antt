@@ -106,7 +106,7 @@ begin_takes sum was now cache life reply ready fits goes =
     begun_same : (o : Option WriterState) → was.writer ≡ o → Begins o was now reply → (now.writer ≡ was.writer) × ((now.snapshots ≡ was.snapshots) × (now.recovering ≡ true → now.snapshots ≡ [])) × (now.replays ≡ was.replays)
     begun_same None at (replied, is) = (ap (λ (s : SessionState). s.writer) is, (ap (λ (s : SessionState). s.snapshots) is, subst (λ (s : SessionState). s.recovering ≡ true → s.snapshots ≡ []) (sym is) ready.begun), ap (λ (s : SessionState). s.replays) is)
     begun_same (Some w) at (replied, is) =
-        (ap (λ (s : SessionState). s.writer) is, (ap (λ (s : SessionState). s.snapshots) is, λ other. absurd (false≢true (sym (ap (λ (s : SessionState). s.recovering) is) ∙ other))))
+        (ap (λ (s : SessionState). s.writer) is, (ap (λ (s : SessionState). s.snapshots) is, λ other. absurd (false≢true (sym (ap (λ (s : SessionState). s.recovering) is) ∙ other))), ap (λ (s : SessionState). s.replays) is)
 
 -- a truncate, by a session in recovery, which has no snapshot, and no replay from then on; or turned
 -- away
@@ -131,6 +131,13 @@ cut_takes sum was now cache behind n old new reply ready fits goes rest writer t
         → Steps sum (Truncate n) reply was now old new × CacheFits now behind new.present
     uncut apart none left = framed_same sum (Truncate n) reply was now behind old new same (kept false none) begun writer left (steps false apart)
 
+    closed_left : (phase : Bool) → was.recovering ≡ phase → was.writer ≡ None → IsClosed now.writer old new reply → LeftAll sum was now.writer behind old.present new.present
+    closed_left false in_phase at closed = left_same sum was now.writer cache behind old new ready fits (closed.writer ∙ sym at) (turned in_phase) closed.life
+    closed_left true in_phase at closed = record {
+      snapshots = subst (λ (ts : List Tail). All (Left sum now.writer behind old.present new.present) ts) (sym (ready.begun in_phase)) (λ k t lt. absurd (omega (arith, lt)));
+      replays = replays_same sum was now.writer old new ready (closed.writer ∙ sym at) closed.life;
+    }
+
     by_state : (phase : Bool) (o : Option WriterState) → was.recovering ≡ phase → was.writer ≡ o → Truncated sum phase o now.writer n old new reply → Steps sum (Truncate n) reply was now old new × CacheFits now behind new.present
     by_state phase None in_phase at closed =
         let by_phase : (b : Bool) → (b && false) ≡ false = λ b. elim b as (λ x. (x && false) ≡ false) [ true ↦ refl | false ↦ refl ] in
@@ -146,10 +153,3 @@ cut_takes sum was now cache behind n old new reply ready fits goes rest writer t
         let none : (was.recovering && is_some was.writer) ≡ false = ap (λ (b : Bool). b && is_some was.writer) in_phase in
         uncut (truncated_turned sum was (record was { writer = now.writer }) w n old new reply (ready_apart sum was old.present ready) in_phase at refl turns) none
         (left_same sum was now.writer cache behind old new ready fits (turns.1 ∙ sym at) (turned in_phase) turns.2)
-
-    closed_left : (phase : Bool) → was.recovering ≡ phase → was.writer ≡ None → IsClosed now.writer old new reply → LeftAll sum was now.writer behind old.present new.present
-    closed_left false in_phase at closed = left_same sum was now.writer cache behind old new ready fits (closed.writer ∙ sym at) (turned in_phase) closed.life
-    closed_left true in_phase at closed = record {
-      snapshots = subst (λ (ts : List Tail). All (Left sum now.writer behind old.present new.present) ts) (sym (ready.begun in_phase)) (λ k t lt. absurd (omega (arith, lt)));
-      replays = replays_same sum was now.writer old new ready (closed.writer ∙ sym at) closed.life;
-    }

@@ -530,15 +530,17 @@ abbrev pub OfReplay : (was now : Option ReplayState) → Reply → (same : Type 
 OfReplay None now reply same goes = (reply ≡ NoSuch) × (now ≡ None) × same
 OfReplay (Some r) now reply same goes = (q : ReplayState) × (now ≡ Some q) × goes r q
 
--- a step of the replay of this number, if there is one: that goes on so, and all else of the session
--- stays
-abbrev pub StepsReplay : (index : ℕ) → (was now : SessionState) → Life → Life → Reply
+-- a step of the one of this number, if there is one
+abbrev pub AtReplay : (index : ℕ) → (was now : List (Option ReplayState)) → Reply → (same : Type 0)
     → (goes : ReplayState → ReplayState → Type 0) → Type 0
-StepsReplay index was now old new reply goes = elim (numbered was.replays index) [
-  | None ↦ (reply ≡ NoSuch) × (now ≡ was) × (new ≡ old)
-  | Some r ↦ (q : ReplayState)
-    × (now ≡ record was { replays = slice_set was.replays index (Some q) }) × goes r q
+AtReplay index was now reply same goes = elim (numbered was index) [
+  | None ↦ (reply ≡ NoSuch) × (now ≡ was) × same
+  | Some r ↦ (q : ReplayState) × (now ≡ slice_set was index (Some q)) × goes r q
 ]
+
+-- all else of the session stays
+abbrev pub KeepsAllButReplays : SessionState → SessionState → Type 0
+KeepsAllButReplays was now = now ≡ record was { replays = now.replays }
 
 -- ---- a step of a session
 

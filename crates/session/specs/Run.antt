@@ -319,7 +319,7 @@ NumbersSome content ranges numbers =
 pub record HasFetched (was now : Replayed) : Type 0 where
   pub stays : now ≡ record was { hand = now.hand }
   pub more : was.hand ≤ now.hand
-  pub within : now.position + now.hand ≤ length now.content
+  pub within : now.hand ≤ length now.content - now.position
 
 -- whether so many are: where not, all are that are left. Not more are fetched than are asked for,
 -- but for a batch

@@ -3,11 +3,11 @@ ghost use Rattle.std.specs.Prelude.{◌≡◌, All, map, None, ⊤};
 ghost use Rattle.std.specs.Int.NonZero.{non_zero_usize_get};
 ghost use Rattle.cache.specs.Pages.{IsFresh};
 ghost use Rattle.crash.specs.Looks.{Looked};
-ghost use Rattle.disk.specs.Disk.{Life};
 ghost use Rattle.paged_read.specs.Replay.{ReplaysOn, ReplaysThrough};
-ghost use Rattle.session.specs.Calls.{CanGoOn, EnsuresOf, KeepsButReplays, LeavesTaken, OfReplay};
-ghost use Rattle.session.specs.Calls.{SeeksOf, StepsReplay, TakesOf, TakesReplay};
-ghost use Rattle.session.specs.Run.{FitsWriter, HasSoundWriter, IsReplayIn};
+ghost use Rattle.session.specs.Calls.{AtReplay, CanGoOn, EnsuresOf, KeepsAllButReplays};
+ghost use Rattle.session.specs.Calls.{KeepsButReplays, LeavesTaken, OfReplay, SeeksOf, TakesOf};
+ghost use Rattle.session.specs.Calls.{TakesReplay};
+ghost use Rattle.session.specs.Run.{FitsWriter, HasSoundWriter};
 
 use crate::Session;
 use crate::held::Held;
@@ -58,32 +58,20 @@ impl<B: Blob, H: Sum, Phase> Held<B, H, Phase> {
 }
 
 impl<B, H> Session<B, H> {
-    pub(crate) fn forget_replays(&mut self)
-        ensures { self.new ≡ record self.old { replays = map (λ o. None) self.old.replays } }
-    {
-        for replay in &mut self.replays {
-            *replay = None;
-        }
-    }
-
     pub(crate) fn take(&mut self, index: usize, count: usize) -> Reply
-        ensures { (life : Life) → StepsReplay index self.old self.new life life result (λ r q.
+        ensures goes { AtReplay index self.old.replays self.new.replays result ⊤ (λ r q.
             TakesOf r q count result × ReplaysOn r q) }
+        ensures rest { KeepsAllButReplays self.old self.new }
     {
-        match self.replays.get_mut(index) {
-            Some(replay) => take_of(self.alloc, replay, count),
-            None => Reply::NoSuch,
-        }
+        take_at(self.alloc, &mut self.replays, index, count)
     }
 
     pub(crate) fn seek(&mut self, index: usize, offset: u64) -> Reply
-        ensures { (life : Life) → StepsReplay index self.old self.new life life result (λ r q.
+        ensures goes { AtReplay index self.old.replays self.new.replays result ⊤ (λ r q.
             SeeksOf r q offset result × ReplaysOn r q) }
+        ensures rest { KeepsAllButReplays self.old self.new }
     {
-        match self.replays.get_mut(index) {
-            Some(replay) => seek_of(replay, offset),
-            None => Reply::NoSuch,
-        }
+        seek_at(&mut self.replays, index, offset)
     }
 }
 
@@ -117,17 +105,68 @@ impl<B: Blob, H: Sum> Session<B, H> {
 
     // Behind the back of the writer, which may be gone.
     pub(crate) fn ensure(&mut self, blob: &mut B, index: usize, count: usize) -> Reply
-        requires replays { let old = (B.life blob.old).present in
-            All (IsReplayIn H.sum_of self.old.writer old) self.old.replays }
+        requires can { let old = (B.life blob.old).present in
+            All (λ o. CanGoOn o old) self.old.replays }
         ensures goes { let old = B.life blob.old in let new = B.life blob.new in
-            StepsReplay index self.old self.new old new result (λ r q.
+            AtReplay index self.old.replays self.new.replays result (new ≡ old) (λ r q.
             EnsuresOf H.sum_of r q count old new result × ReplaysThrough r q old new) }
+        ensures rest { KeepsAllButReplays self.old self.new }
         ensures looked { Looked (B.life blob.old) (B.life blob.new) }
     {
-        match self.replays.get_mut(index) {
-            Some(replay) => ensure_of(replay, blob, count),
-            None => Reply::NoSuch,
-        }
+        ensure_at(&mut self.replays, blob, index, count)
+    }
+}
+
+/// Forgets these replays, whose numbers aren't given again.
+pub(crate) fn forget<B, H>(replays: &mut Vec<Option<Replay<B, H>>>)
+    ensures { replays.new.items ≡ map (λ o. None) replays.old.items }
+{
+    for index in 0..replays.len() {
+        replays[index] = None;
+    }
+}
+
+fn take_at<B, H>(
+    alloc: Global,
+    replays: &mut Vec<Option<Replay<B, H>>>,
+    index: usize,
+    count: usize,
+) -> Reply
+    ensures { AtReplay index replays.old.items replays.new.items result ⊤ (λ r q.
+        TakesOf r q count result × ReplaysOn r q) }
+{
+    match replays.get_mut(index) {
+        Some(replay) => take_of(alloc, replay, count),
+        None => Reply::NoSuch,
+    }
+}
+
+fn seek_at<B, H>(replays: &mut Vec<Option<Replay<B, H>>>, index: usize, offset: u64) -> Reply
+    ensures { AtReplay index replays.old.items replays.new.items result ⊤ (λ r q.
+        SeeksOf r q offset result × ReplaysOn r q) }
+{
+    match replays.get_mut(index) {
+        Some(replay) => seek_of(replay, offset),
+        None => Reply::NoSuch,
+    }
+}
+
+fn ensure_at<B: Blob, H: Sum>(
+    replays: &mut Vec<Option<Replay<B, H>>>,
+    blob: &mut B,
+    index: usize,
+    count: usize,
+) -> Reply
+    requires can { let old = (B.life blob.old).present in
+        All (λ o. CanGoOn o old) replays.old.items }
+    ensures goes { let old = B.life blob.old in let new = B.life blob.new in
+        AtReplay index replays.old.items replays.new.items result (new ≡ old) (λ r q.
+        EnsuresOf H.sum_of r q count old new result × ReplaysThrough r q old new) }
+    ensures looked { Looked (B.life blob.old) (B.life blob.new) }
+{
+    match replays.get_mut(index) {
+        Some(replay) => ensure_of(replay, blob, count),
+        None => Reply::NoSuch,
     }
 }
 

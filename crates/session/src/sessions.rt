@@ -16,6 +16,7 @@ ghost use Rattle.session.specs.Calls.{KeepsUncut};
 ghost use Rattle.session.specs.Calls.{LeavesTaken, Steps, TakenBy, Truncated, WaitsFor};
 
 use crate::held::Held;
+use crate::replays::forget;
 use crate::steps::{Reply, Step};
 use cache::CacheRef;
 use disk::{Blob, Error, StartedSync};
@@ -205,7 +206,7 @@ impl<B: Blob, H: Sum> Session<B, H> {
         ensures turned { self.old.recovering ≡ false → cache.new ≡ cache.old }
     {
         if self.recovering && self.recovery.writer.is_some() {
-            self.forget_replays();
+            forget(&mut self.replays);
         }
         self.cut(blob, cache, size)
     }

@@ -8,7 +8,7 @@ pub returns-clause-stands : goal.returns-clause-stands
 returns-clause-stands g c = stands_where_sound g.H.Sum.sum_of c.args.writer
 
 pub returns-clause-ready : goal.returns-clause-ready
-returns-clause-ready g c = λ d sound. begun_ready g.H.Sum.sum_of c.args.writer (record (session_of c.args.writer) { names = c.new.result.items; snapshots = c.new-2.result.items }) d (search rules) sound
+returns-clause-ready g c = λ d sound. begun_ready g.H.Sum.sum_of c.args.writer (record (session_of c.args.writer) { names = c.new.result.items; snapshots = c.new-2.result.items; replays = c.new-3.result.items }) d (search rules) sound
 
 pub returns-clause-cached : goal.returns-clause-cached
-returns-clause-cached g c = λ cache d can. begun_fits c.args.writer (record (session_of c.args.writer) { names = c.new.result.items; snapshots = c.new-2.result.items }) cache d (search rules) can
+returns-clause-cached g c = λ cache d can. begun_fits c.args.writer (record (session_of c.args.writer) { names = c.new.result.items; snapshots = c.new-2.result.items; replays = c.new-3.result.items }) cache d (search rules) can

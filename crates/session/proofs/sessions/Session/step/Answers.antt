@@ -1,3 +1,4 @@
+use Rattle.session.proofs.ReplayLaws.{all_can_go_on, ensure_takes, replay_takes, seek_takes, take_takes}
 use Rattle.session.proofs.SnapshotLaws.{snapshot_takes, try_snapshot_takes, seal_takes, snap_takes}
 use Rattle.session.proofs.WholeLaws.{begin_takes, cut_takes, name_takes, writer_takes}
 use Rattle.session.proofs.sessions.Session.step.Goals as goal
@@ -78,3 +79,46 @@ returns-in_default g c =
     let takes =
     writer_takes g.H.Sum.sum_of c.args.step.now c.args.self.now c.step_writer.new.self c.args.cache.now c.step_writer.new.cache (g.B.Blob.life c.args.blob.now) (g.B.Blob.life c.step_writer.new.blob) c.step_writer.result c.requires.ready c.requires.cached is.goes is.rest is.cached is.tails in
     record { goes = takes.0; cached = takes.1; fresh_ids = is.fresh_ids }
+
+pub returns-in-Replay-clause-goes : goal.returns-in-Replay-clause-goes
+returns-in-Replay-clause-goes g c =
+    let is = c.replay.ensures in
+    rw c.in-Replay.is (replay_takes g.H.Sum.sum_of c.args.self.now c.replay.new.self c.args.cache.now c.replay.new.cache c.in-Replay.buffer_size (g.B.Blob.life c.args.blob.now) (g.B.Blob.life c.replay.new.blob) c.replay.result c.requires.ready c.requires.cached is.cached is.tails is.rest is.goes).0
+
+pub returns-in-Replay-clause-cached : goal.returns-in-Replay-clause-cached
+returns-in-Replay-clause-cached g c =
+    let is = c.replay.ensures in
+    (replay_takes g.H.Sum.sum_of c.args.self.now c.replay.new.self c.args.cache.now c.replay.new.cache c.in-Replay.buffer_size (g.B.Blob.life c.args.blob.now) (g.B.Blob.life c.replay.new.blob) c.replay.result c.requires.ready c.requires.cached is.cached is.tails is.rest is.goes).1
+
+pub returns-in-Ensure-clause-goes : goal.returns-in-Ensure-clause-goes
+returns-in-Ensure-clause-goes g c =
+    let is = c.ensure.ensures in
+    rw c.in-Ensure.is (ensure_takes g.H.Sum.sum_of c.args.self.now c.ensure.new.self c.args.cache.now c.in-Ensure.index c.in-Ensure.count (g.B.Blob.life c.args.blob.now) (g.B.Blob.life c.ensure.new.blob) c.ensure.result c.requires.ready c.requires.cached is.looked is.goes is.rest).0
+
+pub returns-in-Ensure-clause-cached : goal.returns-in-Ensure-clause-cached
+returns-in-Ensure-clause-cached g c =
+    let is = c.ensure.ensures in
+    (ensure_takes g.H.Sum.sum_of c.args.self.now c.ensure.new.self c.args.cache.now c.in-Ensure.index c.in-Ensure.count (g.B.Blob.life c.args.blob.now) (g.B.Blob.life c.ensure.new.blob) c.ensure.result c.requires.ready c.requires.cached is.looked is.goes is.rest).1
+
+pub returns-in-Take-clause-goes : goal.returns-in-Take-clause-goes
+returns-in-Take-clause-goes g c =
+    let life = g.B.Blob.life c.args.blob.now in
+    rw c.in-Take.is (take_takes g.H.Sum.sum_of c.args.self.now c.take.new.self c.args.cache.now c.in-Take.index c.in-Take.count life c.take.result c.requires.ready c.requires.cached c.take.ensures.goes c.take.ensures.rest).0
+
+pub returns-in-Take-clause-cached : goal.returns-in-Take-clause-cached
+returns-in-Take-clause-cached g c =
+    let life = g.B.Blob.life c.args.blob.now in
+    (take_takes g.H.Sum.sum_of c.args.self.now c.take.new.self c.args.cache.now c.in-Take.index c.in-Take.count life c.take.result c.requires.ready c.requires.cached c.take.ensures.goes c.take.ensures.rest).1
+
+pub returns-in-Seek-clause-goes : goal.returns-in-Seek-clause-goes
+returns-in-Seek-clause-goes g c =
+    let life = g.B.Blob.life c.args.blob.now in
+    rw c.in-Seek.is (seek_takes g.H.Sum.sum_of c.args.self.now c.seek.new.self c.args.cache.now c.in-Seek.index c.in-Seek.offset life c.seek.result c.requires.ready c.requires.cached c.seek.ensures.goes c.seek.ensures.rest).0
+
+pub returns-in-Seek-clause-cached : goal.returns-in-Seek-clause-cached
+returns-in-Seek-clause-cached g c =
+    let life = g.B.Blob.life c.args.blob.now in
+    (seek_takes g.H.Sum.sum_of c.args.self.now c.seek.new.self c.args.cache.now c.in-Seek.index c.in-Seek.offset life c.seek.result c.requires.ready c.requires.cached c.seek.ensures.goes c.seek.ensures.rest).1
+
+pub ensure-requires : goal.ensure-requires
+ensure-requires g c = record { can = all_can_go_on g.H.Sum.sum_of c.args.self.now (g.B.Blob.life c.args.blob.now).present c.requires.ready }

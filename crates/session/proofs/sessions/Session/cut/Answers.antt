@@ -6,7 +6,7 @@ use Rattle.session.specs.Run.{FitsWriter}
 use Rattle.session.specs.Calls.{Truncated}
 use Rattle.session.proofs.Below.{sound_in, can_in, in_recovery}
 use Rattle.session.proofs.TruncateLaws.{cuts_here}
-use Rattle.session.proofs.sessions.Session.truncate.Goals as goal
+use Rattle.session.proofs.sessions.Session.cut.Goals as goal
 
 pub returns-in-Ok-clause-goes : goal.returns-in-Ok-clause-goes
 returns-in-Ok-clause-goes g c =
