@@ -38,3 +38,4 @@ pub mod Serves
 pub mod Snapshotting
 pub mod LaterCalls
 pub mod LaterExamples
+pub mod Scanned

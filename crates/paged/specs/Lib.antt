@@ -10,3 +10,4 @@ pub mod Caches
 pub mod Snapshots
 pub mod LaterCalls
 pub mod Replays
+pub mod Scans

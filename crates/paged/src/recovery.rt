@@ -6,7 +6,7 @@ ghost use Rattle.crash.specs.WriterState.SyncState.{Clean};
 ghost use Rattle.paged_read.specs.Prefix.{prefix_pages, prefix_size, tip_of};
 ghost use Rattle.paged.specs.Writer.{state_of, FitsBlob};
 ghost use Rattle.paged.specs.Calls.{HoldsWithin};
-ghost use Rattle.paged.specs.Recovery.{Opens, Cuts, CutsBack, Stands, slot_pages, cache_after};
+ghost use Rattle.paged.specs.Recovery.{Opens, Cuts, CutsBack, Stands, cache_after};
 ghost use Rattle.paged.specs.Recovery.{at_prefix, slot_of_tip};
 ghost use Rattle.paged.specs.Recovery.{IsAsOpened, KeepsText, LeavesText};
 ghost use Rattle.paged.specs.Recovers.{Recovers, GivesId};
@@ -63,7 +63,7 @@ fn tip_and_slot(partial: &Partial) -> (&[u8], Option<ActiveChecksum>)
 }
 
 /// How many logical bytes a prefix has.
-fn size_of(prefix: &Prefix, page_size: NonZeroU16) -> u64
+pub(crate) fn size_of(prefix: &Prefix, page_size: NonZeroU16) -> u64
     requires fits { let P = non_zero_u16_get page_size in
         prefix_pages prefix.now * (P + 12) < 2 ^ 64 }
     requires short { length (tip_of prefix.now.partial) < non_zero_u16_get page_size }
@@ -106,18 +106,6 @@ impl<B, H> Recovery<B, H> {
             sync_state,
             of: PhantomData,
         })
-    }
-}
-
-impl<B, H> Recovery<B, H> {
-    /// How many pages the blob has.
-    pub(crate) fn flushed_pages(&self) -> u64
-        ensures { result ≡ self.now.full_pages + slot_pages self.now.flushed }
-    {
-        match self.flushed {
-            None => self.full_pages(),
-            Some(_) => self.full_pages() + 1,
-        }
     }
 }
 

@@ -23,3 +23,5 @@ pub mod ReadAheads
 pub mod Replays
 pub mod ReplayExamples
 pub mod OutlivingReplays
+pub mod Scanning
+pub mod RawReading

@@ -1,6 +1,6 @@
 -- Searches that only read a blob.
-use Rattle.std.proofs.Common.{◌≡◌, ℕ, ◌+◌, ◌≤◌, List, length, sym, ap, subst, arith, true, false}
-use Rattle.std.specs.Prelude.{Ok, Err}
+use Rattle.std.proofs.Common.{◌≡◌, ℕ, ◌+◌, ◌≤◌, List, length, sym, ap, ◌∙◌, subst, arith, true, false}
+use Rattle.std.specs.Prelude.{Result, Ok, Err}
 use Rattle.disk.specs.Disk.{Life, ReadAt, ReadGoes}
 use Rattle.disk.specs.declared.error.Error.{Error}
 use Rattle.disk.specs.declared.error.Error.TheVariants.{ReadFailed, WriteFailed, ResizeFailed, SyncFailed, InvalidChecksum, BlobInsufficientLength, OffsetOverflow, OutOfMemory, IdsExhausted}
@@ -8,11 +8,51 @@ use Rattle.disk.proofs.Logs.{failed_once, failed_later}
 use Rattle.crash.specs.Looks.{Looked, looked_joins}
 use Rattle.crash.proofs.LookLaws.{looked_asked, looked_readable}
 use Rattle.paged_read.specs.declared.prefix.Prefix.{Prefix}
+use Rattle.paged_read.specs.Scans.{LooksThrough}
 use Rattle.paged_read.specs.Searches.{Finds}
 
 -- a look that goes on with a read
 pub looked_on : (place len : ℕ) (start old new : Life) (bytes : List ℕ) → Looked start old → ReadGoes place len old new (Ok bytes) → Looked start new
 looked_on place len start old new bytes so_far goes = looked_joins start old new so_far (looked_asked (ReadAt place len) false old new goes.2)
+
+-- what was read was there
+pub read_there : (place len : ℕ) (start old new : Life) (bytes : List ℕ) → Looked start old → ReadGoes place len old new (Ok bytes) → place + len ≤ length start.present.readable
+read_there place len start old new bytes so_far goes = omega (arith, goes.0, ap (λ (l : List ℕ). length l) (looked_readable start old so_far))
+
+-- a look that goes on with a read that isn't answered
+pub look_fault : {A : Type 0} (place len reach : ℕ) (a : A) (start old new : Life) (e : Error) → Looked start old → place + len ≤ reach → ReadGoes place len old new (Err e) → LooksThrough reach a start new (Err e)
+look_fault place len reach a start old new ReadFailed so_far le goes = (
+  failed_later ReadFailed start.present old.present new.present so_far.log (failed_once (ReadAt place len) old.present new.present (ap (λ (l : Life). l.present.log) goes)),
+  looked_joins start old new so_far (looked_asked (ReadAt place len) true old new goes),
+)
+look_fault place len reach a start old new WriteFailed so_far le goes = goes
+look_fault place len reach a start old new ResizeFailed so_far le goes = goes
+look_fault place len reach a start old new SyncFailed so_far le goes = goes
+look_fault place len reach a start old new InvalidChecksum so_far le goes = goes
+look_fault place len reach a start old new BlobInsufficientLength so_far le goes = (
+  omega (arith, le, goes.1, ap (λ (l : List ℕ). length l) (looked_readable start old so_far)),
+  subst (λ (l : Life). Looked start l) (sym goes.0) so_far,
+)
+look_fault place len reach a start old new OffsetOverflow so_far le goes = goes
+look_fault place len reach a start old new OutOfMemory so_far le goes = subst (λ (l : Life). Looked start l) (sym goes.0) so_far
+look_fault place len reach a start old new IdsExhausted so_far le goes = goes
+
+-- one that no memory ends
+pub look_memory : {A : Type 0} (reach : ℕ) (a : A) (start new : Life) (e : Error) → Looked start new → e ≡ OutOfMemory → LooksThrough reach a start new (Err e)
+look_memory reach a start new e so_far is = subst (λ (x : Error). LooksThrough reach a start new (Err x)) (sym is) so_far
+
+-- where the pages are there, it is a search that finds them
+pub look_finds : (reach : ℕ) (p q : Prefix) (old new : Life) (result : Result Prefix Error) → reach ≤ length old.present.readable → p ≡ q → LooksThrough reach p old new result → Finds q old new result
+look_finds reach p q old new (Ok found) there is looks = (looks.0 ∙ is, looks.1)
+look_finds reach p q old new (Err ReadFailed) there is looks = looks
+look_finds reach p q old new (Err WriteFailed) there is looks = looks
+look_finds reach p q old new (Err ResizeFailed) there is looks = looks
+look_finds reach p q old new (Err SyncFailed) there is looks = looks
+look_finds reach p q old new (Err InvalidChecksum) there is looks = looks
+look_finds reach p q old new (Err BlobInsufficientLength) there is looks = absurd (omega (arith, there, looks.0))
+look_finds reach p q old new (Err OffsetOverflow) there is looks = looks
+look_finds reach p q old new (Err OutOfMemory) there is looks = looks
+look_finds reach p q old new (Err IdsExhausted) there is looks = looks
 
 -- a look that goes on with a read that isn't answered
 pub finds_fault : (place len : ℕ) (p : Prefix) (start old new : Life) (e : Error) → Looked start old → place + len ≤ length start.present.readable → ReadGoes place len old new (Err e) → Finds p start new (Err e)

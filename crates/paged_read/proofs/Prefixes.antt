@@ -274,10 +274,10 @@ module _ (sum : List ℕ → ℕ) (P : ℕ) where
     pub prefix : q ≡ prefix_of sum P (pages P bytes)
 
   -- the same with the numbers that a program has
-  pub batch_read : (size k b n : ℕ) (readable bytes : List ℕ) (q : Prefix) → size ≡ P + 12 → k + b ≤ n → n * (P + 12) ≤ length readable → bytes ≡ take (b * size) (drop (k * size) readable)
+  pub batch_read : (size k b : ℕ) (readable bytes : List ℕ) (q : Prefix) → size ≡ P + 12 → k * size + b * size ≤ length readable → bytes ≡ take (b * size) (drop (k * size) readable)
       → q ≡ prefix_of sum P (pages P bytes) → IsBatch k b readable bytes q
-  batch_read size k b n readable bytes q is le fits read prefix = record {
-    fits = batch_fits P (P + 12) k b n (length readable) refl le fits;
+  batch_read size k b readable bytes q is there read prefix = record {
+    fits = subst (λ (m : ℕ). k * m + b * m ≤ length readable) is there;
     read = read ∙ ap (λ (m : ℕ). take (b * m) (drop (k * m) readable)) is;
     prefix = prefix;
   }

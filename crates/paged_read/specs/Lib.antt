@@ -9,3 +9,5 @@ pub mod Snapshots
 pub mod Hand
 pub mod ReadAhead
 pub mod Replay
+pub mod Scans
+pub mod RawReads

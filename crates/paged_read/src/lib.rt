@@ -12,6 +12,7 @@ mod lack;
 mod pieces;
 mod prefix;
 mod ranges;
+mod raw;
 mod replay;
 mod sealed;
 mod search;
@@ -19,9 +20,10 @@ mod view;
 
 pub use hand::TooFew;
 pub use prefix::{Partial, Prefix};
+pub use raw::{read_range, read_tail};
 pub use replay::Replay;
 pub use sealed::Sealed;
-pub use search::{last_pages, pages_of, physical_size, scan};
+pub use search::{last_pages, pages_of, physical_size, scan, scan_from};
 pub use view::View;
 
 #[cfg(test)]

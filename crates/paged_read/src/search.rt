@@ -1,11 +1,12 @@
 // Looking through the pages of a blob.
 ghost use Rattle.std.specs.Prelude.{◌≡◌, ◌==◌, ◌+◌, ◌-◌, ◌*◌, ◌≤◌, ◌<◌, ◌^◌, ℕ, length, take, drop};
-ghost use Rattle.std.specs.Prelude.{slice_index, IfOk, IsOkUnless, MatchOption};
+ghost use Rattle.std.specs.Prelude.{slice_index, Ok, IfOk, IsOkUnless, MatchOption, None};
 ghost use Rattle.std.specs.Int.NonZero.{non_zero_u16_get, non_zero_usize_get};
 ghost use Rattle.page.specs.Page.{active, pages, pieces};
 ghost use Rattle.crash.specs.Built.{kept_len};
 ghost use Rattle.paged_read.specs.Prefix.{prefix_of, last_prefix, prefix_pages, value_and_slot};
 ghost use Rattle.paged_read.specs.Prefix.{HasBytes};
+ghost use Rattle.paged_read.specs.Scans.{LooksThrough, prefix_from, ReadsForward};
 ghost use Rattle.paged_read.specs.Searches.{Finds, ReadsBack, ReadsWithin, scan_bytes};
 
 use crate::prefix::{Partial, Prefix};
@@ -112,17 +113,45 @@ pub fn scan<B: Blob, H: Sum>(
         let P = non_zero_u16_get page_size in
         ReadsWithin (scan_bytes P (non_zero_usize_get buffer_size)) old new }
 {
+    let options = ReadOptions::default();
+    scan_from::<B, H>(alloc, blob, page_size, 0, pages, buffer_size, options)
+}
+
+/// The same from the page `first` on, where those before it count as full, and aren't read; with
+/// the caller's options for each read. Where `first` is `pages` no device is asked.
+///
+/// `BlobInsufficientLength` where the blob is too short for its pages.
+pub fn scan_from<B: Blob, H: Sum>(
+    alloc: Global,
+    blob: &mut B,
+    page_size: NonZeroU16,
+    first: u64,
+    pages: u64,
+    buffer_size: NonZeroUsize,
+    options: ReadOptions,
+) -> Result<Prefix, Error>
+    requires order { first ≤ pages }
+    requires fits { pages * (non_zero_u16_get page_size + 12) < 2 ^ 64 }
+    ensures finds { let old = B.life blob.old in let new = B.life blob.new in
+        let P = non_zero_u16_get page_size in
+        LooksThrough (pages * (P + 12)) (prefix_from H.sum_of P first pages old.present.readable)
+        old new result }
+    ensures bytes { let old = B.life blob.old in let P = non_zero_u16_get page_size in
+        IfOk result (λ p. HasBytes P p.full_pages old.present.readable p.partial) }
+    ensures reads { let old = B.life blob.old in let new = B.life blob.new in
+        let P = non_zero_u16_get page_size in
+        let most = scan_bytes P (non_zero_usize_get buffer_size) in
+        ReadsForward most (first * (P + 12)) (pages * (P + 12)) old new }
+    ensures idle { first ≡ pages
+        → (result ≡ Ok (record { full_pages = pages; partial = None }))
+        × (B.life blob.new ≡ B.life blob.old) }
+{
     let size = physical_size(page_size);
     let most = (buffer_size.get() as u64 / size).max(1);
-    let mut done = 0;
+    let mut done = first;
     while done < pages {
         let batch = most.min(pages - done);
-        let bytes = blob.read_at(
-            alloc,
-            done * size,
-            (batch * size) as usize,
-            ReadOptions::default(),
-        )?;
+        let bytes = blob.read_at(alloc, done * size, (batch * size) as usize, options)?;
         let prefix = leading_pages::<H>(page_size, &bytes)?;
         if prefix.full_pages < batch {
             return Ok(Prefix {

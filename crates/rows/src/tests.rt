@@ -10,6 +10,7 @@ mod openings;
 mod ranges;
 mod reads;
 mod replays;
+mod scans;
 mod sessions;
 mod snapshots;
 mod starts;

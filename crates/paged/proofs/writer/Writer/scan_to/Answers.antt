@@ -1,0 +1,90 @@
+use Rattle.std.proofs.Common.{rules, ◌≡◌, ◌≤◌, ◌<◌, ◌*◌, ◌+◌, ◌/◌, ◌^◌, ℕ, length, sym, ◌∙◌, ap, subst, arith, refl, Err}
+use Rattle.std.proofs.lemmas.Result.{err_from_is_err_and}
+use Rattle.std.specs.Int.NonZero.{non_zero_u16_get, non_zero_usize_get}
+use Rattle.disk.specs.declared.error.Error.TheVariants.{OffsetOverflow}
+use Rattle.crash.specs.WriterState.{WriterState}
+use Rattle.paged_read.specs.Scans.{IsWithinBlob, prefix_from, ReadsForward, Scans, scan_start, scan_to}
+use Rattle.paged_read.specs.Searches.{scan_bytes}
+use Rattle.paged.specs.Writer.{FitsBlob}
+use Rattle.paged.proofs.Scanned.{look_refused, scan_within, scanned_fits, scanned_short, scanned_size}
+use Rattle.paged.proofs.writer.Writer.scan_to.Given.{Over}
+use Rattle.paged.proofs.writer.Writer.scan_to.Goals as goal
+use Rattle.paged.proofs.writer.Writer.scan_to.Goals.{After-scan_from}
+
+-- the page size of the writer's fields is that which is seen
+same_size : (g : Over) (c : After-scan_from g) → non_zero_u16_get c.self.inside.page_size ≡ c.args.self.now.page_size
+same_size g c = ap (λ (x : WriterState). x.page_size) c.self.view_is
+
+-- where the scan begins
+begins : (g : Over) (c : After-scan_from g) → c.min-start.result ≡ scan_start (non_zero_u16_get c.self.inside.page_size) c.args.self.now.full_pages c.args.end c.args.proven
+begins g c =
+    let page = ap (λ (n : ℕ). c.args.proven / n) (c.from.ensures ∙ c.get.ensures.value) in
+    omega (arith, c.min-start.ensures, c.min.ensures, page, c.full_pages.ensures.value)
+
+pub returns-then-is_none-clause-never : goal.returns-then-is_none-clause-never
+returns-then-is_none-clause-never g c = λ stands.
+    let w = c.args.self.now in
+    let old = g.B.Blob.life c.args.blob.now in
+    let over : 2 ^ 64 ≤ c.args.end * (non_zero_u16_get c.self.inside.page_size + 12) = search rules in
+    scan_within g.H.Sum.sum_of w old.present c.args.end 0 old old (Err OffsetOverflow) refl
+    (subst (λ (x : WriterState). 0 < x.page_size) c.self.view_is c.self.inside.page_size.ok)
+    (subst (λ (x : WriterState). FitsBlob x.page_size x.full_pages (length x.tip)) c.self.view_is c.self.invariant.fits)
+    c.requires.flushed stands
+    (subst (λ (x : WriterState). 2 ^ 64 ≤ c.args.end * (x.page_size + 12)) c.self.view_is over, refl)
+
+pub returns-in_err-prefix-clause-never : goal.returns-in_err-prefix-clause-never
+returns-in_err-prefix-clause-never g c = λ stands.
+    let w = c.args.self.now in
+    let P = w.page_size in
+    let old = g.B.Blob.life c.args.blob.now in
+    let new = g.B.Blob.life c.scan_from.new.blob in
+    let e = c.in_err-prefix.field-0.0 in
+    let Q = non_zero_u16_get c.self.inside.page_size in
+    let p = err_from_is_err_and c.from_residual.result c.from_residual.ensures.1 in
+    let reach : c.args.end * (Q + 12) ≡ c.args.end * (P + 12) = ap (λ (x : WriterState). c.args.end * (x.page_size + 12)) c.self.view_is in
+    let refused = look_refused (c.args.end * (Q + 12)) 0 (prefix_from g.H.Sum.sum_of Q c.min-start.result c.args.end old.present.readable) old new e c.in_err-prefix.ensures.finds in
+    rw (p.1, p.2) (scan_within g.H.Sum.sum_of w old.present c.args.end 0 old new (Err e) refl
+    (subst (λ (x : WriterState). 0 < x.page_size) c.self.view_is c.self.inside.page_size.ok)
+    (subst (λ (x : WriterState). FitsBlob x.page_size x.full_pages (length x.tip)) c.self.view_is c.self.invariant.fits)
+    c.requires.flushed stands
+    (subst (λ (x : WriterState). Scans (c.args.end * (x.page_size + 12)) 0 old new (Err e)) c.self.view_is refused))
+
+pub size_of-requires-clause-fits : goal.size_of-requires-clause-fits
+size_of-requires-clause-fits g c =
+    let Q = non_zero_u16_get c.self.inside.page_size in
+    let fits : c.args.end * (Q + 12) < 2 ^ 64 = search rules in
+    scanned_fits g.H.Sum.sum_of Q c.min-start.result c.args.end (g.B.Blob.life c.args.blob.now).present.readable c.in_ok-prefix.prefix c.in_ok-prefix.ensures.finds.0 (omega (arith, c.min-start.ensures)) fits
+
+pub size_of-requires-clause-short : goal.size_of-requires-clause-short
+size_of-requires-clause-short g c =
+    scanned_short g.H.Sum.sum_of (non_zero_u16_get c.self.inside.page_size) c.min-start.result c.args.end (g.B.Blob.life c.args.blob.now).present.readable c.in_ok-prefix.prefix c.in_ok-prefix.ensures.finds.0 c.self.inside.page_size.ok
+
+pub returns-clause-scans : goal.returns-clause-scans
+returns-clause-scans g c =
+    let old = g.B.Blob.life c.args.blob.now in
+    let Q = non_zero_u16_get c.self.inside.page_size in
+    let full = c.args.self.now.full_pages in (
+      scanned_size g.H.Sum.sum_of Q full c.args.end c.args.proven c.min-start.result c.size_of.result old.present.readable c.in_ok-prefix.prefix
+          (begins g (goal.at.returns-clause-scans g c).After-scan_from) c.in_ok-prefix.ensures.finds.0 c.size_of.ensures
+          ∙ ap (λ (n : ℕ). scan_to g.H.Sum.sum_of n full c.args.end c.args.proven old.present.readable) (same_size g (goal.at.returns-clause-scans g c).After-scan_from),
+      c.in_ok-prefix.ensures.finds.1,
+    )
+
+-- what it reads, whatever the answer
+reads : (g : Over) (c : After-scan_from g) → let w = c.args.self.now in let P = w.page_size in
+    ReadsForward (scan_bytes P (non_zero_usize_get c.args.buffer_size)) (scan_start P w.full_pages c.args.end c.args.proven * (P + 12)) (c.args.end * (P + 12)) (g.B.Blob.life c.args.blob.now) (g.B.Blob.life c.scan_from.new.blob)
+reads g c =
+    let old = g.B.Blob.life c.args.blob.now in
+    let new = g.B.Blob.life c.scan_from.new.blob in
+    let B = non_zero_usize_get c.args.buffer_size in
+    let full = c.args.self.now.full_pages in
+    let Q = non_zero_u16_get c.self.inside.page_size in
+    let there : ReadsForward (scan_bytes Q B) (scan_start Q full c.args.end c.args.proven * (Q + 12)) (c.args.end * (Q + 12)) old new =
+    subst (λ (n : ℕ). ReadsForward (scan_bytes Q B) (n * (Q + 12)) (c.args.end * (Q + 12)) old new) (begins g c) c.scan_from.ensures.reads in
+    subst (λ (n : ℕ). ReadsForward (scan_bytes n B) (scan_start n full c.args.end c.args.proven * (n + 12)) (c.args.end * (n + 12)) old new) (same_size g c) there
+
+pub returns-clause-reads : goal.returns-clause-reads
+returns-clause-reads g c = reads g (goal.at.returns-clause-reads g c).After-scan_from
+
+pub returns-in_err-prefix-clause-reads : goal.returns-in_err-prefix-clause-reads
+returns-in_err-prefix-clause-reads g c = reads g (goal.at.returns-in_err-prefix-clause-reads g c).After-scan_from

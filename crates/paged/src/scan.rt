@@ -1,0 +1,227 @@
+// Scanning what was flushed.
+ghost use Rattle.std.specs.Prelude.{◌≡◌, ◌⊎◌, ◌≤◌, ◌*◌, ◌+◌, length, min, Ok, IfOk};
+ghost use Rattle.std.specs.Int.NonZero.{non_zero_usize_get};
+ghost use Rattle.cache.specs.CacheState.{CacheState};
+ghost use Rattle.page.specs.Page.{text};
+ghost use Rattle.crash.specs.Looks.{Looked};
+ghost use Rattle.crash.specs.Sound.{content, IsSound};
+ghost use Rattle.crash.specs.Stays.{KeepsAllFloors, LeavesOnly};
+ghost use Rattle.paged_read.specs.Replay.{LeavesAllReplays};
+ghost use Rattle.paged_read.specs.Scans.{IsProven, IsWithinBlob, ReadsForward, scan_end};
+ghost use Rattle.paged_read.specs.Scans.{scan_start, scan_to, Scans, text_of_first};
+ghost use Rattle.paged_read.specs.Searches.{scan_bytes};
+ghost use Rattle.paged_read.specs.Snapshots.{LeavesAllReads, LeavesAllTails, LeavesWriters};
+ghost use Rattle.paged.specs.Recovery.{IsAsOpened};
+ghost use Rattle.paged.specs.Scans.{flushed_pages, IdlesAt};
+
+use crate::Writer;
+use crate::recovery::size_of;
+use disk::{Blob, Error, ReadOptions};
+use page::Sum;
+use paged_read::{physical_size, scan_from};
+use std::num::NonZeroUsize;
+
+impl<B, H, Phase> Writer<B, H, Phase> {
+    /// How many pages of the blob it has flushed, with the one in which its tip begins where that
+    /// one was.
+    pub(crate) fn flushed_pages(&self) -> u64
+        ensures { result ≡ flushed_pages self.now }
+    {
+        match self.flushed {
+            None => self.full_pages(),
+            Some(_) => self.full_pages() + 1,
+        }
+    }
+}
+
+impl<B: Blob, H: Sum, Phase> Writer<B, H, Phase> {
+    /// How many logical bytes the flushed pages of the blob tell, from the first one on to the
+    /// first that isn't full: what a scan forward recovers, where opening went back from the end.
+    /// Pages that were flushed are counted, so bytes that are only buffered aren't.
+    ///
+    /// The first `proven` bytes count as told: the scan begins at the page that holds their end,
+    /// and at most behind the full pages. Where they aren't told the answer says nothing. Each read
+    /// is of at most as many whole pages as fit `buffer_size` bytes, and at least one.
+    ///
+    /// `ReadFailed` where the device failed, `OutOfMemory`; `BlobInsufficientLength` where the blob
+    /// is shorter than the writer's pages, and `OffsetOverflow` where a place in them passes the
+    /// greatest, which neither is with the writer's own blob. The blob and the writer stay as they
+    /// were.
+    pub fn recoverable_prefix_len(
+        &self,
+        blob: &mut B,
+        proven: u64,
+        buffer_size: NonZeroUsize,
+        options: ReadOptions,
+    ) -> Result<u64, Error>
+        ensures scans { let old = B.life blob.old in let new = B.life blob.new in
+            let w = self.now in let P = w.page_size in let end = flushed_pages w in
+            Scans (end * (P + 12)) (scan_to H.sum_of P w.full_pages end proven old.present.readable)
+            old new result }
+        ensures reads { let old = B.life blob.old in let new = B.life blob.new in
+            let w = self.now in let P = w.page_size in let end = flushed_pages w in
+            let start = scan_start P w.full_pages end proven in
+            let most = scan_bytes P (non_zero_usize_get buffer_size) in
+            ReadsForward most (start * (P + 12)) (end * (P + 12)) old new }
+        ensures idle { let w = self.now in let P = w.page_size in let end = flushed_pages w in
+            scan_start P w.full_pages end proven ≡ end
+            → IdlesAt P end (B.life blob.old) (B.life blob.new) result }
+        ensures looked { Looked (B.life blob.old) (B.life blob.new) }
+
+        // Where the proven bytes are told, so are all that it counts.
+        ensures told { let old = B.life blob.old in
+            let w = self.now in let P = w.page_size in
+            let told = text_of_first H.sum_of P (flushed_pages w) old.present.readable in
+            IsProven H.sum_of P w.full_pages proven old.present.readable
+            → IfOk result (λ len. len ≡ length told) }
+
+        // Of a sound writer: it answers the length of the blob's text, whatever is proven. It is
+        // refused for no place, nor is one that was opened over any blob.
+        ensures text { let old = B.life blob.old in
+            IsSound H.sum_of self.now old.present
+            → IfOk result (λ len. len
+            ≡ length (text H.sum_of self.now.page_size old.present.readable)) }
+        ensures never { let old = B.life blob.old in
+            IsSound H.sum_of self.now old.present ⊎ IsAsOpened H.sum_of self.now old.present
+            → IsWithinBlob result }
+
+        // It stays sound, and a crash at any moment of the scan keeps and leaves what it did.
+        ensures sound { let old = B.life blob.old in let new = B.life blob.new in
+            IsSound H.sum_of self.now old.present → IsSound H.sum_of self.now new.present }
+        ensures kept { let old = B.life blob.old in let new = B.life blob.new in
+            IsSound H.sum_of self.now old.present
+            → KeepsAllFloors H.sum_of self.now.page_size old new }
+        ensures only { let old = B.life blob.old in let new = B.life blob.new in
+            let held = content self.now old.present.readable in
+            IsSound H.sum_of self.now old.present
+            → LeavesOnly H.sum_of self.now.page_size held held old new }
+
+        // What snapshots and replays stand on, and reads of the blob through any cache.
+        ensures writers { LeavesWriters H.sum_of (B.life blob.old) (B.life blob.new) }
+        ensures tails { let old = B.life blob.old in let new = B.life blob.new in
+            (cache : CacheState) → LeavesAllTails H.sum_of cache cache old new }
+        ensures can_read { let old = B.life blob.old in let new = B.life blob.new in
+            (cache : CacheState) → LeavesAllReads cache cache old new }
+        ensures replays { LeavesAllReplays (B.life blob.old) (B.life blob.new) }
+
+        // Of a recovery that was opened over any blob: it can still be cut.
+        ensures opened { let old = B.life blob.old in let new = B.life blob.new in
+            IsAsOpened H.sum_of self.now old.present → IsAsOpened H.sum_of self.now new.present }
+    {
+        self.scan_to(blob, proven, self.flushed_pages(), buffer_size, options)
+    }
+
+    /// The same of the first `max_size` bytes: only pages that meet them are read, and it answers
+    /// at most that. Where they are told, that is the lesser of `max_size` and what
+    /// [`Writer::recoverable_prefix_len`] answers. Of no bytes it asks no device.
+    pub fn recoverable_prefix_len_at_most(
+        &self,
+        blob: &mut B,
+        proven: u64,
+        max_size: u64,
+        buffer_size: NonZeroUsize,
+        options: ReadOptions,
+    ) -> Result<u64, Error>
+        ensures scans { let old = B.life blob.old in let new = B.life blob.new in
+            let w = self.now in let P = w.page_size in
+            let end = scan_end P (flushed_pages w) max_size in
+            let len = scan_to H.sum_of P w.full_pages end proven old.present.readable in
+            Scans (end * (P + 12)) (min max_size len) old new result }
+        ensures reads { let old = B.life blob.old in let new = B.life blob.new in
+            let w = self.now in let P = w.page_size in
+            let end = scan_end P (flushed_pages w) max_size in
+            let start = scan_start P w.full_pages end proven in
+            let most = scan_bytes P (non_zero_usize_get buffer_size) in
+            ReadsForward most (start * (P + 12)) (end * (P + 12)) old new }
+        ensures none { max_size ≡ 0 → (result ≡ Ok 0) × (B.life blob.new ≡ B.life blob.old) }
+        ensures looked { Looked (B.life blob.old) (B.life blob.new) }
+
+        // Where the proven bytes are told, so are all that it counts.
+        ensures told { let old = B.life blob.old in
+            let w = self.now in let P = w.page_size in
+            let told = text_of_first H.sum_of P (flushed_pages w) old.present.readable in
+            IsProven H.sum_of P w.full_pages proven old.present.readable
+            → IfOk result (λ len. len ≡ min max_size (length told)) }
+
+        // Of a sound writer: it answers the length of the blob's text, whatever is proven. It is
+        // refused for no place, nor is one that was opened over any blob.
+        ensures text { let old = B.life blob.old in
+            IsSound H.sum_of self.now old.present
+            → IfOk result (λ len. len
+            ≡ min max_size (length (text H.sum_of self.now.page_size old.present.readable))) }
+        ensures never { let old = B.life blob.old in
+            IsSound H.sum_of self.now old.present ⊎ IsAsOpened H.sum_of self.now old.present
+            → IsWithinBlob result }
+
+        // It stays sound, and a crash at any moment of the scan keeps and leaves what it did.
+        ensures sound { let old = B.life blob.old in let new = B.life blob.new in
+            IsSound H.sum_of self.now old.present → IsSound H.sum_of self.now new.present }
+        ensures kept { let old = B.life blob.old in let new = B.life blob.new in
+            IsSound H.sum_of self.now old.present
+            → KeepsAllFloors H.sum_of self.now.page_size old new }
+        ensures only { let old = B.life blob.old in let new = B.life blob.new in
+            let held = content self.now old.present.readable in
+            IsSound H.sum_of self.now old.present
+            → LeavesOnly H.sum_of self.now.page_size held held old new }
+
+        // What snapshots and replays stand on, and reads of the blob through any cache.
+        ensures writers { LeavesWriters H.sum_of (B.life blob.old) (B.life blob.new) }
+        ensures tails { let old = B.life blob.old in let new = B.life blob.new in
+            (cache : CacheState) → LeavesAllTails H.sum_of cache cache old new }
+        ensures can_read { let old = B.life blob.old in let new = B.life blob.new in
+            (cache : CacheState) → LeavesAllReads cache cache old new }
+        ensures replays { LeavesAllReplays (B.life blob.old) (B.life blob.new) }
+
+        // Of a recovery that was opened over any blob: it can still be cut.
+        ensures opened { let old = B.life blob.old in let new = B.life blob.new in
+            IsAsOpened H.sum_of self.now old.present → IsAsOpened H.sum_of self.now new.present }
+    {
+        let met = max_size.div_ceil(u64::from(self.page_size.get()));
+        let end = self.flushed_pages().min(met);
+        let len = self.scan_to(blob, proven, end, buffer_size, options)?;
+        Ok(max_size.min(len))
+    }
+
+    /// Scans the blob up to the page `end`, which was flushed or is one behind those that were.
+    fn scan_to(
+        &self,
+        blob: &mut B,
+        proven: u64,
+        end: u64,
+        buffer_size: NonZeroUsize,
+        options: ReadOptions,
+    ) -> Result<u64, Error>
+        requires flushed { end ≤ flushed_pages self.now }
+        ensures scans { let old = B.life blob.old in let new = B.life blob.new in
+            let w = self.now in let P = w.page_size in
+            Scans (end * (P + 12)) (scan_to H.sum_of P w.full_pages end proven old.present.readable)
+            old new result }
+        ensures reads { let old = B.life blob.old in let new = B.life blob.new in
+            let w = self.now in let P = w.page_size in
+            let start = scan_start P w.full_pages end proven in
+            let most = scan_bytes P (non_zero_usize_get buffer_size) in
+            ReadsForward most (start * (P + 12)) (end * (P + 12)) old new }
+        ensures idle { let w = self.now in let P = w.page_size in
+            scan_start P w.full_pages end proven ≡ end
+            → IdlesAt P end (B.life blob.old) (B.life blob.new) result }
+        ensures never { let old = B.life blob.old in
+            IsSound H.sum_of self.now old.present ⊎ IsAsOpened H.sum_of self.now old.present
+            → IsWithinBlob result }
+    {
+        if end.checked_mul(physical_size(self.page_size)).is_none() {
+            return Err(Error::OffsetOverflow);
+        }
+        let page = proven / u64::from(self.page_size.get());
+        let start = page.min(self.full_pages()).min(end);
+        let prefix = scan_from::<B, H>(
+            self.alloc,
+            blob,
+            self.page_size,
+            start,
+            end,
+            buffer_size,
+            options,
+        )?;
+        Ok(size_of(&prefix, self.page_size))
+    }
+}

@@ -1,0 +1,16 @@
+use Rattle.std.proofs.Common.{rules, ◌≡◌, ◌*◌, ◌<◌, ◌≤◌, ℕ, length, ◌∙◌, ap, arith}
+use Rattle.std.specs.Int.NonZero.{non_zero_u16_get}
+use Rattle.paged_read.specs.RawReads.{value_told}
+use Rattle.paged_read.proofs.RawReading.{part_missed, part_sliced}
+use Rattle.paged_read.proofs.raw.read_part.Goals as goal
+
+pub returns : goal.returns
+returns g c =
+    let P = non_zero_u16_get c.args.page_size in
+    let old = g.B.Blob.life c.args.blob.now in
+    let start : c.args.page * c.from.result ≡ c.args.page * P = ap (λ (n : ℕ). c.args.page * n) (c.from.ensures ∙ c.get.ensures.value) in
+    record {
+      told = part_sliced P c.args.offset c.args.end c.args.page c.in_ok-bytes.len (c.args.page * c.from.result) c.saturating_sub-skip.result c.min-stop.result c.in_ok-bytes.bytes (value_told g.H.Sum.sum_of P c.args.page old.present.readable) old
+          (g.B.Blob.life c.read_value.new.blob) c.slice.result start c.saturating_sub-skip.ensures (search rules) (omega (arith, c.if-stop-skip.false)) (omega (arith, c.min-stop.ensures, c.in_ok-bytes.ensures.within, c.from-2.ensures))
+          c.in_ok-bytes.ensures.told.0 c.in_ok-bytes.ensures.told.1 c.slice.ensures.ok c.slice.ensures.err;
+    }

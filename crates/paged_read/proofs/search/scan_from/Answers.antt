@@ -1,0 +1,182 @@
+use Rattle.std.proofs.Common.{◌≡◌, ℕ, ◌+◌, ◌*◌, ◌/◌, ◌≤◌, max, length, refl, ap, ◌∙◌, arith, subst, sym}
+use Rattle.std.proofs.Math.Nat.{mul-le-mul_left}
+use Rattle.std.proofs.lemmas.Result.{err_from_is_err_and}
+use Rattle.std.specs.Int.NonZero.{non_zero_u16_get, non_zero_usize_get}
+use Rattle.paged_read.specs.Scans.{prefix_from, ReadsForward}
+use Rattle.paged_read.proofs.Prefixes.{batch_fits, batch_read, stands_ended, stands_on, has_bytes_batch}
+use Rattle.crash.specs.Looks.{looked_start}
+use Rattle.crash.proofs.LookLaws.{read_gives}
+use Rattle.paged_read.proofs.Looking.{looked_on, read_there, look_fault, look_memory}
+use Rattle.paged_read.specs.Searches.{scan_bytes}
+use Rattle.paged_read.proofs.Searching.{forward_start, forward_end, forward_batch, next_batch, scan_bytes_is}
+use Rattle.paged_read.proofs.search.scan_from.Given.{Over}
+use Rattle.paged_read.proofs.search.scan_from.Goals as goal
+use Rattle.paged_read.proofs.search.scan_from.Goals.{After-read_at}
+
+pub returns-in_err-bytes-clause-finds : goal.returns-in_err-bytes-clause-finds
+returns-in_err-bytes-clause-finds g c =
+    let life = g.B.Blob.life in
+    let old = life c.args.blob.now in
+    let size = c.physical_size-size.result in
+    let k = c.loop-done.done in
+    let b = c.min-batch.result in
+    let P = non_zero_u16_get c.args.page_size in
+    let fits = batch_fits P size k b c.args.pages (c.args.pages * (P + 12)) c.physical_size-size.ensures (omega arith) (omega arith) in
+    let p = err_from_is_err_and c.from_residual.result c.from_residual.ensures.1 in
+    rw (p.1, p.2) (look_fault (k * size) (b * size) (c.args.pages * (P + 12)) (prefix_from g.H.Sum.sum_of P c.args.first c.args.pages old.present.readable) old (life c.loop-done.blob) (life c.read_at.new.self) c.in_err-bytes.field-0.0 c.loop-done.invariant.looked fits c.in_err-bytes.ensures.goes)
+
+pub returns-in_err-prefix-clause-finds : goal.returns-in_err-prefix-clause-finds
+returns-in_err-prefix-clause-finds g c =
+    let life = g.B.Blob.life in
+    let old = life c.args.blob.now in
+    let size = c.physical_size-size.result in
+    let P = non_zero_u16_get c.args.page_size in
+    let looked = looked_on (c.loop-done.done * size) (c.min-batch.result * size) old (life c.loop-done.blob) (life c.read_at.new.self) c.in_ok-bytes.bytes c.loop-done.invariant.looked c.in_ok-bytes.ensures.goes in
+    let p = err_from_is_err_and c.from_residual-in_err-prefix.result c.from_residual-in_err-prefix.ensures.1 in
+    rw (p.1, p.2) (look_memory (c.args.pages * (P + 12)) (prefix_from g.H.Sum.sum_of P c.args.first c.args.pages old.present.readable) old (life c.read_at.new.self) c.in_err-prefix.field-0.0 looked c.in_err-prefix.ensures.err)
+
+pub returns-then-prefix-batch-clause-finds : goal.returns-then-prefix-batch-clause-finds
+returns-then-prefix-batch-clause-finds g c =
+    let life = g.B.Blob.life in
+    let sum = g.H.Sum.sum_of in
+    let old = life c.args.blob.now in
+    let new = life c.read_at.new.self in
+    let readable = old.present.readable in
+    let size = c.physical_size-size.result in
+    let k = c.loop-done.done in
+    let b = c.min-batch.result in
+    let P = non_zero_u16_get c.args.page_size in
+    let q = c.in_ok-prefix.prefix in
+    let bytes = c.in_ok-bytes.bytes in
+    let le : k + b ≤ c.args.pages = omega arith in
+    let read = read_gives (k * size) (b * size) old (life c.loop-done.blob) new bytes c.loop-done.invariant.looked c.in_ok-bytes.ensures.goes in
+    let there = read_there (k * size) (b * size) old (life c.loop-done.blob) (life c.read_at.new.self) bytes c.loop-done.invariant.looked c.in_ok-bytes.ensures.goes in
+    let batch = batch_read sum P size k b readable bytes q c.physical_size-size.ensures there read c.in_ok-prefix.ensures.ok in (
+      sym (stands_ended sum P c.args.pages k b readable bytes q le batch (prefix_from sum P c.args.first c.args.pages readable) c.loop-done.invariant.stands c.if-prefix-batch.true),
+      looked_on (k * size) (b * size) old (life c.loop-done.blob) new bytes c.loop-done.invariant.looked c.in_ok-bytes.ensures.goes,
+    )
+
+pub returns-then-prefix-batch-clause-bytes : goal.returns-then-prefix-batch-clause-bytes
+returns-then-prefix-batch-clause-bytes g c =
+    let life = g.B.Blob.life in
+    let sum = g.H.Sum.sum_of in
+    let old = life c.args.blob.now in
+    let size = c.physical_size-size.result in
+    let k = c.loop-done.done in
+    let b = c.min-batch.result in
+    let P = non_zero_u16_get c.args.page_size in
+    let q = c.in_ok-prefix.prefix in
+    let bytes = c.in_ok-bytes.bytes in
+    let le : k + b ≤ c.args.pages = omega arith in
+    let read = read_gives (k * size) (b * size) old (life c.loop-done.blob) (life c.read_at.new.self) bytes c.loop-done.invariant.looked c.in_ok-bytes.ensures.goes in
+    let there = read_there (k * size) (b * size) old (life c.loop-done.blob) (life c.read_at.new.self) bytes c.loop-done.invariant.looked c.in_ok-bytes.ensures.goes in
+    let batch = batch_read sum P size k b old.present.readable bytes q c.physical_size-size.ensures there read c.in_ok-prefix.ensures.ok in
+    has_bytes_batch sum P c.args.pages k b old.present.readable bytes q q.partial le batch c.if-prefix-batch.true c.in_ok-prefix.ensures.bytes
+
+pub loop-done-preserved : goal.loop-done-preserved
+loop-done-preserved g c =
+    let life = g.B.Blob.life in
+    let sum = g.H.Sum.sum_of in
+    let old = life c.args.blob.now in
+    let new = life c.read_at.new.self in
+    let readable = old.present.readable in
+    let size = c.physical_size-size.result in
+    let k = c.loop-done.done in
+    let b = c.min-batch.result in
+    let P = non_zero_u16_get c.args.page_size in
+    let q = c.in_ok-prefix.prefix in
+    let bytes = c.in_ok-bytes.bytes in
+    let le : k + b ≤ c.args.pages = omega arith in
+    let read = read_gives (k * size) (b * size) old (life c.loop-done.blob) new bytes c.loop-done.invariant.looked c.in_ok-bytes.ensures.goes in
+    let there = read_there (k * size) (b * size) old (life c.loop-done.blob) (life c.read_at.new.self) bytes c.loop-done.invariant.looked c.in_ok-bytes.ensures.goes in
+    let batch = batch_read sum P size k b readable bytes q c.physical_size-size.ensures there read c.in_ok-prefix.ensures.ok in
+    record {
+      some = c.loop-done.invariant.some;
+      begun = omega (arith, c.loop-done.invariant.begun);
+      within = le;
+      none = λ still. absurd (omega (arith, still, c.loop-done.invariant.some, c.loop-done.invariant.begun));
+      stands = stands_on sum P c.args.pages k b readable bytes q le batch (prefix_from sum P c.args.first c.args.pages readable) c.loop-done.invariant.stands (omega arith);
+      looked = looked_on (k * size) (b * size) old (life c.loop-done.blob) new bytes c.loop-done.invariant.looked c.in_ok-bytes.ensures.goes;
+      reads = next_batch P size k b c.max-most.result (c.args.first * (P + 12)) old (life c.loop-done.blob) new bytes c.physical_size-size.ensures (omega arith) c.loop-done.invariant.reads c.in_ok-bytes.ensures.goes;
+    }
+
+pub loop-done-preserved-else-prefix-batch : goal.loop-done-preserved-else-prefix-batch
+loop-done-preserved-else-prefix-batch g c =
+    let life = g.B.Blob.life in
+    let sum = g.H.Sum.sum_of in
+    let old = life c.args.blob.now in
+    let new = life c.read_at.new.self in
+    let readable = old.present.readable in
+    let size = c.physical_size-size.result in
+    let k = c.loop-done.done in
+    let b = c.min-batch.result in
+    let P = non_zero_u16_get c.args.page_size in
+    let q = c.in_ok-prefix.prefix in
+    let bytes = c.in_ok-bytes.bytes in
+    let le : k + b ≤ c.args.pages = omega arith in
+    let read = read_gives (k * size) (b * size) old (life c.loop-done.blob) new bytes c.loop-done.invariant.looked c.in_ok-bytes.ensures.goes in
+    let there = read_there (k * size) (b * size) old (life c.loop-done.blob) (life c.read_at.new.self) bytes c.loop-done.invariant.looked c.in_ok-bytes.ensures.goes in
+    let batch = batch_read sum P size k b readable bytes q c.physical_size-size.ensures there read c.in_ok-prefix.ensures.ok in
+    record {
+      some = c.loop-done.invariant.some;
+      begun = omega (arith, c.loop-done.invariant.begun);
+      within = le;
+      none = λ still. absurd (omega (arith, still, c.loop-done.invariant.some, c.loop-done.invariant.begun));
+      stands = stands_on sum P c.args.pages k b readable bytes q le batch (prefix_from sum P c.args.first c.args.pages readable) c.loop-done.invariant.stands (omega arith);
+      looked = looked_on (k * size) (b * size) old (life c.loop-done.blob) new bytes c.loop-done.invariant.looked c.in_ok-bytes.ensures.goes;
+      reads = next_batch P size k b c.max-most.result (c.args.first * (P + 12)) old (life c.loop-done.blob) new bytes c.physical_size-size.ensures (omega arith) c.loop-done.invariant.reads c.in_ok-bytes.ensures.goes;
+    }
+
+-- a batch was read, whatever the answer
+reads : (g : Over) (c : After-read_at g) → let P = non_zero_u16_get c.args.page_size in
+    ReadsForward (scan_bytes P (non_zero_usize_get c.args.buffer_size)) (c.args.first * (P + 12)) (c.args.pages * (P + 12)) (g.B.Blob.life c.args.blob.now) (g.B.Blob.life c.read_at.new.self)
+reads g c =
+    let life = g.B.Blob.life in
+    let P = non_zero_u16_get c.args.page_size in
+    let size = c.physical_size-size.result in
+    let most = c.max-most.result in
+    let old = life c.args.blob.now in
+    let new = life c.read_at.new.self in
+    let k = c.loop-done.done in
+    let b = c.min-batch.result in
+    let is : most * (P + 12) ≡ scan_bytes P (non_zero_usize_get c.args.buffer_size) = scan_bytes_is P size (non_zero_usize_get c.args.buffer_size) most c.physical_size-size.ensures (c.max-most.ensures ∙ ap (λ (n : ℕ). max (n / size) 1) c.get.ensures.value) in
+    let fits = batch_fits P (P + 12) k b c.args.pages (c.args.pages * (P + 12)) refl (omega arith) (omega arith) in
+    subst (λ (n : ℕ). ReadsForward n (c.args.first * (P + 12)) (c.args.pages * (P + 12)) old new) is
+    (forward_batch P size k b most (c.args.first * (P + 12)) (c.args.pages * (P + 12)) old (life c.loop-done.blob) new c.read_at.result c.physical_size-size.ensures (omega arith) fits c.loop-done.invariant.reads c.read_at.ensures.goes)
+
+pub returns-in_err-bytes-clause-reads : goal.returns-in_err-bytes-clause-reads
+returns-in_err-bytes-clause-reads g c = reads g (goal.at.returns-in_err-bytes-clause-reads g c).After-read_at
+
+pub returns-in_err-prefix-clause-reads : goal.returns-in_err-prefix-clause-reads
+returns-in_err-prefix-clause-reads g c = reads g (goal.at.returns-in_err-prefix-clause-reads g c).After-read_at
+
+pub returns-then-prefix-batch-clause-reads : goal.returns-then-prefix-batch-clause-reads
+returns-then-prefix-batch-clause-reads g c = reads g (goal.at.returns-then-prefix-batch-clause-reads g c).After-read_at
+
+pub loop-done-init : goal.loop-done-init
+loop-done-init g c =
+    let P = non_zero_u16_get c.args.page_size in
+    let old = g.B.Blob.life c.args.blob.now in
+    record {
+      some = omega (arith, c.max-most.ensures);
+      begun = omega arith;
+      within = c.requires.order;
+      stands = refl;
+      looked = looked_start old;
+      none = λ still. refl;
+      reads = forward_start (c.max-most.result * (P + 12)) (c.args.first * (P + 12)) old;
+    }
+
+pub returns-clause-reads : goal.returns-clause-reads
+returns-clause-reads g c =
+    let life = g.B.Blob.life in
+    let P = non_zero_u16_get c.args.page_size in
+    let most = c.max-most.result in
+    let k = c.loop-done.done in
+    let from = c.args.first * (P + 12) in
+    let to = c.args.pages * (P + 12) in
+    let old = life c.args.blob.now in
+    let now = life c.loop-done.blob in
+    let is : most * (P + 12) ≡ scan_bytes P (non_zero_usize_get c.args.buffer_size) = scan_bytes_is P c.physical_size-size.result (non_zero_usize_get c.args.buffer_size) most c.physical_size-size.ensures (c.max-most.ensures ∙ ap (λ (n : ℕ). max (n / c.physical_size-size.result) 1) c.get.ensures.value) in
+    let more : (P + 12) * k ≤ (P + 12) * c.args.pages = mul-le-mul_left (P + 12) c.loop-done.invariant.within in
+    subst (λ (n : ℕ). ReadsForward n from to old now) is (forward_end (most * (P + 12)) from (k * (P + 12)) to old now (omega (arith, more)) c.loop-done.invariant.reads)

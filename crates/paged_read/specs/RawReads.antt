@@ -1,0 +1,96 @@
+-- What the pages of a blob that nobody opened tell of a range, and of the last bytes.
+use Rattle.std.specs.Prelude.{◌≡◌, ◌==◌, ◌+◌, ◌-◌, ◌*◌, ◌/◌, ◌%◌, ◌^◌, ℕ, zero, suc, List, [], ◌++◌}
+use Rattle.std.specs.Prelude.{length, take, drop, nat_lt, nat_le, if◌then◌else◌, Result, Ok, Err}
+use Rattle.disk.specs.Disk.{Life, HasFailed}
+use Rattle.disk.specs.declared.error.Error.{Error}
+use Rattle.disk.specs.declared.error.Error.TheVariants.{ReadFailed, InvalidChecksum}
+use Rattle.disk.specs.declared.error.Error.TheVariants.{BlobInsufficientLength, OffsetOverflow}
+use Rattle.disk.specs.declared.error.Error.TheVariants.{OutOfMemory}
+use Rattle.page.specs.Page.{value, value_len}
+use Rattle.crash.specs.Looks.{Looked}
+use Rattle.paged_read.specs.Ranges.{page_at}
+
+-- a page's value, or why it tells none: its place passes the greatest, or the blob ends before it
+-- does, or no slot of it verifies
+abbrev pub value_told : (List ℕ → ℕ) → (P page : ℕ) → List ℕ → Result (List ℕ) Error
+value_told sum P page readable =
+    if nat_le (2 ^ 64) ((page + 1) * (P + 12)) then Err OffsetOverflow
+    else (if nat_lt (length readable) ((page + 1) * (P + 12)) then Err BlobInsufficientLength
+    else (if value_len sum P (page_at P page readable) == 0 then Err InvalidChecksum
+    else Ok (value sum P (page_at P page readable))))
+
+-- some bytes, where there are any
+abbrev pub some_of : List ℕ → Result (List ℕ) Error
+some_of bytes = if length bytes == 0 then Err BlobInsufficientLength else Ok bytes
+
+-- those of a page's value that lie at or behind one logical place and before another
+abbrev pub part_of : (P from to page : ℕ) → Result (List ℕ) Error → Result (List ℕ) Error
+part_of P from to page (Ok bytes) = some_of (drop (from - page * P) (take (to - page * P) bytes))
+part_of P from to page (Err e) = Err e
+
+-- one behind the other; the first that is refused decides
+abbrev pub joined : Result (List ℕ) Error → Result (List ℕ) Error → Result (List ℕ) Error
+joined (Ok front) (Ok back) = Ok (front ++ back)
+joined (Ok front) (Err e) = Err e
+joined (Err e) back = Err e
+
+-- what so many pages tell of a range, from this one on
+abbrev pub parts_told : (List ℕ → ℕ) → (P from to count page : ℕ) → List ℕ
+    → Result (List ℕ) Error
+parts_told sum P from to zero page readable = Ok []
+parts_told sum P from to (suc count) page readable =
+    joined (part_of P from to page (value_told sum P page readable))
+    (parts_told sum P from to count (page + 1) readable)
+
+-- as many bytes as were asked for
+abbrev pub all_of : ℕ → Result (List ℕ) Error → Result (List ℕ) Error
+all_of len (Ok bytes) = if length bytes == len then Ok bytes else Err BlobInsufficientLength
+all_of len (Err e) = Err e
+
+-- before which page a range ends that isn't empty
+abbrev pub range_end : (P offset len : ℕ) → ℕ
+range_end P offset len = (offset + len - 1) / P + 1
+
+-- the bytes of a range, or why they aren't told
+abbrev pub range_told : (List ℕ → ℕ) → (P offset len : ℕ) → List ℕ → Result (List ℕ) Error
+range_told sum P offset len readable =
+    if nat_le (2 ^ 64) (offset + len) then Err OffsetOverflow
+    else (if len == 0 then Ok []
+    else all_of len (parts_told sum P offset (offset + len)
+    (range_end P offset len - offset / P) (offset / P) readable))
+
+-- behind which place, with the bytes
+abbrev pub ending_at : ℕ → Result (List ℕ) Error → Result (ℕ × List ℕ) Error
+ending_at end (Ok bytes) = Ok (end, bytes)
+ending_at end (Err e) = Err e
+
+-- the last bytes, where the last page tells this: those before that page as a range of their own,
+-- and then those of its value; and where that ends
+abbrev pub behind_told : (List ℕ → ℕ) → (P page len : ℕ) → List ℕ → Result (List ℕ) Error
+    → Result (ℕ × List ℕ) Error
+behind_told sum P page len readable (Err e) = Err e
+behind_told sum P page len readable (Ok bytes) =
+    let end = page * P + length bytes in let from = end - len in
+    if nat_lt end len then Err BlobInsufficientLength
+    else ending_at end (joined (range_told sum P from (page * P - from) readable)
+    (Ok (drop (from - page * P) bytes)))
+
+-- the logical size of a blob of so many physical bytes, and its last bytes, or why they aren't told
+abbrev pub tail_told : (List ℕ → ℕ) → (P size len : ℕ) → List ℕ → Result (ℕ × List ℕ) Error
+tail_told sum P size len readable =
+    let page = size / (P + 12) - 1 in
+    if size % (P + 12) == 0
+    then (if size == 0
+    then (if len == 0 then Ok (0, []) else Err BlobInsufficientLength)
+    else behind_told sum P page len readable (value_told sum P page readable))
+    else Err BlobInsufficientLength
+
+-- a read gives what is told, or is refused as that is, unless the device failed in the call or
+-- memory was refused; and it only looks
+abbrev pub ReadsTold : {A B : Type 0} → (A → B) → Result B Error → Life → Life → Result A Error
+    → Type 0
+ReadsTold of told old new (Ok a) = (told ≡ Ok (of a)) × Looked old new
+ReadsTold of told old new (Err ReadFailed) =
+    HasFailed ReadFailed old.present new.present × Looked old new
+ReadsTold of told old new (Err OutOfMemory) = Looked old new
+ReadsTold of told old new (Err e) = (told ≡ Err e) × Looked old new
