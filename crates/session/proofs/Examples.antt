@@ -19,7 +19,7 @@ use Rattle.crash.proofs.Promise.{whole_is_chance_free}
 use Rattle.crash.proofs.Examples.{durable, six, all_keep}
 use Rattle.std.specs.declared.num.NonZeroUsize.{NonZeroUsize}
 use Rattle.session.specs.declared.steps.Step.{Step}
-use Rattle.session.specs.declared.steps.Step.TheVariants.{Append, Owned, TryAppend, Sync, StartSync, Wait, WaitSync, Needs, Size, Read, ReadUpTo, TryRead, ReadRanges, TryReadRanges, Begin, Truncate, Snapshot, TrySnapshot, Snap, Seal, Replay, Ensure, Take, Seek}
+use Rattle.session.specs.declared.steps.Step.TheVariants.{Append, Owned, TryAppend, Sync, StartSync, Wait, WaitSync, Needs, Size, Read, ReadUpTo, TryRead, ReadRanges, TryReadRanges, Begin, Truncate, Snapshot, TrySnapshot, Snap, Seal, Replay, Ensure, Take, Seek, Scan}
 use Rattle.session.specs.declared.steps.Reply.TheVariants.{At, Nothing, Done, Length, Bytes, Fault, Closed, NotRecovering, NoSuch, Served, Missed, BadRanges, Taken, Sealed, NotAppending}
 use Rattle.session.specs.Run.{HasEnsured, is_had, PassesEnd, passed, Replayed, replaying, rewritten, Standing, buffered_after, awaited_after, appended, synced, starting, truncated, noted, flushed, left_by_seal, sealed_by, snapshot_at, waited, begun, needs_sync, raised, started_by, ended, fit_together, turned_away, Accepts, faults, HasCause, Allocates, waits_for, Refuses, Takes, Foretells, RiseBelow, Answers, touch, Ran}
 use Rattle.session.specs.Run.Touch.{Leaves, Looks, Changes}
@@ -183,10 +183,10 @@ pub then_a_floor : (raised (record pending { settled = 2 }) six_started).floor �
 then_a_floor = refl
 
 -- a wait answers Ok only then
-pub no_wait_before : Accepts 4 Wait Done pending pending six_started (waited six_started) → ⊥
+pub no_wait_before : Accepts add_sum 4 Wait Done pending pending six_started (waited six_started) → ⊥
 no_wait_before accepts = absurd (false≢true accepts.0)
 
-pub a_wait_done : Accepts 4 (WaitSync 0) Done pending (record pending { settled = 2 }) six_started six_started
+pub a_wait_done : Accepts add_sum 4 (WaitSync 0) Done pending (record pending { settled = 2 }) six_started six_started
 a_wait_done = (refl, refl)
 
 -- a wait is refused where its sync had failed, and not because another had
@@ -202,7 +202,7 @@ pub no_room_for_a_name : Refuses StartSync OutOfMemory durable durable six_stand
 no_room_for_a_name = inr (refl, refl, refl)
 
 -- the end of a recovery
-pub a_recovery_ends : Accepts 4 Begin Done durable durable six_stand (record six_stand { recovering = false })
+pub a_recovery_ends : Accepts add_sum 4 Begin Done durable durable six_stand (record six_stand { recovering = false })
 a_recovery_ends = refl
 
 -- ---- truncates
@@ -238,13 +238,13 @@ pub a_sync_begins : begun Sync six_stand ≡ six_stand
 a_sync_begins = refl
 
 -- it answers the size that is left, which isn't what it was asked for where there was less
-pub a_truncate_done : Accepts 4 (Truncate 2) (Length 2) durable durable six_stand two_stand
+pub a_truncate_done : Accepts add_sum 4 (Truncate 2) (Length 2) durable durable six_stand two_stand
 a_truncate_done = (refl, refl)
 
-pub a_truncate_above : Accepts 4 (Truncate 7) (Length 6) durable durable none_synced six_stand
+pub a_truncate_above : Accepts add_sum 4 (Truncate 7) (Length 6) durable durable none_synced six_stand
 a_truncate_above = (refl, refl)
 
-pub no_size_before : Takes 4 (Truncate 2) (Length 6) durable durable six_stand two_stand → ⊥
+pub no_size_before : Takes add_sum 4 (Truncate 2) (Length 6) durable durable six_stand two_stand → ⊥
 no_size_before takes = omega (arith, takes.0)
 
 -- behind a sync and a truncate a started sync that completes raises no floor past what is left
@@ -275,7 +275,7 @@ a_truncate_that_syncs = refl
 
 -- ---- replies
 
-pub a_size_reply : Accepts 4 Size (Length 6) durable durable six_stand six_stand
+pub a_size_reply : Accepts add_sum 4 Size (Length 6) durable durable six_stand six_stand
 a_size_reply = (refl, refl)
 
 -- a read of three bytes from the fifth on passes the end
@@ -287,51 +287,52 @@ pub no_end_within : HasCause 4 (Read 4 2) six_stand durable durable BlobInsuffic
 no_end_within cause = omega (arith, cause.1)
 
 -- where a range passes the end, it is answered so
-pub the_end_is_told : Answers 4 (Read 4 3) (Fault OutOfMemory) durable durable six_stand six_stand → ⊥
+pub the_end_is_told : Answers add_sum 4 (Read 4 3) (Fault OutOfMemory) durable durable six_stand six_stand → ⊥
 the_end_is_told answers = let is : Fault OutOfMemory ≡ Fault BlobInsufficientLength = answers.1.1 a_read_past_the_end in cc
 
 -- bytes that fit what is buffered stand behind the content
-pub a_try : (bytes : Vec ℕ Global) → length bytes.items ≡ 6 → Accepts 4 (TryAppend bytes) (At 6) durable durable six_stand (appended 4 bytes.items six_stand)
+pub a_try : (bytes : Vec ℕ Global) → length bytes.items ≡ 6 → Accepts add_sum 4 (TryAppend bytes) (At 6) durable durable six_stand (appended 4 bytes.items six_stand)
 a_try bytes long = (le-leb (2 + length bytes.items) 8 (omega (arith, long)), refl, refl)
 
 -- those that don't fit change nothing
-pub a_try_that_does_not_fit : (bytes : Vec ℕ Global) → length bytes.items ≡ 7 → Accepts 4 (TryAppend bytes) Nothing durable durable six_stand six_stand
+pub a_try_that_does_not_fit : (bytes : Vec ℕ Global) → length bytes.items ≡ 7 → Accepts add_sum 4 (TryAppend bytes) Nothing durable durable six_stand six_stand
 a_try_that_does_not_fit bytes long = let passes : 8 < 2 + length bytes.items = omega (arith, long) in (grind (arith, nat_tests, passes), refl)
 
 -- and those that fit aren't answered so
-pub no_nothing_that_fits : (bytes : Vec ℕ Global) (behind : Standing) → length bytes.items ≡ 6 → Accepts 4 (TryAppend bytes) Nothing durable durable six_stand behind → ⊥
+pub no_nothing_that_fits : (bytes : Vec ℕ Global) (behind : Standing) → length bytes.items ≡ 6 → Accepts add_sum 4 (TryAppend bytes) Nothing durable durable six_stand behind → ⊥
 no_nothing_that_fits bytes behind long accepts = absurd (false≢true (sym accepts.0 ∙ le-leb (2 + length bytes.items) 8 (omega (arith, long))))
 
 -- no other step is answered so, but a read that asks no device, and a snapshot that writes nothing
-pub nothing_is_of_a_try : (P : ℕ) (step : Step) (from to : Disk) (before behind : Standing) → Accepts P step Nothing from to before behind
+pub nothing_is_of_a_try : (sum : List ℕ → ℕ) (P : ℕ) (step : Step) (from to : Disk) (before behind : Standing) → Accepts sum P step Nothing from to before behind
     → ((bytes : Vec ℕ Global) × (step ≡ TryAppend bytes)) ⊎ (((offset len : ℕ) × (step ≡ TryRead offset len)) ⊎ (step ≡ TrySnapshot))
-nothing_is_of_a_try P (TryAppend bytes) from to before behind accepts = inl (bytes, refl)
-nothing_is_of_a_try P (TryRead offset len) from to before behind accepts = inr (inl (offset, len, refl))
-nothing_is_of_a_try P TrySnapshot from to before behind accepts = inr (inr refl)
-nothing_is_of_a_try P Snapshot from to before behind accepts = absurd accepts
-nothing_is_of_a_try P (Snap index offset len) from to before behind accepts = absurd accepts
-nothing_is_of_a_try P Seal from to before behind accepts = absurd accepts
-nothing_is_of_a_try P (Replay buffer_size) from to before behind accepts = absurd accepts
-nothing_is_of_a_try P (Ensure index count) from to before behind accepts = absurd accepts
-nothing_is_of_a_try P (Take index count) from to before behind accepts = absurd accepts
-nothing_is_of_a_try P (Seek index offset) from to before behind accepts = absurd accepts
-nothing_is_of_a_try P (Append bytes) from to before behind accepts = absurd accepts
-nothing_is_of_a_try P (Owned bytes) from to before behind accepts = absurd accepts
-nothing_is_of_a_try P Sync from to before behind accepts = absurd accepts
-nothing_is_of_a_try P StartSync from to before behind accepts = absurd accepts
-nothing_is_of_a_try P Wait from to before behind accepts = absurd accepts
-nothing_is_of_a_try P (WaitSync name) from to before behind accepts = absurd accepts
-nothing_is_of_a_try P Needs from to before behind accepts = absurd accepts
-nothing_is_of_a_try P Size from to before behind accepts = absurd accepts
-nothing_is_of_a_try P (Read offset len) from to before behind accepts = absurd accepts
-nothing_is_of_a_try P (ReadUpTo offset len) from to before behind accepts = absurd accepts
-nothing_is_of_a_try P (ReadRanges ranges) from to before behind accepts = absurd accepts
-nothing_is_of_a_try P (TryReadRanges ranges) from to before behind accepts = absurd accepts
-nothing_is_of_a_try P Begin from to before behind accepts = absurd accepts
-nothing_is_of_a_try P (Truncate n) from to before behind accepts = absurd accepts
+nothing_is_of_a_try sum P (TryAppend bytes) from to before behind accepts = inl (bytes, refl)
+nothing_is_of_a_try sum P (TryRead offset len) from to before behind accepts = inr (inl (offset, len, refl))
+nothing_is_of_a_try sum P TrySnapshot from to before behind accepts = inr (inr refl)
+nothing_is_of_a_try sum P Snapshot from to before behind accepts = absurd accepts
+nothing_is_of_a_try sum P (Snap index offset len) from to before behind accepts = absurd accepts
+nothing_is_of_a_try sum P Seal from to before behind accepts = absurd accepts
+nothing_is_of_a_try sum P (Replay buffer_size) from to before behind accepts = absurd accepts
+nothing_is_of_a_try sum P (Ensure index count) from to before behind accepts = absurd accepts
+nothing_is_of_a_try sum P (Take index count) from to before behind accepts = absurd accepts
+nothing_is_of_a_try sum P (Seek index offset) from to before behind accepts = absurd accepts
+nothing_is_of_a_try sum P (Scan proven most buffer_size) from to before behind accepts = absurd accepts
+nothing_is_of_a_try sum P (Append bytes) from to before behind accepts = absurd accepts
+nothing_is_of_a_try sum P (Owned bytes) from to before behind accepts = absurd accepts
+nothing_is_of_a_try sum P Sync from to before behind accepts = absurd accepts
+nothing_is_of_a_try sum P StartSync from to before behind accepts = absurd accepts
+nothing_is_of_a_try sum P Wait from to before behind accepts = absurd accepts
+nothing_is_of_a_try sum P (WaitSync name) from to before behind accepts = absurd accepts
+nothing_is_of_a_try sum P Needs from to before behind accepts = absurd accepts
+nothing_is_of_a_try sum P Size from to before behind accepts = absurd accepts
+nothing_is_of_a_try sum P (Read offset len) from to before behind accepts = absurd accepts
+nothing_is_of_a_try sum P (ReadUpTo offset len) from to before behind accepts = absurd accepts
+nothing_is_of_a_try sum P (ReadRanges ranges) from to before behind accepts = absurd accepts
+nothing_is_of_a_try sum P (TryReadRanges ranges) from to before behind accepts = absurd accepts
+nothing_is_of_a_try sum P Begin from to before behind accepts = absurd accepts
+nothing_is_of_a_try sum P (Truncate n) from to before behind accepts = absurd accepts
 
 -- of ten bytes from the fifth on the two that there are
-pub up_to_the_end : (bytes : Vec ℕ Global) → bytes.items ≡ 101 ∷ 102 ∷ [] → Accepts 4 (ReadUpTo 4 10) (Bytes bytes) durable durable six_stand six_stand
+pub up_to_the_end : (bytes : Vec ℕ Global) → bytes.items ≡ 101 ∷ 102 ∷ [] → Accepts add_sum 4 (ReadUpTo 4 10) (Bytes bytes) durable durable six_stand six_stand
 up_to_the_end bytes is = ((inr (omega arith), is), refl)
 
 -- no bytes are read up to anywhere, and none is asked for at the end in vain
@@ -380,7 +381,7 @@ two_within zero range lt = omega (arith, lt)
 two_within (suc zero) range lt = omega (arith, lt)
 two_within (suc (suc k)) range lt = absurd (omega (arith, lt))
 
-pub bytes_of_ranges : (ranges : Vec (ℕ × ℕ) Global) (bytes : Vec ℕ Global) → ranges.items ≡ two_ranges → bytes.items ≡ 98 ∷ 101 ∷ 102 ∷ [] → Accepts 4 (ReadRanges ranges) (Served 2 bytes) durable durable six_stand six_stand
+pub bytes_of_ranges : (ranges : Vec (ℕ × ℕ) Global) (bytes : Vec ℕ Global) → ranges.items ≡ two_ranges → bytes.items ≡ 98 ∷ 101 ∷ 102 ∷ [] → Accepts add_sum 4 (ReadRanges ranges) (Served 2 bytes) durable durable six_stand six_stand
 bytes_of_ranges ranges bytes is are = (
   (subst (λ (rs : List (ℕ × ℕ)). EndWithin 6 rs) (sym is) two_within, are ∙ ap (λ (rs : List (ℕ × ℕ)). flat_map (λ (range : ℕ × ℕ). take range.1 (drop range.0 six)) rs) (sym is)),
   omega (arith, ap length is),
@@ -388,7 +389,7 @@ bytes_of_ranges ranges bytes is are = (
 )
 
 -- no more ranges needed no device than there are
-pub no_third_range : (ranges : Vec (ℕ × ℕ) Global) (bytes : Vec ℕ Global) → ranges.items ≡ two_ranges → Accepts 4 (ReadRanges ranges) (Served 3 bytes) durable durable six_stand six_stand → ⊥
+pub no_third_range : (ranges : Vec (ℕ × ℕ) Global) (bytes : Vec ℕ Global) → ranges.items ≡ two_ranges → Accepts add_sum 4 (ReadRanges ranges) (Served 3 bytes) durable durable six_stand six_stand → ⊥
 no_third_range ranges bytes is accepts = omega (arith, ap length is, accepts.1)
 
 -- the first range that can't be read decides, and then nothing else is answered
@@ -399,14 +400,14 @@ the_first_decides ranges is = ((0, 2) ∷ [], (18446744073709551615, 1) ∷ [], 
     first zero range lt = omega (arith, lt)
     first (suc k) range lt = absurd (omega (arith, lt))
 
-pub and_alone : (ranges : Vec (ℕ × ℕ) Global) → ranges.items ≡ (0, 2) ∷ (5, 2) ∷ (18446744073709551615, 1) ∷ [] → Takes 4 (ReadRanges ranges) (Fault OffsetOverflow) durable durable six_stand six_stand × Foretells 4 (ReadRanges ranges) (Fault OffsetOverflow) six_stand → ⊥
+pub and_alone : (ranges : Vec (ℕ × ℕ) Global) → ranges.items ≡ (0, 2) ∷ (5, 2) ∷ (18446744073709551615, 1) ∷ [] → Takes add_sum 4 (ReadRanges ranges) (Fault OffsetOverflow) durable durable six_stand six_stand × Foretells 4 (ReadRanges ranges) (Fault OffsetOverflow) six_stand → ⊥
 and_alone ranges is takes = let other : Fault OffsetOverflow ≡ Fault BlobInsufficientLength = takes.1.1 (the_first_decides ranges is) in cc other
 
 -- the numbers of missed ranges rise, and are those of ranges
-pub no_number_twice : (ranges : Vec (ℕ × ℕ) Global) (numbers : Vec ℕ Global) → numbers.items ≡ 0 ∷ 0 ∷ [] → Accepts 4 (TryReadRanges ranges) (Missed numbers) durable durable six_stand six_stand → ⊥
+pub no_number_twice : (ranges : Vec (ℕ × ℕ) Global) (numbers : Vec ℕ Global) → numbers.items ≡ 0 ∷ 0 ∷ [] → Accepts add_sum 4 (TryReadRanges ranges) (Missed numbers) durable durable six_stand six_stand → ⊥
 no_number_twice ranges numbers is accepts = let rise = subst (λ (ns : List ℕ). RiseBelow 0 (length ranges.items) ns) is accepts.0.0 in omega (arith, rise.2.0)
 
-pub no_number_of_none : (ranges : Vec (ℕ × ℕ) Global) (numbers : Vec ℕ Global) → ranges.items ≡ two_ranges → numbers.items ≡ 2 ∷ [] → Accepts 4 (TryReadRanges ranges) (Missed numbers) durable durable six_stand six_stand → ⊥
+pub no_number_of_none : (ranges : Vec (ℕ × ℕ) Global) (numbers : Vec ℕ Global) → ranges.items ≡ two_ranges → numbers.items ≡ 2 ∷ [] → Accepts add_sum 4 (TryReadRanges ranges) (Missed numbers) durable durable six_stand six_stand → ⊥
 no_number_of_none ranges numbers is are accepts = let rise = subst (λ (ns : List ℕ). RiseBelow 0 (length ranges.items) ns) are accepts.0.0 in omega (arith, rise.1, ap length is)
 
 -- a read of ranges only reads, and a question for them leaves the device alone
@@ -453,7 +454,7 @@ a_run_of_one = (
 )
 
 -- another size isn't answered
-pub no_other_size : Accepts 4 Size (Length 7) durable durable six_stand six_stand → ⊥
+pub no_other_size : Accepts add_sum 4 Size (Length 7) durable durable six_stand six_stand → ⊥
 no_other_size accepts = omega (arith, accepts.0)
 
 -- ---- snapshots
@@ -466,11 +467,11 @@ pub a_snapshot_tells_the_content : six_noted.snapshots ≡ six ∷ []
 a_snapshot_tells_the_content = refl
 
 -- another has the next number
-pub a_second_snapshot : Accepts 4 TrySnapshot (Taken 1) durable durable six_noted (noted six_noted)
+pub a_second_snapshot : Accepts add_sum 4 TrySnapshot (Taken 1) durable durable six_noted (noted six_noted)
 a_second_snapshot = (omega arith, refl, refl)
 
 -- none is made without a write while a full page is buffered, and with one "ef" is left buffered
-pub none_while_a_page_is_buffered : Accepts 4 TrySnapshot Nothing durable durable none_synced none_synced
+pub none_while_a_page_is_buffered : Accepts add_sum 4 TrySnapshot Nothing durable durable none_synced none_synced
 none_while_a_page_is_buffered = (omega arith, refl)
 
 pub a_flushed_snapshot : noted (flushed 4 none_synced) ≡ record none_synced { buffered = 2; snapshots = six ∷ [] }
@@ -493,7 +494,7 @@ pub no_seal_closed : turned_away Seal (ended six six_stand) ≡ Some Closed
 no_seal_closed = refl
 
 -- a seal of what is written has nothing to start, and closes the session
-pub an_idle_seal : Accepts 4 Seal (Sealed 1 AllDone) durable durable six_noted (record six_noted { has_writer = false; snapshots = six ∷ six ∷ [] })
+pub an_idle_seal : Accepts add_sum 4 Seal (Sealed 1 AllDone) durable durable six_noted (record six_noted { has_writer = false; snapshots = six ∷ six ∷ [] })
 an_idle_seal = (refl, refl, refl)
 
 pub a_seal_that_leaves_the_disk : touch 4 Seal six_noted ≡ Leaves
@@ -510,7 +511,7 @@ pub it_is_named : sealed_by none_synced durable ≡ Named 0
 it_is_named = refl
 
 -- a snapshot is read in a closed session too: of "abcdef" two bytes from the fourth on are "de"
-pub a_snap_closed : (bytes : Vec ℕ Global) → bytes.items ≡ 100 ∷ 101 ∷ [] → Accepts 4 (Snap 0 3 2) (Bytes bytes) durable durable (ended six six_noted) (ended six six_noted)
+pub a_snap_closed : (bytes : Vec ℕ Global) → bytes.items ≡ 100 ∷ 101 ∷ [] → Accepts add_sum 4 (Snap 0 3 2) (Bytes bytes) durable durable (ended six six_noted) (ended six six_noted)
 a_snap_closed bytes is = ((omega arith, is), refl)
 
 pub a_snap_is_taken : turned_away (Snap 0 3 2) (ended six six_noted) ≡ None
@@ -523,6 +524,22 @@ no_such_snapshot = refl
 -- what is appended behind it isn't in it
 pub it_does_not_move : snapshot_at (appended 4 (103 ∷ []) six_noted) 0 ≡ six
 it_does_not_move = refl
+
+-- ---- scans
+
+-- a scan of no bytes asks no device, and another one only reads
+pub a_scan_of_none : (proven : ℕ) (buffer_size : NonZeroUsize) → touch 4 (Scan proven 0 buffer_size) six_stand ≡ Leaves
+a_scan_of_none proven buffer_size = refl
+
+pub a_scan_looks : (proven : ℕ) (buffer_size : NonZeroUsize) → touch 4 (Scan proven 100 buffer_size) six_stand ≡ Looks
+a_scan_looks proven buffer_size = refl
+
+-- of the six bytes that the blob tells it counts at most three where it is to look at no more
+pub six_are_counted : (buffer_size : NonZeroUsize) → Accepts add_sum 4 (Scan 0 100 buffer_size) (Length 6) durable durable six_stand six_stand
+six_are_counted buffer_size = (refl, refl)
+
+pub three_are_counted : (buffer_size : NonZeroUsize) → Accepts add_sum 4 (Scan 0 3 buffer_size) (Length 3) durable durable six_stand six_stand
+three_are_counted buffer_size = (refl, refl)
 
 -- ---- replays
 

@@ -253,7 +253,7 @@ away_steps sum step reply was w life away same = λ P before stands.
       goes = refl;
       behind = before;
       did = record {
-        answer = answers_away P step reply life.present life.present before (away before stands.fits.has_writer stands.phase);
+        answer = answers_away sum P step reply life.present life.present before (away before stands.fits.has_writer stands.phase);
         touches = leaves (touch P step before) life.present;
         stopped = λ gone. refl;
         kept = (begun_keeps sum P step before life.present stands.kept, tt);
@@ -308,7 +308,7 @@ read_ranges_steps sum was w cache ranges old new reply fits sound says = λ P be
     ) in
     looked_steps sum was P w (ReadRanges ranges) reply old new before refl refl (turned_fit before.has_writer (fit_together ranges.items) stands.fits.has_writer fits) sound says.looked says.looked.through says.looked.through.each stands (taken reply P before stands size says.full says.reads) foretold
   where
-    taken : (r : Reply) (P : ℕ) (before : Standing) → StandsApart sum P (held was (Some w)) before old.present → size_of w ≡ length before.content → (r ≡ Fault InvalidChecksum → ⊥) → ReadsRanges sum w cache ranges.items old new r → Takes P (ReadRanges ranges) r old.present new.present before before
+    taken : (r : Reply) (P : ℕ) (before : Standing) → StandsApart sum P (held was (Some w)) before old.present → size_of w ≡ length before.content → (r ≡ Fault InvalidChecksum → ⊥) → ReadsRanges sum w cache ranges.items old new r → Takes sum P (ReadRanges ranges) r old.present new.present before before
     taken (Served count bytes) P before stands size full reads =
         let few : count ≤ length ranges.items = omega (arith, reads.1, filter_few (is_served cache (tail_of w)) ranges.items) in (
           (subst (λ (n : ℕ). EndWithin n ranges.items) size reads.0, reads.2 ∙ ap (λ (l : List ℕ). flat_map (λ (range : ℕ × ℕ). take range.1 (drop range.0 l)) ranges.items) (sym stands.fits.content)),
@@ -380,9 +380,9 @@ try_read_ranges_steps sum was w cache ranges life reply fits sound tried = λ P 
     let size : size_of w ≡ length before.content = size_is_length sum w life sound ∙ ap length (sym stands.fits.content) in
     unasked sum P was w (TryReadRanges ranges) reply (held was (Some w)) life before before (turned_fit before.has_writer (fit_together ranges.items) stands.fits.has_writer fits) stands (taken reply P before size tried) (λ none. absurd none, λ none. absurd none) stands
   where
-    taken : (r : Reply) (P : ℕ) (before : Standing) → size_of w ≡ length before.content → TriedRanges w cache ranges.items r → Takes P (TryReadRanges ranges) r life.present life.present before before
+    taken : (r : Reply) (P : ℕ) (before : Standing) → size_of w ≡ length before.content → TriedRanges w cache ranges.items r → Takes sum P (TryReadRanges ranges) r life.present life.present before before
     taken (Missed numbers) P before size misses = (numbers_some w cache ranges.items before.content numbers.items size misses, refl)
-    taken (Fault e) P before size is = subst (λ (x : Error). Takes P (TryReadRanges ranges) (Fault x) life.present life.present before before) (sym is) ((0, lit< tt, refl), tt, refl)
+    taken (Fault e) P before size is = subst (λ (x : Error). Takes sum P (TryReadRanges ranges) (Fault x) life.present life.present before before) (sym is) ((0, lit< tt, refl), tt, refl)
     taken (At n) P before size tried = absurd tried
     taken Nothing P before size tried = absurd tried
     taken Done P before size tried = absurd tried

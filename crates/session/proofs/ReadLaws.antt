@@ -1,6 +1,7 @@
 -- What the steps that read other than all of a range do.
-use Rattle.std.proofs.Common.{◌≡◌, ◌⊎◌, ℕ, ◌+◌, ◌-◌, ◌<◌, ◌≤◌, List, [], length, take, drop, min, refl, sym, ap, ◌∙◌, subst, arith, inl, inr, Err, lit<}
-use Rattle.std.specs.Prelude.{Option, Some, None, IfSome, nat_le}
+use Rattle.std.proofs.Common.{◌≡◌, ◌⊎◌, ℕ, ◌+◌, ◌-◌, ◌<◌, ◌≤◌, List, [], length, take, drop, min, refl, sym, ap, ◌∙◌, subst, arith, inl, inr, Bool, true, false, Err, lit<}
+use Rattle.std.specs.Prelude.{Option, Some, None, IfSome, nat_le, nat_eq, if◌then◌else◌}
+use Rattle.std.proofs.lemmas.Bool.Decides.{nat_tests}
 use Rattle.std.specs.List.{Contains}
 use Rattle.std.proofs.lemmas.Bool.{leb-true, and_parts, cases_lt}
 use Rattle.std.proofs.lemmas.List.{take_all, length-drop}
@@ -18,12 +19,16 @@ use Rattle.paged.specs.Caches.{tail_of}
 use Rattle.paged.specs.Reads.{size_of}
 use Rattle.paged.proofs.Flushes.{size_is_length}
 use Rattle.paged.proofs.There.{reads_keep_sound}
-use Rattle.session.specs.declared.steps.Step.TheVariants.{ReadUpTo, TryRead}
+use Rattle.std.specs.declared.num.NonZeroUsize.{NonZeroUsize}
+use Rattle.page.specs.Page.{text}
+use Rattle.paged_read.specs.Scans.{IsWithinBlob, Scans}
+use Rattle.session.specs.declared.steps.Step.TheVariants.{ReadUpTo, Scan, TryRead}
 use Rattle.session.specs.declared.steps.Reply.{Reply}
 use Rattle.session.specs.declared.steps.Reply.TheVariants.{At, Nothing, Done, Started, Answer, Length, Bytes, Fault, Closed, NotRecovering, NoSuch, Served, Missed, BadRanges, Taken, Sealed, NotAppending, Replaying}
-use Rattle.session.specs.Run.{Standing, SessionState, faults, HasCause, Takes, Foretells, FitsWriter}
-use Rattle.session.specs.Calls.{ReadsBytesUpTo, ReadUpToSays, DidReadUpTo, TriedBytes, DidTryRead}
-use Rattle.session.proofs.StepLaws.{held, turned_here, turned_closed, unasked, looked_steps, alike_stays_started, closed_takes, held_takes, sound_of, can_of, same_rest}
+use Rattle.session.specs.Run.{Standing, SessionState, faults, HasCause, Takes, Touches, Foretells, FitsWriter}
+use Rattle.session.specs.Run.Touch.{Leaves, Looks}
+use Rattle.session.specs.Calls.{ReadsBytesUpTo, ReadUpToSays, DidReadUpTo, TriedBytes, DidTryRead, Counts, ScanSays, DidScan}
+use Rattle.session.proofs.StepLaws.{no_moments, held, turned_here, turned_closed, unasked, looked_steps, alike_stays_started, closed_takes, held_takes, sound_of, can_of, same_rest}
 use Rattle.session.proofs.Apart.{AlwaysApart, IsReadyApart, StandsApart, StepsApart}
 
 -- ---- at most so many bytes
@@ -63,7 +68,7 @@ read_up_to_steps sum was w cache offset len old new reply sound says = λ P befo
     some P before size (inl none) = inl none
     some P before size (inr there) = inr (omega (arith, size, there))
 
-    taken : (r : Reply) (P : ℕ) (before : Standing) → StandsApart sum P (held was (Some w)) before old.present → size_of w ≡ length before.content → (r ≡ Fault InvalidChecksum → ⊥) → ReadsBytesUpTo sum w cache offset len old new r → Takes P (ReadUpTo offset len) r old.present new.present before before
+    taken : (r : Reply) (P : ℕ) (before : Standing) → StandsApart sum P (held was (Some w)) before old.present → size_of w ≡ length before.content → (r ≡ Fault InvalidChecksum → ⊥) → ReadsBytesUpTo sum w cache offset len old new r → Takes sum P (ReadUpTo offset len) r old.present new.present before before
     taken (Bytes bytes) P before stands size full (count, reads) =
         let is : bytes.items ≡ take (min len (size_of w - offset)) (drop offset before.content) = reads.1 ∙ ap (λ (l : List ℕ). take (min len (size_of w - offset)) (drop offset l)) (sym stands.fits.content) in
         ((some P before size reads.0, is ∙ take_up_to before.content offset len (size_of w) size), refl)
@@ -97,6 +102,74 @@ read_up_to_takes sum was cache offset len old new reply ready goes = by_writer w
         let starts : (was.names ≡ []) ⊎ StartsStand new.present = elim ready.starts [ inl none ↦ inl none | inr stand ↦ inr (alike_stays_started old.present new.present says.looked.same stand) ] in
         held_takes sum (ReadUpTo offset len) reply was was w (Some w) old new at (same_rest was) at (reads_keep_sound sum w old new says.looked sound) starts (read_up_to_steps sum was w cache offset len old new reply sound says)
 
+-- ---- scans
+
+-- why one is refused
+pub scan_fails : (sum : List ℕ → ℕ) (w : WriterState) (most reach len : ℕ) (old new : Life) (e : Error) → Scans reach len old new (Err e) → IsWithinBlob {A = ℕ} (Err e) → (most ≡ 0 → ⊥) → Counts sum w most old new (Fault e)
+scan_fails sum w most reach len old new ReadFailed scans within some = scans.0
+scan_fails sum w most reach len old new OutOfMemory scans within some = some
+scan_fails sum w most reach len old new WriteFailed scans within some = absurd scans
+scan_fails sum w most reach len old new ResizeFailed scans within some = absurd scans
+scan_fails sum w most reach len old new SyncFailed scans within some = absurd scans
+scan_fails sum w most reach len old new InvalidChecksum scans within some = absurd scans
+scan_fails sum w most reach len old new BlobInsufficientLength scans within some = absurd within
+scan_fails sum w most reach len old new OffsetOverflow scans within some = absurd within
+scan_fails sum w most reach len old new IdsExhausted scans within some = absurd scans
+
+scan_steps : (sum : List ℕ → ℕ) (was : SessionState) (w : WriterState) (proven most : ℕ) (buffer_size : NonZeroUsize) (old new : Life) (reply : Reply) → IsSound sum w old.present → ScanSays sum w most old new reply
+    → AlwaysApart sum (Scan proven most buffer_size) reply (held was (Some w)) (held was (Some w)) old new
+unfolding Through
+scan_steps sum was w proven most buffer_size old new reply sound says = λ P before stands.
+    looked_steps sum was P w (Scan proven most buffer_size) reply old new before refl refl (turned_here before.has_writer stands.fits.has_writer) sound says.looked says.looked.through (touched (nat_eq most 0) refl) stands
+    (taken reply P before stands says.counts) (λ none. absurd none, λ none. absurd none)
+  where
+    touched : (test : Bool) → nat_eq most 0 ≡ test → Touches (if test then Leaves else Looks) old.present says.looked.through.moments
+    touched true none = let zero_most : most ≡ 0 = grind (arith, nat_tests, none) in no_moments old new says.looked.through.moments says.looked.through.goes (says.none zero_most)
+    touched false some = says.looked.through.each
+
+    failed : (e : Error) (P : ℕ) (before : Standing) → Counts sum w most old new (Fault e) → Takes sum P (Scan proven most buffer_size) (Fault e) old.present new.present before before
+    failed ReadFailed P before counts = ((0, lit< tt, refl), counts, refl)
+    failed OutOfMemory P before counts = ((1, lit< tt, refl), counts, refl)
+    failed WriteFailed P before counts = absurd counts
+    failed ResizeFailed P before counts = absurd counts
+    failed SyncFailed P before counts = absurd counts
+    failed InvalidChecksum P before counts = absurd counts
+    failed BlobInsufficientLength P before counts = absurd counts
+    failed OffsetOverflow P before counts = absurd counts
+    failed IdsExhausted P before counts = absurd counts
+
+    taken : (r : Reply) (P : ℕ) (before : Standing) → StandsApart sum P (held was (Some w)) before old.present → Counts sum w most old new r → Takes sum P (Scan proven most buffer_size) r old.present new.present before before
+    taken (Length n) P before stands counts = (counts ∙ ap (λ (p : ℕ). min most (length (text sum p old.present.readable))) stands.fits.page_size, refl)
+    taken (Fault e) P before stands counts = failed e P before counts
+    taken (At n) P before stands counts = absurd counts
+    taken Nothing P before stands counts = absurd counts
+    taken Done P before stands counts = absurd counts
+    taken (Started sync) P before stands counts = absurd counts
+    taken (Answer answer) P before stands counts = absurd counts
+    taken (Bytes read) P before stands counts = absurd counts
+    taken Closed P before stands counts = absurd counts
+    taken NoSuch P before stands counts = absurd counts
+    taken NotRecovering P before stands counts = absurd counts
+    taken (Served count read) P before stands counts = absurd counts
+    taken (Missed numbers) P before stands counts = absurd counts
+    taken BadRanges P before stands counts = absurd counts
+    taken (Taken index) P before stands counts = absurd counts
+    taken (Sealed index sync) P before stands counts = absurd counts
+    taken NotAppending P before stands counts = absurd counts
+    taken (Replaying number) P before stands counts = absurd counts
+
+-- by a session
+pub scan_takes : (sum : List ℕ → ℕ) (was : SessionState) (proven most : ℕ) (buffer_size : NonZeroUsize) (old new : Life) (reply : Reply) → IsReadyApart sum was old.present → DidScan sum was.writer most old new reply
+    → StepsApart sum (Scan proven most buffer_size) reply was was old new
+scan_takes sum was proven most buffer_size old new reply ready goes = by_writer was.writer refl goes
+  where
+    by_writer : (o : Option WriterState) → was.writer ≡ o → DidScan sum o most old new reply → StepsApart sum (Scan proven most buffer_size) reply was was old new
+    by_writer None at goes = closed_takes sum (Scan proven most buffer_size) was was old new reply (λ before none. turned_closed before.has_writer none) at ready goes.0 refl goes.1
+    by_writer (Some w) at says =
+        let sound = sound_of sum was w old.present at ready in
+        let starts : (was.names ≡ []) ⊎ StartsStand new.present = elim ready.starts [ inl none ↦ inl none | inr stand ↦ inr (alike_stays_started old.present new.present says.looked.same stand) ] in
+        held_takes sum (Scan proven most buffer_size) reply was was w (Some w) old new at (same_rest was) at (reads_keep_sound sum w old new says.looked sound) starts (scan_steps sum was w proven most buffer_size old new reply sound says)
+
 -- ---- bytes that need no device
 
 try_read_steps : (sum : List ℕ → ℕ) (was : SessionState) (w : WriterState) (cache : CacheState) (offset len : ℕ) (life : Life) (reply : Reply) → IsSound sum w life.present → CanRead (tail_of w) cache life.present → TriedBytes w cache offset len reply
@@ -105,13 +178,13 @@ try_read_steps sum was w cache offset len life reply sound can tried = λ P befo
     let size : size_of w ≡ length before.content = size_is_length sum w life sound ∙ ap length (sym stands.fits.content) in
     unasked sum P was w (TryRead offset len) reply (held was (Some w)) life before before (turned_here before.has_writer stands.fits.has_writer) stands (taken reply P before stands size tried) (λ none. absurd none, λ none. absurd none) stands
   where
-    taken : (r : Reply) (P : ℕ) (before : Standing) → StandsApart sum P (held was (Some w)) before life.present → size_of w ≡ length before.content → TriedBytes w cache offset len r → Takes P (TryRead offset len) r life.present life.present before before
+    taken : (r : Reply) (P : ℕ) (before : Standing) → StandsApart sum P (held was (Some w)) before life.present → size_of w ≡ length before.content → TriedBytes w cache offset len r → Takes sum P (TryRead offset len) r life.present life.present before before
     taken (Bytes bytes) P before stands size tries =
         let within : offset + len ≤ size_of w = leb-true (offset + len) (size_of w) (and_parts (nat_le (offset + len) (size_of w)) (is_served cache (tail_of w) (offset, len)) (sym tries.0)).0 in
         ((omega (arith, size, within), tries.1 refl life.present can ∙ ap (λ (l : List ℕ). take len (drop offset l)) (sym stands.fits.content)), refl)
     taken Nothing P before stands size tried = refl
     taken (Fault e) P before stands size (is, within) =
-        subst (λ (x : Error). Takes P (TryRead offset len) (Fault x) life.present life.present before before) (sym is) ((0, lit< tt, refl), omega (arith, size, within), refl)
+        subst (λ (x : Error). Takes sum P (TryRead offset len) (Fault x) life.present life.present before before) (sym is) ((0, lit< tt, refl), omega (arith, size, within), refl)
     taken (At n) P before stands size tried = absurd tried
     taken Done P before stands size tried = absurd tried
     taken (Started sync) P before stands size tried = absurd tried

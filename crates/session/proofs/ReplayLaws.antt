@@ -320,7 +320,7 @@ record GoesOn (sum : List ℕ → ℕ) (step : Step) (index : ℕ) (was : Sessio
   tail : q.tail ≡ r.tail
   through : (content : List ℕ) → IsReplayOf sum r content old.present → IsReplayOf sum q content new.present
   touched : (P : ℕ) (before : Standing) → numbered before.replays index ≡ Some (replayed old.present.readable r) → Touches (touch P step before) old.present moments
-  takes : (P : ℕ) (before : Standing) → numbered before.replays index ≡ Some (replayed old.present.readable r) → Takes P step reply old.present new.present before (moved index (replayed old.present.readable q) before)
+  takes : (P : ℕ) (before : Standing) → numbered before.replays index ≡ Some (replayed old.present.readable r) → Takes sum P step reply old.present new.present before (moved index (replayed old.present.readable q) before)
   foretells : (P : ℕ) (before : Standing) → numbered before.replays index ≡ Some (replayed old.present.readable r) → Foretells P step reply before
 
 module _ (sum : List ℕ → ℕ) (step : Step) (index : ℕ) (was : SessionState) (cache : CacheState) (old new : Life) (ready : IsReady sum was old.present) (fits : CacheFits was cache old.present) (looked : Looked old new) (seen : Moments (SameButLog old.present) old new)
@@ -330,7 +330,7 @@ module _ (sum : List ℕ → ℕ) (step : Step) (index : ℕ) (was : SessionStat
   readable = ap (λ (x : Disk). x.readable) looked.same
 
   -- what stands of the content, at each moment
-  step_did : (P : ℕ) (before behind : Standing) (reply : Reply) → StandsFor sum P was before old.present → Answers P step reply old.present (last old.present seen.moments) before behind → Touches (touch P step before) old.present seen.moments
+  step_did : (P : ℕ) (before behind : Standing) (reply : Reply) → StandsFor sum P was before old.present → Answers sum P step reply old.present (last old.present seen.moments) before behind → Touches (touch P step before) old.present seen.moments
       → (is_some (turned_away step before) ≡ true → seen.moments ≡ []) → (raised (last old.present seen.moments) behind).floor ≤ length behind.content → Did sum P step reply old.present seen.moments before behind
   step_did P before behind reply all answer touched stopped within =
       let stands = stands_apart sum P was before old.present all in
@@ -380,7 +380,7 @@ module _ (sum : List ℕ → ℕ) (step : Step) (index : ℕ) (was : SessionStat
             goes = refl;
             behind = before;
             did = record {
-              answer = answers_away P step NoSuch old.present old.present before gone;
+              answer = answers_away sum P step NoSuch old.present old.present before gone;
               touches = leaves (touch P step before) old.present;
               stopped = λ is. refl;
               kept = (begun_keeps sum P step before old.present stands.kept, tt);
@@ -433,7 +433,7 @@ module _ (sum : List ℕ → ℕ) (step : Step) (index : ℕ) (was : SessionStat
             goes = seen.goes;
             behind = behind;
             did = step_did P before behind reply all
-                (subst (λ (to : Disk). Answers P step reply old.present to before behind) end (answers_here P step reply old.present new.present before behind some (goes.takes P before here) (goes.foretells P before here)))
+                (subst (λ (to : Disk). Answers sum P step reply old.present to before behind) end (answers_here sum P step reply old.present new.present before behind some (goes.takes P before here) (goes.foretells P before here)))
                 (goes.touched P before here) (not_turned_away step before seen.moments some) (raised_within sum P next old new behind seen.moments seen.goes after_it);
             stands = after_it;
             same = refl;
@@ -586,7 +586,7 @@ take_goes sum index count was life moments none r q gives (Fault e) (fault, is) 
   touched = λ P before here. none;
   takes = λ P before here.
       let same : moved index (replayed life.present.readable q) before ≡ before = ap (λ (x : ReplayState). moved index (replayed life.present.readable x) before) is ∙ moved_back index (replayed life.present.readable r) before here in
-      subst (λ (x : Error). Takes P (Take index count) (Fault x) life.present life.present before (moved index (replayed life.present.readable q) before)) (sym fault) ((0, lit< tt, refl), tt, same);
+      subst (λ (x : Error). Takes sum P (Take index count) (Fault x) life.present life.present before (moved index (replayed life.present.readable q) before)) (sym fault) ((0, lit< tt, refl), tt, same);
   foretells = λ P before here. (λ none. absurd none, λ none. absurd none);
 }
 take_goes sum index count was life moments none r q gives other takes on = absurd takes

@@ -317,7 +317,7 @@ try_snapshot_steps sum was w life at phase short = λ P before all.
     (less, number_is sum P was before life.present all, refl) (λ none. absurd none, λ none. absurd none) (noted_stands sum P was w (tail_of w) before life.present stands))
 
 -- none was made
-no_snapshot_steps : (sum : List ℕ → ℕ) (was : SessionState) (w : WriterState) (reply : Reply) (life : Life) → was.recovering ≡ false → ((P : ℕ) (s : Standing) → WriterStandsFor P w s life.present → Takes P TrySnapshot reply life.present life.present s s)
+no_snapshot_steps : (sum : List ℕ → ℕ) (was : SessionState) (w : WriterState) (reply : Reply) (life : Life) → was.recovering ≡ false → ((P : ℕ) (s : Standing) → WriterStandsFor P w s life.present → Takes sum P TrySnapshot reply life.present life.present s s)
     → AlwaysApart sum TrySnapshot reply (held was (Some w)) (held was (Some w)) life life
 no_snapshot_steps sum was w reply life phase takes = λ P before stands.
     unasked sum P was w TrySnapshot reply (held was (Some w)) life before before (here before.has_writer before.recovering stands.fits.has_writer (sym stands.phase ∙ phase)) stands (takes P before stands.fits) (λ none. absurd none, λ none. absurd none) stands
@@ -331,7 +331,7 @@ try_snapshot_takes sum was now cache life reply ready fits did = by_state was.re
         same_takes sum TrySnapshot r was now cache cache life life ready fits (subst (λ (s : SessionState). FitsWriter s.writer cache life.present) (sym is) fits.writer)
         (subst (λ (s : SessionState). LeavesTaken sum was.writer s.writer cache cache life life) (sym is) (leaves_here sum was.writer cache life)) is apart
 
-    same_apart : (r : Reply) (w : WriterState) → was.writer ≡ Some w → was.recovering ≡ false → now ≡ was → ((P : ℕ) (s : Standing) → WriterStandsFor P w s life.present → Takes P TrySnapshot r life.present life.present s s) → StepsApart sum TrySnapshot r was now life life
+    same_apart : (r : Reply) (w : WriterState) → was.writer ≡ Some w → was.recovering ≡ false → now ≡ was → ((P : ℕ) (s : Standing) → WriterStandsFor P w s life.present → Takes sum P TrySnapshot r life.present life.present s s) → StepsApart sum TrySnapshot r was now life life
     same_apart r w at phase is takes =
         subst (λ (s : SessionState). StepsApart sum TrySnapshot r was s life life) (sym is)
         (record {
@@ -351,7 +351,7 @@ try_snapshot_takes sum was now cache life reply ready fits did = by_state was.re
     tries w at phase Nothing (full, is) =
         same_session Nothing is (same_apart Nothing w at phase is (λ P s stands. let more : P ≤ s.buffered = omega (arith, full, stands.buffered, stands.page_size) in (more, refl)))
     tries w at phase (Fault e) (fault, is) =
-        same_session (Fault e) is (same_apart (Fault e) w at phase is (λ P s stands. subst (λ (x : Error). Takes P TrySnapshot (Fault x) life.present life.present s s) (sym fault) ((0, lit< tt, refl), tt, refl)))
+        same_session (Fault e) is (same_apart (Fault e) w at phase is (λ P s stands. subst (λ (x : Error). Takes sum P TrySnapshot (Fault x) life.present life.present s s) (sym fault) ((0, lit< tt, refl), tt, refl)))
     tries w at phase r goes = absurd goes
 
     by_state : (phase : Bool) (o : Option WriterState) → was.recovering ≡ phase → was.writer ≡ o → IfAppending phase o reply (now ≡ was) (λ w. TriesSnapshot w was now reply) → Steps sum TrySnapshot reply was now life life × CacheFits now cache life.present
@@ -558,7 +558,7 @@ snap_cause sum P t cache index offset len before old new OutOfMemory size full g
 snap_cause sum P t cache index offset len before old new IdsExhausted size full goes = absurd goes
 
 snap_taken : (sum : List ℕ → ℕ) (P : ℕ) (t : Tail) (cache : CacheState) (index offset len : ℕ) (before : Standing) (old new : Life) (reply : Reply) → told t old.present.readable ≡ snapshot_at before index → size_of_tail t ≡ length (snapshot_at before index)
-    → (reply ≡ Fault InvalidChecksum → ⊥) → ReadsBytes sum t cache offset len old new reply → Takes P (Snap index offset len) reply old.present new.present before before
+    → (reply ≡ Fault InvalidChecksum → ⊥) → ReadsBytes sum t cache offset len old new reply → Takes sum P (Snap index offset len) reply old.present new.present before before
 snap_taken sum P t cache index offset len before old new (Bytes bytes) tells size full (bufs, is, reads) =
     ((omega (arith, size, reads.0), is ∙ reads.1 ∙ ap (λ (l : List ℕ). take len (drop offset l)) tells), refl)
 snap_taken sum P t cache index offset len before old new (Fault e) tells size full reads =
@@ -589,8 +589,8 @@ snap_steps sum was t cache index offset len old new reply at there says = λ P b
       goes = seen.goes;
       behind = before;
       did = record {
-        answer = subst (λ (to : Disk). Answers P (Snap index offset len) reply old.present to before before) end
-            (answers_here P (Snap index offset len) reply old.present new.present before before known (snap_taken sum P t cache index offset len before old new reply tells size says.full says.reads) foretold);
+        answer = subst (λ (to : Disk). Answers sum P (Snap index offset len) reply old.present to before before) end
+            (answers_here sum P (Snap index offset len) reply old.present new.present before before known (snap_taken sum P t cache index offset len before old new reply tells size says.full says.reads) foretold);
         touches = seen.each;
         stopped = λ away. absurd (false≢true (sym (ap Rattle.std.specs.Prelude.is_some known) ∙ away));
         kept = (stands.kept, each_then (SameButLog old.present) (AllKeep sum P before.content before.floor) seen.moments (λ d alike. (at_each d alike).kept) seen.each);
@@ -619,7 +619,7 @@ no_snap_steps sum was index offset len life past = λ P before all.
       goes = refl;
       behind = before;
       did = record {
-        answer = answers_away P (Snap index offset len) NoSuch life.present life.present before (ap (λ (b : Bool). if b then None else Some NoSuch) none);
+        answer = answers_away sum P (Snap index offset len) NoSuch life.present life.present before (ap (λ (b : Bool). if b then None else Some NoSuch) none);
         touches = leaves Looks life.present;
         stopped = λ away. refl;
         kept = (stands.kept, tt);

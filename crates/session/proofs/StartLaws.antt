@@ -405,7 +405,7 @@ waited_stands sum P was s d e same keeps stands = record {
 
 -- a step that waits for a name that the session was given
 named_steps : (sum : List ℕ → ℕ) (was : SessionState) (name : ℕ) (reply : Reply) (old new : Life) (answer : Result (Unit {0}) Error) → is_given was.names name ≡ true → StartsStand old.present → WaitGoes name old new answer
-    → ((P : ℕ) (s : Standing) → Takes P (WaitSync name) reply old.present new.present s s) → AlwaysApart sum (WaitSync name) reply was was old new
+    → ((P : ℕ) (s : Standing) → Takes sum P (WaitSync name) reply old.present new.present s s) → AlwaysApart sum (WaitSync name) reply was was old new
 named_steps sum was name reply old new answer given stand goes takes = λ P before stands.
     let keeps = wait_keeps sum P name old new answer stand goes in
     let one = one_wait name old new answer goes in
@@ -417,7 +417,7 @@ named_steps sum was name reply old new answer given stand goes takes = λ P befo
       goes = one.goes;
       behind = before;
       did = record {
-        answer = subst (λ (to : Disk). Answers P (WaitSync name) reply old.present to before before) end (answers_here P (WaitSync name) reply old.present new.present before before here (takes P before) (λ none. absurd none, λ none. absurd none));
+        answer = subst (λ (to : Disk). Answers sum P (WaitSync name) reply old.present to before before) end (answers_here sum P (WaitSync name) reply old.present new.present before before here (takes P before) (λ none. absurd none, λ none. absurd none));
         touches = few_calls old new one.moments 1 one.goes one.few;
         stopped = λ away. absurd (false≢true (sym (ap is_some here) ∙ away));
         kept = (stands.kept, each_wait (AllKeep sum P before.content before.floor) name old new one after_it.kept);
@@ -440,7 +440,7 @@ unnamed_steps sum was name life given = λ P before stands. record {
   goes = refl;
   behind = before;
   did = record {
-    answer = answers_away P (WaitSync name) NoSuch life.present life.present before (ap (λ (b : Bool). if b then None else Some NoSuch) (sym (stands.names name) ∙ given));
+    answer = answers_away sum P (WaitSync name) NoSuch life.present life.present before (ap (λ (b : Bool). if b then None else Some NoSuch) (sym (stands.names name) ∙ given));
     touches = leaves (Changes 1) life.present;
     stopped = λ away. refl;
     kept = (stands.kept, tt);
@@ -572,7 +572,7 @@ named_takes sum was name old new reply small ready goes = by_name (is_given was.
       | inr stand ↦ stand
     ]
 
-    waits : (r : Reply) (answer : Result (Unit {0}) Error) → is_given was.names name ≡ true → WaitGoes name old new answer → ((P : ℕ) (s : Standing) → Takes P (WaitSync name) r old.present new.present s s) → StepsApart sum (WaitSync name) r was was old new
+    waits : (r : Reply) (answer : Result (Unit {0}) Error) → is_given was.names name ≡ true → WaitGoes name old new answer → ((P : ℕ) (s : Standing) → Takes sum P (WaitSync name) r old.present new.present s s) → StepsApart sum (WaitSync name) r was was old new
     waits r answer given goes takes = record {
       ready = record { writer = waited_sound sum was.writer name old new answer small ready.writer goes; starts = inr (wait_keeps sum 0 name old new answer (some_name given) goes).starts };
       always = named_steps sum was name r old new answer given (some_name given) goes takes;

@@ -37,7 +37,7 @@ use Rattle.page.specs.Page.{text}
 use Rattle.paged.proofs.There.{reads_keep_sound}
 use Rattle.paged.proofs.Halves.{appends_stay, syncs_stay, sync_keeps_all}
 use Rattle.session.specs.declared.steps.Step.{Step}
-use Rattle.session.specs.declared.steps.Step.TheVariants.{Append, Owned, TryAppend, Sync, StartSync, Wait, WaitSync, Needs, Size, Read, ReadUpTo, TryRead, ReadRanges, TryReadRanges, Begin, Truncate, Snapshot, TrySnapshot, Snap, Seal, Replay, Ensure, Take, Seek}
+use Rattle.session.specs.declared.steps.Step.TheVariants.{Append, Owned, TryAppend, Sync, StartSync, Wait, WaitSync, Needs, Size, Read, ReadUpTo, TryRead, ReadRanges, TryReadRanges, Begin, Truncate, Snapshot, TrySnapshot, Snap, Seal, Replay, Ensure, Take, Seek, Scan}
 use Rattle.session.specs.declared.steps.Reply.{Reply}
 use Rattle.session.specs.declared.steps.Reply.TheVariants.{At, Nothing, Done, Started, Answer, Length, Bytes, Fault, Closed, NotRecovering, NoSuch, Served, Missed, BadRanges, Taken, Sealed, NotAppending, Replaying}
 use Rattle.session.specs.Run.{Standing, SessionState, has_room, buffered_after, written_after, awaited_after, appended, synced, ended, needs_sync, is_complete, raise, raised, lowered, forgetting, begun, turned_away, faults, HasCause, HadFailed, content_after, Takes, Foretells, Answers, Touch, touch, wait_touch, last, Touches, AllCover, pending_in, WriterStandsFor, WriterFits, NamesFit, HasSoundWriter, FitsWriter}
@@ -102,22 +102,22 @@ through_each Q old new ds through goes = subst (λ (l : List Disk). Each Q l) (s
 -- ---- tables
 
 -- where there is a writer, a step that needs one isn't turned away
-pub answers_here : (P : ℕ) (step : Step) (reply : Reply) (from to : Disk) (s behind : Standing) → turned_away step s ≡ None → Takes P step reply from to s behind → Foretells P step reply s → Answers P step reply from to s behind
-answers_here P step reply from to s behind here takes foretells =
+pub answers_here : (sum : List ℕ → ℕ) (P : ℕ) (step : Step) (reply : Reply) (from to : Disk) (s behind : Standing) → turned_away step s ≡ None → Takes sum P step reply from to s behind → Foretells P step reply s → Answers sum P step reply from to s behind
+answers_here sum P step reply from to s behind here takes foretells =
     subst
     (λ (turn : Option Reply). elim turn as (λ (o : Option Reply). Type 0) [
       | Some other ↦ (reply ≡ other) × (behind ≡ s)
-      | None ↦ Takes P step reply from to s behind × Foretells P step reply s
+      | None ↦ Takes sum P step reply from to s behind × Foretells P step reply s
     ])
     (sym here) (takes, foretells)
 
 -- the others are
-pub answers_away : (P : ℕ) (step : Step) (reply : Reply) (from to : Disk) (s : Standing) → turned_away step s ≡ Some reply → Answers P step reply from to s s
-answers_away P step reply from to s away =
+pub answers_away : (sum : List ℕ → ℕ) (P : ℕ) (step : Step) (reply : Reply) (from to : Disk) (s : Standing) → turned_away step s ≡ Some reply → Answers sum P step reply from to s s
+answers_away sum P step reply from to s away =
     subst
     (λ (turn : Option Reply). elim turn as (λ (o : Option Reply). Type 0) [
       | Some other ↦ (reply ≡ other) × (s ≡ s)
-      | None ↦ Takes P step reply from to s s × Foretells P step reply s
+      | None ↦ Takes sum P step reply from to s s × Foretells P step reply s
     ])
     (sym away) (refl, refl)
 
@@ -213,6 +213,7 @@ begun_either Q (Replay buffer_size) s same less = same
 begun_either Q (Ensure index count) s same less = same
 begun_either Q (Take index count) s same less = same
 begun_either Q (Seek index offset) s same less = same
+begun_either Q (Scan proven most buffer_size) s same less = same
 
 pub begun_keeps : (sum : List ℕ → ℕ) (P : ℕ) (step : Step) (s : Standing) (d : Disk) → AllKeep sum P s.content s.floor d → AllKeep sum P s.content (begun step s).floor d
 begun_keeps sum P step s d keeps = begun_either (λ x. AllKeep sum P s.content x.floor d) step s keeps (λ n. lowered_keeps sum P n s d keeps)
@@ -280,14 +281,14 @@ raised_within sum P now old new behind moments goes stands = raise_within (last 
 -- a step by a session with a writer, from what each moment says and the answer
 pub stepped_by : (sum : List ℕ → ℕ) (P : ℕ) (step : Step) (reply : Reply) (now : SessionState) (old new : Life) (before behind : Standing) (moments : List Disk) → before.has_writer ≡ true → turned_away step before ≡ None
     → new ≡ after old moments → Each (AllKeep sum P before.content (begun step before).floor) (old.present ∷ moments) → Each (AllCover sum P before.content (begun step before).covers) (old.present ∷ moments)
-    → Each (AllOnly sum P before.content (content_after step before.content)) (old.present ∷ moments) → Touches (touch P step before) old.present moments → Takes P step reply old.present new.present before behind → Foretells P step reply before
+    → Each (AllOnly sum P before.content (content_after step before.content)) (old.present ∷ moments) → Touches (touch P step before) old.present moments → Takes sum P step reply old.present new.present before behind → Foretells P step reply before
     → StandsApart sum P now behind new.present → SteppedApart sum P step reply now old new before behind.snapshots behind.replays
 stepped_by sum P step reply now old new before behind moments has here goes kept covered only touches takes foretells stands = record {
   moments = moments;
   goes = goes;
   behind = behind;
   did = record {
-    answer = subst (λ (to : Disk). Answers P step reply old.present to before behind) (ap (λ (life : Life). life.present) goes ∙ last_is old moments) (answers_here P step reply old.present new.present before behind here takes foretells);
+    answer = subst (λ (to : Disk). Answers sum P step reply old.present to before behind) (ap (λ (life : Life). life.present) goes ∙ last_is old moments) (answers_here sum P step reply old.present new.present before behind here takes foretells);
     touches = touches;
     stopped = not_turned_away step before moments here;
     kept = kept;
@@ -302,7 +303,7 @@ stepped_by sum P step reply now old new before behind moments has here goes kept
 
 -- from both halves
 pub stepped : (sum : List ℕ → ℕ) (P : ℕ) (step : Step) (reply : Reply) (now : SessionState) (old new : Life) (before behind : Standing) (moments : List Disk) → before.has_writer ≡ true → turned_away step before ≡ None
-    → Halves sum P before.content (content_after step before.content) (begun step before).floor (begun step before).covers old new moments → Touches (touch P step before) old.present moments → Takes P step reply old.present new.present before behind
+    → Halves sum P before.content (content_after step before.content) (begun step before).floor (begun step before).covers old new moments → Touches (touch P step before) old.present moments → Takes sum P step reply old.present new.present before behind
     → Foretells P step reply before → StandsApart sum P now behind new.present → SteppedApart sum P step reply now old new before behind.snapshots behind.replays
 stepped sum P step reply now old new before behind moments has here h touches takes foretells stands =
     stepped_by sum P step reply now old new before behind moments has here h.goes h.kept h.covered h.only touches takes foretells stands
@@ -325,7 +326,7 @@ closed_steps sum step was now old new reply none away replied same_session same 
       goes = refl;
       behind = before;
       did = record {
-        answer = answers_away P step Closed old.present old.present before (away before fits);
+        answer = answers_away sum P step Closed old.present old.present before (away before fits);
         touches = leaves (touch P step before) old.present;
         stopped = λ gone. refl;
         kept = (begun_keeps sum P step before old.present stands.kept, tt);
@@ -343,7 +344,7 @@ closed_steps sum step was now old new reply none away replied same_session same 
 
 -- a step by a session with a writer that asks the device nothing
 pub unasked : (sum : List ℕ → ℕ) (P : ℕ) (was : SessionState) (w : WriterState) (step : Step) (reply : Reply) (now : SessionState) (life : Life) (before behind : Standing) → turned_away step before ≡ None → StandsApart sum P (held was (Some w)) before life.present
-    → Takes P step reply life.present life.present before behind → Foretells P step reply before → StandsApart sum P now behind life.present → SteppedApart sum P step reply now life life before behind.snapshots behind.replays
+    → Takes sum P step reply life.present life.present before behind → Foretells P step reply before → StandsApart sum P now behind life.present → SteppedApart sum P step reply now life life before behind.snapshots behind.replays
 unasked sum P was w step reply now life before behind here stands takes foretells after =
     let has = stands.fits.has_writer in
     let only : AllOnly sum P before.content (content_after step before.content) life.present = λ image is_image free.
@@ -356,7 +357,7 @@ unasked sum P was w step reply now life before behind here stands takes foretell
       goes = refl;
       behind = behind;
       did = record {
-        answer = answers_here P step reply life.present life.present before behind here takes foretells;
+        answer = answers_here sum P step reply life.present life.present before behind here takes foretells;
         touches = leaves (touch P step before) life.present;
         stopped = λ away. refl;
         kept = (begun_keeps sum P step before life.present stands.kept, tt);
@@ -371,7 +372,7 @@ unasked sum P was w step reply now life before behind here stands takes foretell
 
 -- the same, over a blob that stayed
 pub unasked_over : (sum : List ℕ → ℕ) (P : ℕ) (was : SessionState) (w : WriterState) (step : Step) (reply : Reply) (now : SessionState) (old new : Life) (before behind : Standing) → new ≡ old → turned_away step before ≡ None
-    → StandsApart sum P (held was (Some w)) before old.present → Takes P step reply old.present old.present before behind → Foretells P step reply before → StandsApart sum P now behind old.present → SteppedApart sum P step reply now old new before behind.snapshots behind.replays
+    → StandsApart sum P (held was (Some w)) before old.present → Takes sum P step reply old.present old.present before behind → Foretells P step reply before → StandsApart sum P now behind old.present → SteppedApart sum P step reply now old new before behind.snapshots behind.replays
 unasked_over sum P was w step reply now old new before behind same here stands takes foretells after =
     subst (λ (life : Life). SteppedApart sum P step reply now old life before behind.snapshots behind.replays) (sym same) (unasked sum P was w step reply now old before behind here stands takes foretells after)
 
@@ -916,7 +917,7 @@ alike_stays_started d e alike stand = subst StartsStand (sym alike) stand
 
 -- a step that only reads and leaves the standing
 pub looked_steps : (sum : List ℕ → ℕ) (was : SessionState) (P : ℕ) (w : WriterState) (step : Step) (reply : Reply) (old new : Life) (before : Standing) → content_after step before.content ≡ before.content → begun step before ≡ before → turned_away step before ≡ None
-    → IsSound sum w old.present → Looked old new → (seen : Moments (SameButLog old.present) old new) → Touches (touch P step before) old.present seen.moments → StandsApart sum P (held was (Some w)) before old.present → Takes P step reply old.present new.present before before → Foretells P step reply before
+    → IsSound sum w old.present → Looked old new → (seen : Moments (SameButLog old.present) old new) → Touches (touch P step before) old.present seen.moments → StandsApart sum P (held was (Some w)) before old.present → Takes sum P step reply old.present new.present before before → Foretells P step reply before
     → SteppedApart sum P step reply (held was (Some w)) old new before before.snapshots before.replays
 unfolding Through IsSound
 looked_steps sum was P w step reply old new before same begins here sound looked seen touches stands takes foretells =
@@ -1032,7 +1033,7 @@ read_steps sum was w cache offset len old new reply sound says = λ P before sta
     let foretold : Foretells P (Read offset len) reply before = (says.overflow, λ passes. says.end passes.0 (omega (arith, size, passes.1))) in
     looked_steps sum was P w (Read offset len) reply old new before refl refl (turned_here before.has_writer stands.fits.has_writer) sound says.looked says.looked.through says.looked.through.each stands (taken reply P before stands size says.full says.reads) foretold
   where
-    taken : (r : Reply) (P : ℕ) (before : Standing) → StandsApart sum P (held was (Some w)) before old.present → size_of w ≡ length before.content → (r ≡ Fault InvalidChecksum → ⊥) → ReadsBytes sum (tail_of w) cache offset len old new r → Takes P (Read offset len) r old.present new.present before before
+    taken : (r : Reply) (P : ℕ) (before : Standing) → StandsApart sum P (held was (Some w)) before old.present → size_of w ≡ length before.content → (r ≡ Fault InvalidChecksum → ⊥) → ReadsBytes sum (tail_of w) cache offset len old new r → Takes sum P (Read offset len) r old.present new.present before before
     taken (Bytes bytes) P before stands size full (bufs, is, reads) = ((omega (arith, size, reads.0), is ∙ reads.1 ∙ ap (λ (l : List ℕ). take len (drop offset l)) (sym stands.fits.content)), refl)
     taken (Fault e) P before stands size full reads = let cause = read_cause sum P w cache offset len before old new e size (λ is. full (ap Fault is)) reads in (cause.0, cause.1, refl)
     taken (At n) P before stands size full reads = absurd reads
@@ -1138,32 +1139,32 @@ owned_cause P bytes s from to OutOfMemory cause = cause
 owned_cause P bytes s from to IdsExhausted cause = cause
 
 -- so is what it takes
-owned_takes : (P : ℕ) (bytes : Vec ℕ Global) (reply : Reply) (s behind : Standing) (from to : Disk) → Takes P (Append bytes) reply from to s behind → Takes P (Owned bytes) reply from to s behind
-owned_takes P bytes (Fault e) s behind from to (listed, cause, refuses) = (listed, owned_cause P bytes s from to e cause, refuses)
-owned_takes P bytes (At n) s behind from to takes = takes
-owned_takes P bytes Nothing s behind from to takes = takes
-owned_takes P bytes Done s behind from to takes = takes
-owned_takes P bytes (Started sync) s behind from to takes = takes
-owned_takes P bytes (Answer answer) s behind from to takes = takes
-owned_takes P bytes (Length n) s behind from to takes = takes
-owned_takes P bytes (Bytes read) s behind from to takes = takes
-owned_takes P bytes Closed s behind from to takes = takes
-owned_takes P bytes NoSuch s behind from to takes = takes
-owned_takes P bytes NotRecovering s behind from to takes = takes
-owned_takes P bytes (Served count read) s behind from to takes = takes
-owned_takes P bytes (Missed numbers) s behind from to takes = takes
-owned_takes P bytes BadRanges s behind from to takes = takes
-owned_takes P bytes (Taken index) s behind from to takes = takes
-owned_takes P bytes (Sealed index sync) s behind from to takes = takes
-owned_takes P bytes NotAppending s behind from to takes = takes
-owned_takes P bytes (Replaying number) s behind from to takes = takes
+owned_takes : (sum : List ℕ → ℕ) (P : ℕ) (bytes : Vec ℕ Global) (reply : Reply) (s behind : Standing) (from to : Disk) → Takes sum P (Append bytes) reply from to s behind → Takes sum P (Owned bytes) reply from to s behind
+owned_takes sum P bytes (Fault e) s behind from to (listed, cause, refuses) = (listed, owned_cause P bytes s from to e cause, refuses)
+owned_takes sum P bytes (At n) s behind from to takes = takes
+owned_takes sum P bytes Nothing s behind from to takes = takes
+owned_takes sum P bytes Done s behind from to takes = takes
+owned_takes sum P bytes (Started sync) s behind from to takes = takes
+owned_takes sum P bytes (Answer answer) s behind from to takes = takes
+owned_takes sum P bytes (Length n) s behind from to takes = takes
+owned_takes sum P bytes (Bytes read) s behind from to takes = takes
+owned_takes sum P bytes Closed s behind from to takes = takes
+owned_takes sum P bytes NoSuch s behind from to takes = takes
+owned_takes sum P bytes NotRecovering s behind from to takes = takes
+owned_takes sum P bytes (Served count read) s behind from to takes = takes
+owned_takes sum P bytes (Missed numbers) s behind from to takes = takes
+owned_takes sum P bytes BadRanges s behind from to takes = takes
+owned_takes sum P bytes (Taken index) s behind from to takes = takes
+owned_takes sum P bytes (Sealed index sync) s behind from to takes = takes
+owned_takes sum P bytes NotAppending s behind from to takes = takes
+owned_takes sum P bytes (Replaying number) s behind from to takes = takes
 
-owned_answers : (P : ℕ) (bytes : Vec ℕ Global) (reply : Reply) (s behind : Standing) (from to : Disk) → Answers P (Append bytes) reply from to s behind → Answers P (Owned bytes) reply from to s behind
-owned_answers P bytes reply s behind from to = by_turn (if s.has_writer then None else Some Closed)
+owned_answers : (sum : List ℕ → ℕ) (P : ℕ) (bytes : Vec ℕ Global) (reply : Reply) (s behind : Standing) (from to : Disk) → Answers sum P (Append bytes) reply from to s behind → Answers sum P (Owned bytes) reply from to s behind
+owned_answers sum P bytes reply s behind from to = by_turn (if s.has_writer then None else Some Closed)
   where
-    by_turn : (turn : Option Reply) → (elim turn as (λ (o : Option Reply). Type 0) [ Some other ↦ (reply ≡ other) × (behind ≡ s) | None ↦ Takes P (Append bytes) reply from to s behind × Foretells P (Append bytes) reply s ])
-        → (elim turn as (λ (o : Option Reply). Type 0) [ Some other ↦ (reply ≡ other) × (behind ≡ s) | None ↦ Takes P (Owned bytes) reply from to s behind × Foretells P (Owned bytes) reply s ])
-    by_turn None (takes, foretells) = (owned_takes P bytes reply s behind from to takes, foretells)
+    by_turn : (turn : Option Reply) → (elim turn as (λ (o : Option Reply). Type 0) [ Some other ↦ (reply ≡ other) × (behind ≡ s) | None ↦ Takes sum P (Append bytes) reply from to s behind × Foretells P (Append bytes) reply s ])
+        → (elim turn as (λ (o : Option Reply). Type 0) [ Some other ↦ (reply ≡ other) × (behind ≡ s) | None ↦ Takes sum P (Owned bytes) reply from to s behind × Foretells P (Owned bytes) reply s ])
+    by_turn None (takes, foretells) = (owned_takes sum P bytes reply s behind from to takes, foretells)
     by_turn (Some other) is = is
 
 -- an append of a buffer is an append
@@ -1177,7 +1178,7 @@ owned_steps sum was now bytes old new reply steps = record {
         goes = a.goes;
         behind = a.behind;
         did = record {
-          answer = owned_answers P bytes reply before a.behind old.present (last old.present a.moments) a.did.answer;
+          answer = owned_answers sum P bytes reply before a.behind old.present (last old.present a.moments) a.did.answer;
           touches = a.did.touches;
           stopped = a.did.stopped;
           kept = a.did.kept;

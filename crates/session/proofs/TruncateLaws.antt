@@ -170,7 +170,7 @@ not_turned n s has phase = by_phase s.has_writer s.recovering has phase
 -- by what each moment says
 cut_steps : (sum : List ℕ → ℕ) (P n : ℕ) (was : SessionState) (w : WriterState) (reply : Reply) (now : SessionState) (old new : Life) (before behind : Standing) (moments : List Disk) → was.recovering ≡ true → IsSound sum w old.present
     → StandsApart sum P (held was (Some w)) before old.present → CutHalves sum P n before old new moments → length new.present.log ≤ length old.present.log + truncate_calls w n
-    → ((s : Standing) → s ≡ forgetting (lowered n before) → begun (Truncate n) before ≡ s → Takes P (Truncate n) reply old.present new.present before behind)
+    → ((s : Standing) → s ≡ forgetting (lowered n before) → begun (Truncate n) before ≡ s → Takes sum P (Truncate n) reply old.present new.present before behind)
     → StandsApart sum P now behind new.present → SteppedApart sum P (Truncate n) reply now old new before behind.snapshots behind.replays
 cut_steps sum P n was w reply now old new before behind moments recovering sound stands h few takes after_it =
     let has = stands.fits.has_writer in
@@ -269,7 +269,7 @@ turned_steps sum was w n life ends = λ P before stands.
       goes = refl;
       behind = before;
       did = record {
-        answer = answers_away P (Truncate n) NotRecovering life.present life.present before (away before.has_writer before.recovering has (sym stands.phase ∙ ends));
+        answer = answers_away sum P (Truncate n) NotRecovering life.present life.present before (away before.has_writer before.recovering has (sym stands.phase ∙ ends));
         touches = leaves (Changes (if nat_lt n (length before.content) then 8 else 2)) life.present;
         stopped = λ gone. refl;
         kept = (begun_keeps sum P (Truncate n) before life.present stands.kept, tt);

@@ -11,7 +11,7 @@ use Rattle.paged_read.specs.Replay.{LeavesAllReplays}
 use Rattle.paged_read.specs.Snapshots.{LeavesAllTails}
 use Rattle.paged.specs.Caches.{tail_of}
 use Rattle.session.specs.declared.steps.Step.{Step}
-use Rattle.session.specs.declared.steps.Step.TheVariants.{Append, Owned, TryAppend, Sync, StartSync, Wait, WaitSync, Needs, Size, Read, ReadUpTo, TryRead, ReadRanges, TryReadRanges, Begin, Truncate, Snapshot, TrySnapshot, Snap, Seal, Replay, Ensure, Take, Seek}
+use Rattle.session.specs.declared.steps.Step.TheVariants.{Append, Owned, TryAppend, Sync, StartSync, Wait, WaitSync, Needs, Size, Read, ReadUpTo, TryRead, ReadRanges, TryReadRanges, Begin, Truncate, Snapshot, TrySnapshot, Snap, Seal, Replay, Ensure, Take, Seek, Scan}
 use Rattle.session.specs.declared.steps.Reply.{Reply}
 use Rattle.session.specs.Run.{SessionState, CacheFits, FitsWriter, IsReady}
 use Rattle.session.specs.Calls.{Begins, is_given, IsClosed, KeepsRest, KeepsSnapshots, KeepsUncut, LeavesTaken, LeavesWriterState, Steps, TakenBy, Truncated, WaitsFor}
@@ -19,7 +19,7 @@ use Rattle.session.proofs.Apart.{IsReadyApart, ready_apart, StepsApart, StepsBy,
 use Rattle.session.proofs.Below.{framed_cut, framed_same, leaves_all, Left, LeftAll, left_by, left_same, replays_same}
 use Rattle.session.proofs.StepLaws.{appended_takes, owned_steps, tried_takes, synced_takes, sized_takes, read_takes}
 use Rattle.session.proofs.StartLaws.{started_takes, waited_takes, named_takes, needed_takes, begun_takes, both_same}
-use Rattle.session.proofs.ReadLaws.{read_up_to_takes, try_read_takes}
+use Rattle.session.proofs.ReadLaws.{read_up_to_takes, scan_takes, try_read_takes}
 use Rattle.session.proofs.RangeLaws.{read_ranges_takes, try_read_ranges_takes}
 use Rattle.session.proofs.TruncateLaws.{truncated_closed, truncated_cut, truncated_turned}
 
@@ -59,6 +59,7 @@ module _ (sum : List ℕ → ℕ) (was now : SessionState) (cache : CacheState) 
   taken_apart (TryRead offset len) (goes, stay, same) = looks_here (TryRead offset len) stay same (try_read_takes sum was cache offset len old reply ready fits goes)
   taken_apart (ReadRanges ranges) (goes, stay) = looks (ReadRanges ranges) stay (read_ranges_takes sum was cache ranges old new reply ready goes)
   taken_apart (TryReadRanges ranges) (goes, stay, same) = looks_here (TryReadRanges ranges) stay same (try_read_ranges_takes sum was cache ranges old reply ready goes)
+  taken_apart (Scan proven most buffer_size) (goes, stay) = looks (Scan proven most buffer_size) stay (scan_takes sum was proven most buffer_size old new reply ready goes)
   taken_apart (WaitSync name) taken = absurd taken
   taken_apart Begin taken = absurd taken
   taken_apart (Truncate n) taken = absurd taken

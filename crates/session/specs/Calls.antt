@@ -5,13 +5,14 @@ use Rattle.std.specs.Prelude.{true, false, nat_eq, nat_lt, Option, Some, None, R
 use Rattle.std.specs.Prelude.{IfOk, OnOk, take, min, nat_le, ◌&&◌, slice_set, map, is_some}
 use Rattle.std.specs.Prelude.{if◌then◌else◌}
 use Rattle.std.specs.List.{concat, list_any}
-use Rattle.disk.specs.Disk.{Disk, Life, after, WaitGoes}
+use Rattle.disk.specs.Disk.{Disk, HasFailed, Life, after, WaitGoes}
 use Rattle.disk.specs.declared.started_sync.StartedSync.{StartedSync}
 use Rattle.disk.specs.declared.started_sync.StartedSync.TheVariants.{Done as AllDone, Named}
 use Rattle.disk.specs.declared.error.Error.{Error}
 use Rattle.disk.specs.declared.error.Error.TheVariants.{BlobInsufficientLength, OffsetOverflow}
-use Rattle.disk.specs.declared.error.Error.TheVariants.{InvalidChecksum, OutOfMemory}
+use Rattle.disk.specs.declared.error.Error.TheVariants.{InvalidChecksum, OutOfMemory, ReadFailed}
 use Rattle.page.specs.Geometry.{RangesGo}
+use Rattle.page.specs.Page.{text}
 use Rattle.crash.specs.WriterState.{WriterState}
 use Rattle.crash.specs.WriterState.SyncState.{Dirty}
 use Rattle.crash.specs.Looks.{Looked}
@@ -46,7 +47,7 @@ use Rattle.session.specs.declared.steps.Step.TheVariants.{Wait, WaitSync, Needs,
 use Rattle.session.specs.declared.steps.Step.TheVariants.{ReadUpTo, TryRead, Truncate}
 use Rattle.session.specs.declared.steps.Step.TheVariants.{ReadRanges, TryReadRanges}
 use Rattle.session.specs.declared.steps.Step.TheVariants.{Snapshot, TrySnapshot, Snap, Seal}
-use Rattle.session.specs.declared.steps.Step.TheVariants.{Replay, Ensure, Take, Seek}
+use Rattle.session.specs.declared.steps.Step.TheVariants.{Replay, Ensure, Take, Seek, Scan}
 use Rattle.session.specs.declared.steps.Reply.TheVariants.{Served, Missed, BadRanges}
 use Rattle.session.specs.declared.steps.Reply.TheVariants.{Taken, Sealed, NotAppending}
 use Rattle.session.specs.declared.steps.Reply.TheVariants.{Replaying}
@@ -354,6 +355,25 @@ DidTryReadRanges None fit cache ranges reply = reply ≡ Closed
 DidTryReadRanges (Some w) false cache ranges reply = reply ≡ BadRanges
 DidTryReadRanges (Some w) true cache ranges reply = TriedRanges w cache ranges reply
 
+-- what a scan says of its answer, where it is to look at the first most bytes
+abbrev pub Counts : (List ℕ → ℕ) → WriterState → (most : ℕ) → Life → Life → Reply → Type 0
+Counts sum w most old new (Length n) =
+    n ≡ min most (length (text sum w.page_size old.present.readable))
+Counts sum w most old new (Fault ReadFailed) = HasFailed ReadFailed old.present new.present
+Counts sum w most old new (Fault OutOfMemory) = most ≢ 0
+Counts sum w most old new _ = ⊥
+
+pub record ScanSays (sum : List ℕ → ℕ) (w : WriterState) (most : ℕ) (old new : Life)
+    (reply : Reply) : Type 0 where
+  pub counts : Counts sum w most old new reply
+  pub none : most ≡ 0 → new ≡ old
+  pub looked : Looked old new
+
+-- a scan
+abbrev pub DidScan : (List ℕ → ℕ) → Option WriterState → (most : ℕ) → Life → Life → Reply → Type 0
+DidScan sum None most old new reply = (reply ≡ Closed) × (new ≡ old)
+DidScan sum (Some w) most old new reply = ScanSays sum w most old new reply
+
 -- the reply of these bytes, or that there is no memory for them
 abbrev pub IsBytes : List ℕ → Reply → Type 0
 IsBytes all (Bytes bytes) = bytes.items ≡ all
@@ -614,6 +634,8 @@ TakenBy sum (ReadRanges ranges) was now names more cache old new reply =
 TakenBy sum (TryReadRanges ranges) was now names more cache old new reply =
     DidTryReadRanges was (fit_together ranges.items) cache ranges.items reply
     × LeavesWriterState was now names more × (new ≡ old)
+TakenBy sum (Scan proven most buffer_size) was now names more cache old new reply =
+    DidScan sum was most old new reply × LeavesWriterState was now names more
 TakenBy sum step was now names more cache old new reply = ⊥
 
 -- what a step of the writer leaves of the session but the writer and the names

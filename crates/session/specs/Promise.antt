@@ -109,7 +109,7 @@ Tells sum P [] [] from moments s behind =
 Tells sum P (step ∷ steps) (reply ∷ replies) from moments s behind =
     Survives sum P s.content s.otherwise s.floor from
     × (first : List Disk) × (rest : List Disk) × (moments ≡ first ++ rest) × (mid : Standing)
-    × Answers P step reply from (last from first) s mid
+    × Answers sum P step reply from (last from first) s mid
     × Each (Survives sum P s.content (other_content step s) (begun step s).floor) (from ∷ first)
     × Tells sum P steps replies (last from first) rest (raised (last from first) mid) behind
 Tells sum P [] (reply ∷ replies) from moments s behind = ⊥

@@ -14,6 +14,7 @@ use Rattle.disk.specs.declared.error.Error.TheVariants.{ReadFailed, WriteFailed,
 use Rattle.disk.specs.declared.error.Error.TheVariants.{SyncFailed, BlobInsufficientLength}
 use Rattle.disk.specs.declared.error.Error.TheVariants.{OffsetOverflow, OutOfMemory}
 use Rattle.page.specs.Geometry.{EndWithin, RangesGo}
+use Rattle.page.specs.Page.{text}
 use Rattle.crash.specs.Kept.{AllKeep, AllOnly, Each}
 use Rattle.crash.specs.Looks.{SameButLog}
 use Rattle.crash.specs.Started.{WouldKeep, StartsStand}
@@ -33,7 +34,7 @@ use Rattle.session.specs.declared.steps.Step.TheVariants.{Wait, WaitSync, Needs,
 use Rattle.session.specs.declared.steps.Step.TheVariants.{ReadUpTo, TryRead, Truncate}
 use Rattle.session.specs.declared.steps.Step.TheVariants.{ReadRanges, TryReadRanges}
 use Rattle.session.specs.declared.steps.Step.TheVariants.{Snapshot, TrySnapshot, Snap, Seal}
-use Rattle.session.specs.declared.steps.Step.TheVariants.{Replay, Ensure, Take, Seek}
+use Rattle.session.specs.declared.steps.Step.TheVariants.{Replay, Ensure, Take, Seek, Scan}
 use Rattle.session.specs.declared.steps.Reply.{Reply}
 use Rattle.session.specs.declared.steps.Reply.TheVariants.{At, Nothing, Done, Started, Answer}
 use Rattle.session.specs.declared.steps.Reply.TheVariants.{Length, Bytes, Fault, Closed, NoSuch}
@@ -357,62 +358,66 @@ abbrev pub HasCompleted : Option ℕ → Disk → Type 0
 HasCompleted None d = Unit {0}
 HasCompleted (Some name) d = is_complete d name ≡ true
 
--- the reply to an accepted step, and the standing that it leaves, in pages of P bytes
-abbrev pub Accepts : (P : ℕ) → Step → Reply → (from to : Disk) → Standing → Standing → Type 0
-Accepts P (Append bytes) (At n) from to s behind =
+-- the reply to an accepted step, and the standing that it leaves, in pages of P bytes. A scan
+-- answers how many bytes the text of the blob has, as far as it was to look.
+abbrev pub Accepts : (List ℕ → ℕ) → (P : ℕ) → Step → Reply → (from to : Disk) → Standing
+    → Standing → Type 0
+Accepts sum P (Append bytes) (At n) from to s behind =
     (n ≡ length s.content) × (behind ≡ appended P bytes.items s)
-Accepts P (Owned bytes) (At n) from to s behind =
+Accepts sum P (Owned bytes) (At n) from to s behind =
     (n ≡ length s.content) × (behind ≡ appended P bytes.items s)
-Accepts P (TryAppend bytes) (At n) from to s behind =
+Accepts sum P (TryAppend bytes) (At n) from to s behind =
     (has_room s (length bytes.items) ≡ true) × (n ≡ length s.content)
     × (behind ≡ appended P bytes.items s)
-Accepts P (TryAppend bytes) Nothing from to s behind =
+Accepts sum P (TryAppend bytes) Nothing from to s behind =
     (has_room s (length bytes.items) ≡ false) × (behind ≡ s)
-Accepts P Sync Done from to s behind = behind ≡ synced P s
-Accepts P StartSync (Started sync) from to s behind =
+Accepts sum P Sync Done from to s behind = behind ≡ synced P s
+Accepts sum P StartSync (Started sync) from to s behind =
     (sync ≡ started_by s from) × (behind ≡ starting P sync s)
-Accepts P Wait Done from to s behind = HasCompleted s.awaited to × (behind ≡ waited s)
-Accepts P (WaitSync name) Done from to s behind =
+Accepts sum P Wait Done from to s behind = HasCompleted s.awaited to × (behind ≡ waited s)
+Accepts sum P (WaitSync name) Done from to s behind =
     HasCompleted (Some name) to × (behind ≡ s)
-Accepts P Needs (Answer answer) from to s behind = (answer ≡ needs_sync s) × (behind ≡ s)
-Accepts P Size (Length n) from to s behind = (n ≡ length s.content) × (behind ≡ s)
-Accepts P (Read offset len) (Bytes bytes) from to s behind =
+Accepts sum P Needs (Answer answer) from to s behind = (answer ≡ needs_sync s) × (behind ≡ s)
+Accepts sum P Size (Length n) from to s behind = (n ≡ length s.content) × (behind ≡ s)
+Accepts sum P (Read offset len) (Bytes bytes) from to s behind =
     Slices s.content offset len bytes.items × (behind ≡ s)
-Accepts P (ReadUpTo offset len) (Bytes bytes) from to s behind =
+Accepts sum P (ReadUpTo offset len) (Bytes bytes) from to s behind =
     SlicesUpTo s.content offset len bytes.items × (behind ≡ s)
-Accepts P (TryRead offset len) (Bytes bytes) from to s behind =
+Accepts sum P (TryRead offset len) (Bytes bytes) from to s behind =
     Slices s.content offset len bytes.items × (behind ≡ s)
-Accepts P (TryRead offset len) Nothing from to s behind = behind ≡ s
-Accepts P (ReadRanges ranges) (Served count bytes) from to s behind =
+Accepts sum P (TryRead offset len) Nothing from to s behind = behind ≡ s
+Accepts sum P (ReadRanges ranges) (Served count bytes) from to s behind =
     SlicesAll s.content ranges.items bytes.items × (count ≤ length ranges.items) × (behind ≡ s)
-Accepts P (TryReadRanges ranges) (Missed numbers) from to s behind =
+Accepts sum P (TryReadRanges ranges) (Missed numbers) from to s behind =
     NumbersSome s.content ranges.items numbers.items × (behind ≡ s)
-Accepts P Begin Done from to s behind = behind ≡ record s { recovering = false }
-Accepts P (Truncate n) (Length m) from to s behind =
+Accepts sum P Begin Done from to s behind = behind ≡ record s { recovering = false }
+Accepts sum P (Truncate n) (Length m) from to s behind =
     (m ≡ min n (length s.content)) × (behind ≡ truncated P n s)
-Accepts P Snapshot (Taken index) from to s behind =
+Accepts sum P Snapshot (Taken index) from to s behind =
     (index ≡ length s.snapshots) × (behind ≡ noted (flushed P s))
-Accepts P TrySnapshot (Taken index) from to s behind =
+Accepts sum P TrySnapshot (Taken index) from to s behind =
     (s.buffered < P) × (index ≡ length s.snapshots) × (behind ≡ noted s)
-Accepts P TrySnapshot Nothing from to s behind = (P ≤ s.buffered) × (behind ≡ s)
-Accepts P (Snap index offset len) (Bytes bytes) from to s behind =
+Accepts sum P TrySnapshot Nothing from to s behind = (P ≤ s.buffered) × (behind ≡ s)
+Accepts sum P (Snap index offset len) (Bytes bytes) from to s behind =
     Slices (snapshot_at s index) offset len bytes.items × (behind ≡ s)
-Accepts P Seal (Sealed index sync) from to s behind =
+Accepts sum P Seal (Sealed index sync) from to s behind =
     (index ≡ length s.snapshots) × (sync ≡ sealed_by s from) × (behind ≡ left_by_seal P sync s)
-Accepts P (Replay buffer_size) (Replaying index) from to s behind =
+Accepts sum P (Scan proven most buffer_size) (Length n) from to s behind =
+    (n ≡ min most (length (text sum P from.readable))) × (behind ≡ s)
+Accepts sum P (Replay buffer_size) (Replaying index) from to s behind =
     (index ≡ length s.replays)
     × (behind ≡ replaying P (non_zero_usize_get buffer_size) (rewritten P s))
-Accepts P (Ensure index count) (Answer answer) from to s behind =
+Accepts sum P (Ensure index count) (Answer answer) from to s behind =
     (was : Replayed) × (now : Replayed) × (numbered s.replays index ≡ Some was)
     × HasEnsured was count answer now × (behind ≡ moved index now s)
-Accepts P (Take index count) (Bytes bytes) from to s behind =
+Accepts sum P (Take index count) (Bytes bytes) from to s behind =
     (r : Replayed) × (numbered s.replays index ≡ Some r)
     × (bytes.items ≡ take (min count r.hand) (drop r.position r.content))
     × (behind ≡ moved index (passed count r) s)
-Accepts P (Seek index offset) Done from to s behind =
+Accepts sum P (Seek index offset) Done from to s behind =
     (r : Replayed) × (numbered s.replays index ≡ Some r) × (offset ≤ length r.content)
     × (behind ≡ moved index (record r { position = offset; hand = 0 }) s)
-Accepts P step reply from to s behind = ⊥
+Accepts sum P step reply from to s behind = ⊥
 
 -- ---- steps that are refused
 
@@ -440,6 +445,7 @@ faults TrySnapshot = OutOfMemory ∷ []
 faults (Snap index offset len) =
     ReadFailed ∷ BlobInsufficientLength ∷ OffsetOverflow ∷ OutOfMemory ∷ []
 faults Seal = WriteFailed ∷ SyncFailed ∷ OutOfMemory ∷ []
+faults (Scan proven most buffer_size) = ReadFailed ∷ OutOfMemory ∷ []
 faults (Replay buffer_size) = WriteFailed ∷ SyncFailed ∷ OutOfMemory ∷ []
 faults (Ensure index count) = ReadFailed ∷ OutOfMemory ∷ []
 faults (Take index count) = OutOfMemory ∷ []
@@ -473,6 +479,7 @@ abbrev pub Allocates : Step → Standing → Type 0
 Allocates (TryAppend bytes) s = has_room s (length bytes.items) ≡ true
 Allocates (TryRead offset len) s = offset + len ≤ length s.content
 Allocates Sync s = needs_sync s ≡ true
+Allocates (Scan proven most buffer_size) s = most ≢ 0
 Allocates Wait s = is_some s.awaited ≡ true
 Allocates step s = Unit {0}
 
@@ -542,11 +549,12 @@ Refuses step e from to s behind = behind ≡ s
 -- ---- one step
 
 -- a step that isn't turned away: it is refused for a cause, or accepted
-abbrev pub Takes : (P : ℕ) → Step → Reply → Disk → Disk → Standing → Standing → Type 0
-Takes P step (Fault e) from to s behind =
+abbrev pub Takes : (List ℕ → ℕ) → (P : ℕ) → Step → Reply → Disk → Disk → Standing → Standing
+    → Type 0
+Takes sum P step (Fault e) from to s behind =
     Contains (faults step) e × HasCause P step s from to e
     × Refuses step e from to (begun step s) behind
-Takes P step reply from to s behind = Accepts P step reply from to (begun step s) behind
+Takes sum P step reply from to s behind = Accepts sum P step reply from to (begun step s) behind
 
 -- a fault that the standing alone tells comes before any other reply
 abbrev pub Foretells : (P : ℕ) → Step → Reply → Standing → Type 0
@@ -555,10 +563,11 @@ Foretells P step reply s =
     × (PassesEnd step s → reply ≡ Fault BlobInsufficientLength)
 
 -- a step's reply, and the standing behind it
-abbrev pub Answers : (P : ℕ) → Step → Reply → Disk → Disk → Standing → Standing → Type 0
-Answers P step reply from to s behind = elim (turned_away step s) [
+abbrev pub Answers : (List ℕ → ℕ) → (P : ℕ) → Step → Reply → Disk → Disk → Standing → Standing
+    → Type 0
+Answers sum P step reply from to s behind = elim (turned_away step s) [
   | Some other ↦ (reply ≡ other) × (behind ≡ s)
-  | None ↦ Takes P step reply from to s behind × Foretells P step reply s
+  | None ↦ Takes sum P step reply from to s behind × Foretells P step reply s
 ]
 
 -- what a step does to the disk: nothing, or it only reads, or it makes at most so many calls
@@ -598,6 +607,7 @@ touch P (Truncate n) s = Changes (if nat_lt n (length s.content) then 8 else 2)
 touch P Snapshot s = if nat_lt s.buffered P then Leaves else Changes 2
 touch P TrySnapshot s = Leaves
 touch P (Snap index offset len) s = Looks
+touch P (Scan proven most buffer_size) s = if nat_eq most 0 then Leaves else Looks
 touch P (Replay buffer_size) s = if s.written then Leaves else Changes 2
 touch P (Ensure index count) s =
     if is_had (numbered s.replays index) count then Leaves else Looks
@@ -627,7 +637,7 @@ AllCover sum P content covers d = All (λ c. WouldKeep sum P content c.0 c.1 d) 
 -- would leave once a started sync completed, by what stands as it begins
 pub record Did (sum : List ℕ → ℕ) (P : ℕ) (step : Step) (reply : Reply) (from : Disk)
     (moments : List Disk) (before behind : Standing) : Type 0 where
-  pub answer : Answers P step reply from (last from moments) before behind
+  pub answer : Answers sum P step reply from (last from moments) before behind
   pub touches : Touches (touch P step before) from moments
   pub stopped : is_some (turned_away step before) ≡ true → moments ≡ []
   pub kept : Each (AllKeep sum P before.content (begun step before).floor) (from ∷ moments)

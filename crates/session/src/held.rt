@@ -108,6 +108,7 @@ impl<B: Blob, H: Sum, Phase> Held<B, H, Phase> {
             Step::TryRead(offset, len) => self.try_read(cache, *offset, *len),
             Step::ReadRanges(ranges) => self.read_ranges(blob, cache, ranges),
             Step::TryReadRanges(ranges) => self.try_read_ranges(cache, ranges),
+            Step::Scan(proven, most, buffer_size) => self.scan(blob, *proven, *most, *buffer_size),
             _ => Reply::Closed,
         }
     }

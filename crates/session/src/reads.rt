@@ -8,20 +8,22 @@ ghost use Rattle.crash.specs.Sound.{IsSound};
 ghost use Rattle.paged_read.specs.Tail.{CanRead};
 ghost use Rattle.paged_read.specs.Ranges.{Misses};
 ghost use Rattle.paged.specs.Caches.{tail_of};
-ghost use Rattle.session.specs.Run.{HasSoundWriter, FitsWriter, fit_together};
+ghost use Rattle.session.specs.Run.{FitsOn, HasSoundWriter, FitsWriter, fit_together};
 ghost use Rattle.paged_read.specs.Replay.{LeavesAllReplays};
 ghost use Rattle.paged_read.specs.Snapshots.{LeavesTails};
 ghost use Rattle.session.specs.Calls.{LeavesTaken};
-ghost use Rattle.session.specs.Calls.{DidRead, DidReadUpTo, DidTryRead, IsBytes};
+ghost use Rattle.cache.specs.CacheState.{CacheState};
+ghost use Rattle.session.specs.Calls.{DidRead, DidReadUpTo, DidScan, DidTryRead, IsBytes};
 ghost use Rattle.session.specs.Calls.{ReadRangesSays, DidReadRanges, DidTryReadRanges};
 
 use crate::held::Held;
 use crate::steps::Reply;
 use cache::CacheRef;
-use disk::{Blob, Error, IoBufs};
+use disk::{Blob, Error, IoBufs, ReadOptions};
 use page::{Sum, validate_read_ranges};
 use paged::Writer;
 use std::alloc::Global;
+use std::num::NonZeroUsize;
 
 impl<B: Blob, H: Sum, Phase> Held<B, H, Phase> {
     pub(crate) fn read(&self, blob: &mut B, cache: &mut CacheRef, offset: u64, len: usize) -> Reply
@@ -39,6 +41,31 @@ impl<B: Blob, H: Sum, Phase> Held<B, H, Phase> {
         };
         match writer.read_at(blob, cache, offset, len) {
             Ok(bufs) => bytes_of(self.alloc, &bufs),
+            Err(error) => Reply::Fault(error),
+        }
+    }
+
+    pub(crate) fn scan(
+        &self,
+        blob: &mut B,
+        proven: u64,
+        most: u64,
+        buffer_size: NonZeroUsize,
+    ) -> Reply
+        requires sound { HasSoundWriter H.sum_of self.now (B.life blob.old).present }
+        ensures goes { let old = B.life blob.old in let new = B.life blob.new in
+            DidScan H.sum_of self.now most old new result }
+        ensures cached { let old = B.life blob.old in let new = B.life blob.new in
+            FitsOn self.now self.now old.present new.present }
+        ensures tails { let old = B.life blob.old in let new = B.life blob.new in
+            (cache : CacheState) → LeavesTaken H.sum_of self.now self.now cache cache old new }
+    {
+        let Some(writer) = &self.writer else {
+            return Reply::Closed;
+        };
+        let options = ReadOptions::default();
+        match writer.recoverable_prefix_len_at_most(blob, proven, most, buffer_size, options) {
+            Ok(len) => Reply::Length(len),
             Err(error) => Reply::Fault(error),
         }
     }

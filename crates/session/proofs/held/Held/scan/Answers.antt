@@ -1,0 +1,48 @@
+use Rattle.std.proofs.Common.{◌≡◌, ◌∙◌, inl, sym, subst}
+use Rattle.std.specs.Prelude.{Option}
+use Rattle.crash.specs.WriterState.{WriterState}
+use Rattle.session.specs.declared.steps.Reply.TheVariants.{Length, Fault}
+use Rattle.session.specs.Calls.{DidScan}
+use Rattle.session.proofs.Below.{leaves_all, sound_in}
+use Rattle.session.proofs.ReadLaws.{scan_fails}
+use Rattle.session.proofs.SnapshotLaws.{fits_on}
+use Rattle.session.proofs.held.Held.scan.Goals as goal
+
+pub returns-in-Ok-clause-goes : goal.returns-in-Ok-clause-goes
+returns-in-Ok-clause-goes g c =
+    let old = g.B.Blob.life c.args.blob.now in
+    let new = g.B.Blob.life c.recoverable_prefix_len_at_most.new.blob in
+    let at = sym c.self.view_is ∙ c.in-Some.is in
+    let is = c.in-Ok.ensures in
+    let sound = sound_in g.H.Sum.sum_of c.args.self.now c.in-Some.writer old.present at c.requires in
+    subst (λ (o : Option WriterState). DidScan g.H.Sum.sum_of o c.args.most old new (Length c.in-Ok.len)) (sym at) (record { counts = is.text sound; none = λ none. (is.none none).1; looked = is.looked })
+
+pub returns-in-Ok-clause-cached : goal.returns-in-Ok-clause-cached
+returns-in-Ok-clause-cached g c = λ cache fits.
+    fits_on c.args.self.now cache cache (g.B.Blob.life c.args.blob.now) (g.B.Blob.life c.recoverable_prefix_len_at_most.new.blob) (c.in-Ok.ensures.can_read cache) fits
+
+pub returns-in-Err-clause-cached : goal.returns-in-Err-clause-cached
+returns-in-Err-clause-cached g c = λ cache fits.
+    fits_on c.args.self.now cache cache (g.B.Blob.life c.args.blob.now) (g.B.Blob.life c.recoverable_prefix_len_at_most.new.blob) (c.in-Err.ensures.can_read cache) fits
+
+pub returns-in-Err-clause-goes : goal.returns-in-Err-clause-goes
+returns-in-Err-clause-goes g c =
+    let old = g.B.Blob.life c.args.blob.now in
+    let new = g.B.Blob.life c.recoverable_prefix_len_at_most.new.blob in
+    let at = sym c.self.view_is ∙ c.in-Some.is in
+    let is = c.in-Err.ensures in
+    let sound = sound_in g.H.Sum.sum_of c.args.self.now c.in-Some.writer old.present at c.requires in
+    subst (λ (o : Option WriterState). DidScan g.H.Sum.sum_of o c.args.most old new (Fault c.in-Err.error)) (sym at)
+    (record {
+      counts = scan_fails g.H.Sum.sum_of c.in-Some.writer c.args.most _ _ old new c.in-Err.error is.scans (is.never (inl sound)) (λ none. absurd (cc ((is.none none).0)));
+      none = λ none. (is.none none).1;
+      looked = is.looked;
+    })
+
+pub returns-in-Ok-clause-tails : goal.returns-in-Ok-clause-tails
+returns-in-Ok-clause-tails g c = λ cache.
+    leaves_all g.H.Sum.sum_of c.args.self.now cache cache (g.B.Blob.life c.args.blob.now) (g.B.Blob.life c.recoverable_prefix_len_at_most.new.blob) (c.in-Ok.ensures.tails cache) c.in-Ok.ensures.replays
+
+pub returns-in-Err-clause-tails : goal.returns-in-Err-clause-tails
+returns-in-Err-clause-tails g c = λ cache.
+    leaves_all g.H.Sum.sum_of c.args.self.now cache cache (g.B.Blob.life c.args.blob.now) (g.B.Blob.life c.recoverable_prefix_len_at_most.new.blob) (c.in-Err.ensures.tails cache) c.in-Err.ensures.replays
