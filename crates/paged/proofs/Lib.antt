@@ -39,3 +39,4 @@ pub mod Snapshotting
 pub mod LaterCalls
 pub mod LaterExamples
 pub mod Scanned
+pub mod ScanExamples

@@ -1,0 +1,61 @@
+-- What scans answer, and what is told of a blob that nobody opened, at a few bytes. Pages have 4 bytes, and the checksum is their sum.
+use Rattle.std.proofs.Common.{◌≡◌, ℕ, List, [], ◌∷◌, ◌++◌, Ok, Err, refl, arith}
+use Rattle.disk.specs.Disk.{ReadAt}
+use Rattle.disk.specs.declared.error.Error.TheVariants.{InvalidChecksum, BlobInsufficientLength}
+use Rattle.page.specs.Sums.{add_sum}
+use Rattle.page.proofs.Examples.{abcd_page, ef_page}
+use Rattle.paged_read.specs.RawReads.{range_told, tail_told}
+use Rattle.paged_read.specs.Scans.{AreForward, scan}
+use Rattle.paged.proofs.RecoveryExamples.{no_page}
+
+-- "abcdef"
+abbrev six : List ℕ
+six = abcd_page ++ ef_page
+
+-- "ij"
+abbrev ij_page : List ℕ
+ij_page = 105 ∷ 106 ∷ 0 ∷ 0 ∷ 0 ∷ 2 ∷ 0 ∷ 0 ∷ 0 ∷ 211 ∷ 0 ∷ 0 ∷ 0 ∷ 0 ∷ 0 ∷ 0 ∷ []
+
+-- "abcdefghij", with the first byte of the second page changed
+abbrev damaged : List ℕ
+damaged = abcd_page ++ (154 ∷ 102 ∷ 103 ∷ 104 ∷ 0 ∷ 4 ∷ 0 ∷ 0 ∷ 1 ∷ 154 ∷ 0 ∷ 0 ∷ 0 ∷ 0 ∷ 0 ∷ 0 ∷ []) ++ ij_page
+
+-- one page is full, and the next one was flushed too
+pub scans_of_six : scan add_sum 4 1 2 0 100 six ∷ scan add_sum 4 1 2 6 100 six ∷ scan add_sum 4 1 2 0 3 six ∷ scan add_sum 4 1 2 0 0 six ∷ [] ≡ 6 ∷ 6 ∷ 3 ∷ 0 ∷ []
+scans_of_six = refl
+
+-- a damaged page ends it, unless it is taken for proven
+pub a_damaged_scan : scan add_sum 4 2 3 0 100 damaged ∷ scan add_sum 4 2 3 0 6 damaged ∷ scan add_sum 4 2 3 8 100 damaged ∷ [] ≡ 4 ∷ 4 ∷ 10 ∷ []
+a_damaged_scan = refl
+
+-- one page after another
+pub reads_forward : AreForward 16 0 32 (ReadAt 0 16 ∷ ReadAt 16 16 ∷ [])
+reads_forward = (refl, omega arith, omega arith, (refl, omega arith, omega arith, tt))
+
+-- not behind the bound
+pub not_past_the_bound : AreForward 16 0 16 (ReadAt 0 16 ∷ ReadAt 16 16 ∷ []) → ⊥
+not_past_the_bound go = omega (arith, go.3.2)
+
+-- nor from the second page on
+pub not_a_page_late : AreForward 16 0 32 (ReadAt 16 16 ∷ []) → ⊥
+not_a_page_late go = omega (arith, go.0)
+
+-- the last three bytes, of both pages
+pub a_tail : tail_told add_sum 4 32 3 six ≡ Ok (6, 100 ∷ 101 ∷ 102 ∷ [])
+a_tail = refl
+
+pub a_torn_tail : tail_told add_sum 4 33 3 six ≡ Err BlobInsufficientLength
+a_torn_tail = refl
+
+-- no bytes of none, and not one
+pub no_tail : (tail_told add_sum 4 0 0 [] ≡ Ok (0, [])) × (tail_told add_sum 4 0 1 [] ≡ Err BlobInsufficientLength)
+no_tail = (refl, refl)
+
+pub a_range : range_told add_sum 4 4 2 six ≡ Ok (101 ∷ 102 ∷ [])
+a_range = refl
+
+pub a_range_past_the_end : range_told add_sum 4 2 5 six ≡ Err BlobInsufficientLength
+a_range_past_the_end = refl
+
+pub a_range_over_no_value : range_told add_sum 4 2 8 (abcd_page ++ no_page ++ ij_page) ≡ Err InvalidChecksum
+a_range_over_no_value = refl
