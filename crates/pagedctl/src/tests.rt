@@ -1084,8 +1084,8 @@ seek 1 0
 replay 64
 wait-sync 0
 crash -
-ensure 0 1
 recover
+ensure 0 1
 replay 64
 ";
     let out = "\
@@ -1106,8 +1106,8 @@ no-such
 closed
 ok
 crashed 32
-no-such
 recovered 5
+no-such
 replay 0
 ";
     plays(&rt, rt.alloc(), script, out)
