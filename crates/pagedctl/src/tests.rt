@@ -1112,3 +1112,38 @@ replay 0
 ";
     plays(&rt, rt.alloc(), script, out)
 }
+
+#[test]
+fn replays_take_any_numbers(rt: HostRuntime) -> Result<(), Fail> {
+    let script = "\
+start 4 8 4 add
+append 616263646566
+replay 18446744073709551615
+replay 1
+ensure 0 18446744073709551615
+take 0 18446744073709551615
+take 0 1
+seek 0 18446744073709551615
+seek 1 6
+ensure 1 0
+ensure 1 1
+take 1 0
+ensure 18446744073709551615 18446744073709551615
+";
+    let out = "\
+recovered 0
+at 0
+replay 0
+replay 1
+no
+bytes 616263646566
+bytes -
+fault E6 BlobInsufficientLength
+ok
+yes
+no
+bytes -
+no-such
+";
+    plays(&rt, rt.alloc(), script, out)
+}
