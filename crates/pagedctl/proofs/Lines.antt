@@ -8,7 +8,7 @@ use Rattle.std.specs.Int.NonZero.{non_zero_u64_get}
 use Rattle.std.proofs.lemmas.Fmt.{decimal_injective}
 use Rattle.pagedctl.specs.declared.script.Line.{Line}
 use Rattle.pagedctl.specs.declared.script.Line.TheVariants.{Step, Fail, Crash, Recover, Dump}
-use Rattle.session.specs.declared.steps.Step.TheVariants.{Append, Owned, TryAppend, Sync, StartSync, Wait, WaitSync, Needs, Size, Read, ReadUpTo, TryRead, ReadRanges, TryReadRanges, Begin, Truncate, Snapshot, TrySnapshot, Snap, Seal}
+use Rattle.session.specs.declared.steps.Step.TheVariants.{Append, Owned, TryAppend, Sync, StartSync, Wait, WaitSync, Needs, Size, Read, ReadUpTo, TryRead, ReadRanges, TryReadRanges, Begin, Truncate, Snapshot, TrySnapshot, Snap, Replay, Ensure, Take, Seek, Seal}
 use Rattle.pagedctl.specs.Script.{IsLine, AreRanges, line_words, parts_of, ranges_words}
 
 -- no line fails the call of number 0
@@ -32,6 +32,10 @@ no_fail_zero word n written zero (Step (TryReadRanges ranges)) is same = cc
 no_fail_zero word n written zero (Step Snapshot) is same = cc
 no_fail_zero word n written zero (Step TrySnapshot) is same = cc
 no_fail_zero word n written zero (Step (Snap index offset len)) is same = cc
+no_fail_zero word n written zero (Step (Replay size)) is same = cc
+no_fail_zero word n written zero (Step (Ensure index count)) is same = cc
+no_fail_zero word n written zero (Step (Take index count)) is same = cc
+no_fail_zero word n written zero (Step (Seek index offset)) is same = cc
 no_fail_zero word n written zero (Step Seal) is same = cc
 no_fail_zero word n written zero (Fail number) is same =
     let e : decimal n ≡ decimal (non_zero_u64_get number) = cc in
@@ -59,6 +63,10 @@ no_one_word name a b c d e f g h i j k Recover is same = g cc
 no_one_word name a b c d e f g h i j k Dump is same = h cc
 no_one_word name a b c d e f g h i j k (Step Snapshot) is same = i cc
 no_one_word name a b c d e f g h i j k (Step TrySnapshot) is same = j cc
+no_one_word name a b c d e f g h i j k (Step (Replay size)) is same = cc
+no_one_word name a b c d e f g h i j k (Step (Ensure index count)) is same = cc
+no_one_word name a b c d e f g h i j k (Step (Take index count)) is same = cc
+no_one_word name a b c d e f g h i j k (Step (Seek index offset)) is same = cc
 no_one_word name a b c d e f g h i j k (Step Seal) is same = k cc
 no_one_word name a b c d e f g h i j k (Step (Append bytes)) is same = cc
 no_one_word name a b c d e f g h i j k (Step (Owned bytes)) is same = cc
@@ -75,59 +83,68 @@ no_one_word name a b c d e f g h i j k (Step (ReadRanges ranges)) is same = no_n
 no_one_word name a b c d e f g h i j k (Step (TryReadRanges ranges)) is same = no_name_alone ranges.items _ _ is same
 
 -- one of two words begins with one of these
-pub no_two_words : (name word : List ℕ) → name ≢ codes "ranges" → name ≢ codes "cached-ranges" → name ≢ codes "append" → name ≢ codes "owned" → name ≢ codes "try" → name ≢ codes "wait-sync" → name ≢ codes "truncate" → name ≢ codes "fail" → name ≢ codes "crash"
+pub no_two_words : (name word : List ℕ) → name ≢ codes "ranges" → name ≢ codes "cached-ranges" → name ≢ codes "append" → name ≢ codes "owned" → name ≢ codes "try" → name ≢ codes "wait-sync" → name ≢ codes "truncate" → name ≢ codes "fail" → name ≢ codes "crash" → name ≢ codes "replay"
     → (v : Line) → IsLine v → name ∷ word ∷ [] ≢ line_words v
-no_two_words name word x y a b c d e f g (Step (Append bytes)) is same = a cc
-no_two_words name word x y a b c d e f g (Step (Owned bytes)) is same = b cc
-no_two_words name word x y a b c d e f g (Step (TryAppend bytes)) is same = c cc
-no_two_words name word x y a b c d e f g (Step (WaitSync n)) is same = d cc
-no_two_words name word x y a b c d e f g (Step (Truncate n)) is same = e cc
-no_two_words name word x y a b c d e f g (Fail n) is same = f cc
-no_two_words name word x y a b c d e f g (Crash keep) is same = g cc
-no_two_words name word x y a b c d e f g (Step Sync) is same = cc
-no_two_words name word x y a b c d e f g (Step StartSync) is same = cc
-no_two_words name word x y a b c d e f g (Step Wait) is same = cc
-no_two_words name word x y a b c d e f g (Step Needs) is same = cc
-no_two_words name word x y a b c d e f g (Step Size) is same = cc
-no_two_words name word x y a b c d e f g (Step Begin) is same = cc
-no_two_words name word x y a b c d e f g Recover is same = cc
-no_two_words name word x y a b c d e f g Dump is same = cc
-no_two_words name word x y a b c d e f g (Step (Read offset len)) is same = cc
-no_two_words name word x y a b c d e f g (Step (ReadUpTo offset len)) is same = cc
-no_two_words name word x y a b c d e f g (Step (TryRead offset len)) is same = cc
-no_two_words name word x y a b c d e f g (Step (ReadRanges ranges)) is same = x cc
-no_two_words name word x y a b c d e f g (Step (TryReadRanges ranges)) is same = y cc
-no_two_words name word x y a b c d e f g (Step Snapshot) is same = cc
-no_two_words name word x y a b c d e f g (Step TrySnapshot) is same = cc
-no_two_words name word x y a b c d e f g (Step (Snap index offset len)) is same = cc
-no_two_words name word x y a b c d e f g (Step Seal) is same = cc
+no_two_words name word x y a b c d e f g h (Step (Append bytes)) is same = a cc
+no_two_words name word x y a b c d e f g h (Step (Owned bytes)) is same = b cc
+no_two_words name word x y a b c d e f g h (Step (TryAppend bytes)) is same = c cc
+no_two_words name word x y a b c d e f g h (Step (WaitSync n)) is same = d cc
+no_two_words name word x y a b c d e f g h (Step (Truncate n)) is same = e cc
+no_two_words name word x y a b c d e f g h (Fail n) is same = f cc
+no_two_words name word x y a b c d e f g h (Crash keep) is same = g cc
+no_two_words name word x y a b c d e f g h (Step Sync) is same = cc
+no_two_words name word x y a b c d e f g h (Step StartSync) is same = cc
+no_two_words name word x y a b c d e f g h (Step Wait) is same = cc
+no_two_words name word x y a b c d e f g h (Step Needs) is same = cc
+no_two_words name word x y a b c d e f g h (Step Size) is same = cc
+no_two_words name word x y a b c d e f g h (Step Begin) is same = cc
+no_two_words name word x y a b c d e f g h Recover is same = cc
+no_two_words name word x y a b c d e f g h Dump is same = cc
+no_two_words name word x y a b c d e f g h (Step (Read offset len)) is same = cc
+no_two_words name word x y a b c d e f g h (Step (ReadUpTo offset len)) is same = cc
+no_two_words name word x y a b c d e f g h (Step (TryRead offset len)) is same = cc
+no_two_words name word x y a b c d e f g h (Step (ReadRanges ranges)) is same = x cc
+no_two_words name word x y a b c d e f g h (Step (TryReadRanges ranges)) is same = y cc
+no_two_words name word x y a b c d e f g h (Step Snapshot) is same = cc
+no_two_words name word x y a b c d e f g h (Step TrySnapshot) is same = cc
+no_two_words name word x y a b c d e f g h (Step (Snap index offset len)) is same = cc
+no_two_words name word x y a b c d e f g h (Step (Replay size)) is same = h cc
+no_two_words name word x y a b c d e f g h (Step (Ensure index count)) is same = cc
+no_two_words name word x y a b c d e f g h (Step (Take index count)) is same = cc
+no_two_words name word x y a b c d e f g h (Step (Seek index offset)) is same = cc
+no_two_words name word x y a b c d e f g h (Step Seal) is same = cc
 
 -- one of three words begins with one of these
-pub no_three_words : (name first second : List ℕ) → name ≢ codes "ranges" → name ≢ codes "cached-ranges" → name ≢ codes "read" → name ≢ codes "upto" → name ≢ codes "cached" → (v : Line) → IsLine v → name ∷ first ∷ second ∷ [] ≢ line_words v
-no_three_words name first second x y a b c (Step (Read offset len)) is same = a cc
-no_three_words name first second x y a b c (Step (ReadUpTo offset len)) is same = b cc
-no_three_words name first second x y a b c (Step (TryRead offset len)) is same = c cc
-no_three_words name first second x y a b c (Step (ReadRanges ranges)) is same = x cc
-no_three_words name first second x y a b c (Step (TryReadRanges ranges)) is same = y cc
-no_three_words name first second x y a b c (Step (Append bytes)) is same = cc
-no_three_words name first second x y a b c (Step (Owned bytes)) is same = cc
-no_three_words name first second x y a b c (Step (TryAppend bytes)) is same = cc
-no_three_words name first second x y a b c (Step (WaitSync n)) is same = cc
-no_three_words name first second x y a b c (Step (Truncate n)) is same = cc
-no_three_words name first second x y a b c (Fail n) is same = cc
-no_three_words name first second x y a b c (Crash keep) is same = cc
-no_three_words name first second x y a b c (Step Sync) is same = cc
-no_three_words name first second x y a b c (Step StartSync) is same = cc
-no_three_words name first second x y a b c (Step Wait) is same = cc
-no_three_words name first second x y a b c (Step Needs) is same = cc
-no_three_words name first second x y a b c (Step Size) is same = cc
-no_three_words name first second x y a b c (Step Begin) is same = cc
-no_three_words name first second x y a b c Recover is same = cc
-no_three_words name first second x y a b c Dump is same = cc
-no_three_words name first second x y a b c (Step Snapshot) is same = cc
-no_three_words name first second x y a b c (Step TrySnapshot) is same = cc
-no_three_words name first second x y a b c (Step (Snap index offset len)) is same = cc
-no_three_words name first second x y a b c (Step Seal) is same = cc
+pub no_three_words : (name first second : List ℕ) → name ≢ codes "ranges" → name ≢ codes "cached-ranges" → name ≢ codes "read" → name ≢ codes "upto" → name ≢ codes "cached" → name ≢ codes "ensure" → name ≢ codes "take" → name ≢ codes "seek"
+    → (v : Line) → IsLine v → name ∷ first ∷ second ∷ [] ≢ line_words v
+no_three_words name first second x y a b c d e f (Step (Read offset len)) is same = a cc
+no_three_words name first second x y a b c d e f (Step (ReadUpTo offset len)) is same = b cc
+no_three_words name first second x y a b c d e f (Step (TryRead offset len)) is same = c cc
+no_three_words name first second x y a b c d e f (Step (ReadRanges ranges)) is same = x cc
+no_three_words name first second x y a b c d e f (Step (TryReadRanges ranges)) is same = y cc
+no_three_words name first second x y a b c d e f (Step (Append bytes)) is same = cc
+no_three_words name first second x y a b c d e f (Step (Owned bytes)) is same = cc
+no_three_words name first second x y a b c d e f (Step (TryAppend bytes)) is same = cc
+no_three_words name first second x y a b c d e f (Step (WaitSync n)) is same = cc
+no_three_words name first second x y a b c d e f (Step (Truncate n)) is same = cc
+no_three_words name first second x y a b c d e f (Fail n) is same = cc
+no_three_words name first second x y a b c d e f (Crash keep) is same = cc
+no_three_words name first second x y a b c d e f (Step Sync) is same = cc
+no_three_words name first second x y a b c d e f (Step StartSync) is same = cc
+no_three_words name first second x y a b c d e f (Step Wait) is same = cc
+no_three_words name first second x y a b c d e f (Step Needs) is same = cc
+no_three_words name first second x y a b c d e f (Step Size) is same = cc
+no_three_words name first second x y a b c d e f (Step Begin) is same = cc
+no_three_words name first second x y a b c d e f Recover is same = cc
+no_three_words name first second x y a b c d e f Dump is same = cc
+no_three_words name first second x y a b c d e f (Step Snapshot) is same = cc
+no_three_words name first second x y a b c d e f (Step TrySnapshot) is same = cc
+no_three_words name first second x y a b c d e f (Step (Snap index offset len)) is same = cc
+no_three_words name first second x y a b c d e f (Step (Replay size)) is same = cc
+no_three_words name first second x y a b c d e f (Step (Ensure index count)) is same = d cc
+no_three_words name first second x y a b c d e f (Step (Take index count)) is same = e cc
+no_three_words name first second x y a b c d e f (Step (Seek index offset)) is same = f cc
+no_three_words name first second x y a b c d e f (Step Seal) is same = cc
 
 -- one of four words begins with one of these
 pub no_four_words : (name first second third : List ℕ) → name ≢ codes "ranges" → name ≢ codes "cached-ranges" → name ≢ codes "snap" → (v : Line) → IsLine v → name ∷ first ∷ second ∷ third ∷ [] ≢ line_words v
@@ -152,6 +169,10 @@ no_four_words name first second third x y a (Step Size) is same = cc
 no_four_words name first second third x y a (Step Begin) is same = cc
 no_four_words name first second third x y a (Step Snapshot) is same = cc
 no_four_words name first second third x y a (Step TrySnapshot) is same = cc
+no_four_words name first second third x y a (Step (Replay size)) is same = cc
+no_four_words name first second third x y a (Step (Ensure index count)) is same = cc
+no_four_words name first second third x y a (Step (Take index count)) is same = cc
+no_four_words name first second third x y a (Step (Seek index offset)) is same = cc
 no_four_words name first second third x y a (Step Seal) is same = cc
 no_four_words name first second third x y a Recover is same = cc
 no_four_words name first second third x y a Dump is same = cc

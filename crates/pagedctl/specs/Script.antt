@@ -23,6 +23,7 @@ use Rattle.session.specs.declared.steps.Step.TheVariants.{Wait, WaitSync, Needs,
 use Rattle.session.specs.declared.steps.Step.TheVariants.{ReadUpTo, TryRead, Truncate}
 use Rattle.session.specs.declared.steps.Step.TheVariants.{ReadRanges, TryReadRanges}
 use Rattle.session.specs.declared.steps.Step.TheVariants.{Snapshot, TrySnapshot, Snap, Seal}
+use Rattle.session.specs.declared.steps.Step.TheVariants.{Replay, Ensure, Take, Seek}
 use Rattle.pagedctl.specs.Text.{hex_of}
 
 -- what reading answers, where each value has a text: the value of which this is the text, or that
@@ -118,6 +119,10 @@ step_words Snapshot = codes "snapshot" ∷ []
 step_words TrySnapshot = codes "try-snapshot" ∷ []
 step_words (Snap index offset len) =
     codes "snap" ∷ decimal index ∷ decimal offset ∷ decimal len ∷ []
+step_words (Replay size) = codes "replay" ∷ decimal (non_zero_usize_get size) ∷ []
+step_words (Ensure index count) = codes "ensure" ∷ decimal index ∷ decimal count ∷ []
+step_words (Take index count) = codes "take" ∷ decimal index ∷ decimal count ∷ []
+step_words (Seek index offset) = codes "seek" ∷ decimal index ∷ decimal offset ∷ []
 step_words Seal = codes "seal" ∷ []
 
 -- the words of a line behind the first
@@ -136,6 +141,10 @@ IsRange range = IsU64 range.0 × IsU64 range.1
 abbrev pub AreRanges : List (ℕ × ℕ) → Type 0
 AreRanges ranges = (0 < length ranges) × All IsRange ranges
 
+-- a buffer's size in bytes
+abbrev pub IsBufferSize : ℕ → Type 0
+IsBufferSize n = (0 < n) × IsU64 n
+
 -- the numbers and the bytes of a line are in range, and no list of ranges is empty
 abbrev pub IsLine : Line → Type 0
 IsLine (Step (Append bytes)) = AreBytes bytes.items
@@ -149,6 +158,10 @@ IsLine (Step (TryRead offset len)) = IsU64 offset × IsU64 len
 IsLine (Step (ReadRanges ranges)) = AreRanges ranges.items
 IsLine (Step (TryReadRanges ranges)) = AreRanges ranges.items
 IsLine (Step (Snap index offset len)) = IsU64 index × IsU64 offset × IsU64 len
+IsLine (Step (Replay size)) = IsBufferSize (non_zero_usize_get size)
+IsLine (Step (Ensure index count)) = IsU64 index × IsU64 count
+IsLine (Step (Take index count)) = IsU64 index × IsU64 count
+IsLine (Step (Seek index offset)) = IsU64 index × IsU64 offset
 IsLine (Fail number) = (0 < non_zero_u64_get number) × IsU64 (non_zero_u64_get number)
 IsLine _ = Unit {0}
 

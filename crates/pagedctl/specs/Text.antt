@@ -9,7 +9,7 @@ use Rattle.disk.specs.declared.started_sync.StartedSync.TheVariants.{Done as All
 use Rattle.session.specs.declared.steps.Reply.TheVariants.{At, Nothing, Done, Started, Answer}
 use Rattle.session.specs.declared.steps.Reply.TheVariants.{Length, Bytes, Fault, Closed, NoSuch}
 use Rattle.session.specs.declared.steps.Reply.TheVariants.{NotRecovering, Served, Missed, BadRanges}
-use Rattle.session.specs.declared.steps.Reply.TheVariants.{Taken, Sealed, NotAppending}
+use Rattle.session.specs.declared.steps.Reply.TheVariants.{Taken, Replaying, Sealed, NotAppending}
 
 -- a byte as two hexadecimal digits
 abbrev pub hex_digits : ℕ → List ℕ
@@ -49,6 +49,7 @@ reply_text NotRecovering = codes "not-recovering"
 reply_text NoSuch = codes "no-such"
 reply_text BadRanges = codes "bad-ranges"
 reply_text (Taken index) = codes "snapshot " ++ decimal index
+reply_text (Replaying index) = codes "replay " ++ decimal index
 reply_text (Sealed index AllDone) = codes "sealed " ++ decimal index ++ codes " done"
 reply_text (Sealed index (Named name)) =
     codes "sealed " ++ decimal index ++ codes " named " ++ decimal name

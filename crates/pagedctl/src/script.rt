@@ -3,6 +3,7 @@ ghost use Rattle.std.specs.Prelude.{◌≡◌, ◌≢◌, ◌<◌, [], ◌∷◌
 ghost use Rattle.std.specs.Fmt.{decimal};
 ghost use Rattle.std.specs.Int.NonZero.{non_zero_u16_get, non_zero_usize_get};
 ghost use Rattle.pagedctl.specs.Script.{Reads, ReadsScript, IsLine, IsStart, IsPageSize, IsPages};
+ghost use Rattle.pagedctl.specs.Script.{IsBufferSize};
 ghost use Rattle.pagedctl.specs.Script.{parts_of, lines_of, words_of, without_last_feed};
 ghost use Rattle.pagedctl.specs.Script.{line_words, start_words, sum_word};
 
@@ -251,6 +252,7 @@ fn parse_two_words(alloc: Global, name: &[u8], word: &[u8]) -> Result<Line, Read
         b"owned" => parse_owned(alloc, word),
         b"wait-sync" => parse_wait_sync(word),
         b"truncate" => parse_truncate(word),
+        b"replay" => parse_replay(word),
         b"try" => parse_try(alloc, word),
         b"fail" => parse_fail(word),
         b"crash" => parse_crash(alloc, word),
@@ -268,6 +270,9 @@ fn parse_three_words(name: &[u8], first: &[u8], second: &[u8]) -> Result<Line, R
         b"read" => parse_read(first, second),
         b"upto" => parse_read_up_to(first, second),
         b"cached" => parse_try_read(first, second),
+        b"ensure" => parse_ensure(first, second),
+        b"take" => parse_take(first, second),
+        b"seek" => parse_seek(first, second),
         _ => Err(ReadError::Unreadable),
     }
 }
@@ -318,6 +323,23 @@ fn parse_truncate(word: &[u8]) -> Result<Line, ReadError>
     Ok(Line::Step(Step::Truncate(size)))
 }
 
+fn parse_replay(word: &[u8]) -> Result<Line, ReadError>
+    ensures reads { Reads line_words IsLine (codes "replay" ∷ word.now ∷ []) result }
+{
+    let buffer_size = parse_buffer_size(word)?;
+    Ok(Line::Step(Step::Replay(buffer_size)))
+}
+
+fn parse_buffer_size(word: &[u8]) -> Result<NonZeroUsize, ReadError>
+    ensures reads { Reads (λ size. decimal (non_zero_usize_get size))
+        (λ size. IsBufferSize (non_zero_usize_get size)) word.now result }
+{
+    match NonZeroUsize::new(parse_number(word)? as usize) {
+        Some(size) => Ok(size),
+        None => Err(ReadError::Unreadable),
+    }
+}
+
 fn parse_try(alloc: Global, word: &[u8]) -> Result<Line, ReadError>
     ensures reads { Reads line_words IsLine (codes "try" ∷ word.now ∷ []) result }
 {
@@ -363,6 +385,30 @@ fn parse_try_read(offset: &[u8], len: &[u8]) -> Result<Line, ReadError>
     let offset = parse_number(offset)?;
     let len = parse_number(len)? as usize;
     Ok(Line::Step(Step::TryRead(offset, len)))
+}
+
+fn parse_ensure(index: &[u8], count: &[u8]) -> Result<Line, ReadError>
+    ensures reads { Reads line_words IsLine (codes "ensure" ∷ index.now ∷ count.now ∷ []) result }
+{
+    let index = parse_number(index)? as usize;
+    let count = parse_number(count)? as usize;
+    Ok(Line::Step(Step::Ensure(index, count)))
+}
+
+fn parse_take(index: &[u8], count: &[u8]) -> Result<Line, ReadError>
+    ensures reads { Reads line_words IsLine (codes "take" ∷ index.now ∷ count.now ∷ []) result }
+{
+    let index = parse_number(index)? as usize;
+    let count = parse_number(count)? as usize;
+    Ok(Line::Step(Step::Take(index, count)))
+}
+
+fn parse_seek(index: &[u8], offset: &[u8]) -> Result<Line, ReadError>
+    ensures reads { Reads line_words IsLine (codes "seek" ∷ index.now ∷ offset.now ∷ []) result }
+{
+    let index = parse_number(index)? as usize;
+    let offset = parse_number(offset)?;
+    Ok(Line::Step(Step::Seek(index, offset)))
 }
 
 fn parse_snap(index: &[u8], offset: &[u8], len: &[u8]) -> Result<Line, ReadError>

@@ -533,7 +533,7 @@ fn a_bad_first_line_is_named(rt: HostRuntime) -> Result<(), Fail> {
 }
 
 // Lines that can't be read, also behind a first one that can.
-const BAD_LINES: [&[u8]; 72] = [
+const BAD_LINES: [&[u8]; 91] = [
     b"",
     b" ",
     b"append",
@@ -575,8 +575,27 @@ const BAD_LINES: [&[u8]; 72] = [
     b"truncate 00",
     b"truncate -1",
     b"truncate 6 1",
-    b"replay 64",
     b"start 4 8 4 add",
+    b"replay",
+    b"replay ",
+    b"replay 0",
+    b"replay 01",
+    b"replay -1",
+    b"replay 64 1",
+    b"replay 18446744073709551616",
+    b"ensure",
+    b"ensure 0",
+    b"ensure 00 1",
+    b"ensure 0 1 ",
+    b"ensure 0 18446744073709551616",
+    b"take 0",
+    b"take 0 01",
+    b"take 0 -",
+    b"take 0 1 1",
+    b"Take 0 1",
+    b"seek 0",
+    b"seek 0 -",
+    b"seek +0 1",
     b"ranges",
     b"ranges 0",
     b"ranges 0:",
@@ -973,4 +992,158 @@ closed
         plays(&rt, alloc, &script, out)?;
     }
     Ok(())
+}
+
+#[test]
+fn a_replay_reads_what_there_was(rt: HostRuntime) -> Result<(), Fail> {
+    let script = "\
+start 4 8 4 add
+append 6162636465
+replay 64
+ensure 0 5
+take 0 3
+append 66
+take 0 9
+ensure 0 1
+seek 0 4
+ensure 0 1
+take 0 1
+seek 0 6
+truncate 3
+ensure 0 1
+";
+    let out = "\
+recovered 0
+at 0
+replay 0
+yes
+bytes 616263
+at 5
+bytes 6465
+no
+ok
+yes
+bytes 65
+fault E6 BlobInsufficientLength
+size 3
+no-such
+";
+    plays(&rt, rt.alloc(), script, out)
+}
+
+#[test]
+fn a_replay_makes_nothing_durable(rt: HostRuntime) -> Result<(), Fail> {
+    let script = "\
+start 4 8 4 add
+append 61
+sync
+append 62
+replay 64
+append 63
+fail 2
+sync
+crash 11111111110000001111110000000000
+recover
+read 0 1
+dump
+";
+    let out = "\
+recovered 0
+at 0
+ok
+at 1
+replay 0
+at 2
+ok
+fault E4 SyncFailed
+crashed 16
+recovered 1
+bytes 61
+blob 61626300000100000061000000000000
+";
+    plays(&rt, rt.alloc(), script, out)
+}
+
+#[test]
+fn a_replay_goes_on_where_the_writer_is_gone(rt: HostRuntime) -> Result<(), Fail> {
+    let script = "\
+start 4 8 4 add
+append 6162636465
+begin
+replay 1
+seal
+ensure 0 5
+take 0 3
+seek 0 1
+take 0 9
+ensure 0 2
+take 0 2
+ensure 1 1
+take 1 1
+seek 1 0
+replay 64
+wait-sync 0
+crash -
+recover
+ensure 0 1
+replay 64
+";
+    let out = "\
+recovered 0
+at 0
+ok
+replay 0
+sealed 0 named 0
+yes
+bytes 616263
+ok
+bytes -
+yes
+bytes 6263
+no-such
+no-such
+no-such
+closed
+ok
+crashed 32
+recovered 5
+no-such
+replay 0
+";
+    plays(&rt, rt.alloc(), script, out)
+}
+
+#[test]
+fn replays_take_any_numbers(rt: HostRuntime) -> Result<(), Fail> {
+    let script = "\
+start 4 8 4 add
+append 616263646566
+replay 18446744073709551615
+replay 1
+ensure 0 18446744073709551615
+take 0 18446744073709551615
+take 0 1
+seek 0 18446744073709551615
+seek 1 6
+ensure 1 0
+ensure 1 1
+take 1 0
+ensure 18446744073709551615 18446744073709551615
+";
+    let out = "\
+recovered 0
+at 0
+replay 0
+replay 1
+no
+bytes 616263646566
+bytes -
+fault E6 BlobInsufficientLength
+ok
+yes
+no
+bytes -
+no-such
+";
+    plays(&rt, rt.alloc(), script, out)
 }

@@ -68,6 +68,7 @@ impl fmt::Display for Said<'_> {
             Reply::NoSuch => write!(f, "no-such"),
             Reply::BadRanges => write!(f, "bad-ranges"),
             Reply::Taken(index) => write!(f, "snapshot {index}"),
+            Reply::Replaying(index) => write!(f, "replay {index}"),
             Reply::Sealed(index, StartedSync::Done) => write!(f, "sealed {index} done"),
             Reply::Sealed(index, StartedSync::Named(name)) => {
                 write!(f, "sealed {index} named {name}")

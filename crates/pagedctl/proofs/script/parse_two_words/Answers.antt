@@ -17,4 +17,4 @@ returns-in-truncate c = record {
 }
 
 pub returns-in_default : goal.returns-in_default
-returns-in_default c = record { reads = no_two_words c.args.name.now c.args.word.now c.requires.read c.requires.cached (λ is. search rules) (λ is. search rules) (λ is. search rules) (λ is. search rules) (λ is. search rules) (λ is. search rules) (λ is. search rules) }
+returns-in_default c = record { reads = no_two_words c.args.name.now c.args.word.now c.requires.read c.requires.cached (λ is. search rules) (λ is. search rules) (λ is. search rules) (λ is. search rules) (λ is. search rules) (λ is. search rules) (λ is. search rules) (λ is. search rules) }
