@@ -8,7 +8,7 @@ use Rattle.std.specs.Int.NonZero.{non_zero_u64_get}
 use Rattle.std.proofs.lemmas.Fmt.{decimal_injective}
 use Rattle.pagedctl.specs.declared.script.Line.{Line}
 use Rattle.pagedctl.specs.declared.script.Line.TheVariants.{Step, Fail, Crash, Recover, Dump}
-use Rattle.session.specs.declared.steps.Step.TheVariants.{Append, Owned, TryAppend, Sync, StartSync, Wait, WaitSync, Needs, Size, Read, ReadUpTo, TryRead, ReadRanges, TryReadRanges, Begin, Truncate, Snapshot, TrySnapshot, Snap, Replay, Ensure, Take, Seek, Seal}
+use Rattle.session.specs.declared.steps.Step.TheVariants.{Append, Owned, TryAppend, Sync, StartSync, Wait, WaitSync, Needs, Size, Read, ReadUpTo, TryRead, ReadRanges, TryReadRanges, Begin, Truncate, Snapshot, TrySnapshot, Snap, Replay, Ensure, Take, Seek, Scan, Seal}
 use Rattle.pagedctl.specs.Script.{IsLine, AreRanges, line_words, parts_of, ranges_words}
 
 -- no line fails the call of number 0
@@ -36,6 +36,7 @@ no_fail_zero word n written zero (Step (Replay size)) is same = cc
 no_fail_zero word n written zero (Step (Ensure index count)) is same = cc
 no_fail_zero word n written zero (Step (Take index count)) is same = cc
 no_fail_zero word n written zero (Step (Seek index offset)) is same = cc
+no_fail_zero word n written zero (Step (Scan proven most size)) is same = cc
 no_fail_zero word n written zero (Step Seal) is same = cc
 no_fail_zero word n written zero (Fail number) is same =
     let e : decimal n ≡ decimal (non_zero_u64_get number) = cc in
@@ -67,6 +68,7 @@ no_one_word name a b c d e f g h i j k (Step (Replay size)) is same = cc
 no_one_word name a b c d e f g h i j k (Step (Ensure index count)) is same = cc
 no_one_word name a b c d e f g h i j k (Step (Take index count)) is same = cc
 no_one_word name a b c d e f g h i j k (Step (Seek index offset)) is same = cc
+no_one_word name a b c d e f g h i j k (Step (Scan proven most size)) is same = cc
 no_one_word name a b c d e f g h i j k (Step Seal) is same = k cc
 no_one_word name a b c d e f g h i j k (Step (Append bytes)) is same = cc
 no_one_word name a b c d e f g h i j k (Step (Owned bytes)) is same = cc
@@ -112,6 +114,7 @@ no_two_words name word x y a b c d e f g h (Step (Replay size)) is same = h cc
 no_two_words name word x y a b c d e f g h (Step (Ensure index count)) is same = cc
 no_two_words name word x y a b c d e f g h (Step (Take index count)) is same = cc
 no_two_words name word x y a b c d e f g h (Step (Seek index offset)) is same = cc
+no_two_words name word x y a b c d e f g h (Step (Scan proven most size)) is same = cc
 no_two_words name word x y a b c d e f g h (Step Seal) is same = cc
 
 -- one of three words begins with one of these
@@ -144,38 +147,40 @@ no_three_words name first second x y a b c d e f (Step (Replay size)) is same = 
 no_three_words name first second x y a b c d e f (Step (Ensure index count)) is same = d cc
 no_three_words name first second x y a b c d e f (Step (Take index count)) is same = e cc
 no_three_words name first second x y a b c d e f (Step (Seek index offset)) is same = f cc
+no_three_words name first second x y a b c d e f (Step (Scan proven most size)) is same = cc
 no_three_words name first second x y a b c d e f (Step Seal) is same = cc
 
 -- one of four words begins with one of these
-pub no_four_words : (name first second third : List ℕ) → name ≢ codes "ranges" → name ≢ codes "cached-ranges" → name ≢ codes "snap" → (v : Line) → IsLine v → name ∷ first ∷ second ∷ third ∷ [] ≢ line_words v
-no_four_words name first second third x y a (Step (Snap index offset len)) is same = a cc
-no_four_words name first second third x y a (Step (ReadRanges ranges)) is same = x cc
-no_four_words name first second third x y a (Step (TryReadRanges ranges)) is same = y cc
-no_four_words name first second third x y a (Step (Append bytes)) is same = cc
-no_four_words name first second third x y a (Step (Owned bytes)) is same = cc
-no_four_words name first second third x y a (Step (TryAppend bytes)) is same = cc
-no_four_words name first second third x y a (Step (WaitSync n)) is same = cc
-no_four_words name first second third x y a (Step (Truncate n)) is same = cc
-no_four_words name first second third x y a (Fail n) is same = cc
-no_four_words name first second third x y a (Crash keep) is same = cc
-no_four_words name first second third x y a (Step (Read offset len)) is same = cc
-no_four_words name first second third x y a (Step (ReadUpTo offset len)) is same = cc
-no_four_words name first second third x y a (Step (TryRead offset len)) is same = cc
-no_four_words name first second third x y a (Step Sync) is same = cc
-no_four_words name first second third x y a (Step StartSync) is same = cc
-no_four_words name first second third x y a (Step Wait) is same = cc
-no_four_words name first second third x y a (Step Needs) is same = cc
-no_four_words name first second third x y a (Step Size) is same = cc
-no_four_words name first second third x y a (Step Begin) is same = cc
-no_four_words name first second third x y a (Step Snapshot) is same = cc
-no_four_words name first second third x y a (Step TrySnapshot) is same = cc
-no_four_words name first second third x y a (Step (Replay size)) is same = cc
-no_four_words name first second third x y a (Step (Ensure index count)) is same = cc
-no_four_words name first second third x y a (Step (Take index count)) is same = cc
-no_four_words name first second third x y a (Step (Seek index offset)) is same = cc
-no_four_words name first second third x y a (Step Seal) is same = cc
-no_four_words name first second third x y a Recover is same = cc
-no_four_words name first second third x y a Dump is same = cc
+pub no_four_words : (name first second third : List ℕ) → name ≢ codes "ranges" → name ≢ codes "cached-ranges" → name ≢ codes "snap" → name ≢ codes "scan" → (v : Line) → IsLine v → name ∷ first ∷ second ∷ third ∷ [] ≢ line_words v
+no_four_words name first second third x y a b (Step (Snap index offset len)) is same = a cc
+no_four_words name first second third x y a b (Step (ReadRanges ranges)) is same = x cc
+no_four_words name first second third x y a b (Step (TryReadRanges ranges)) is same = y cc
+no_four_words name first second third x y a b (Step (Append bytes)) is same = cc
+no_four_words name first second third x y a b (Step (Owned bytes)) is same = cc
+no_four_words name first second third x y a b (Step (TryAppend bytes)) is same = cc
+no_four_words name first second third x y a b (Step (WaitSync n)) is same = cc
+no_four_words name first second third x y a b (Step (Truncate n)) is same = cc
+no_four_words name first second third x y a b (Fail n) is same = cc
+no_four_words name first second third x y a b (Crash keep) is same = cc
+no_four_words name first second third x y a b (Step (Read offset len)) is same = cc
+no_four_words name first second third x y a b (Step (ReadUpTo offset len)) is same = cc
+no_four_words name first second third x y a b (Step (TryRead offset len)) is same = cc
+no_four_words name first second third x y a b (Step Sync) is same = cc
+no_four_words name first second third x y a b (Step StartSync) is same = cc
+no_four_words name first second third x y a b (Step Wait) is same = cc
+no_four_words name first second third x y a b (Step Needs) is same = cc
+no_four_words name first second third x y a b (Step Size) is same = cc
+no_four_words name first second third x y a b (Step Begin) is same = cc
+no_four_words name first second third x y a b (Step Snapshot) is same = cc
+no_four_words name first second third x y a b (Step TrySnapshot) is same = cc
+no_four_words name first second third x y a b (Step (Replay size)) is same = cc
+no_four_words name first second third x y a b (Step (Ensure index count)) is same = cc
+no_four_words name first second third x y a b (Step (Take index count)) is same = cc
+no_four_words name first second third x y a b (Step (Seek index offset)) is same = cc
+no_four_words name first second third x y a b (Step (Scan proven most size)) is same = b cc
+no_four_words name first second third x y a b (Step Seal) is same = cc
+no_four_words name first second third x y a b Recover is same = cc
+no_four_words name first second third x y a b Dump is same = cc
 
 -- there is a part, if only an empty one
 pub some_parts : {E : Type 0} (at : ℕ) (bytes : List ℕ) (r : Result (Vec (Bor (List ℕ)) Global) E) → IfOk r (λ parts. map (λ part. part.now) parts.items ≡ parts_of at bytes) → IfOk r (λ parts. 0 < vec_len parts)

@@ -23,7 +23,7 @@ use Rattle.session.specs.declared.steps.Step.TheVariants.{Wait, WaitSync, Needs,
 use Rattle.session.specs.declared.steps.Step.TheVariants.{ReadUpTo, TryRead, Truncate}
 use Rattle.session.specs.declared.steps.Step.TheVariants.{ReadRanges, TryReadRanges}
 use Rattle.session.specs.declared.steps.Step.TheVariants.{Snapshot, TrySnapshot, Snap, Seal}
-use Rattle.session.specs.declared.steps.Step.TheVariants.{Replay, Ensure, Take, Seek}
+use Rattle.session.specs.declared.steps.Step.TheVariants.{Replay, Ensure, Take, Seek, Scan}
 use Rattle.pagedctl.specs.Text.{hex_of}
 
 -- what reading answers, where each value has a text: the value of which this is the text, or that
@@ -123,6 +123,8 @@ step_words (Replay size) = codes "replay" ∷ decimal (non_zero_usize_get size) 
 step_words (Ensure index count) = codes "ensure" ∷ decimal index ∷ decimal count ∷ []
 step_words (Take index count) = codes "take" ∷ decimal index ∷ decimal count ∷ []
 step_words (Seek index offset) = codes "seek" ∷ decimal index ∷ decimal offset ∷ []
+step_words (Scan proven most size) =
+    codes "scan" ∷ decimal proven ∷ decimal most ∷ decimal (non_zero_usize_get size) ∷ []
 step_words Seal = codes "seal" ∷ []
 
 -- the words of a line behind the first
@@ -162,6 +164,8 @@ IsLine (Step (Replay size)) = IsBufferSize (non_zero_usize_get size)
 IsLine (Step (Ensure index count)) = IsU64 index × IsU64 count
 IsLine (Step (Take index count)) = IsU64 index × IsU64 count
 IsLine (Step (Seek index offset)) = IsU64 index × IsU64 offset
+IsLine (Step (Scan proven most size)) =
+    IsU64 proven × IsU64 most × IsBufferSize (non_zero_usize_get size)
 IsLine (Fail number) = (0 < non_zero_u64_get number) × IsU64 (non_zero_u64_get number)
 IsLine _ = Unit {0}
 

@@ -291,6 +291,7 @@ fn parse_four_words(
 {
     match name {
         b"snap" => parse_snap(first, second, third),
+        b"scan" => parse_scan(first, second, third),
         _ => Err(ReadError::Unreadable),
     }
 }
@@ -419,6 +420,16 @@ fn parse_snap(index: &[u8], offset: &[u8], len: &[u8]) -> Result<Line, ReadError
     let offset = parse_number(offset)?;
     let len = parse_number(len)? as usize;
     Ok(Line::Step(Step::Snap(index, offset, len)))
+}
+
+fn parse_scan(proven: &[u8], most: &[u8], buffer_size: &[u8]) -> Result<Line, ReadError>
+    ensures reads { Reads line_words IsLine
+        (codes "scan" ∷ proven.now ∷ most.now ∷ buffer_size.now ∷ []) result }
+{
+    let proven = parse_number(proven)?;
+    let most = parse_number(most)?;
+    let buffer_size = parse_buffer_size(buffer_size)?;
+    Ok(Line::Step(Step::Scan(proven, most, buffer_size)))
 }
 
 fn parse_read_ranges(alloc: Global, words: &[&[u8]]) -> Result<Line, ReadError>

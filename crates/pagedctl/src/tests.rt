@@ -593,6 +593,9 @@ const BAD_LINES: [&[u8]; 91] = [
     b"take 0 -",
     b"take 0 1 1",
     b"Take 0 1",
+    b"scan 0 1",
+    b"scan 0 1 0",
+    b"scan 0 1 2 3",
     b"seek 0",
     b"seek 0 -",
     b"seek +0 1",
@@ -1027,6 +1030,129 @@ bytes 65
 fault E6 BlobInsufficientLength
 size 3
 no-such
+";
+    plays(&rt, rt.alloc(), script, out)
+}
+
+#[test]
+fn a_scan_counts_what_was_flushed(rt: HostRuntime) -> Result<(), Fail> {
+    let script = "\
+start 4 8 4 add
+append 6162636465
+scan 0 100 64
+sync
+scan 0 100 64
+scan 5 100 64
+scan 0 3 64
+scan 0 0 64
+append 66
+scan 0 100 64
+";
+    let out = "\
+recovered 0
+at 0
+size 0
+ok
+size 5
+size 5
+size 3
+size 0
+at 5
+size 5
+";
+    plays(&rt, rt.alloc(), script, out)
+}
+
+// Each step once, with a crash and a recovery at the end.
+#[test]
+fn each_step_is_played(rt: HostRuntime) -> Result<(), Fail> {
+    let script = "\
+start 4 8 4 add
+append 6162636465
+owned 66
+try 67
+needs
+size
+sync
+needs
+read 0 7
+upto 5 9
+cached 0 7
+ranges 0:2 5:2
+cached-ranges 0:2 5:2
+scan 0 100 64
+start-sync
+append 68
+start-sync
+wait-sync 0
+wait
+truncate 6
+replay 64
+ensure 0 6
+take 0 4
+seek 0 5
+take 0 1
+begin
+truncate 3
+snapshot
+try-snapshot
+append 69
+snap 0 0 6
+ensure 0 1
+take 0 9
+seal
+size
+snap 2 0 7
+wait-sync 1
+ensure 0 1
+crash -
+recover
+read 0 7
+dump
+";
+    let out = "\
+recovered 0
+at 0
+at 5
+at 6
+yes
+size 7
+ok
+no
+bytes 61626364656667
+bytes 6667
+bytes 61626364656667
+served 2 61626667
+missed -
+size 7
+done
+at 7
+named 0
+ok
+ok
+size 6
+replay 0
+yes
+bytes 61626364
+ok
+bytes -
+ok
+not-recovering
+snapshot 0
+snapshot 1
+at 6
+bytes 616263646566
+yes
+bytes 66
+sealed 2 named 1
+closed
+bytes 61626364656669
+ok
+no
+crashed 32
+recovered 7
+bytes 61626364656669
+blob 6162636400040000018a000000000000656669000002000000cb000300000134
 ";
     plays(&rt, rt.alloc(), script, out)
 }
