@@ -14,7 +14,7 @@ returns-in-Ok-clause-goes g c =
     let new = g.B.Blob.life c.recoverable_prefix_len_at_most.new.blob in
     let at = sym c.self.view_is ∙ c.in-Some.is in
     let is = c.in-Ok.ensures in
-    let sound = sound_in g.H.Sum.sum_of c.args.self.now c.in-Some.writer old.present at c.requires in
+    let sound = sound_in g.H.Sum.sum_of c.args.self.now c.in-Some.writer old.present at c.requires.sound in
     subst (λ (o : Option WriterState). DidScan g.H.Sum.sum_of o c.args.most old new (Length c.in-Ok.len)) (sym at) (record { counts = is.text sound; none = λ none. (is.none none).1; looked = is.looked })
 
 pub returns-in-Ok-clause-cached : goal.returns-in-Ok-clause-cached
@@ -31,7 +31,7 @@ returns-in-Err-clause-goes g c =
     let new = g.B.Blob.life c.recoverable_prefix_len_at_most.new.blob in
     let at = sym c.self.view_is ∙ c.in-Some.is in
     let is = c.in-Err.ensures in
-    let sound = sound_in g.H.Sum.sum_of c.args.self.now c.in-Some.writer old.present at c.requires in
+    let sound = sound_in g.H.Sum.sum_of c.args.self.now c.in-Some.writer old.present at c.requires.sound in
     subst (λ (o : Option WriterState). DidScan g.H.Sum.sum_of o c.args.most old new (Fault c.in-Err.error)) (sym at)
     (record {
       counts = scan_fails g.H.Sum.sum_of c.in-Some.writer c.args.most _ _ old new c.in-Err.error is.scans (is.never (inl sound)) (λ none. absurd (cc ((is.none none).0)));
