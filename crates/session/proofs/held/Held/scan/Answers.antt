@@ -1,6 +1,8 @@
-use Rattle.std.proofs.Common.{◌≡◌, ◌∙◌, inl, sym, subst}
+use Rattle.std.proofs.Common.{◌≡◌, ◌∙◌, ◌+◌, ◌*◌, ℕ, inl, min, sym, subst}
 use Rattle.std.specs.Prelude.{Option}
 use Rattle.crash.specs.WriterState.{WriterState}
+use Rattle.paged_read.specs.Scans.{scan_end, scan_to}
+use Rattle.paged.specs.Scans.{flushed_pages}
 use Rattle.session.specs.declared.steps.Reply.TheVariants.{Length, Fault}
 use Rattle.session.specs.Calls.{DidScan}
 use Rattle.session.proofs.Below.{leaves_all, sound_in}
@@ -31,10 +33,12 @@ returns-in-Err-clause-goes g c =
     let new = g.B.Blob.life c.recoverable_prefix_len_at_most.new.blob in
     let at = sym c.self.view_is ∙ c.in-Some.is in
     let is = c.in-Err.ensures in
+    let w = c.in-Some.writer in
+    let end : ℕ = scan_end w.page_size (flushed_pages w) c.args.most in
     let sound = sound_in g.H.Sum.sum_of c.args.self.now c.in-Some.writer old.present at c.requires.sound in
     subst (λ (o : Option WriterState). DidScan g.H.Sum.sum_of o c.args.most old new (Fault c.in-Err.error)) (sym at)
     (record {
-      counts = scan_fails g.H.Sum.sum_of c.in-Some.writer c.args.most _ _ old new c.in-Err.error is.scans (is.never (inl sound)) (λ none. absurd (cc ((is.none none).0)));
+      counts = scan_fails g.H.Sum.sum_of w c.args.most (end * (w.page_size + 12)) (min c.args.most (scan_to g.H.Sum.sum_of w.page_size w.full_pages end c.args.proven old.present.readable)) old new c.in-Err.error is.scans (is.never (inl sound)) (λ none. absurd (cc ((is.none none).0)));
       none = λ none. (is.none none).1;
       looked = is.looked;
     })
