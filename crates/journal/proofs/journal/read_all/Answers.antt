@@ -1,4 +1,5 @@
-use Rattle.std.proofs.Common.{◌≡◌, ◌∙◌, List, ℕ, ap, subst, length}
+use Rattle.std.proofs.Common.{◌≡◌, ◌∙◌, List, ap, subst, length}
+use Rattle.std.specs.Int.NonZero.{non_zero_usize_get}
 use Rattle.crash.specs.Sound.{content}
 use Rattle.disk.specs.Disk.{Life}
 use Rattle.paged_read.specs.Replay.{ReplayState}
@@ -17,7 +18,7 @@ returns-in_err-recovery-clause-reads g c =
     let old = g.B.Blob.life c.args.blob.now in
     let e = c.in_err-recovery.field-0.0 in
     let idle = c.in_err-recovery.ensures.idle (settled_idle w c.requires.settled) in
-    walk_refused g.R.Sum.sum_of w old (g.B.Blob.life c.replay.new.blob) e c.from_residual.result c.from_residual.ensures.1 (begin_refused w _ old (g.B.Blob.life c.replay.new.blob) e idle.0)
+    walk_refused g.R.Sum.sum_of w old (g.B.Blob.life c.replay.new.blob) e c.from_residual.result c.from_residual.ensures.1 (begin_refused w (non_zero_usize_get c.args.buffer_size) old (g.B.Blob.life c.replay.new.blob) e idle.0)
 
 pub returns-in_err-recovery-clause-leaves : goal.returns-in_err-recovery-clause-leaves
 returns-in_err-recovery-clause-leaves g c =
