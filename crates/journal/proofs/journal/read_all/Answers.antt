@@ -1,4 +1,4 @@
-use Rattle.std.proofs.Common.{◌≡◌, ◌∙◌, List, ap, subst, length}
+use Rattle.std.proofs.Common.{◌≡◌, ◌∙◌, List, ℕ, ap, subst, length}
 use Rattle.std.specs.Int.NonZero.{non_zero_usize_get}
 use Rattle.crash.specs.Sound.{content}
 use Rattle.disk.specs.Disk.{Life}
