@@ -10,7 +10,7 @@ use Rattle.std.proofs.lemmas.Bool.{cases_lt, lt-ltb, le-ltb, ne_eqb}
 use Rattle.journal.specs.Frame.{frame, record_len, frame_len, is_record, record_of, frames_in, frames, listed, records, if_whole, whole_frames, IsWhole, IsPrefix}
 
 -- what stands within a beginning of some bytes stands in all of them
-within_take : (n k m : ℕ) (xs : List ℕ) → k + n ≤ m → take n (drop k (take m xs)) ≡ take n (drop k xs)
+pub within_take : (n k m : ℕ) (xs : List ℕ) → k + n ≤ m → take n (drop k (take m xs)) ≡ take n (drop k xs)
 within_take n k m xs le =
     let e : m ≡ k + (m - k) = omega arith in
     ap (λ (j : ℕ). take n (drop k (take j xs))) e ∙ ap (λ (l : List ℕ). take n l) (drop-take k (m - k) xs) ∙ take-take n (m - k) (drop k xs) (omega arith)
@@ -61,7 +61,7 @@ is_record-take sum k xs le =
     ∙ ap₂ (λ c bytes. judged sum (get_or xs (n + 6) 0) c bytes) crc (within_take n 2 k xs (omega arith))
 
 -- a frame with another mark is no record
-pub is_record-other : (sum : List ℕ → ℕ) (xs : List ℕ) → (get_or xs (record_len xs + 6) 0 ≡ 1 → ⊥) → is_record sum xs ≡ false
+is_record-other : (sum : List ℕ → ℕ) (xs : List ℕ) → (get_or xs (record_len xs + 6) 0 ≡ 1 → ⊥) → is_record sum xs ≡ false
 unfolding is_record
 is_record-other sum xs other =
     ap (λ is. is && (from_be_bytes w32 (drop (record_len xs + 2) xs) == sum (take (record_len xs) (drop 2 xs)))) (ne_eqb (get_or xs (record_len xs + 6) 0) 1 other)
@@ -70,7 +70,7 @@ is_record-unmarked : (sum : List ℕ → ℕ) (xs : List ℕ) → get_or xs (rec
 is_record-unmarked sum xs none = is_record-other sum xs (λ one. absurd (omega arith))
 
 -- a frame with its mark is one where its checksum is right
-pub is_record-marked : (sum : List ℕ → ℕ) (xs : List ℕ) (n crc : ℕ) → n ≡ record_len xs → get_or xs (n + 6) 0 ≡ 1
+is_record-marked : (sum : List ℕ → ℕ) (xs : List ℕ) (n crc : ℕ) → n ≡ record_len xs → get_or xs (n + 6) 0 ≡ 1
     → crc ≡ from_be_bytes w32 (get_or xs (n + 2) 0 ∷ get_or xs (n + 3) 0 ∷ get_or xs (n + 4) 0 ∷ get_or xs (n + 5) 0 ∷ [])
     → (crc == sum (take n (drop 2 xs))) ≡ is_record sum xs
 unfolding is_record
@@ -80,14 +80,40 @@ is_record-marked sum xs n crc is mark same =
     ap₂ (λ m c. judged sum m c (take n (drop 2 xs))) (sym mark) read
     ∙ ap (λ k. judged sum (get_or xs (k + 6) 0) (from_be_bytes w32 (drop (k + 2) xs)) (take k (drop 2 xs))) is
 
--- a frame that is a record holds it
-pub record_of-is : (sum : List ℕ → ℕ) (xs : List ℕ) (i n : ℕ) → is_record sum (drop i xs) ≡ true → n ≡ record_len (drop i xs) → Some (slice_range xs (i + 2) (i + 2 + n)) ≡ record_of sum (drop i xs)
+-- ---- what stands behind a frame's length
+
+behind_at : (frame bytes : List ℕ) (i j : ℕ) → drop 2 frame ≡ bytes → j ≡ 2 + i → get_or bytes i 0 ≡ get_or frame j 0
+behind_at frame bytes i j is e = ap (λ (l : List ℕ). get_or l i 0) (sym is) ∙ get_or-drop 2 frame i 0 ∙ ap (λ k. get_or frame k 0) (sym e)
+
+-- it has another mark
+pub unmarked_behind : (sum : List ℕ → ℕ) (frame bytes : List ℕ) (n : ℕ) → record_len frame ≡ n → drop 2 frame ≡ bytes → (get_or bytes (n + 4) 0 ≡ 1 → ⊥) → false ≡ is_record sum frame
+unmarked_behind sum frame bytes n len is other =
+    sym (is_record-other sum frame (λ one. other (behind_at frame bytes (n + 4) (record_len frame + 6) is (omega (arith, len)) ∙ one)))
+
+-- it has the mark
+pub marked_behind : (sum : List ℕ → ℕ) (frame bytes : List ℕ) (n crc : ℕ) → record_len frame ≡ n → drop 2 frame ≡ bytes → get_or bytes (n + 4) 0 ≡ 1
+    → crc ≡ from_be_bytes w32 (get_or bytes n 0 ∷ get_or bytes (n + 1) 0 ∷ get_or bytes (n + 2) 0 ∷ get_or bytes (n + 3) 0 ∷ [])
+    → (crc == sum (take n bytes)) ≡ is_record sum frame
+marked_behind sum frame bytes n crc len is mark same =
+    let at : (i j : ℕ) → j ≡ 2 + i → get_or bytes i 0 ≡ get_or frame j 0 = λ i j e. behind_at frame bytes i j is e in
+    let read : crc ≡ from_be_bytes w32 (get_or frame (n + 2) 0 ∷ get_or frame (n + 3) 0 ∷ get_or frame (n + 4) 0 ∷ get_or frame (n + 5) 0 ∷ []) =
+    same
+    ∙ ap₂ (λ a b. from_be_bytes w32 (a ∷ b ∷ get_or bytes (n + 2) 0 ∷ get_or bytes (n + 3) 0 ∷ [])) (at n (n + 2) (omega arith)) (at (n + 1) (n + 3) (omega arith))
+    ∙ ap₂ (λ a b. from_be_bytes w32 (get_or frame (n + 2) 0 ∷ get_or frame (n + 3) 0 ∷ a ∷ b ∷ [])) (at (n + 2) (n + 4) (omega arith)) (at (n + 3) (n + 5) (omega arith)) in
+    ap (λ (l : List ℕ). crc == sum (take n l)) (sym is)
+    ∙ is_record-marked sum frame n crc (sym len) (sym (at (n + 4) (n + 6) (omega arith)) ∙ mark) read
+
+pub record_of-none : (sum : List ℕ → ℕ) (frame : List ℕ) → is_record sum frame ≡ false → None ≡ record_of sum frame
 unfolding record_of
-record_of-is sum xs i n is len =
-    let k : i + 2 + n - (i + 2) ≡ n = omega arith in
-    ap (λ m. Some (take m (drop (i + 2) xs))) k
-    ∙ ap (λ (l : List ℕ). Some (take n l)) (sym (drop-drop 2 i xs))
-    ∙ ap₂ (λ b m. if b then Some (take m (drop 2 (drop i xs))) else None) (sym is) len
+record_of-none sum frame is = ap (λ b. if b then Some (take (record_len frame) (drop 2 frame)) else None) (sym is)
+
+pub record_of-behind : (sum : List ℕ → ℕ) (frame bytes : List ℕ) (place n : ℕ) → is_record sum frame ≡ true → record_len frame ≡ n → drop 2 frame ≡ drop place bytes → Some (slice_range bytes place (place + n)) ≡ record_of sum frame
+unfolding record_of
+record_of-behind sum frame bytes place n is len behind =
+    let k : place + n - place ≡ n = omega arith in
+    ap (λ m. Some (take m (drop place bytes))) k
+    ∙ ap (λ (l : List ℕ). Some (take n l)) (sym behind)
+    ∙ ap₂ (λ b m. if b then Some (take m (drop 2 frame)) else None) (sym is) (sym len)
 
 -- what a beginning holds that has the whole frame
 pub record_of-take : (sum : List ℕ → ℕ) (k : ℕ) (xs : List ℕ) → frame_len xs ≤ k → record_of sum (take k xs) ≡ record_of sum xs

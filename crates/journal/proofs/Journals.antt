@@ -517,12 +517,6 @@ recovered_leaves sum own P T old mid new w size holds first leaves =
 pub commits_through : (sum own : List ℕ → ℕ) (P : ℕ) (T : List ℕ) (old new : Life) → Through (AllKeep sum P T (length T)) old new → Through (CommitsAll sum own P T) old new
 commits_through sum own P T old new through = through_then (AllKeep sum P T (length T)) (CommitsAll sum own P T) old new (λ d keeps. commits_all sum own P T d keeps) through
 
--- a read of all records, by the answer of the parse of what was read
-pub all_read : (own : List ℕ → ℕ) (w : WriterState) (bytes : List ℕ) (old new : Life) (result : Result (Vec (List ℕ) Global × ℕ) Error) → bytes ≡ content w old.present.readable
-    → IfOk result (λ r. r.0.items ≡ records own bytes) → IfOk result (λ r. r.1 ≡ length (whole_frames bytes)) → IsOkUnless result OutOfMemory → ReadsAll own w old new result
-all_read own w bytes old new (Ok r) is found whole err = (found ∙ ap (λ (l : List ℕ). records own l) is, whole ∙ ap (λ (l : List ℕ). length (whole_frames l)) is)
-all_read own w bytes old new (Err e) is found whole err = subst (λ (x : Error). ReadRefused old new x) (sym err) tt
-
 -- a recovery, from that of the blob and the rest
 pub recovery_goes : (sum own : List ℕ → ℕ) (cache behind : CacheState) (capacity : ℕ) (old mid new : Life) (w now : WriterState) (found : List (List ℕ))
     → Recovers sum cache capacity old mid (Ok w) → w.id ≡ cache.ids_given → KeepsAll sum cache.page_size (text sum cache.page_size old.present.readable) mid

@@ -152,7 +152,7 @@ only_later : (sum : List ℕ → ℕ) (P : ℕ) (held : List ℕ) (d e : Disk) �
 only_later sum P held d e same only = λ image is free.
     only image (image_before d e image same is) (subst (λ (x : Disk). IsChanceFree sum P x image) same free)
 
-looked_leaves : (sum : List ℕ → ℕ) (P : ℕ) (held : List ℕ) (old new : Life) → Looked old new → AllOnly sum P held held old.present → LeavesOnly sum P held held old new
+pub looked_leaves : (sum : List ℕ → ℕ) (P : ℕ) (held : List ℕ) (old new : Life) → Looked old new → AllOnly sum P held held old.present → LeavesOnly sum P held held old new
 looked_leaves sum P held old new looked only =
     through_then (SameButLog old.present) (AllOnly sum P held held) old new (λ d same. only_later sum P held old.present d same only) looked.through
 

@@ -195,12 +195,13 @@ ReadsRecord own content place old new (Ok None) = length content ≤ place
 ReadsRecord own content place old new (Ok (Some f)) = IsFound own content place f.bytes f.end
 ReadsRecord own content place old new (Err e) = ReadRefused old new e
 
--- a read of all records, and of how many bytes the whole frames have
+-- a walk over all records, and over how many bytes the whole frames have: the writer stays as it is
 abbrev pub ReadsAll : (own : List ℕ → ℕ) → WriterState → Life → Life
-    → Result (Vec (List ℕ) Global × ℕ) Error → Type 0
+    → Result (WriterState × Vec (List ℕ) Global × ℕ) Error → Type 0
 ReadsAll own w old new (Ok r) =
-    (r.0.items ≡ records own (content w old.present.readable))
-    × (r.1 ≡ length (whole_frames (content w old.present.readable)))
+    (r.0 ≡ w)
+    × (r.1.items ≡ records own (content w old.present.readable))
+    × (r.2 ≡ length (whole_frames (content w old.present.readable)))
 ReadsAll own w old new (Err e) = ReadRefused old new e
 
 -- the whole frames are left of a content; these are the records

@@ -1,3 +1,4 @@
 pub mod Frame
 pub mod Journal
 pub mod Reader
+pub mod Replay

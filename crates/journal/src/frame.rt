@@ -1,8 +1,7 @@
 // Frames: records as bytes, and back.
-ghost use Rattle.std.specs.Prelude.{◌≡◌, true, slice_index, ◌+◌, ◌-◌, ◌<◌, ◌≤◌, ◌^◌, ◌++◌, length};
-ghost use Rattle.std.specs.Prelude.{drop, IfOk, OnOk, IsOkUnless};
-ghost use Rattle.journal.specs.Frame.{frame, record_len, is_record, record_of, records, listed};
-ghost use Rattle.journal.specs.Frame.{whole_frames};
+ghost use Rattle.std.specs.Prelude.{◌≡◌, true, slice_index, ◌+◌, ◌<◌, ◌≤◌, ◌^◌, ℕ, List, length};
+ghost use Rattle.std.specs.Prelude.{drop, IfOk, IsOkUnless};
+ghost use Rattle.journal.specs.Frame.{frame, record_len, is_record, record_of};
 
 use disk::{Error, IoBuf};
 use page::Sum;
@@ -11,8 +10,11 @@ use std::alloc::Global;
 /// The most bytes that a record may have.
 pub const MOST_BYTES: usize = 65_535;
 
-// The bytes of a frame beside those of its record: the length, the checksum and the mark.
-const OVERHEAD: usize = 7;
+/// How many bytes of a frame stand in front of its record: the length.
+pub const IN_FRONT: usize = 2;
+
+/// How many stand behind it: the checksum and the mark.
+pub const BEHIND: usize = 5;
 
 /// A frame that was found in a journal.
 #[derive(Drop)]
@@ -30,7 +32,7 @@ pub fn frame_of<R: Sum>(alloc: Global, bytes: &[u8]) -> Result<Vec<u8>, Error>
     ensures framed { IfOk result (λ framed. framed.items ≡ frame R.sum_of bytes.now) }
     ensures err { IsOkUnless result Error.OutOfMemory }
 {
-    let mut framed = Vec::with_capacity(alloc, bytes.len() + OVERHEAD)?;
+    let mut framed = Vec::with_capacity(alloc, IN_FRONT + bytes.len() + BEHIND)?;
     framed.extend_from_slice(&(bytes.len() as u16).to_be_bytes())?;
     framed.extend_from_slice(bytes)?;
     framed.extend_from_slice(&R::sum(bytes).to_be_bytes())?;
@@ -55,67 +57,54 @@ pub fn record_len_of(bytes: &[u8]) -> usize
     usize::from(u16::from_be_bytes([byte_at(bytes, 0), byte_at(bytes, 1)]))
 }
 
-// Whether the frame at the front of these bytes is a record.
-fn is_record_of<R: Sum>(bytes: &[u8]) -> bool
-    ensures is { result ≡ is_record R.sum_of bytes.now }
-    ensures whole { result ≡ true → record_len bytes.now + 7 ≤ length bytes.now }
+// Whether a frame is a record. So many bytes are to be its record's, and these stand behind its
+// length.
+fn is_record_of<R: Sum>(len: usize, bytes: &[u8]) -> bool
+    requires { len < 2 ^ 16 }
+    ensures is { (frame : List ℕ) → record_len frame ≡ len → drop 2 frame ≡ bytes.now
+        → result ≡ is_record R.sum_of frame }
+    ensures whole { result ≡ true → len + 5 ≤ length bytes.now }
 {
-    let len = record_len_of(bytes);
-    if byte_at(bytes, len + 6) != 1 {
+    if byte_at(bytes, len + 4) != 1 {
         return false;
     }
     let sum = u32::from_be_bytes([
+        byte_at(bytes, len),
+        byte_at(bytes, len + 1),
         byte_at(bytes, len + 2),
         byte_at(bytes, len + 3),
-        byte_at(bytes, len + 4),
-        byte_at(bytes, len + 5),
     ]);
-    sum == R::sum(&bytes[2..len + 2])
+    sum == R::sum(&bytes[..len])
 }
 
-/// The record of the frame that begins at a place of some bytes, if it is one. It answers
-/// `OutOfMemory` alone.
-#[tactic(auto, unfolding(crate::specs::Frame::record_of))]
-pub fn record_at<R: Sum>(bytes: &IoBuf, place: usize) -> Result<Option<IoBuf>, Error>
-    requires { place ≤ length bytes.now }
-    ensures found { IfOk result (λ found. found ≡ record_of R.sum_of (drop place bytes.now)) }
+/// The record of a frame, if it is one. So many bytes are to be the record's, and what stands
+/// behind the frame's length begins at a place of these. It answers `OutOfMemory` alone.
+pub fn record_behind<R: Sum>(
+    len: usize,
+    bytes: &IoBuf,
+    place: usize,
+) -> Result<Option<IoBuf>, Error>
+    requires small { len < 2 ^ 16 }
+    requires within { place ≤ length bytes.now }
+    ensures found { (frame : List ℕ) → record_len frame ≡ len
+        → drop 2 frame ≡ drop place bytes.now
+        → IfOk result (λ found. found ≡ record_of R.sum_of frame) }
     ensures err { IsOkUnless result Error.OutOfMemory }
 {
-    let rest = &bytes.as_ref()[place..];
-    if !is_record_of::<R>(rest) {
+    if !is_record_of::<R>(len, &bytes.as_ref()[place..]) {
         return Ok(None);
     }
-    let first = place + 2;
-    Ok(Some(bytes.slice(first, first + record_len_of(rest))?))
+    Ok(Some(bytes.slice(place, place + len)?))
 }
 
-// Adds a record, if there is one.
-fn push_record(found: &mut Vec<IoBuf>, more: Option<IoBuf>) -> Result<(), Error>
-    ensures adds { OnOk result (found.new.items ≡ found.old.items ++ listed more) }
+/// The record of the frame at the front of some bytes, if it is one. It answers `OutOfMemory`
+/// alone.
+pub fn record_at<R: Sum>(bytes: &IoBuf) -> Result<Option<IoBuf>, Error>
+    ensures found { IfOk result (λ found. found ≡ record_of R.sum_of bytes.now) }
     ensures err { IsOkUnless result Error.OutOfMemory }
 {
-    if let Some(bytes) = more {
-        found.push(bytes)?;
+    if bytes.len() < IN_FRONT {
+        return Ok(None);
     }
-    Ok(())
-}
-
-/// The records of some bytes, in order, and the place behind their last whole frame. It answers
-/// `OutOfMemory` alone.
-pub fn records_of<R: Sum>(alloc: Global, bytes: &IoBuf) -> Result<(Vec<IoBuf>, usize), Error>
-    ensures records { IfOk result (λ r. r.0.items ≡ records R.sum_of bytes.now) }
-    ensures whole { IfOk result (λ r. r.1 ≡ length (whole_frames bytes.now)) }
-    ensures err { IsOkUnless result Error.OutOfMemory }
-{
-    let mut found = Vec::new(alloc);
-    let mut place = 0;
-    while place < bytes.len() {
-        let len = record_len_of(&bytes.as_ref()[place..]) + OVERHEAD;
-        if len > bytes.len() - place {
-            break;
-        }
-        push_record(&mut found, record_at::<R>(bytes, place)?)?;
-        place += len;
-    }
-    Ok((found, place))
+    record_behind::<R>(record_len_of(bytes.as_ref()), bytes, IN_FRONT)
 }

@@ -6,7 +6,7 @@ ghost use Rattle.crash.specs.Looks.{Looked};
 ghost use Rattle.crash.specs.Sound.{IsSound, content};
 ghost use Rattle.crash.specs.Stays.{KeepsAll, KeepsAllFloors, LeavesOnly};
 ghost use Rattle.page.specs.Page.{text};
-ghost use Rattle.paged.specs.Calls.{Appends, Syncs};
+ghost use Rattle.paged.specs.Calls.{Appends, IsSettled, Syncs};
 ghost use Rattle.paged.specs.Reads.{size_of};
 ghost use Rattle.paged.specs.Truncate.{KeepsFloorsWithin};
 ghost use Rattle.journal.specs.Frame.{whole_frames};
@@ -23,10 +23,11 @@ ghost use Rattle.journal.specs.Journal.{LeavesAllRecords, BringsBack};
 ghost use Rattle.journal.specs.Reader.{EachReaderStays, IsNewToReaders, IsReader, MakesReader};
 ghost use Rattle.journal.specs.Reader.{OtherReadersStay, ReadersStay};
 
-use crate::frame::{Found, frame_of, record_at, record_len_of, records_of};
+use crate::frame::{Found, frame_of, record_at, record_len_of};
 use crate::reader::Reader;
+use crate::replay::records_of;
 use cache::CacheRef;
-use disk::{Blob, Error, IoBuf};
+use disk::{Blob, Error, IoBuf, ReadOptions};
 use page::Sum;
 use paged::{Recovery, Writer};
 use paged_read::Sealed;
@@ -77,21 +78,26 @@ fn read_bytes<B: Blob, H: Sum, Phase>(
     }
 }
 
-// The records of a recovered content, and how many bytes its whole frames have.
+// Goes through the frames of a recovered content by a replay, which reads ahead, and answers their
+// records, and how many bytes the whole ones have.
 fn read_all<B: Blob, H: Sum, R: Sum>(
     alloc: Global,
-    recovery: &Recovery<B, H>,
+    recovery: Recovery<B, H>,
     blob: &mut B,
     cache: &mut CacheRef,
-) -> Result<(Vec<IoBuf>, usize), Error>
-    requires ready { IsReady H.sum_of recovery.now cache.old (B.life blob.old) }
+    buffer_size: NonZeroUsize,
+) -> Result<(Recovery<B, H>, Vec<IoBuf>, u64), Error>
+    requires ready { IsReady H.sum_of recovery cache.old (B.life blob.old) }
+    requires settled { IsSettled recovery }
     ensures reads { let old = B.life blob.old in let new = B.life blob.new in
-        ReadsAll R.sum_of recovery.now old new result }
+        ReadsAll R.sum_of recovery old new result }
     ensures leaves { let old = B.life blob.old in let new = B.life blob.new in
-        OnlyReads H.sum_of recovery.now cache.old cache.new old new }
+        OnlyReads H.sum_of recovery cache.old cache.new old new }
 {
-    let bytes = read_bytes(recovery, blob, cache, 0, recovery.size() as usize)?;
-    records_of::<R>(alloc, &bytes)
+    let options = ReadOptions::default();
+    let (recovery, replay) = recovery.replay(blob, cache, buffer_size, options)?;
+    let (found, end) = records_of::<B, H, R>(alloc, replay, blob)?;
+    Ok((recovery, found, end))
 }
 
 // Cuts the last frame off where it is half-written, and answers the records that there are.
@@ -100,8 +106,10 @@ fn trim<B: Blob, H: Sum, R: Sum>(
     recovery: Recovery<B, H>,
     blob: &mut B,
     cache: &mut CacheRef,
+    buffer_size: NonZeroUsize,
 ) -> Result<(Recovery<B, H>, Vec<IoBuf>), Error>
     requires ready { IsReady H.sum_of recovery cache.old (B.life blob.old) }
+    requires settled { IsSettled recovery }
     ensures trims { let old = B.life blob.old in let new = B.life blob.new in
         Trims H.sum_of R.sum_of recovery cache.new old new result }
     ensures fresh { IsFresh cache.new }
@@ -114,8 +122,8 @@ fn trim<B: Blob, H: Sum, R: Sum>(
         let P = recovery.page_size in
         LeavesOnly H.sum_of P held (whole_frames held) old (B.life blob.new) }
 {
-    let (found, whole) = read_all::<B, H, R>(alloc, &recovery, blob, cache)?;
-    let end = whole as u64;
+    let (recovery, found, end) =
+        read_all::<B, H, R>(alloc, recovery, blob, cache, buffer_size)?;
     if end == recovery.size() {
         return Ok((recovery, found));
     }
@@ -327,9 +335,10 @@ impl<B: Blob, H: Sum, R: Sum> Journal<B, H, R> {
     /// Recovers the journal of a blob of `size` physical bytes, whatever they are, and answers its
     /// records: those of the blob's text, in order, which begin with all that were committed. Where
     /// the last frame is half-written it is cut off, so that what is appended stands behind whole
-    /// frames. A whole frame that is no record stays, and is passed over. The other arguments are
-    /// those of [`paged::recover`]. The cache is a new one, or one that other journals have, or had
-    /// until a call of theirs failed.
+    /// frames. A whole frame that is no record stays, and is passed over. The frames are found by a
+    /// replay of the blob, which reads batches of a quarter of `buffer_size` ahead. The other
+    /// arguments are those of [`paged::recover`]. The cache is a new one, or one that other
+    /// journals have, or had until a call of theirs failed.
     ///
     /// The errors are those of [`paged::recover`]. What was committed then still is.
     pub fn recover(
@@ -367,7 +376,7 @@ impl<B: Blob, H: Sum, R: Sum> Journal<B, H, R> {
             LeavesAllRecords H.sum_of R.sum_of cache.old.page_size old new }
     {
         let recovery = paged::recover::<B, H>(alloc, blob, size, capacity, cache, buffer_size)?;
-        let (recovery, found) = trim::<B, H, R>(alloc, recovery, blob, cache)?;
+        let (recovery, found) = trim::<B, H, R>(alloc, recovery, blob, cache, buffer_size)?;
         Ok((Self::new(alloc, Writer::from(recovery)), found))
     }
 
@@ -405,7 +414,7 @@ impl<B: Blob, H: Sum, R: Sum> Journal<B, H, R> {
             return Ok(None);
         }
         let framed = self.read_frame(blob, cache, place, size - place)?;
-        let bytes = record_at::<R>(&framed, 0)?;
+        let bytes = record_at::<R>(&framed)?;
         Ok(Some(Found {
             bytes,
             end: place + framed.len() as u64,

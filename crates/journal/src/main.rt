@@ -12,6 +12,7 @@ mod crashes;
 mod frame;
 mod journal;
 mod reader;
+mod replay;
 #[cfg(test)]
 mod tests;
 

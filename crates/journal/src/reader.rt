@@ -100,7 +100,7 @@ fn find<B: Blob, H: Sum, R: Sum>(
         return Ok(None);
     }
     let framed = read_frame(snapshot, blob, cache, place, size - place)?;
-    let bytes = record_at::<R>(&framed, 0)?;
+    let bytes = record_at::<R>(&framed)?;
     Ok(Some(Found {
         bytes,
         end: place + framed.len() as u64,

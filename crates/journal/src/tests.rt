@@ -4,7 +4,7 @@ ghost use Rattle.std.specs.Prelude.{◌≤◌, length};
 ghost use Rattle.cache.specs.Pages.{IsFresh};
 
 use crate::crashes::crash_and_recover;
-use crate::frame::{Found, frame_of, records_of};
+use crate::frame::{Found, frame_of};
 use crate::journal::Journal;
 use crate::new_cache;
 use cache::CacheRef;
@@ -27,23 +27,6 @@ fn a_frame(rt: HostRuntime) -> Result<(), Fail> {
     );
     let empty = frame_of::<ConstSum>(rt.alloc(), b"")?;
     assert_eq!(rt; empty.as_slice(), [0, 0, 0, 0, 0, 0, 1].as_slice());
-    Ok(())
-}
-
-#[test]
-fn records_up_to_the_last_whole_frame(rt: HostRuntime) -> Result<(), Fail> {
-    let bytes = IoBuf::copy_from_slice(
-        rt.alloc(),
-        &[
-            0, 1, 0x61, 0, 0, 0, 0x61, 1, 0, 1, 0x62, 0, 0, 0, 0, 0, 0, 1, 0x63, 0, 0, 0, 0x63, 1,
-            0,
-        ],
-    )?;
-    let (records, whole) = records_of::<AddSum>(rt.alloc(), &bytes)?;
-    assert_eq!(rt; records.len(), 2);
-    assert_eq!(rt; records[0].as_ref(), b"a".as_slice());
-    assert_eq!(rt; records[1].as_ref(), b"c".as_slice());
-    assert_eq!(rt; whole, 24);
     Ok(())
 }
 
@@ -192,6 +175,133 @@ fn a_whole_frame_stays(rt: HostRuntime) -> Result<(), Fail> {
     let (is_record, place) = told(journal.read_record(&mut blob, &mut cache, place)?);
     assert!(rt; is_record);
     assert_eq!(rt; place, 24);
+    Ok(())
+}
+
+// Behind the frame of "a" and one with no mark the frame of "c" ends where all does but for the
+// first byte of a length.
+#[test]
+fn a_byte_of_a_length_is_cut(rt: HostRuntime) -> Result<(), Fail> {
+    let mut blob = blob_of(
+        rt.alloc(),
+        &[
+            0, 1, 0x61, 0, 0, 0, 0x61, 1, 0, 1, 0x62, 0, 0, 0, 0x62, 0, 0, 1, 0x63, 0, 0, 0, 0x63, 1,
+            0,
+        ],
+    )?;
+    let (records, size) = opened(rt.alloc(), &mut blob, 1)?;
+    assert_eq!(rt; records.len(), 2);
+    assert_eq!(rt; records[0].as_ref(), b"a".as_slice());
+    assert_eq!(rt; records[1].as_ref(), b"c".as_slice());
+    assert_eq!(rt; size, 24);
+    Ok(())
+}
+
+// The second frame says that it is as long as a frame can be.
+#[test]
+fn a_length_that_passes_the_end(rt: HostRuntime) -> Result<(), Fail> {
+    let mut blob = blob_of(
+        rt.alloc(),
+        &[0, 1, 0x61, 0, 0, 0, 0x61, 1, 0xFF, 0xFF, 0x62, 0x62],
+    )?;
+    let (records, size) = opened(rt.alloc(), &mut blob, 1)?;
+    assert_eq!(rt; records.len(), 1);
+    assert_eq!(rt; records[0].as_ref(), b"a".as_slice());
+    assert_eq!(rt; size, 8);
+    Ok(())
+}
+
+/// The records of a journal that is opened with a buffer of so many bytes, and its size.
+fn opened(
+    alloc: Global,
+    blob: &mut MemBlob,
+    buffer_size: usize,
+) -> Result<(Vec<IoBuf>, u64), Error> {
+    let mut cache = new_cache(alloc)?;
+    let size = blob.len();
+    let (journal, found) = Journal::<MemBlob, AddSum, AddSum>::recover(
+        alloc,
+        blob,
+        size,
+        CAPACITY,
+        &mut cache,
+        NonZeroUsize::new(buffer_size).unwrap_or(NonZeroUsize::MIN),
+    )?;
+    Ok((found, journal.size()))
+}
+
+const RECORDS: [&[u8]; 5] = [
+    b"one",
+    b"",
+    b"a record of more than two pages, as they have 16 bytes",
+    b"four",
+    b"and one behind it",
+];
+
+/// A blob of a journal of these records, all committed.
+fn kept(alloc: Global) -> Result<MemBlob, Error> {
+    let mut cache = new_cache(alloc)?;
+    let mut blob = MemBlob::new(alloc);
+    let size = blob.len();
+    let (mut journal, _) = Journal::<MemBlob, AddSum, AddSum>::recover(
+        alloc,
+        &mut blob,
+        size,
+        CAPACITY,
+        &mut cache,
+        NonZeroUsize::MIN,
+    )?;
+    for record in RECORDS {
+        (journal, _) = journal.append_record(&mut blob, &mut cache, record)?;
+    }
+    drop(journal.commit(&mut blob, &mut cache)?);
+    Ok(blob)
+}
+
+/// Whether these are the records.
+fn are_kept(found: &[IoBuf]) -> bool {
+    found.len() == RECORDS.len()
+        && found
+            .iter()
+            .zip(RECORDS)
+            .all(|(found, record)| found.as_ref() == record)
+}
+
+// Batches of one page, of two, and of all.
+#[test]
+fn records_over_many_pages(rt: HostRuntime) -> Result<(), Fail> {
+    let alloc = rt.alloc();
+    let mut blob = kept(alloc)?;
+    for buffer_size in [1, 28 * 8, 4096] {
+        let (found, size) = opened(alloc, &mut blob, buffer_size)?;
+        assert!(rt; are_kept(found.as_slice()));
+        assert_eq!(rt; size, 113);
+    }
+    Ok(())
+}
+
+// Each call of the device fails in turn. A read ahead that failed is read again.
+#[test]
+fn a_failed_read_ahead(rt: HostRuntime) -> Result<(), Fail> {
+    let alloc = rt.alloc();
+    let mut blob = kept(alloc)?;
+    let before = blob.calls().len();
+    opened(alloc, &mut blob, 1)?;
+    let calls = blob.calls().len().saturating_sub(before);
+    let mut read_again = 0;
+    for number in 1..=calls {
+        blob.fail_at(number as u64);
+        match opened(alloc, &mut blob, 1) {
+            Ok((found, _)) => {
+                assert!(rt; are_kept(found.as_slice()));
+                read_again += 1;
+            }
+            Err(error) => {
+                assert!(rt; matches!(error, Error::ReadFailed | Error::SyncFailed));
+            }
+        }
+    }
+    assert_eq!(rt; read_again, 6);
     Ok(())
 }
 

@@ -137,6 +137,7 @@ trim-requires g c =
         size = goes.recovers.size;
         only = goes.recovers.only;
       };
+      settled = goes.recovers.settled;
     }
 
 -- the other journals stay, and the readers of other blobs

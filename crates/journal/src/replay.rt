@@ -1,0 +1,81 @@
+// What a replay of a journal's blob gives: frames, one behind another.
+ghost use Rattle.std.specs.Prelude.{◌≡◌, ◌<◌, ◌≤◌, ◌^◌, ◌++◌, ℕ, List, OnOk, IsOkUnless};
+ghost use Rattle.paged_read.specs.Replay.{CanReplay};
+ghost use Rattle.paged_read.specs.Tail.{size_of, told};
+ghost use Rattle.journal.specs.Frame.{listed};
+ghost use Rattle.journal.specs.Replay.{LeavesReady, Plays, PlaysAll, PlaysFrame};
+
+use crate::frame::{BEHIND, Found, IN_FRONT, record_behind, record_len_of};
+use disk::{Blob, Error, IoBuf};
+use page::Sum;
+use paged_read::Replay;
+use std::alloc::Global;
+
+// The frame that begins at a place, where the replay stands; it goes behind it. None where there is
+// no whole one: so a length that passes what is left asks for no memory.
+fn next_frame<B: Blob, H: Sum, R: Sum>(
+    replay: &mut Replay<B, H>,
+    blob: &mut B,
+    place: u64,
+) -> Result<Option<Found>, Error>
+    requires can { CanReplay replay.old (B.life blob.old).present }
+    requires at { place ≡ replay.old.position }
+    requires fits { size_of replay.old.tail < 2 ^ 64 }
+    ensures plays { (content : List ℕ) → Plays H.sum_of replay.old content (B.life blob.old).present
+        → let old = B.life blob.old in let new = B.life blob.new in
+        PlaysFrame H.sum_of R.sum_of replay.new content place old new result }
+    ensures leaves { LeavesReady H.sum_of (B.life blob.old) (B.life blob.new) }
+{
+    if !replay.ensure(blob, IN_FRONT)? {
+        return Ok(None);
+    }
+    let len = record_len_of(replay.copy_to_bytes(IN_FRONT)?.as_ref());
+    if !replay.ensure(blob, len + BEHIND)? {
+        return Ok(None);
+    }
+    let rest = replay.copy_to_bytes(len + BEHIND)?;
+    let bytes = record_behind::<R>(len, &rest, 0)?;
+    Ok(Some(Found {
+        bytes,
+        end: place + (IN_FRONT + len + BEHIND) as u64,
+    }))
+}
+
+// Adds a record, if there is one.
+fn push_record(found: &mut Vec<IoBuf>, more: Option<IoBuf>) -> Result<(), Error>
+    ensures adds { OnOk result (found.new.items ≡ found.old.items ++ listed more) }
+    ensures err { IsOkUnless result Error.OutOfMemory }
+{
+    if let Some(bytes) = more {
+        found.push(bytes)?;
+    }
+    Ok(())
+}
+
+/// The records of a replay that begins, in order, and the place behind the last whole frame.
+///
+/// `ReadFailed` where the device failed, `OutOfMemory`.
+pub fn records_of<B: Blob, H: Sum, R: Sum>(
+    alloc: Global,
+    mut replay: Replay<B, H>,
+    blob: &mut B,
+) -> Result<(Vec<IoBuf>, u64), Error>
+    requires begins { replay.position ≡ 0 }
+    requires plays { let old = (B.life blob.old).present in
+        Plays H.sum_of replay (told replay.tail old.readable) old }
+    ensures plays { let old = B.life blob.old in let new = B.life blob.new in
+        PlaysAll R.sum_of (told replay.tail old.present.readable) old new result }
+    ensures leaves { LeavesReady H.sum_of (B.life blob.old) (B.life blob.new) }
+{
+    let size = replay.blob_size();
+    let mut found = Vec::new(alloc);
+    let mut place = 0;
+    while place < size {
+        let Some(frame) = next_frame::<B, H, R>(&mut replay, blob, place)? else {
+            break;
+        };
+        push_record(&mut found, frame.bytes)?;
+        place = frame.end;
+    }
+    Ok((found, place))
+}
