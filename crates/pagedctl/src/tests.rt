@@ -533,7 +533,7 @@ fn a_bad_first_line_is_named(rt: HostRuntime) -> Result<(), Fail> {
 }
 
 // Lines that can't be read, also behind a first one that can.
-const BAD_LINES: [&[u8]; 91] = [
+const BAD_LINES: [&[u8]; 94] = [
     b"",
     b" ",
     b"append",
