@@ -64,8 +64,8 @@ pub record IsReplayOf (sum : List ℕ → ℕ) (r : ReplayState) (content : List
   pub can : CanReplay r d
   pub hand : r.hand ≡ take (length r.hand) (drop r.position content)
 
--- so many bytes are at hand, or all that is left is of the bytes behind the full pages: no device is
--- needed
+-- so many bytes are at hand, or all that is left is of the bytes behind the full pages: no device
+-- is needed
 abbrev pub IsHad : ReplayState → (count : ℕ) → Type 0
 IsHad r count = (count ≤ length r.hand) ⊎ (r.tail.full_pages * r.tail.page_size ≤ end_of r)
 

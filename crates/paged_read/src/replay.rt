@@ -200,8 +200,8 @@ impl<B: Blob, H: Sum> Replay<B, H> {
     /// Reads on until so many bytes are at hand, and answers whether they are: where not, all is at
     /// hand that is left. Each batch is read ahead, in one read of the device, before it is needed,
     /// or on demand where that failed or the replay went elsewhere; what is at hand was found full,
-    /// page by page. Where they are at hand already, or all that is left is behind the full pages, the
-    /// device isn't asked.
+    /// page by page. Where they are at hand already, or all that is left is behind the full pages,
+    /// the device isn't asked.
     ///
     /// `ReadFailed` where a read failed that was needed, `InvalidChecksum` where a page isn't full,
     /// which it always is in a sound blob, `OutOfMemory`. The replay stands where it stood, with no

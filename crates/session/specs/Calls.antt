@@ -523,7 +523,8 @@ TakesReplay sum (Some w) now replays more buffer_size old new (Fault e) =
 TakesReplay sum (Some w) now replays more buffer_size old new _ = ⊥
 
 -- what each step of a replay does to it: it goes on as q
-abbrev pub EnsuresOf : (List ℕ → ℕ) → (r q : ReplayState) → (count : ℕ) → Life → Life → Reply → Type 0
+abbrev pub EnsuresOf : (List ℕ → ℕ) → (r q : ReplayState) → (count : ℕ) → Life → Life → Reply
+    → Type 0
 EnsuresOf sum r q count old new (Answer answer) = Ensures sum r count q old new (Ok answer)
 EnsuresOf sum r q count old new (Fault e) = Ensures sum r count q old new (Err e)
 EnsuresOf sum r q count old new _ = ⊥

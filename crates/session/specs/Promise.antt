@@ -142,7 +142,8 @@ closed = record { writer = None; recovering = false; names = []; snapshots = [];
 
 -- with this one, in recovery
 abbrev pub session_of : WriterState → SessionState
-session_of w = record { writer = Some w; recovering = true; names = []; snapshots = []; replays = [] }
+session_of w =
+    record { writer = Some w; recovering = true; names = []; snapshots = []; replays = [] }
 
 -- with this content, all of it durable, and a buffer of so many bytes
 abbrev pub fresh : (P capacity : ℕ) → List ℕ → Standing

@@ -45,8 +45,8 @@ use Rattle.session.specs.declared.steps.Reply.TheVariants.{Replaying}
 
 -- ---- what a session stands for
 
--- a replay: the bytes that it goes over, how many of them are in full pages, where it stands, how many
--- from there on are at hand, and how many are read at once
+-- a replay: the bytes that it goes over, how many of them are in full pages, where it stands, how
+-- many from there on are at hand, and how many are read at once
 pub record Replayed : Type 0 where
   pub content : List ℕ
   pub whole : ℕ
@@ -214,8 +214,8 @@ lowered n s = record s {
   covers = map (λ c. (c.0, min n c.1)) s.covers;
 }
 
--- the standing as a step begins: where bytes are asked to be cut, they aren't kept from then on, and
--- the replays are forgotten
+-- the standing as a step begins: where bytes are asked to be cut, they aren't kept from then on,
+-- and the replays are forgotten
 abbrev pub begun : Step → Standing → Standing
 begun (Truncate n) s = if s.has_writer && s.recovering then forgetting (lowered n s) else s
 begun step s = s
@@ -462,8 +462,8 @@ Overflows P (Snap index offset len) s = 2 ^ 64 ≤ offset + len
 Overflows P (ReadRanges ranges) s = RangesGo (length s.content) ranges.items (Err OffsetOverflow)
 Overflows P step s = ⊥
 
--- a range or a place passes the end, and no greatest number; or some bytes are asked for where there
--- is none
+-- a range or a place passes the end, and no greatest number; or some bytes are asked for where
+-- there is none
 abbrev pub PassesEnd : Step → Standing → Type 0
 PassesEnd (Read offset len) s = (offset + len < 2 ^ 64) × (length s.content < offset + len)
 PassesEnd (Snap index offset len) s =
@@ -755,8 +755,8 @@ IsReplayIn sum writer d (Some r) =
     IsReplayOf sum r (told r.tail d.readable) d × IsBelow writer r.tail
 
 -- so a session may take steps: and the syncs that it was given may be waited for, also where the
--- writer is gone, its snapshots read, and its replays go on; a writer in recovery, which may cut its
--- blob, has no snapshot
+-- writer is gone, its snapshots read, and its replays go on; a writer in recovery, which may cut
+-- its blob, has no snapshot
 pub record IsReady (sum : List ℕ → ℕ) (session : SessionState) (d : Disk) : Type 0 where
   pub writer : HasSoundWriter sum session.writer d
   pub starts : (session.names ≡ []) ⊎ StartsStand d

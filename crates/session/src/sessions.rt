@@ -249,8 +249,9 @@ impl<B: Blob, H: Sum> Session<B, H> {
 /// An append, a sync, a start of one, a wait of the writer, a truncate, a snapshot or a replay that
 /// is refused ends the writer, as a seal does at every answer; each step after it that needs one
 /// replies `Closed`. But a start, a snapshot, a replay or a seal for whose name or number there is
-/// no memory changes nothing. A try, a read, of the writer or of a snapshot, or a wait for a name that is
-/// refused leaves the session as it was, and so does a try that can't be met without the device.
+/// no memory changes nothing. A try, a read, of the writer or of a snapshot, a scan, or a wait for a
+/// name that is refused leaves the session as it was, and so does a try that can't be met without
+/// the device. A replay that is refused what it was asked for stands where it stood.
 ///
 /// A snapshot tells for good what was appended before it, also where the session is closed. What it
 /// tells is durable only by a sync or a seal, and a crash ends it. A replay gives, in order, what

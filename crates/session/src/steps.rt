@@ -33,9 +33,9 @@ pub enum Step {
     ReadRanges(Vec<(u64, usize)>),
     /// Asks which of these ranges can't be read without the device.
     TryReadRanges(Vec<(u64, usize)>),
-    /// Counts the logical bytes that the blob tells to a reader that goes forward: the first so many
-    /// count as told, at most the second so many are counted, and each read is of at most as many
-    /// pages as fit the buffer's bytes.
+    /// Counts the logical bytes that the blob tells to a reader that goes forward: the first so
+    /// many count as told, at most the second so many are counted, and each read is of at most as
+    /// many pages as fit the buffer's bytes.
     Scan(u64, u64, NonZeroUsize),
     /// Ends the recovery: from then on the writer appends.
     Begin,
