@@ -1064,9 +1064,7 @@ size 5
 }
 
 // Each step once, with a crash and a recovery at the end.
-#[test]
-fn each_step_is_played(rt: HostRuntime) -> Result<(), Fail> {
-    let script = "\
+const EACH_STEP: &str = "\
 start 4 8 4 add
 append 6162636465
 owned 66
@@ -1110,7 +1108,8 @@ recover
 read 0 7
 dump
 ";
-    let out = "\
+
+const EACH_REPLY: &str = "\
 recovered 0
 at 0
 at 5
@@ -1154,7 +1153,10 @@ recovered 7
 bytes 61626364656669
 blob 6162636400040000018a000000000000656669000002000000cb000300000134
 ";
-    plays(&rt, rt.alloc(), script, out)
+
+#[test]
+fn each_step_is_played(rt: HostRuntime) -> Result<(), Fail> {
+    plays(&rt, rt.alloc(), EACH_STEP, EACH_REPLY)
 }
 
 #[test]
