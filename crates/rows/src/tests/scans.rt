@@ -1,7 +1,5 @@
 // Scans, and reads of a blob that nobody opened.
-use super::kit::{
-    ABCD, CAPACITY, Call, EF, NO_VALUE, Page, Store, blob_bytes, calls_from, new_cache,
-};
+use super::kit::{ABCD, CAPACITY, Call, EF, NO_VALUE, Page, Store, blob_bytes, new_cache};
 use disk::{Error, IoBuf, MemBlob, ReadOptions};
 use page::AddSum;
 use paged::{Recovery, Writer};
@@ -77,62 +75,96 @@ fn a_scan_counts_what_was_flushed(rt: HostRuntime) -> Result<(), Error> {
     Ok(())
 }
 
+/// A blob of these pages.
+fn blob_of(alloc: Global, pages: &[Page]) -> Result<MemBlob, Error> {
+    let bytes = blob_bytes(alloc, pages, &[])?;
+    MemBlob::from_bytes(alloc, &bytes)
+}
+
+/// "abcdef".
+fn six(alloc: Global) -> Result<MemBlob, Error> {
+    blob_of(alloc, &[ABCD, EF])
+}
+
+/// "abcdefghij", whose second page is damaged.
+fn damaged(alloc: Global) -> Result<MemBlob, Error> {
+    blob_of(alloc, &[ABCD, DAMAGED, IJ])
+}
+
+/// Opens a blob, which may be damaged: how many bytes it says then, and how many of at most so many
+/// a scan from the first one on counts.
+fn opened(mut blob: MemBlob, alloc: Global, most: u64) -> Result<(u64, u64), Error> {
+    let mut cache = new_cache(alloc)?;
+    let size = blob.len();
+    let recovery = Recovery::<MemBlob, AddSum>::open(alloc, &mut blob, size, CAPACITY, &mut cache)?;
+    let options = ReadOptions::default();
+    let len = recovery.recoverable_prefix_len_at_most(
+        &mut blob,
+        0,
+        most,
+        NonZeroUsize::MIN,
+        options,
+    )?;
+    Ok((recovery.size(), len))
+}
+
 #[test]
 fn a_scan_ends_where_opening_did_not_look(rt: HostRuntime) -> Result<(), Error> {
-    let bytes = blob_bytes(rt.alloc(), &[ABCD, DAMAGED, IJ], &[])?;
-    let mut blob = MemBlob::from_bytes(rt.alloc(), &bytes)?;
-    let mut cache = new_cache(rt.alloc())?;
-    let size = blob.len();
-    let recovery = Recovery::<MemBlob, AddSum>::open(
-        rt.alloc(),
-        &mut blob,
-        size,
-        CAPACITY,
-        &mut cache,
-    )?;
-    assert_eq!(rt; recovery.size(), 10);
-    let options = ReadOptions::default();
-    let all = recovery.recoverable_prefix_len(&mut blob, 0, NonZeroUsize::MIN, options)?;
-    assert_eq!(rt; all, 4);
-    let six = recovery.recoverable_prefix_len_at_most(&mut blob, 0, 6, NonZeroUsize::MIN, options)?;
-    assert_eq!(rt; six, 4);
+    let (size, len) = opened(damaged(rt.alloc())?, rt.alloc(), 100)?;
+    assert_eq!(rt; size, 10);
+    assert_eq!(rt; len, 4);
     Ok(())
 }
 
 #[test]
-fn a_blob_that_nobody_opened_is_read(rt: HostRuntime) -> Result<(), Error> {
-    let alloc = rt.alloc();
-    let bytes = blob_bytes(alloc, &[ABCD, EF], &[])?;
-    let mut blob = MemBlob::from_bytes(alloc, &bytes)?;
-    let (size, last) = tail(&mut blob, alloc, 32, 3)?;
+fn a_scan_of_six_ends_there_too(rt: HostRuntime) -> Result<(), Error> {
+    let (_, len) = opened(damaged(rt.alloc())?, rt.alloc(), 6)?;
+    assert_eq!(rt; len, 4);
+    Ok(())
+}
+
+#[test]
+fn a_tail_is_read(rt: HostRuntime) -> Result<(), Error> {
+    let mut blob = six(rt.alloc())?;
+    let (size, last) = tail(&mut blob, rt.alloc(), 32, 3)?;
     assert_eq!(rt; size, 6);
     assert_eq!(rt; last.as_ref(), b"def".as_slice());
-    let reads = [Call::ReadAt(16, 16), Call::ReadAt(0, 16)];
-    assert_eq!(rt; calls_from(alloc, &blob, 0)?.as_slice(), reads.as_slice());
-    assert_eq!(rt; range(&mut blob, alloc, 4, 2)?.as_ref(), b"ef".as_slice());
-    assert!(rt;
-        matches!(
-            range(&mut blob, alloc, 2, 5),
-            Err(Error::BlobInsufficientLength)
-        )
-    );
-    assert!(rt;
-        matches!(
-            tail(&mut blob, alloc, 33, 1),
-            Err(Error::BlobInsufficientLength)
-        )
-    );
-    let (none, empty) = tail(&mut blob, alloc, 0, 0)?;
-    assert_eq!(rt; none, 0);
-    assert!(rt; empty.is_empty());
-    assert!(rt;
-        matches!(
-            tail(&mut blob, alloc, 0, 1),
-            Err(Error::BlobInsufficientLength)
-        )
-    );
-    let bytes = blob_bytes(alloc, &[ABCD, NO_VALUE, IJ], &[])?;
-    let mut blob = MemBlob::from_bytes(alloc, &bytes)?;
-    assert!(rt; matches!(range(&mut blob, alloc, 2, 8), Err(Error::InvalidChecksum)));
+    Ok(())
+}
+
+#[test]
+fn half_a_page_has_no_tail(rt: HostRuntime) -> Result<(), Error> {
+    let mut blob = six(rt.alloc())?;
+    let read = tail(&mut blob, rt.alloc(), 33, 1);
+    assert!(rt; matches!(read, Err(Error::BlobInsufficientLength)));
+    Ok(())
+}
+
+#[test]
+fn an_empty_blob_has_an_empty_tail(rt: HostRuntime) -> Result<(), Error> {
+    let mut blob = six(rt.alloc())?;
+    let (size, bytes) = tail(&mut blob, rt.alloc(), 0, 0)?;
+    assert_eq!(rt; size, 0);
+    assert!(rt; bytes.is_empty());
+    let read = tail(&mut blob, rt.alloc(), 0, 1);
+    assert!(rt; matches!(read, Err(Error::BlobInsufficientLength)));
+    Ok(())
+}
+
+#[test]
+fn a_range_is_read(rt: HostRuntime) -> Result<(), Error> {
+    let mut blob = six(rt.alloc())?;
+    let bytes = range(&mut blob, rt.alloc(), 4, 2)?;
+    assert_eq!(rt; bytes.as_ref(), b"ef".as_slice());
+    let read = range(&mut blob, rt.alloc(), 2, 5);
+    assert!(rt; matches!(read, Err(Error::BlobInsufficientLength)));
+    Ok(())
+}
+
+#[test]
+fn a_page_without_a_value_ends_a_range(rt: HostRuntime) -> Result<(), Error> {
+    let mut blob = blob_of(rt.alloc(), &[ABCD, NO_VALUE, IJ])?;
+    let read = range(&mut blob, rt.alloc(), 2, 8);
+    assert!(rt; matches!(read, Err(Error::InvalidChecksum)));
     Ok(())
 }
