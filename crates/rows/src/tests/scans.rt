@@ -1,7 +1,7 @@
 // Scans, and reads of a blob that nobody opened.
 use super::kit::{ABCD, CAPACITY, Call, EF, NO_VALUE, Page, Store, blob_bytes, new_cache};
-use disk::{Error, IoBuf, MemBlob, ReadOptions};
-use page::AddSum;
+use disk::{Blob, Error, IoBuf, MemBlob, ReadOptions};
+use page::{AddSum, Sum};
 use paged::{Recovery, Writer};
 use std::alloc::Global;
 use std::num::{NonZeroU16, NonZeroUsize};
@@ -20,27 +20,30 @@ fn page_size() -> NonZeroU16 {
 }
 
 /// The bytes of a range of a blob that nobody opened.
-fn range(blob: &mut MemBlob, alloc: Global, offset: u64, len: usize) -> Result<IoBuf, Error> {
+fn range_of<B: Blob, H: Sum>(
+    blob: &mut B,
+    alloc: Global,
+    offset: u64,
+    len: usize,
+) -> Result<IoBuf, Error> {
     let options = ReadOptions::default();
-    Writer::<MemBlob, AddSum>::read_range(
-        alloc,
-        blob,
-        page_size(),
-        offset,
-        len,
-        options,
-    )?.coalesce()
+    let bytes = Writer::<B, H>::read_range(alloc, blob, page_size(), offset, len, options)?;
+    bytes.coalesce()
+}
+
+fn range(blob: &mut MemBlob, alloc: Global, offset: u64, len: usize) -> Result<IoBuf, Error> {
+    range_of::<MemBlob, AddSum>(blob, alloc, offset, len)
 }
 
 /// The size of such a blob, and its last bytes.
-fn tail(
-    blob: &mut MemBlob,
+fn tail_of<B: Blob, H: Sum>(
+    blob: &mut B,
     alloc: Global,
     physical_size: u64,
     len: usize,
 ) -> Result<(u64, IoBuf), Error> {
     let options = ReadOptions::default();
-    let (size, bytes) = Writer::<MemBlob, AddSum>::read_tail(
+    let (size, bytes) = Writer::<B, H>::read_tail(
         alloc,
         blob,
         physical_size,
@@ -49,6 +52,15 @@ fn tail(
         options,
     )?;
     Ok((size, bytes.coalesce()?))
+}
+
+fn tail(
+    blob: &mut MemBlob,
+    alloc: Global,
+    physical_size: u64,
+    len: usize,
+) -> Result<(u64, IoBuf), Error> {
+    tail_of::<MemBlob, AddSum>(blob, alloc, physical_size, len)
 }
 
 #[test]
@@ -93,10 +105,10 @@ fn damaged(alloc: Global) -> Result<MemBlob, Error> {
 
 /// Opens a blob, which may be damaged: how many bytes it says then, and how many of at most so many
 /// a scan from the first one on counts.
-fn opened(mut blob: MemBlob, alloc: Global, most: u64) -> Result<(u64, u64), Error> {
+fn opened<H: Sum>(mut blob: MemBlob, alloc: Global, most: u64) -> Result<(u64, u64), Error> {
     let mut cache = new_cache(alloc)?;
     let size = blob.len();
-    let recovery = Recovery::<MemBlob, AddSum>::open(alloc, &mut blob, size, CAPACITY, &mut cache)?;
+    let recovery = Recovery::<MemBlob, H>::open(alloc, &mut blob, size, CAPACITY, &mut cache)?;
     let options = ReadOptions::default();
     let len = recovery.recoverable_prefix_len_at_most(
         &mut blob,
@@ -110,7 +122,7 @@ fn opened(mut blob: MemBlob, alloc: Global, most: u64) -> Result<(u64, u64), Err
 
 #[test]
 fn a_scan_ends_where_opening_did_not_look(rt: HostRuntime) -> Result<(), Error> {
-    let (size, len) = opened(damaged(rt.alloc())?, rt.alloc(), 100)?;
+    let (size, len) = opened::<AddSum>(damaged(rt.alloc())?, rt.alloc(), 100)?;
     assert_eq!(rt; size, 10);
     assert_eq!(rt; len, 4);
     Ok(())
@@ -118,7 +130,7 @@ fn a_scan_ends_where_opening_did_not_look(rt: HostRuntime) -> Result<(), Error> 
 
 #[test]
 fn a_scan_of_six_ends_there_too(rt: HostRuntime) -> Result<(), Error> {
-    let (_, len) = opened(damaged(rt.alloc())?, rt.alloc(), 6)?;
+    let (_, len) = opened::<AddSum>(damaged(rt.alloc())?, rt.alloc(), 6)?;
     assert_eq!(rt; len, 4);
     Ok(())
 }
