@@ -1,6 +1,6 @@
 -- What a journal's calls do, from what the writer's do.
 use Rattle.std.proofs.Common.{◌≡◌, inl, inr, ℕ, ◌+◌, ◌-◌, ◌*◌, ◌^◌, ◌<◌, ◌≤◌, List, [], ◌∷◌, ◌++◌, length, take, drop, refl, sym, ap, ap₂, ◌∙◌, subst, arith, append-nil, length-append, length-take, length-drop, min, Ok, Err, Result}
-use Rattle.std.specs.Prelude.{Option, IfOk, OnOk, IsOkUnless, Vec}
+use Rattle.std.specs.Prelude.{Option, IfOk, OnOk, Vec}
 use Rattle.std.specs.Result.{IsErrAnd}
 use Rattle.std.specs.declared.alloc.Global.{Global}
 use Rattle.std.proofs.lemmas.List.{append_assoc, take-append-le, take-take, take_all, drop_at}
@@ -29,7 +29,7 @@ use Rattle.paged.specs.Truncate.{Truncates, KeepsFloorsWithin}
 use Rattle.paged.specs.Writer.{physical_size}
 use Rattle.journal.specs.declared.frame.Found.{Found}
 use Rattle.journal.specs.Frame.{frame, record_len, frame_len, listed, record_of, records, whole_frames, IsWhole, IsPrefix}
-use Rattle.journal.specs.Journal.{IsReady, IsJournal, IsNewId, OthersStay, AllStay, OnlyReads, LeavesContent, Commits, OnlyRecords, KeepsCommitted, LeavesRecords, CommitsAll, IsAppended, AppendsRecord, IsCommitted, CommitGoes, BringsBack, BringsOnly, ReadRefused, ReadsBytes, ReadsFrame, ReadsRecord, IsFound, IsTrimmed, Trims, ReadsAll, HasRecovered, RecoversJournal}
+use Rattle.journal.specs.Journal.{IsReady, IsJournal, IsNewId, OthersStay, AllStay, OnlyReads, LeavesContent, Commits, OnlyRecords, KeepsCommitted, LeavesRecords, CommitsAll, IsAppended, AppendsRecord, IsCommitted, CommitGoes, BringsBack, BringsOnly, ReadRefused, ReadsBytes, ReadsFrame, ReadsRecord, IsFound, IsTrimmed, Trims, HasRecovered, RecoversJournal}
 use Rattle.journal.proofs.Frames.{records-append, records-take, whole_more, whole_is_whole, records-whole, whole_first, length-whole, frame_is_whole, records-frame, record_of-frame, length-frame, record_len-front, record_of-front, records-from}
 
 -- the first of the first are the first

@@ -1,6 +1,6 @@
 -- What the calls of a replay give a journal that is opened.
-use Rattle.std.proofs.Common.{◌≡◌, inl, inr, ℕ, ◌+◌, ◌*◌, ◌<◌, ◌≤◌, List, [], length, take, drop, refl, sym, ap, ap₂, ◌∙◌, subst, arith, length-take, length-drop, min, Ok, Err, Result, true, false, Bool, not, ◌&&◌, ◌||◌, ◌==◌, ◌%◌, eq-eqb}
-use Rattle.std.specs.Prelude.{Option, Some, None, IfOk, IsOkUnless, Vec}
+use Rattle.std.proofs.Common.{◌≡◌, ℕ, ◌+◌, ◌*◌, ◌≤◌, List, length, take, drop, refl, sym, ap, ap₂, ◌∙◌, subst, arith, min, Ok, Err, Result, true, false, Bool, not, ◌&&◌, ◌||◌, ◌==◌, ◌%◌, eq-eqb}
+use Rattle.std.specs.Prelude.{Option, Vec}
 use Rattle.std.specs.Result.{IsErrAnd}
 use Rattle.std.specs.declared.alloc.Global.{Global}
 use Rattle.std.proofs.lemmas.List.{drop-take, drop-drop}
@@ -15,7 +15,7 @@ use Rattle.crash.specs.Looks.{Looked, looked_start, looked_joins}
 use Rattle.crash.specs.Moments.{through_end}
 use Rattle.crash.specs.Sound.{content}
 use Rattle.crash.specs.WriterState.{WriterState}
-use Rattle.paged_read.specs.Replay.{ReplayState, IsReplayOf, Ensures, Fills, FillFault, Gives, ReplaysOn, ReplaysThrough, advanced, new_replay}
+use Rattle.paged_read.specs.Replay.{ReplayState, IsReplayOf, FillFault, Gives, ReplaysOn, ReplaysThrough, advanced}
 use Rattle.paged_read.specs.Snapshots.{IsTailOf, LeavesAllReads, LeavesAllTails, LeavesWriters}
 use Rattle.paged_read.specs.Tail.{Tail, size_of, told}
 use Rattle.paged.specs.Caches.{tail_of}
@@ -24,11 +24,11 @@ use Rattle.paged.specs.Flush.{has_work}
 use Rattle.paged.specs.Replays.{BeginsAtOnce}
 use Rattle.crash.specs.Built.{kept_len}
 use Rattle.journal.specs.declared.frame.Found.{Found}
-use Rattle.journal.specs.Frame.{record_len, frame_len, record_of, records, whole_frames}
+use Rattle.journal.specs.Frame.{record_len, frame_len, record_of}
 use Rattle.journal.specs.Journal.{IsReady, OnlyReads, ReadRefused, ReadsAll}
-use Rattle.journal.specs.Replay.{IsPlayed, LeavesReady, Plays, PlaysAll, PlaysFrame}
-use Rattle.journal.proofs.Frames.{record_len-take, record_of-take, within_take}
-use Rattle.journal.proofs.Journals.{reads_join, reads_start, refused_later}
+use Rattle.journal.specs.Replay.{LeavesReady, Plays, PlaysAll, PlaysFrame}
+use Rattle.journal.proofs.Frames.{record_len-take, record_of-take}
+use Rattle.journal.proofs.Journals.{reads_join, reads_start}
 use Rattle.journal.proofs.Readers.{looked_keeps, looked_leaves}
 
 -- ---- what a replay's calls leave

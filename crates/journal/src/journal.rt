@@ -122,8 +122,7 @@ fn trim<B: Blob, H: Sum, R: Sum>(
         let P = recovery.page_size in
         LeavesOnly H.sum_of P held (whole_frames held) old (B.life blob.new) }
 {
-    let (recovery, found, end) =
-        read_all::<B, H, R>(alloc, recovery, blob, cache, buffer_size)?;
+    let (recovery, found, end) = read_all::<B, H, R>(alloc, recovery, blob, cache, buffer_size)?;
     if end == recovery.size() {
         return Ok((recovery, found));
     }

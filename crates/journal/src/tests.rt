@@ -185,8 +185,8 @@ fn a_byte_of_a_length_is_cut(rt: HostRuntime) -> Result<(), Fail> {
     let mut blob = blob_of(
         rt.alloc(),
         &[
-            0, 1, 0x61, 0, 0, 0, 0x61, 1, 0, 1, 0x62, 0, 0, 0, 0x62, 0, 0, 1, 0x63, 0, 0, 0, 0x63, 1,
-            0,
+            0, 1, 0x61, 0, 0, 0, 0x61, 1, 0, 1, 0x62, 0, 0, 0, 0x62, 0, 0, 1, 0x63, 0, 0, 0, 0x63,
+            1, 0,
         ],
     )?;
     let (records, size) = opened(rt.alloc(), &mut blob, 1)?;
@@ -288,13 +288,13 @@ fn a_failed_read_ahead(rt: HostRuntime) -> Result<(), Fail> {
     let before = blob.calls().len();
     opened(alloc, &mut blob, 1)?;
     let calls = blob.calls().len().saturating_sub(before);
-    let mut read_again = 0;
+    let mut read_again: usize = 0;
     for number in 1..=calls {
         blob.fail_at(number as u64);
         match opened(alloc, &mut blob, 1) {
             Ok((found, _)) => {
                 assert!(rt; are_kept(found.as_slice()));
-                read_again += 1;
+                read_again = read_again.saturating_add(1);
             }
             Err(error) => {
                 assert!(rt; matches!(error, Error::ReadFailed | Error::SyncFailed));

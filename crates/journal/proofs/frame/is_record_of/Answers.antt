@@ -1,4 +1,4 @@
-use Rattle.std.proofs.Common.{◌≡◌, ◌+◌, ℕ, [], ◌∷◌, take, get_or, sym, ap, ap₂, ◌∙◌, arith, nat_eq}
+use Rattle.std.proofs.Common.{◌≡◌, ◌+◌, [], ◌∷◌, get_or, sym, ap, ap₂, ◌∙◌, arith, nat_eq}
 use Rattle.std.specs.Int.{w32, from_be_bytes}
 use Rattle.journal.proofs.Frames.{unmarked_behind, marked_behind}
 use Rattle.journal.proofs.frame.is_record_of.Goals as goal

@@ -1,4 +1,4 @@
-use Rattle.std.proofs.Common.{◌≡◌, ◌∙◌, ap, sym, refl, arith}
+use Rattle.std.proofs.Common.{◌∙◌, ap, sym, refl, arith}
 use Rattle.journal.specs.Frame.{record_len}
 use Rattle.journal.proofs.Frames.{record_of-short}
 use Rattle.journal.proofs.frame.record_at.Goals as goal

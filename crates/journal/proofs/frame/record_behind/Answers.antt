@@ -1,7 +1,7 @@
-use Rattle.std.proofs.Common.{◌≡◌, ◌-◌, List, ℕ, Bool, true, false, length, take, drop, ap, sym, ◌∙◌}
+use Rattle.std.proofs.Common.{◌≡◌, ◌-◌, List, ℕ, true, length, take, drop, ap, sym, ◌∙◌}
 use Rattle.std.specs.Prelude.{Some}
 use Rattle.std.proofs.lemmas.List.{take_rest}
-use Rattle.journal.specs.Frame.{is_record, record_len}
+use Rattle.journal.specs.Frame.{is_record}
 use Rattle.journal.proofs.Frames.{record_of-behind, record_of-none}
 use Rattle.journal.proofs.frame.record_behind.Goals as goal
 

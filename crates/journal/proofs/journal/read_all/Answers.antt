@@ -4,7 +4,6 @@ use Rattle.crash.specs.Sound.{content}
 use Rattle.disk.specs.Disk.{Life}
 use Rattle.paged_read.specs.Replay.{ReplayState}
 use Rattle.paged_read.specs.Tail.{told}
-use Rattle.paged.specs.Caches.{tail_of}
 use Rattle.journal.specs.Frame.{records, whole_frames}
 use Rattle.journal.specs.Journal.{OnlyReads, ReadRefused}
 use Rattle.journal.proofs.Replays.{begin_refused, begun, none_leaves, settled_idle, walk_leaves, walk_refused}

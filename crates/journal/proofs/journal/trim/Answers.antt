@@ -1,4 +1,4 @@
-use Rattle.std.proofs.Common.{◌≡◌, ◌+◌, ◌*◌, ◌∙◌, inl, Ok, Err, List, take, length, subst, sym, ap, ℕ, arith}
+use Rattle.std.proofs.Common.{◌≡◌, ◌∙◌, Ok, Err, take, length, subst, sym, ap, ℕ, arith}
 use Rattle.crash.specs.Sound.{content}
 use Rattle.crash.specs.Stays.{LeavesOnly}
 use Rattle.crash.specs.WriterState.{WriterState}

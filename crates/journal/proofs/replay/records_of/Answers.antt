@@ -1,10 +1,9 @@
-use Rattle.std.proofs.Common.{◌≡◌, ◌<◌, ◌≤◌, ◌+◌, ◌++◌, ◌∙◌, ℕ, List, Ok, length, drop, refl, sym, ap, ap₂, subst, arith}
+use Rattle.std.proofs.Common.{◌≡◌, ◌<◌, ◌+◌, ◌++◌, ◌∙◌, Ok, length, drop, refl, sym, ap, ap₂, subst, arith}
 use Rattle.std.specs.Prelude.{Option}
-use Rattle.disk.specs.Disk.{Life}
 use Rattle.paged_read.specs.Tail.{told}
 use Rattle.journal.specs.declared.frame.Found.{Found}
 use Rattle.journal.specs.Frame.{frame_len, records, whole_frames}
-use Rattle.journal.specs.Replay.{IsPlayed, LeavesReady, PlaysFrame}
+use Rattle.journal.specs.Replay.{IsPlayed, PlaysFrame}
 use Rattle.journal.proofs.Frames.{records-next, whole-next, records-end, whole-end}
 use Rattle.journal.proofs.Journals.{refused_later}
 use Rattle.journal.proofs.Replays.{all_refused, leaves_join, leaves_start}
