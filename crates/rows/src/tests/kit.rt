@@ -4,7 +4,7 @@ ghost use Rattle.cache.specs.Pages.{IsFresh};
 
 use super::snapshots::{Sealing, read_when_sealed};
 use cache::CacheRef;
-use disk::{Error, IoBuf, MemBlob, ReadOptions, StartedSync};
+use disk::{Error, IoBuf, MemBlob, StartedSync};
 use page::{EncodeSize, Sum, Write};
 use paged::{Writer, recover, wait_sync};
 use std::alloc::Global;
@@ -275,22 +275,6 @@ impl<H: Sum> Store<H> {
             Some(writer) => {
                 writer.read_up_to(&mut self.blob, &mut self.cache, place, len, bytes)
             }
-            None => Err(NO_WRITER),
-        }
-    }
-
-    /// What a scan of the first `max_size` bytes counts, where so many are proven.
-    pub fn scan(&mut self, proven: u64, max_size: u64) -> Result<u64, Error> {
-        let buffer_size = NonZeroUsize::new(64).unwrap_or(NonZeroUsize::MIN);
-        let options = ReadOptions::default();
-        match &self.writer {
-            Some(writer) => writer.recoverable_prefix_len_at_most(
-                &mut self.blob,
-                proven,
-                max_size,
-                buffer_size,
-                options,
-            ),
             None => Err(NO_WRITER),
         }
     }

@@ -1,5 +1,5 @@
 // Scans, and reads of a blob that nobody opened.
-use super::kit::{ABCD, CAPACITY, Call, EF, NO_VALUE, Page, Store, blob_bytes, new_cache};
+use super::kit::{ABCD, CAPACITY, EF, NO_VALUE, Page, blob_bytes, new_cache};
 use disk::{Blob, Error, IoBuf, MemBlob, ReadOptions};
 use page::{AddSum, Sum};
 use paged::{Recovery, Writer};
@@ -61,30 +61,6 @@ fn tail(
     len: usize,
 ) -> Result<(u64, IoBuf), Error> {
     tail_of::<MemBlob, AddSum>(blob, alloc, physical_size, len)
-}
-
-#[test]
-fn a_scan_counts_what_was_flushed(rt: HostRuntime) -> Result<(), Error> {
-    let mut store = Store::<AddSum>::empty(rt.alloc())?;
-    store.append(b"abcde")?;
-    assert_eq!(rt; store.scan(0, 100)?, 0);
-    store.sync()?;
-    let first = store.blob().calls().len();
-    assert_eq!(rt; store.scan(0, 0)?, 0);
-    assert_eq!(rt; store.blob().calls().len(), first);
-    assert_eq!(rt; store.scan(0, 100)?, 5);
-    assert_eq!(rt; store.scan(5, 100)?, 5);
-    assert_eq!(rt; store.scan(0, 3)?, 3);
-    store.append(b"f")?;
-    assert_eq!(rt; store.scan(0, 100)?, 5);
-    let reads = [
-        Call::ReadAt(0, 32),
-        Call::ReadAt(16, 16),
-        Call::ReadAt(0, 16),
-        Call::ReadAt(0, 32),
-    ];
-    assert!(rt; store.asks(first, &reads)?);
-    Ok(())
 }
 
 /// A blob of these pages.
