@@ -6,7 +6,7 @@ use paged::{Recovery, Writer};
 use std::alloc::Global;
 use std::num::{NonZeroU16, NonZeroUsize};
 
-// "efgh", whose sum is 19A, with its first byte changed, and "ij", whose sum is D3.
+// "efgh", whose sum is 0x19A, with its first byte changed, and "ij", whose sum is 0xD3.
 const DAMAGED: Page = [
     0x9A, 0x66, 0x67, 0x68, 0x00, 0x04, 0x00, 0x00, 0x01, 0x9A, 0x00, 0x00, 0x00, 0x00, 0x00, 0x00,
 ];
