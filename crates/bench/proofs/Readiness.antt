@@ -5,33 +5,33 @@ use Rattle.disk.specs.Disk.{Life}
 use Rattle.disk.specs.declared.error.Error.{Error}
 use Rattle.cache.specs.CacheState.{CacheState}
 use Rattle.cache.specs.Pages.{IsFresh}
-use Rattle.crash.specs.WriterState.{WriterState}
-use Rattle.crash.specs.Sound.{IsSound}
+use Rattle.writer_state.specs.WriterState.{WriterState}
+use Rattle.writer_state.specs.Sound.{IsSound}
 use Rattle.paged.specs.Caches.{ReadsOn, KeepsReads}
 use Rattle.paged.specs.Calls.{KeepsSound}
 use Rattle.bench.specs.Ready.{IsReady}
 
 -- a call gave this writer
-pub ready_on : (sum : List ℕ → ℕ) (w now : WriterState) (cache behind : CacheState)
+pub ready_on : (sum : List ℕ → ℕ) (w now : WriterState) (cache after : CacheState)
     (old new : Life) → IsReady sum w cache old → IsSound sum now new.present
-    → ReadsOn w now cache behind old new → (w.id < cache.ids_given → IsFresh cache → IsFresh behind)
-    → IsReady sum now behind new
-ready_on sum w now cache behind old new ready sound reads fresh = record {
+    → ReadsOn w now cache after old new → (w.id < cache.ids_given → IsFresh cache → IsFresh after)
+    → IsReady sum now after new
+ready_on sum w now cache after old new ready sound reads fresh = record {
   sound = sound;
   can = reads ready.can;
   fresh = fresh ready.can.given ready.fresh;
 }
 
 -- or an error
-pub ready_at_ok : (sum : List ℕ → ℕ) (w : WriterState) (cache behind : CacheState)
+pub ready_at_ok : (sum : List ℕ → ℕ) (w : WriterState) (cache after : CacheState)
     (old new : Life) (result : Result WriterState Error) → IsReady sum w cache old
     → IfOk result (λ now. IsSound sum now new.present)
-    → IfOk result (λ now. ReadsOn w now cache behind old new)
-    → (w.id < cache.ids_given → IsFresh cache → IsFresh behind)
-    → IfOk result (λ now. IsReady sum now behind new)
-ready_at_ok sum w cache behind old new (Ok now) ready sound reads fresh =
-    ready_on sum w now cache behind old new ready sound reads fresh
-ready_at_ok sum w cache behind old new (Err e) ready sound reads fresh = tt
+    → IfOk result (λ now. ReadsOn w now cache after old new)
+    → (w.id < cache.ids_given → IsFresh cache → IsFresh after)
+    → IfOk result (λ now. IsReady sum now after new)
+ready_at_ok sum w cache after old new (Ok now) ready sound reads fresh =
+    ready_on sum w now cache after old new ready sound reads fresh
+ready_at_ok sum w cache after old new (Err e) ready sound reads fresh = tt
 
 -- no device was asked
 pub ready_tried : (sum : List ℕ → ℕ) (w now : WriterState) (cache : CacheState) (life : Life)
@@ -43,10 +43,10 @@ ready_tried sum w now cache life ready sound reads = record {
   fresh = ready.fresh;
 }
 
-pub ready_same : (sum : List ℕ → ℕ) (w now : WriterState) (cache behind : CacheState)
-    (old new : Life) → w ≡ now → cache ≡ behind → old ≡ new → IsReady sum now behind new
+pub ready_same : (sum : List ℕ → ℕ) (w now : WriterState) (cache after : CacheState)
+    (old new : Life) → w ≡ now → cache ≡ after → old ≡ new → IsReady sum now after new
     → IsReady sum w cache old
-ready_same sum w now cache behind old new same_writer same_cache same_life ready =
+ready_same sum w now cache after old new same_writer same_cache same_life ready =
     subst (λ (v : WriterState). IsReady sum v cache old) (sym same_writer)
     (subst (λ (c : CacheState). IsReady sum now c old) (sym same_cache)
-    (subst (λ (l : Life). IsReady sum now behind l) (sym same_life) ready))
+    (subst (λ (l : Life). IsReady sum now after l) (sym same_life) ready))

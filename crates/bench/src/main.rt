@@ -3,16 +3,19 @@
 //! With no argument each is played a few rounds, and a line says what it did: its operations, the
 //! logical bytes that they were asked for, and the pages and calls that the device was. With
 //! `time ROUNDS` it says what each operation took, and with `time ROUNDS NAME` it plays only the
-//! workloads whose line has that name in it.
+//! workloads whose line has that name in it. With `file PATH APPENDS` it appends to a new file,
+//! each append with a sync, and says what that took beside the same calls on a plain file.
 #![tactic(auto)]
 
 mod done;
+mod files;
 mod play;
 mod reads;
 mod stage;
 mod work;
 mod workload;
 
+use crate::files::compare;
 use crate::play::play;
 use crate::workload::workloads;
 use anyhow::Result;
@@ -67,7 +70,24 @@ fn command<'a>(alloc: Global) -> Result<Command<'a>> {
         .arg(name)?;
     let command = Command::new(alloc, "bench")
         .about("plays workloads on a blob in memory")
-        .subcommand(time)?;
+        .subcommand(time)?
+        .subcommand(file_command(alloc)?)?;
+    Ok(command)
+}
+
+/// The part of the command line that is for a file.
+fn file_command<'a>(alloc: Global) -> Result<Command<'a>> {
+    let path = Arg::new(alloc, "PATH")
+        .help("a file that isn't there yet; it is removed again")
+        .required(true);
+    let appends = Arg::new(alloc, "APPENDS")
+        .help("how many appends of 100 bytes, each with a sync")
+        .value_parser(value_parser!(u64).range(1..))
+        .required(true);
+    let command = Command::new(alloc, "file")
+        .about("times appends on a file, beside the same calls on a plain one")
+        .arg(path)?
+        .arg(appends)?;
     Ok(command)
 }
 
@@ -97,6 +117,12 @@ fn main(rt: HostRuntime) -> Result<ExitCode> {
             return Ok(ExitCode::from(error.exit_code() as u8));
         }
     };
+    if let Some(words) = matches.subcommand_matches("file") {
+        let path = words.get_str("PATH").unwrap_or_default();
+        let appends = words.get_one::<u64>("APPENDS").unwrap_or(1);
+        println!(rt; "{}", compare::<Crc32c>(&rt, path, appends)?)?;
+        return Ok(ExitCode::SUCCESS);
+    }
     let request = Request::of(&matches);
     play_all::<ConstSum>(&rt, &request, "const")?;
     play_all::<AddSum>(&rt, &request, "add")?;

@@ -77,9 +77,9 @@ fn append_round<H: Sum>(
     record: &[u8],
     owned: &IoBuf,
 ) -> Result<Writer<Device, H>, Error>
-    requires { IsReady H.sum_of writer stage.old.cache (life_of stage.old.blob.inner) }
+    requires { IsReady H.sum_of writer stage.old.cache (life_of stage.old.blob.inner.history) }
     ensures { IfOk result (λ writer.
-        IsReady H.sum_of writer stage.new.cache (life_of stage.new.blob.inner)) }
+        IsReady H.sum_of writer stage.new.cache (life_of stage.new.blob.inner.history)) }
 {
     let count = workload.count;
     let (blob, cache) = (&mut stage.blob, &mut stage.cache);
@@ -96,7 +96,7 @@ fn append_round<H: Sum>(
     }
 }
 
-/// A writer of the stage's blob, emptied, behind so many appends of a record, and a sync where
+/// A writer of the stage's blob, emptied, after so many appends of a record, and a sync where
 /// asked.
 fn filled<H: Sum>(
     stage: &mut Stage,
@@ -106,7 +106,7 @@ fn filled<H: Sum>(
 ) -> Result<Writer<Device, H>, Error>
     requires { IsFresh stage.old.cache }
     ensures { IfOk result (λ writer.
-        IsReady H.sum_of writer stage.new.cache (life_of stage.new.blob.inner)) }
+        IsReady H.sum_of writer stage.new.cache (life_of stage.new.blob.inner.history)) }
 {
     let writer = stage.restart::<H>()?;
     let (blob, cache) = (&mut stage.blob, &mut stage.cache);
@@ -136,7 +136,7 @@ fn play_reads<H: Sum>(
         &mut stage,
         &writer,
         workload,
-        &reads.places,
+        &reads.offsets,
         rounds,
         done,
     )
@@ -147,16 +147,16 @@ fn read_rounds<H: Sum>(
     stage: &mut Stage,
     writer: &Writer<Device, H>,
     workload: &Workload,
-    places: &[u64],
+    offsets: &[u64],
     rounds: u64,
     done: &mut Done,
 ) -> Result<()>
-    requires { IsReady H.sum_of writer.now stage.old.cache (life_of stage.old.blob.inner) }
+    requires { IsReady H.sum_of writer.now stage.old.cache (life_of stage.old.blob.inner.history) }
 {
     let mut buf = record(rt.alloc(), workload.bytes())?;
     for _ in 0..rounds {
         let start = Start::now(rt, &stage.blob)?;
-        read_round(writer, stage, workload, &mut buf, places)?;
+        read_round(writer, stage, workload, &mut buf, offsets)?;
         start.end(rt, &stage.blob, done)?;
     }
     Ok(())
@@ -167,19 +167,19 @@ fn read_round<H: Sum>(
     stage: &mut Stage,
     workload: &Workload,
     buf: &mut [u8],
-    places: &[u64],
+    offsets: &[u64],
 ) -> Result<(), Error>
-    requires { IsReady H.sum_of writer.now stage.old.cache (life_of stage.old.blob.inner) }
-    ensures { IsReady H.sum_of writer.now stage.new.cache (life_of stage.new.blob.inner) }
+    requires { IsReady H.sum_of writer.now stage.old.cache (life_of stage.old.blob.inner.history) }
+    ensures { IsReady H.sum_of writer.now stage.new.cache (life_of stage.new.blob.inner.history) }
 {
     let (blob, cache) = (&mut stage.blob, &mut stage.cache);
     match workload.work {
-        Work::ReadTip(len) | Work::ReadBelow(len) => read_all(writer, blob, cache, places, len),
+        Work::ReadTip(len) | Work::ReadBelow(len) => read_all(writer, blob, cache, offsets, len),
         Work::ReadMany(len, _) => {
             let len = NonZeroUsize::new(len).unwrap_or(NonZeroUsize::MIN);
-            read_many_all(writer, blob, cache, buf, places, len, workload.count)
+            read_many_all(writer, blob, cache, buf, offsets, len, workload.count)
         }
-        _ => read_into_all(writer, blob, cache, buf, places),
+        _ => read_into_all(writer, blob, cache, buf, offsets),
     }
 }
 

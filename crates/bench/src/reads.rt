@@ -17,7 +17,7 @@ const SPAN: u64 = 4 << 20;
 /// What a workload reads: where its reads begin, and the blob of which it reads.
 #[derive(Drop)]
 pub struct Reads {
-    pub places: Vec<u64>,
+    pub offsets: Vec<u64>,
     /// The logical bytes of the blob, or some less.
     pub size: u64,
     /// Whether the blob is synced, so that full pages are read.
@@ -31,7 +31,7 @@ impl Reads {
     /// stand in the tip.
     pub fn of(alloc: Global, workload: &Workload) -> Result<Self> {
         let (count, len) = (workload.count, workload.bytes() as u64);
-        let (places, end, cached) = match workload.work {
+        let (offsets, end, cached) = match workload.work {
             Work::ReadRandom(_, cached) => (scattered(alloc, count, SPAN)?, SPAN, cached),
             Work::ReadMany(len, cached) => {
                 let part = SPAN / MANY as u64;
@@ -51,7 +51,7 @@ impl Reads {
         let synced = !matches!(workload.work, Work::ReadTip(_));
         let spare = if synced { u64::from(PAGE_SIZE) } else { 0 };
         Ok(Reads {
-            places,
+            offsets,
             size: end.saturating_add(spare),
             synced,
             cached,
@@ -59,48 +59,48 @@ impl Reads {
     }
 }
 
-/// Places that begin so many bytes apart, the first at 0.
+/// Offsets that begin so many bytes apart, the first at 0.
 fn strided(alloc: Global, count: u64, stride: u64) -> Result<Vec<u64>> {
-    let places = (0..count).map(|i| i.saturating_mul(stride)).collect(alloc)?;
-    Ok(places)
+    let offsets = (0..count).map(|i| i.saturating_mul(stride)).collect(alloc)?;
+    Ok(offsets)
 }
 
-/// Places below `span` at random, and the same ones each time: the upper bits of a linear
+/// Offsets below `span` at random, and the same ones each time: the upper bits of a linear
 /// congruential generator, with the numbers that Knuth's MMIX takes.
 fn scattered(alloc: Global, count: u64, span: u64) -> Result<Vec<u64>> {
-    let mut places = Vec::new(alloc);
+    let mut offsets = Vec::new(alloc);
     let mut state = 1u64;
     for _ in 0..count {
         state = state
             .wrapping_mul(6_364_136_223_846_793_005)
             .wrapping_add(1_442_695_040_888_963_407);
-        places.push((state >> 33) % span.max(1))?;
+        offsets.push((state >> 33) % span.max(1))?;
     }
-    Ok(places)
+    Ok(offsets)
 }
 
-/// One such place in each of `count` parts of `part` bytes, `len` bytes before its end or further.
+/// One such offset in each of `count` parts of `part` bytes, `len` bytes before its end or further.
 fn spread(alloc: Global, count: u64, part: u64, len: u64) -> Result<Vec<u64>> {
-    let mut places = Vec::new(alloc);
+    let mut offsets = Vec::new(alloc);
     let mut begin = 0u64;
     let within = scattered(alloc, count, part.saturating_sub(len))?;
-    for &place in &within {
-        places.push(begin.saturating_add(place))?;
+    for &offset in &within {
+        offsets.push(begin.saturating_add(offset))?;
         begin = begin.saturating_add(part);
     }
-    Ok(places)
+    Ok(offsets)
 }
 
-/// Whether ranges of `len` bytes at these places are in order, without overlaps.
-pub fn are_in_order(places: &[u64], len: usize) -> bool
-    ensures { result ≡ true → AreInOrder (ranges_of len places.now) }
+/// Whether ranges of `len` bytes at these offsets are in order, without overlaps.
+pub fn are_in_order(offsets: &[u64], len: usize) -> bool
+    ensures { result ≡ true → AreInOrder (ranges_of len offsets.now) }
 {
     let mut end = 0u64;
-    for &place in places {
-        if place < end {
+    for &offset in offsets {
+        if offset < end {
             return false;
         }
-        let Some(next) = place.checked_add(len as u64) else {
+        let Some(next) = offset.checked_add(len as u64) else {
             return false;
         };
         end = next;

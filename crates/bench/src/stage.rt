@@ -1,5 +1,5 @@
 // The blob that workloads are played on.
-ghost use Rattle.std.specs.Prelude.{◌≡◌, IfOk};
+ghost use Rattle.std.specs.Prelude.{◌≡◌, length, IfOk};
 ghost use Rattle.cache.specs.Pages.{IsFresh};
 ghost use Rattle.disk.specs.History.{life_of};
 ghost use Rattle.bench.specs.Ready.{IsReady};
@@ -57,7 +57,7 @@ impl Stage {
     pub fn restart<H: Sum>(&mut self) -> Result<Writer<Device, H>, Error>
         requires { IsFresh self.old.cache }
         ensures { IfOk result (λ writer.
-            IsReady H.sum_of writer self.new.cache (life_of self.new.blob.inner)) }
+            IsReady H.sum_of writer self.new.cache (life_of self.new.blob.inner.history)) }
     {
         self.blob.resize(0)?;
         self.recover::<H>(NonZeroUsize::MIN)
@@ -67,17 +67,31 @@ impl Stage {
     pub fn recover<H: Sum>(&mut self, buffer_size: NonZeroUsize) -> Result<Writer<Device, H>, Error>
         requires { IsFresh self.old.cache }
         ensures { IfOk result (λ writer.
-            IsReady H.sum_of writer self.new.cache (life_of self.new.blob.inner)) }
+            IsReady H.sum_of writer self.new.cache (life_of self.new.blob.inner.history)) }
     {
         let size = self.blob.inner.len();
-        let recovery = recover::<Device, H>(
+        recovered(
             self.alloc,
             &mut self.blob,
             size,
-            CAPACITY,
             &mut self.cache,
             buffer_size,
-        )?;
-        Ok(Writer::from(recovery))
+        )
     }
+}
+
+/// The writer of a blob of `size` physical bytes, recovered with a buffer of so many bytes.
+pub fn recovered<B: Blob, H: Sum>(
+    alloc: Global,
+    blob: &mut B,
+    size: u64,
+    cache: &mut CacheRef,
+    buffer_size: NonZeroUsize,
+) -> Result<Writer<B, H>, Error>
+    requires fresh { IsFresh cache.old }
+    requires length { size ≡ length (B.life blob.old).present.readable }
+    ensures { IfOk result (λ writer. IsReady H.sum_of writer cache.new (B.life blob.new)) }
+{
+    let recovery = recover::<B, H>(alloc, blob, size, CAPACITY, cache, buffer_size)?;
+    Ok(Writer::from(recovery))
 }

@@ -107,63 +107,63 @@ pub fn append_started<B: Blob, H: Sum>(
     Ok(writer)
 }
 
-/// A read of so many bytes at each of these places.
+/// A read of so many bytes at each of these offsets.
 pub fn read_all<B: Blob, H: Sum>(
     writer: &Writer<B, H>,
     blob: &mut B,
     cache: &mut CacheRef,
-    places: &[u64],
+    offsets: &[u64],
     len: usize,
 ) -> Result<(), Error>
     requires { IsReady H.sum_of writer.now cache.old (B.life blob.old) }
     ensures { IsReady H.sum_of writer.now cache.new (B.life blob.new) }
 {
-    for &place in places {
-        writer.read_at(blob, cache, place, len)?;
+    for &offset in offsets {
+        writer.read_at(blob, cache, offset, len)?;
     }
     Ok(())
 }
 
-/// A read into a buffer at each of these places.
+/// A read into a buffer at each of these offsets.
 pub fn read_into_all<B: Blob, H: Sum>(
     writer: &Writer<B, H>,
     blob: &mut B,
     cache: &mut CacheRef,
     buf: &mut [u8],
-    places: &[u64],
+    offsets: &[u64],
 ) -> Result<(), Error>
     requires { IsReady H.sum_of writer.now cache.old (B.life blob.old) }
     ensures { IsReady H.sum_of writer.now cache.new (B.life blob.new) }
 {
-    for &place in places {
-        writer.read_into(blob, cache, buf, place)?;
+    for &offset in offsets {
+        writer.read_into(blob, cache, buf, offset)?;
     }
     Ok(())
 }
 
-/// So many reads into a buffer, each of `len` bytes at each of these places. `OffsetOverflow` where
-/// these overlap or aren't in order, or don't fill the buffer.
+/// So many reads into a buffer, each of `len` bytes at each of these offsets. `OffsetOverflow`
+/// where these overlap or aren't in order, or don't fill the buffer.
 pub fn read_many_all<B: Blob, H: Sum>(
     writer: &Writer<B, H>,
     blob: &mut B,
     cache: &mut CacheRef,
     buf: &mut [u8],
-    places: &[u64],
+    offsets: &[u64],
     len: NonZeroUsize,
     count: u64,
 ) -> Result<(), Error>
     requires { IsReady H.sum_of writer.now cache.old (B.life blob.old) }
     ensures { IsReady H.sum_of writer.now cache.new (B.life blob.new) }
 {
-    let room = places
+    let room = offsets
         .len()
         .checked_mul(len.get())
         .ok_or(Error::OffsetOverflow)?;
-    if room != buf.len() || !are_in_order(places, len.get()) {
+    if room != buf.len() || !are_in_order(offsets, len.get()) {
         return Err(Error::OffsetOverflow);
     }
     for _ in 0..count {
-        writer.read_many_into(blob, cache, buf, places, len)?;
+        writer.read_many_into(blob, cache, buf, offsets, len)?;
     }
     Ok(())
 }

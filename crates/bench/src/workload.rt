@@ -1,7 +1,7 @@
 // What is played.
 use crate::stage::PAGE_SIZE;
 
-/// How many places one call reads, where it reads many.
+/// How many offsets one call reads, where it reads many.
 pub const MANY: usize = 64;
 
 /// What an operation of a workload does. Bytes are logical.
@@ -13,7 +13,7 @@ pub enum Work {
     TryAppend(usize),
     /// Appends a buffer of so many bytes.
     AppendOwned(usize),
-    /// Appends so many bytes, with a sync behind every so many appends.
+    /// Appends so many bytes, with a sync after every so many appends.
     AppendSynced(usize, u64),
     /// The same, with a sync that is started and waited for.
     AppendStarted(usize, u64),
@@ -23,7 +23,7 @@ pub enum Work {
     ReadBelow(usize),
     /// Reads so many bytes of them at random, where the cache holds all pages, or else one.
     ReadRandom(usize, bool),
-    /// Reads so many bytes at each of `MANY` places in one call, where it holds all, or else one.
+    /// Reads so many bytes at each of `MANY` offsets in one call, where it holds all, or else one.
     ReadMany(usize, bool),
     /// Reads so many bytes of them, each time the next.
     ReadThrough(usize),

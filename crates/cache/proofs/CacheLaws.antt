@@ -5,8 +5,7 @@ use Rattle.std.proofs.lemmas.Bool.{cases_lt, cases_order}
 use Rattle.std.proofs.lemmas.Bool.Decides.{nat_tests}
 use Rattle.std.proofs.lemmas.Option.{same_Some}
 use Rattle.std.proofs.Math.Nat.{mul-le-mul_right}
-use Rattle.cache.specs.CacheState.{CacheState, same_key, held, empty_cache, SameSettings}
-use Rattle.cache.specs.CacheState.{OthersStay, IsHeld, one_skipped, PutGoes, Puts, PutsAll}
+use Rattle.cache.specs.CacheState.{CacheState, same_key, held, empty_cache, SameSettings, OthersStay, IsHeld, one_skipped, PutGoes, Puts, PutsAll}
 use Rattle.cache.specs.Pages.{page_of_content, IsTrueFor, IsFresh, KeyGoes, CachesOnly}
 
 -- two keys are the same or not
@@ -104,9 +103,9 @@ pub caches_true : (id from : ℕ) (content : List ℕ) (mine : ℕ) (my_content 
 caches_true id from content mine my_content tip old new caches apart true_old p bytes below there = elim (caches.each (mine, p)) [
   | inl stays ↦ true_old p bytes below (sym stays ∙ there) ∙ ap (λ (P : ℕ). page_of_content P my_content p) (sym caches.settings.page_size)
   | inr (inl goes) ↦ absurd (cc (goes, there))
-  | inr (inr (same, behind, full, now)) ↦ elim apart [
+  | inr (inr (same, after, full, now)) ↦ elim apart [
     | inl other ↦ absurd (other same)
-    | inr low ↦ absurd (omega (arith, below, behind, low))
+    | inr low ↦ absurd (omega (arith, below, after, low))
   ]
 ]
 
@@ -115,7 +114,7 @@ pub read_true : (id : ℕ) (content : List ℕ) (tip from : ℕ) (old new : Cach
 read_true id content tip from old new caches true_old p bytes below there = elim (caches.each (id, p)) [
   | inl stays ↦ true_old p bytes below (sym stays ∙ there) ∙ ap (λ (P : ℕ). page_of_content P content p) (sym caches.settings.page_size)
   | inr (inl goes) ↦ absurd (cc (goes, there))
-  | inr (inr (same, behind, full, now)) ↦ same_Some bytes (page_of_content old.page_size content p) (sym there ∙ now) ∙ ap (λ (P : ℕ). page_of_content P content p) (sym caches.settings.page_size)
+  | inr (inr (same, after, full, now)) ↦ same_Some bytes (page_of_content old.page_size content p) (sym there ∙ now) ∙ ap (λ (P : ℕ). page_of_content P content p) (sym caches.settings.page_size)
 ]
 
 -- the content may grow: what is below the tip is the beginning that it was
@@ -135,14 +134,14 @@ caches_none id from content cache = record { settings = record { page_size = ref
 
 -- one put
 pub caches_put : (id from page : ℕ) (content bytes : List ℕ) (old new : CacheState) → from ≤ page → (page + 1) * old.page_size ≤ length content → bytes ≡ page_of_content old.page_size content page → PutWeakly (id, page) bytes old new → CachesOnly id from content old new
-caches_put id from page content bytes old new behind full is puts = record {
+caches_put id from page content bytes old new after full is puts = record {
   settings = puts.settings;
   skipped = puts.skipped;
   each = λ key. elim (puts.each key) [
     | inl stays ↦ inl stays
     | inr (inl goes) ↦ inr (inl goes)
     | inr (inr (same, now)) ↦
-        inr (inr (ap (λ (k : ℕ × ℕ). k.0) same, omega (arith, behind, ap (λ (k : ℕ × ℕ). k.1) same), subst (λ (p : ℕ). (p + 1) * old.page_size ≤ length content) (sym (ap (λ (k : ℕ × ℕ). k.1) same)) full, now ∙ ap (λ (b : List ℕ). Some b) (is ∙ ap (λ (k : ℕ × ℕ). page_of_content old.page_size content k.1) (sym same))))
+        inr (inr (ap (λ (k : ℕ × ℕ). k.0) same, omega (arith, after, ap (λ (k : ℕ × ℕ). k.1) same), subst (λ (p : ℕ). (p + 1) * old.page_size ≤ length content) (sym (ap (λ (k : ℕ × ℕ). k.1) same)) full, now ∙ ap (λ (b : List ℕ). Some b) (is ∙ ap (λ (k : ℕ × ℕ). page_of_content old.page_size content k.1) (sym same))))
   ];
 }
 
@@ -159,11 +158,11 @@ caches_join id from content old mid new first second = record {
     | inl stays ↦ elim (first.each key) [
       | inl was ↦ inl (stays ∙ was)
       | inr (inl gone) ↦ inr (inl (stays ∙ gone))
-      | inr (inr (same, behind, full, now)) ↦ inr (inr (same, behind, full, stays ∙ now))
+      | inr (inr (same, after, full, now)) ↦ inr (inr (same, after, full, stays ∙ now))
     ]
     | inr (inl gone) ↦ inr (inl gone)
-    | inr (inr (same, behind, full, now)) ↦
-        inr (inr (same, behind, subst (λ (P : ℕ). (key.1 + 1) * P ≤ length content) first.settings.page_size full, now ∙ ap (λ (P : ℕ). Some (page_of_content P content key.1)) first.settings.page_size))
+    | inr (inr (same, after, full, now)) ↦
+        inr (inr (same, after, subst (λ (P : ℕ). (key.1 + 1) * P ≤ length content) first.settings.page_size full, now ∙ ap (λ (P : ℕ). Some (page_of_content P content key.1)) first.settings.page_size))
   ];
 }
 
@@ -202,8 +201,8 @@ page_here P page content = refl
 
 page_next : (P page : ℕ) (content : List ℕ) → drop P (drop (page * P) content) ≡ drop ((page + 1) * P) content
 page_next P page content =
-    let place : page * P + P ≡ (page + 1) * P = omega arith in
-    drop-drop P (page * P) content ∙ ap (λ (n : ℕ). drop n content) place
+    let offset : page * P + P ≡ (page + 1) * P = omega arith in
+    drop-drop P (page * P) content ∙ ap (λ (n : ℕ). drop n content) offset
 
 -- the settings stay
 pub put_all_settings : (id page count : ℕ) (bytes : List ℕ) (old new : CacheState) → PutsAll id page count bytes old new → SameSettings old new
@@ -231,8 +230,8 @@ puts_one_more id page (suc count) bytes old mid new (m, first, more) last =
     let weak = put_weakly (id, page) (take old.page_size bytes) old m first in
     let P : ℕ = old.page_size in
     let e : page + suc count ≡ page + 1 + count = omega arith in
-    let place : suc count * P ≡ P + count * P = omega arith in
-    let where_it_is : drop (suc count * P) bytes ≡ drop (count * P) (drop P bytes) = ap (λ (n : ℕ). drop n bytes) place ∙ sym (drop-drop (count * P) P bytes) in
+    let offset : suc count * P ≡ P + count * P = omega arith in
+    let where_it_is : drop (suc count * P) bytes ≡ drop (count * P) (drop P bytes) = ap (λ (n : ℕ). drop n bytes) offset ∙ sym (drop-drop (count * P) P bytes) in
     let at_next : Puts (id, page + 1 + count) (take P (drop (count * P) (drop P bytes))) mid new =
     subst (λ (p : ℕ). Puts (id, p) (take P (drop (count * P) (drop P bytes))) mid new) e
     (subst (λ (b : List ℕ). Puts (id, page + suc count) (take P b) mid new) where_it_is last) in
@@ -258,8 +257,8 @@ puts_all_true id page (suc count) content old new (mid, first, more) true_old =
 -- and all that it does to the cache is that
 pub puts_all_caches : (id from page count : ℕ) (content : List ℕ) (old new : CacheState) → from ≤ page → (page + count) * old.page_size ≤ length content
     → PutsAll id page count (drop (page * old.page_size) content) old new → CachesOnly id from content old new
-puts_all_caches id from page zero content old new behind within same = subst (λ (c : CacheState). CachesOnly id from content old c) (sym same) (caches_none id from content old)
-puts_all_caches id from page (suc count) content old new behind within (mid, first, more) =
+puts_all_caches id from page zero content old new after within same = subst (λ (c : CacheState). CachesOnly id from content old c) (sym same) (caches_none id from content old)
+puts_all_caches id from page (suc count) content old new after within (mid, first, more) =
     let weak = put_weakly (id, page) (take old.page_size (drop (page * old.page_size) content)) old mid first in
     let P : ℕ = old.page_size in
     let rest : PutsAll id (page + 1) count (drop ((page + 1) * mid.page_size) content) mid new =
@@ -268,8 +267,8 @@ puts_all_caches id from page (suc count) content old new behind within (mid, fir
     let later : (page + 1 + count) * mid.page_size ≤ length content =
     subst (λ (Q : ℕ). (page + 1 + count) * Q ≤ length content) (sym weak.settings.page_size) (subst (λ (n : ℕ). n * P ≤ length content) (sym e) within) in
     let low : (page + 1) * P ≤ (page + suc count) * P = mul-le-mul_right P (omega arith) in
-    caches_join id from content old mid new (caches_put id from page content (page_of_content P content page) old mid behind (omega (arith, low, within)) refl weak)
-    (puts_all_caches id from (page + 1) count content mid new (omega (arith, behind)) later rest)
+    caches_join id from content old mid new (caches_put id from page content (page_of_content P content page) old mid after (omega (arith, low, within)) refl weak)
+    (puts_all_caches id from (page + 1) count content mid new (omega (arith, after)) later rest)
 
 -- ---- an example: a cache of two pages of four bytes; "abcd" and "efgh" are put, and "ABCD" over the first
 
@@ -298,7 +297,7 @@ pub fresh_stays : (id from : ℕ) (content : List ℕ) (old new : CacheState) �
 fresh_stays id from content old new given caches fresh key later = elim (caches.each key) [
   | inl stays ↦ stays ∙ fresh key (omega (arith, later, caches.settings.ids_given))
   | inr (inl goes) ↦ goes
-  | inr (inr (same, behind, full, now)) ↦ absurd (omega (arith, given, later, same, caches.settings.ids_given))
+  | inr (inr (same, after, full, now)) ↦ absurd (omega (arith, given, later, same, caches.settings.ids_given))
 ]
 
 -- nor does giving one
@@ -312,6 +311,6 @@ caches_true_same id from content my_content tip old new caches same true_old p b
     elim (caches.each (id, p)) [
       | inl stays ↦ true_old p bytes below (sym stays ∙ there) ∙ ap (λ (P : ℕ). page_of_content P my_content p) (sym caches.settings.page_size)
       | inr (inl goes) ↦ absurd (cc (goes, there))
-      | inr (inr (mine, behind, full, now)) ↦
+      | inr (inr (mine, after, full, now)) ↦
           same_Some bytes (page_of_content old.page_size content p) (sym there ∙ now) ∙ same p below ∙ ap (λ (P : ℕ). page_of_content P my_content p) (sym caches.settings.page_size)
     ]

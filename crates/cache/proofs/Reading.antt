@@ -1,14 +1,11 @@
 -- Bytes copied from pages that are held.
-use Rattle.std.proofs.Common.{◌≡◌, ◌∙◌, ◌⊎◌, inl, inr, ℕ, ◌+◌, ◌-◌, ◌*◌, ◌/◌, ◌%◌, ◌<◌, ◌≤◌, List, []}
-use Rattle.std.proofs.Common.{◌∷◌, ◌++◌, zero, suc, length, take, drop, sym, ap, subst, refl, arith}
-use Rattle.std.proofs.Common.{drop-drop, length-take, length-drop, length-append, slice_index_or, append-nil}
+use Rattle.std.proofs.Common.{◌≡◌, ◌∙◌, ◌⊎◌, inl, inr, ℕ, ◌+◌, ◌-◌, ◌*◌, ◌/◌, ◌%◌, ◌<◌, ◌≤◌, List, [], ◌∷◌, ◌++◌, zero, suc, length, take, drop, sym, ap, subst, refl, arith, drop-drop, length-take, length-drop, length-append, slice_index_or, append-nil}
 use Rattle.std.proofs.Math.Seq.{drop-append_seam}
 use Rattle.std.proofs.lemmas.List.Elements.{filter-append}
 use Rattle.std.specs.Prelude.{Option, Some, None, slice_get}
 use Rattle.std.proofs.lemmas.Option.{slice_get_within}
 use Rattle.std.proofs.Math.Nat.{mod-lt, div-eq_of_lt, mod-eq_of_lt, add-mul-div_right, add-mul-mod_self_right, mod-add-div'}
-use Rattle.cache.specs.CacheState.{CacheState, held, HoldsByte, put_at}
-use Rattle.cache.specs.CacheState.{with_piece, with_pieces, pieces_left}
+use Rattle.cache.specs.CacheState.{CacheState, held, HoldsByte, put_at, with_piece, with_pieces, pieces_left}
 use Rattle.cache.specs.declared.piece.Piece.{Piece}
 use Rattle.std.proofs.lemmas.List.{take_more}
 
@@ -39,7 +36,7 @@ dropped_element (suc n) (x ∷ xs) i =
     dropped_element n xs i
     ∙ ap (slice_get (x ∷ xs)) (let e : suc (n + i) ≡ suc n + i = omega arith in e)
 
--- a place of the same page
+-- an offset of the same page
 same_page : (P a j : ℕ) → 0 < P → a % P + j < P → ((a + j) / P ≡ a / P) × ((a + j) % P ≡ a % P + j)
 same_page P a j some low =
     let split : a + j ≡ a % P + j + a / P * P = omega (arith, mod-add-div' a P) in (
@@ -63,16 +60,16 @@ copied_more cache id offset done len page before so_far there some fits size wit
             let below = slice_get_within (take done before) i byte first in
             so_far i byte (omega (arith, below, length-take done before))
             (taken_element done before i byte first)
-        | inr (j, place, here) ↦
+        | inr (j, is_at, here) ↦
             let in_mid = slice_get_within mid j byte here in
             let few : j < len = omega (arith, in_mid, length-take len (drop skip page)) in
             let parts = same_page P (offset + done) j some (omega (arith, few, fits)) in
-            let at_place : offset + done + j ≡ offset + i =
-            omega (arith, place, length-take done before, within) in (
+            let at_offset : offset + done + j ≡ offset + i =
+            omega (arith, is_at, length-take done before, within) in (
               page,
-              ap (λ n. held cache (id, n / P)) (sym at_place)
+              ap (λ n. held cache (id, n / P)) (sym at_offset)
                   ∙ ap (λ n. held cache (id, n)) parts.0 ∙ there,
-              ap (λ n. slice_get page (n % P)) (sym at_place)
+              ap (λ n. slice_get page (n % P)) (sym at_offset)
                   ∙ ap (slice_get page) parts.1 ∙ sym (dropped_element skip page j)
                   ∙ taken_element len (drop skip page) j byte here,
             )
@@ -108,25 +105,25 @@ pub record HasCome (cache : CacheState) (id offset most done : ℕ) (before now 
       → HoldsByte cache id (offset + i) byte
   pub rest : drop done now ≡ drop done before
 
-put_length : (place : ℕ) (bytes buf : List ℕ) → place + length bytes ≤ length buf
-    → length (put_at place bytes buf) ≡ length buf
-put_length place bytes buf fits =
+put_length : (offset : ℕ) (bytes buf : List ℕ) → offset + length bytes ≤ length buf
+    → length (put_at offset bytes buf) ≡ length buf
+put_length offset bytes buf fits =
     omega (
       arith,
-      length-append (take place buf ++ bytes) (drop (place + length bytes) buf),
-      length-append (take place buf) bytes,
-      length-take place buf,
-      length-drop (place + length bytes) buf,
+      length-append (take offset buf ++ bytes) (drop (offset + length bytes) buf),
+      length-append (take offset buf) bytes,
+      length-take offset buf,
+      length-drop (offset + length bytes) buf,
       fits,
     )
 
-put_rest : (place : ℕ) (bytes buf : List ℕ) → place + length bytes ≤ length buf
-    → drop (place + length bytes) (put_at place bytes buf) ≡ drop (place + length bytes) buf
-put_rest place bytes buf fits =
-    let front : length (take place buf ++ bytes) ≡ place + length bytes =
-    omega (arith, length-append (take place buf) bytes, length-take place buf, fits) in
-    ap (λ n. drop n (put_at place bytes buf)) (sym front)
-    ∙ drop-append_seam (take place buf ++ bytes) (drop (place + length bytes) buf)
+put_rest : (offset : ℕ) (bytes buf : List ℕ) → offset + length bytes ≤ length buf
+    → drop (offset + length bytes) (put_at offset bytes buf) ≡ drop (offset + length bytes) buf
+put_rest offset bytes buf fits =
+    let front : length (take offset buf ++ bytes) ≡ offset + length bytes =
+    omega (arith, length-append (take offset buf) bytes, length-take offset buf, fits) in
+    ap (λ n. drop n (put_at offset bytes buf)) (sym front)
+    ∙ drop-append_seam (take offset buf ++ bytes) (drop (offset + length bytes) buf)
 
 -- one page more of it
 pub come_more : (cache : CacheState) (id offset most done len p skip : ℕ)

@@ -1,6 +1,5 @@
 -- The kit's cache of pages in this crate's words.
-use Rattle.std.proofs.Common.{◌≡◌, ◌∙◌, ℕ, ◌-◌, ◌<◌, ◌≤◌, Bool, true, false, cond, List, [], ◌∷◌}
-use Rattle.std.proofs.Common.{length, take, zero, suc, Vec, refl, ap, sym, subst, arith, is_some}
+use Rattle.std.proofs.Common.{◌≡◌, ◌∙◌, ℕ, ◌-◌, ◌<◌, ◌≤◌, Bool, true, false, cond, List, [], ◌∷◌, length, take, zero, suc, Vec, refl, ap, sym, subst, arith, is_some}
 use Rattle.std.specs.Prelude.{Option, Some, None, option_map, map}
 use Rattle.std.specs.List.{AllByRecursion, IsDistinct}
 use Rattle.std.specs.Map.{lookup, lookup_entry, set_value, keys_of}
@@ -11,7 +10,7 @@ use Rattle.std.proofs.lemmas.Map.{none_passes_from_lookup, keys-set_value, lengt
 use Rattle.std.proofs.lemmas.List.{length-take-le}
 use Rattle.lru.specs.LruCache.{LruCache, put_entries}
 use Rattle.cache.specs.CacheState.{same_key}
-use Rattle.cache.specs.Kept.{pages_of, with_page, AreOfSize, IsKept}
+use Rattle.cache.specs.Kept.{pages_of, with_page, AreOfSize, IsOfCapacity}
 use Rattle.cache.proofs.LruLaws.{same_itself}
 
 abbrev Entries : Type 0
@@ -113,8 +112,8 @@ sizes_overwritten P test (e ∷ es) bytes size are =
         (are.0, rest)
 
 pub kept_overwritten : (P capacity : ℕ) (key : ℕ × ℕ) (pages : Pages) (bytes : List ℕ)
-    → length bytes ≡ P → IsKept P capacity pages
-    → IsKept P capacity (set_value (same_key key) pages bytes)
+    → length bytes ≡ P → IsOfCapacity P capacity pages
+    → IsOfCapacity P capacity (set_value (same_key key) pages bytes)
 kept_overwritten P capacity key pages bytes size kept = record {
   sizes = sizes_overwritten P (same_key key) pages bytes size kept.sizes;
   distinct = subst (IsDistinct same_key) (sym (keys-set_value (same_key key) pages bytes)) kept.distinct;
@@ -158,8 +157,8 @@ take_within (suc n) [] = omega arith
 take_within (suc n) (e ∷ es) = let rest = take_within n es in omega (arith, rest)
 
 pub kept_added : (P capacity : ℕ) (key : ℕ × ℕ) (pages : Pages) (bytes : List ℕ)
-    → length bytes ≡ P → lookup (same_key key) pages ≡ None → IsKept P capacity pages
-    → IsKept P capacity (with_page key bytes capacity pages)
+    → length bytes ≡ P → lookup (same_key key) pages ≡ None → IsOfCapacity P capacity pages
+    → IsOfCapacity P capacity (with_page key bytes capacity pages)
 kept_added P capacity key pages bytes size none kept =
     let short = take_within (capacity - 1) pages in
     record {

@@ -101,22 +101,22 @@ PutsAll id page (suc count) bytes old new =
     (mid : CacheState) × Puts (id, page) (take P bytes) old mid
     × PutsAll id (page + 1) count (drop P bytes) mid new
 
--- how many whole pages of so many bytes are put from this number on: none behind the greatest
+-- how many whole pages of so many bytes are put from this number on: none after the greatest
 abbrev pub put_count : (P page len : ℕ) → ℕ
 put_count P page len = min (len / P) (2 ^ 64 - page)
 
 -- ---- what is looked up
 
--- the byte at a logical place of a blob
-abbrev pub HoldsByte : CacheState → (id place byte : ℕ) → Type 0
-HoldsByte cache id place byte =
-    (page : List ℕ) × (held cache (id, place / cache.page_size) ≡ Some page)
-    × (slice_get page (place % cache.page_size) ≡ Some byte)
+-- the byte at a logical offset of a blob
+abbrev pub HoldsByte : CacheState → (id offset byte : ℕ) → Type 0
+HoldsByte cache id offset byte =
+    (page : List ℕ) × (held cache (id, offset / cache.page_size) ≡ Some page)
+    × (slice_get page (offset % cache.page_size) ≡ Some byte)
 
--- no page holds it, or there is no such place
-abbrev pub IsMissing : CacheState → (id place : ℕ) → Type 0
-IsMissing cache id place =
-    (2 ^ 64 ≤ place) ⊎ (held cache (id, place / cache.page_size) ≡ None)
+-- no page holds it, or there is no such offset
+abbrev pub IsMissing : CacheState → (id offset : ℕ) → Type 0
+IsMissing cache id offset =
+    (2 ^ 64 ≤ offset) ⊎ (held cache (id, offset / cache.page_size) ≡ None)
 
 -- the bytes of a blob from an offset on are copied up to the first that is missing; the rest of the
 -- buffer is as it was
@@ -130,19 +130,20 @@ pub record ReadsCached (cache : CacheState) (id offset : ℕ) (old new : List �
   pub ends : (count ≡ length old)
       ⊎ ((count < length old) × IsMissing cache id (offset + count))
 
--- bytes of a page for a place of a buffer
-abbrev pub put_at : (place : ℕ) → List ℕ → List ℕ → List ℕ
-put_at place bytes buf = take place buf ++ bytes ++ drop (place + length bytes) buf
+-- bytes of a page for an offset of a buffer
+abbrev pub put_at : (offset : ℕ) → List ℕ → List ℕ → List ℕ
+put_at offset bytes buf = take offset buf ++ bytes ++ drop (offset + length bytes) buf
 
 -- they are of one page, and there is room for them
 pub record IsPiece (P room : ℕ) (piece : Piece) : Type 0 where
   pub within : piece.skip + piece.len ≤ P
-  pub fits : piece.place + piece.len ≤ room
+  pub fits : piece.buf_offset + piece.len ≤ room
 
 -- a piece of a page that is held is copied, any other leaves the buffer
 abbrev pub with_piece : Option (List ℕ) → Piece → List ℕ → List ℕ
 with_piece None piece buf = buf
-with_piece (Some page) piece buf = put_at piece.place (take piece.len (drop piece.skip page)) buf
+with_piece (Some page) piece buf =
+    put_at piece.buf_offset (take piece.len (drop piece.skip page)) buf
 
 -- so for each of them, in order
 abbrev pub with_pieces : CacheState → (id : ℕ) → List Piece → List ℕ → List ℕ

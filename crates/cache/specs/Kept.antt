@@ -20,7 +20,7 @@ AreOfSize P [] = Unit {0}
 AreOfSize P (e ∷ es) = (length e.1 ≡ P) × AreOfSize P es
 
 -- what holds of the pages of a cache
-pub record IsKept (P capacity : ℕ) (pages : List ((ℕ × ℕ) × List ℕ)) : Type 0 where
+pub record IsOfCapacity (P capacity : ℕ) (pages : List ((ℕ × ℕ) × List ℕ)) : Type 0 where
   pub sizes : AreOfSize P pages
   pub distinct : IsDistinct same_key (keys_of pages)
   pub within : length pages ≤ capacity

@@ -7,7 +7,7 @@ use Rattle.cache.specs.CacheState.{CacheState, held, SameSettings}
 abbrev pub page_of_content : (P : ℕ) → List ℕ → (page : ℕ) → List ℕ
 page_of_content P content page = take P (drop (page * P) content)
 
--- each page that is held of this blob, and lies below a tip that begins behind so many pages, is
+-- each page that is held of this blob, and lies below a tip that begins after so many pages, is
 -- the content's
 abbrev pub IsTrueFor : (id : ℕ) → List ℕ → (tip : ℕ) → CacheState → Type 0
 IsTrueFor id content tip cache =

@@ -31,7 +31,7 @@ pub struct CacheRef {
 
 impl Model for CacheRef {
     ghost use Rattle.cache.specs.CacheState.{CacheState, ids_given};
-    ghost use Rattle.cache.specs.Kept.{pages_of, IsKept};
+    ghost use Rattle.cache.specs.Kept.{pages_of, IsOfCapacity};
     ghost use Rattle.std.specs.Int.NonZero.{non_zero_u16_get};
 
     ghost Value = { CacheState };
@@ -44,7 +44,7 @@ impl Model for CacheRef {
       skipped = c.skipped;
     } };
 
-    ghost invariant = { λ c. IsKept (non_zero_u16_get c.page_size) c.pages.cap
+    ghost invariant = { λ c. IsOfCapacity (non_zero_u16_get c.page_size) c.pages.cap
         (pages_of c.pages.entries) };
 }
 
@@ -95,7 +95,7 @@ impl CacheRef {
         self.page_size
     }
 
-    /// The page of a logical place, and how many bytes of that page stand before it.
+    /// The page of a logical offset, and how many bytes of that page stand before it.
     pub fn offset_to_page(&self, offset: u64) -> (u64, u64)
         ensures page { result.0 ≡ offset / self.now.page_size }
         ensures skip { result.1 ≡ offset % self.now.page_size }

@@ -24,7 +24,7 @@ impl CacheRef {
     }
 
     /// Puts the whole pages that `buf` begins with, the first of them the page that begins at
-    /// `offset`, in rising order, and answers how many bytes of `buf` stand behind them. A page
+    /// `offset`, in rising order, and answers how many bytes of `buf` stand after them. A page
     /// whose number would pass the greatest `u64` isn't put.
     pub fn cache(&mut self, id: u64, buf: &[u8], offset: u64) -> usize
         requires { offset % self.old.page_size ≡ 0 }
@@ -38,11 +38,11 @@ impl CacheRef {
         let size = usize::from(self.page_size.get());
         let first = offset / size as u64;
         // All pages of a buffer are fewer than this where it saturates.
-        let places = (u64::MAX - first).saturating_add(1);
-        let count = ((buf.len() / size) as u64).min(places) as usize;
+        let numbers = (u64::MAX - first).saturating_add(1);
+        let count = ((buf.len() / size) as u64).min(numbers) as usize;
         for index in 0..count {
-            let place = index * size;
-            self.keep(id, first + index as u64, &buf[place..place + size]);
+            let start = index * size;
+            self.keep(id, first + index as u64, &buf[start..start + size]);
         }
         buf.len() - count * size
     }

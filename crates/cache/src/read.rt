@@ -8,13 +8,13 @@ use crate::pages::page_at;
 use crate::piece::Piece;
 use disk::Error;
 
-/// Copies some bytes to a place of a buffer.
-fn copy_at(buf: &mut [u8], place: usize, bytes: &[u8])
-    requires { place + length bytes.now ≤ length buf.old }
-    ensures put { buf.new ≡ put_at place bytes.now buf.old }
+/// Copies some bytes to an offset of a buffer.
+fn copy_at(buf: &mut [u8], buf_offset: usize, bytes: &[u8])
+    requires { buf_offset + length bytes.now ≤ length buf.old }
+    ensures put { buf.new ≡ put_at buf_offset bytes.now buf.old }
     ensures size { length buf.new ≡ length buf.old }
 {
-    buf[place..place + bytes.len()].copy_from_slice(bytes);
+    buf[buf_offset..buf_offset + bytes.len()].copy_from_slice(bytes);
 }
 
 impl CacheRef {
@@ -27,13 +27,13 @@ impl CacheRef {
     }
 
     /// Copies the bytes of a blob from `offset` on into `buf`, as far as pages that are held have
-    /// them and no further than the greatest place, and answers how many. The rest of `buf` stays
+    /// them and no further than the greatest offset, and answers how many. The rest of `buf` stays
     /// as it was. It takes no memory.
     pub fn read_cached(&self, id: u64, buf: &mut [u8], offset: u64) -> usize
         ensures { ReadsCached self.now id offset buf.old buf.new result }
     {
-        let places = (u64::MAX - offset).saturating_add(1);
-        let most = (buf.len() as u64).min(places) as usize;
+        let offsets = (u64::MAX - offset).saturating_add(1);
+        let most = (buf.len() as u64).min(offsets) as usize;
         let mut done = 0;
         while done < most {
             let (page, skip) = self.offset_to_page(offset + done as u64);
@@ -63,7 +63,7 @@ impl CacheRef {
         let mut left = Vec::new(self.alloc);
         for piece in pieces {
             match self.page(id, piece.page) {
-                Some(page) => copy_at(buf, piece.place, &page[piece.skip..][..piece.len]),
+                Some(page) => copy_at(buf, piece.buf_offset, &page[piece.skip..][..piece.len]),
                 None => left.push(*piece)?,
             }
         }

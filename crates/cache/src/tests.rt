@@ -10,7 +10,7 @@ fn cache_of(rt: &HostRuntime, page_size: u16) -> Result<CacheRef, Error> {
 }
 
 #[test]
-fn places_are_told_by_page(rt: HostRuntime) -> Result<(), Error> {
+fn offsets_are_told_by_page(rt: HostRuntime) -> Result<(), Error> {
     let cache = cache_of(&rt, 103)?;
     assert_eq!(rt; cache.page_size().get(), 103);
     for (offset, want) in [(0, (0, 0)), (102, (0, 102)), (103, (1, 0)), (318, (3, 9))] {
@@ -84,10 +84,10 @@ fn nothing_is_put_past_the_greatest_number(rt: HostRuntime) -> Result<(), Error>
 fn pieces_are_read_or_left(rt: HostRuntime) -> Result<(), Error> {
     let mut cache = CacheRef::new(rt.alloc(), NonZeroU16::MIN, NonZeroUsize::MIN)?;
     assert_eq!(rt; cache.cache(7, b"a", 2), 0);
-    let piece = |page, place| Piece {
+    let piece = |page, buf_offset| Piece {
         page,
         skip: 0,
-        place,
+        buf_offset,
         len: 1,
     };
     let mut buf = *b"...";

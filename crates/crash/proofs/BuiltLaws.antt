@@ -188,15 +188,15 @@ pieces-built sum P durable (suc m) bytes =
     let rest = built sum P None m (drop P bytes) in
     let size : length page ≡ P + 12 = length-page_of sum P durable (take P bytes) (chunk_fits P bytes) in
     let head : take (P + 12) (page ++ rest) ≡ page = take_at page rest (P + 12) size in
-    let behind : drop (P + 12) (page ++ rest) ≡ rest = drop_at page rest (P + 12) size in
-    cc (head, ap (λ (l : List ℕ). pieces m (P + 12) l) behind ∙ pieces-built sum P None m (drop P bytes))
+    let after : drop (P + 12) (page ++ rest) ≡ rest = drop_at page rest (P + 12) size in
+    cc (head, ap (λ (l : List ℕ). pieces m (P + 12) l) after ∙ pieces-built sum P None m (drop P bytes))
 
 -- no page but the first carries the durable slot
-pub durable_behind : (k : ℕ) → durable_after None k ≡ None
-durable_behind zero = refl
-durable_behind (suc k) = refl
+pub durable_later : (k : ℕ) → durable_after None k ≡ None
+durable_later zero = refl
+durable_later (suc k) = refl
 
--- a page that was built, by its place
+-- a page that was built, by its offset
 pub built_pages_at : (sum : List ℕ → ℕ) (P : ℕ) (durable : Option ActiveChecksum) (m i : ℕ) (bytes : List ℕ) → i < m
     → slice_get (built_pages sum P durable m bytes) i ≡ Some (page_of sum P (durable_after durable i) (take P (drop (i * P) bytes)))
 built_pages_at sum P durable zero i bytes lt = absurd (omega arith)
@@ -204,7 +204,7 @@ built_pages_at sum P durable (suc m) zero bytes lt = let e : 0 * P ≡ 0 = omega
 built_pages_at sum P durable (suc m) (suc i) bytes lt =
     let e : P + i * P ≡ suc i * P = omega arith in
     built_pages_at sum P None m i (drop P bytes) (omega arith)
-    ∙ ap (λ (d : Option ActiveChecksum). Some (page_of sum P d (take P (drop (i * P) (drop P bytes))))) (durable_behind i)
+    ∙ ap (λ (d : Option ActiveChecksum). Some (page_of sum P d (take P (drop (i * P) (drop P bytes))))) (durable_later i)
     ∙ ap (λ (l : List ℕ). Some (page_of sum P None (take P l))) (drop-drop (i * P) P bytes ∙ ap (λ (n : ℕ). drop n bytes) e)
 
 -- one page more
@@ -217,7 +217,7 @@ built_pages_more sum P durable (suc m) bytes =
     let head = page_of sum P durable (take P bytes) in
     ap (λ (n : ℕ). built_pages sum P durable n bytes) e
     ∙ ap (λ (l : List (List ℕ)). head ∷ l) (built_pages_more sum P None m (drop P bytes))
-    ∙ ap (λ (d : Option ActiveChecksum). head ∷ built_pages sum P None m (drop P bytes) ++ page_of sum P d (take P (drop (m * P) (drop P bytes))) ∷ []) (durable_behind m)
+    ∙ ap (λ (d : Option ActiveChecksum). head ∷ built_pages sum P None m (drop P bytes) ++ page_of sum P d (take P (drop (m * P) (drop P bytes))) ∷ []) (durable_later m)
     ∙ ap (λ (l : List ℕ). head ∷ built_pages sum P None m (drop P bytes) ++ page_of sum P None (take P l) ∷ []) (drop-drop (m * P) P bytes ∙ ap (λ (n : ℕ). drop n bytes) f)
 
 -- the bytes of one page more
@@ -231,7 +231,7 @@ built_more sum P durable (suc m) bytes =
     let rest = built sum P None m (drop P bytes) in
     ap (λ (n : ℕ). built sum P durable n bytes) e
     ∙ ap (λ (l : List ℕ). head ++ l) (built_more sum P None m (drop P bytes))
-    ∙ ap (λ (d : Option ActiveChecksum). head ++ (rest ++ page_of sum P d (take P (drop (m * P) (drop P bytes))))) (durable_behind m)
+    ∙ ap (λ (d : Option ActiveChecksum). head ++ (rest ++ page_of sum P d (take P (drop (m * P) (drop P bytes))))) (durable_later m)
     ∙ ap (λ (l : List ℕ). head ++ (rest ++ page_of sum P None (take P l))) (drop-drop (m * P) P bytes ∙ ap (λ (n : ℕ). drop n bytes) f)
     ∙ sym (append_assoc head rest (page_of sum P None (take P (drop (suc m * P) bytes))))
 

@@ -1,9 +1,9 @@
--- What a crash leaves while a recovery cuts a blob behind its text.
+-- What a crash leaves while a recovery cuts a blob after its text.
 use Rattle.std.proofs.Common.{◌≡◌, ◌⊎◌, inl, inr, ℕ, zero, suc, ◌+◌, ◌*◌, ◌<◌, ◌≤◌, List, [], ◌∷◌, ◌++◌, length, take, drop, slice_get, Some, Result, Ok, Err, true, false, if◌then◌else◌, ◌==◌, refl, sym, ap, ◌∙◌, subst, arith, length-append, length-take, length-take-le}
 use Rattle.std.proofs.lemmas.Bool.{cases_lt}
 use Rattle.std.proofs.lemmas.List.{take_all, take-take, drop_at}
 use Rattle.std.proofs.lemmas.Option.{same_Some, slice_get_within}
-use Rattle.disk.specs.Disk.{Disk, Life, Operation, Operated, ResizeTo, SyncAll, IsImage, IsPartial, ResizeGoes, SyncGoes, applied, next, logged, settle}
+use Rattle.disk.specs.Disk.{Disk, Life, Operation, Operated, ResizeTo, SyncAll, IsImage, IsPartial, ResizeGoes, SyncGoes, applied, next, logged, settled_disk}
 use Rattle.disk.specs.Disk.Operation.{Resize}
 use Rattle.disk.specs.declared.error.Error.{Error}
 use Rattle.disk.specs.declared.error.Error.TheVariants.{ReadFailed, WriteFailed, ResizeFailed, SyncFailed, InvalidChecksum, BlobInsufficientLength, OffsetOverflow, OutOfMemory, IdsExhausted}
@@ -55,13 +55,13 @@ module _ (sum : List ℕ → ℕ) (P : ℕ) where
     | inr more ↦
         let full : value_len sum P page ≡ P = omega (arith, more, value_len_le sum P page) in
         let size : length (take P page) ≡ P = length-take-le P page (long 0 page refl) in
-        let behind : take P page ++ text_of_pages sum P rest ≡ take P page ++ text_of_pages sum P (take k rest) =
+        let after : take P page ++ text_of_pages sum P rest ≡ take P page ++ text_of_pages sum P (take k rest) =
         sym (text_full sum P page rest full) ∙ same ∙ text_full sum P page (take k rest) full in
         inr (ends_from k rest some (λ q other is. long (suc q) other is)
-        (sym (drop_at (take P page) (text_of_pages sum P rest) P size) ∙ ap (λ (l : List ℕ). drop P l) behind ∙ drop_at (take P page) (text_of_pages sum P (take k rest)) P size))
+        (sym (drop_at (take P page) (text_of_pages sum P rest) P size) ∙ ap (λ (l : List ℕ). drop P l) after ∙ drop_at (take P page) (text_of_pages sum P (take k rest)) P size))
   ]
 
-  -- the page behind the first k has no value
+  -- the page after the first k has no value
   pub ends_where_none : (k : ℕ) (ps : List (List ℕ)) → ((page : List ℕ) → slice_get ps k ≡ Some page → value_len sum P page ≡ 0) → EndsBy sum P k ps
   ends_where_none zero [] none = tt
   ends_where_none zero (page ∷ rest) none = none page refl
@@ -120,7 +120,7 @@ pub cut_leaves_before : (sum : List ℕ → ℕ) (P k : ℕ) (bytes : List ℕ) 
 cut_leaves_before sum P k bytes some within none = cut_leaves sum P k bytes some within (ends_where_none sum P k (pages P bytes)
     (λ page is. ap (λ (l : List ℕ). value_len sum P l) (page_is P k bytes page is) ∙ none (page_fits P k bytes page is)))
 
--- the cut behind a page that isn't full, whatever stands behind it
+-- the cut after a page that isn't full, whatever stands after it
 pub cut_leaves_part : (sum : List ℕ → ℕ) (P k : ℕ) (bytes : List ℕ) → 0 < P → (k + 1) * (P + 12) ≤ length bytes
     → value_len sum P (take (P + 12) (drop (k * (P + 12)) bytes)) < P
     → text sum P (take ((k + 1) * (P + 12)) bytes) ≡ text sum P bytes
@@ -128,10 +128,10 @@ cut_leaves_part sum P k bytes some within part = cut_leaves sum P (k + 1) bytes 
     (ends_where_part sum P (k + 1) k (pages P bytes) (take (P + 12) (drop (k * (P + 12)) bytes)) (omega arith) (pages_at P k bytes within) part)
 
 -- the cut of pages that have no value each
-pub cut_leaves_behind : (sum : List ℕ → ℕ) (P k : ℕ) (bytes : List ℕ) → 0 < P → k * (P + 12) ≤ length bytes
+pub cut_leaves_after : (sum : List ℕ → ℕ) (P k : ℕ) (bytes : List ℕ) → 0 < P → k * (P + 12) ≤ length bytes
     → ((p : ℕ) → k ≤ p → (p + 1) * (P + 12) ≤ length bytes → value_len sum P (take (P + 12) (drop (p * (P + 12)) bytes)) ≡ 0)
     → text sum P (take (k * (P + 12)) bytes) ≡ text sum P bytes
-cut_leaves_behind sum P k bytes some within none = cut_leaves_before sum P k bytes some within (none k (omega arith))
+cut_leaves_after sum P k bytes some within none = cut_leaves_before sum P k bytes some within (none k (omega arith))
 
 -- where a cut leaves the text, it ends within the pages that are left
 pub cut_ends : (sum : List ℕ → ℕ) (P k : ℕ) (bytes : List ℕ) → 0 < P → k * (P + 12) ≤ length bytes → text sum P (take (k * (P + 12)) bytes) ≡ text sum P bytes → EndsBy sum P k (pages P bytes)
@@ -191,10 +191,10 @@ cut_begins len e image since within is_image =
     (fixed_at_rest d 0 kept refl (omega (arith, size, within)) (ap (λ (n : ℕ). take n e.base) size)) in
     (omega (arith, size, fixed_length e 0 kept image fixed is_image), ap (λ (n : ℕ). take n image) (sym size) ∙ fixed_in_image e 0 kept image fixed is_image)
 
--- a page behind the cut has a value in a chance-free image only where the base's page there has
-cut_behind : (sum : List ℕ → ℕ) (P k : ℕ) (e : Disk) (image page : List ℕ) → e.since ≡ Resize (k * (P + 12)) ∷ [] → k * (P + 12) ≤ length e.base → IsChanceFree sum P e image
+-- a page after the cut has a value in a chance-free image only where the base's page there has
+cut_after : (sum : List ℕ → ℕ) (P k : ℕ) (e : Disk) (image page : List ℕ) → e.since ≡ Resize (k * (P + 12)) ∷ [] → k * (P + 12) ≤ length e.base → IsChanceFree sum P e image
     → slice_get (pages P image) k ≡ Some page → 0 < value_len sum P page → (held : List ℕ) × (slice_get (pages P e.base) k ≡ Some held) × (0 < value_len sum P held)
-cut_behind sum P k e image page since within free is some =
+cut_after sum P k e image page since within free is some =
     let chosen = value_len_slot sum P page in
     let was = free k page is chosen.0 (omega (arith, chosen.1)) in
     let held = was.1 in
@@ -213,7 +213,7 @@ cut_only sum P k content e image some since within says cut_says is_image free =
     let same : take k (pages P e.base) ≡ take k (pages P image) = take-pages_same P k e.base image within (sym begins.1) in
     let ends = cut_ends sum P k e.base some within (cut_says ∙ sym says) in
     let count : k ≤ length (pages P e.base) = omega (arith, length-pages P e.base, pages_fit P k e.base within) in
-    let ends_too = ends_alike sum P k (pages P e.base) (pages P image) count same (λ page is has. cut_behind sum P k e image page since within free is has) ends in
+    let ends_too = ends_alike sum P k (pages P e.base) (pages P image) count same (λ page is has. cut_after sum P k e image page since within free is has) ends in
     ends_taken sum P k (pages P image) some ends_too
     ∙ ap (λ (l : List (List ℕ)). text_of_pages sum P l) (sym same)
     ∙ sym (ends_taken sum P k (pages P e.base) some ends)
@@ -295,7 +295,7 @@ resize_cases len old new (Err IdsExhausted) goes = failed_resize len old new Ids
 -- a sync changes nothing, or only the log, or makes durable what is readable
 pub sync_cases : (old new : Life) (answer : Result (Unit {0}) Error) → SyncGoes old new answer
     → (new ≡ old) ⊎ ((d : Disk) × (new ≡ next old d) × (d.readable ≡ old.present.readable) × (((d.base ≡ old.present.base) × (d.since ≡ old.present.since)) ⊎ ((d.base ≡ old.present.readable) × (d.since ≡ []))))
-sync_cases old new (Ok done) goes = inr (settle (logged SyncAll false old.present), goes, refl, inr (refl, refl))
+sync_cases old new (Ok done) goes = inr (settled_disk (logged SyncAll false old.present), goes, refl, inr (refl, refl))
 sync_cases old new (Err SyncFailed) goes = inr (logged SyncAll true old.present, goes, refl, inl (refl, refl))
 sync_cases old new (Err OutOfMemory) goes = inl goes
 sync_cases old new (Err ReadFailed) goes = absurd goes

@@ -6,42 +6,42 @@ use Rattle.std.proofs.lemmas.List.{length-replicate}
 use Rattle.disk.specs.Disk.{Disk, Operation, Request, Operated, IsImage, IsWhole, IsPartial, SomeWrites, Writes, applied}
 use Rattle.disk.specs.Disk.Operation.{Write, Resize}
 use Rattle.crash.specs.Guard.{Fixed}
-use Rattle.crash.specs.Sound.{latest}
+use Rattle.crash.specs.Contents.{latest}
 use Rattle.crash.proofs.Lists.{element_within, slice_get-take, slice_get-drop, slice_get-replicate, same_elements, joined_element, taken_element}
 
 -- how long a blob is after a write
-pub length-applied_write : (place : ℕ) (bytes old : List ℕ) → length (applied (Write place bytes) old) ≡ max (length old) (place + length bytes)
-length-applied_write place bytes old = simp (length-append, length-take, length-drop, length-replicate) (omega arith)
+pub length-applied_write : (offset : ℕ) (bytes old : List ℕ) → length (applied (Write offset bytes) old) ≡ max (length old) (offset + length bytes)
+length-applied_write offset bytes old = simp (length-append, length-take, length-drop, length-replicate) (omega arith)
 
 -- how long a blob is after a resize
 pub length-applied_resize : (len : ℕ) (old : List ℕ) → length (applied (Resize len) old) ≡ len
 length-applied_resize len old = simp (length-append, length-take, length-replicate) (omega arith)
 
 -- where a byte of a blob comes from that was written to
-written_byte : (place : ℕ) (bytes old : List ℕ) (at byte : ℕ) → slice_get (applied (Write place bytes) old) at ≡ Some byte
-    → (slice_get old at ≡ Some byte) ⊎ Writes (Write place bytes) at byte ⊎ ((byte ≡ 0) × (length old ≤ at))
-written_byte place bytes old at byte is = elim (joined_element (take place old ++ replicate (place - length old) 0 ++ bytes) (drop (place + length bytes) old) at byte is) [
-  | inl not_behind ↦ elim (joined_element (take place old ++ replicate (place - length old) 0) bytes at byte not_behind) [
-    | inl in_front ↦ elim (joined_element (take place old) (replicate (place - length old) 0) at byte in_front) [
-      | inl kept ↦ inl (taken_element place old at byte kept)
+written_byte : (offset : ℕ) (bytes old : List ℕ) (at byte : ℕ) → slice_get (applied (Write offset bytes) old) at ≡ Some byte
+    → (slice_get old at ≡ Some byte) ⊎ Writes (Write offset bytes) at byte ⊎ ((byte ≡ 0) × (length old ≤ at))
+written_byte offset bytes old at byte is = elim (joined_element (take offset old ++ replicate (offset - length old) 0 ++ bytes) (drop (offset + length bytes) old) at byte is) [
+  | inl not_after ↦ elim (joined_element (take offset old ++ replicate (offset - length old) 0) bytes at byte not_after) [
+    | inl in_front ↦ elim (joined_element (take offset old) (replicate (offset - length old) 0) at byte in_front) [
+      | inl kept ↦ inl (taken_element offset old at byte kept)
       | inr gap ↦
-          let within : gap.0 < length (replicate {A = ℕ} (place - length old) 0) = slice_get_within _ gap.0 byte gap.2 in
-          inr (inr (slice_get-replicate (place - length old) 0 byte gap.0 gap.2, omega (arith, length-replicate {A = ℕ} (place - length old) 0, length-take place old)))
+          let within : gap.0 < length (replicate {A = ℕ} (offset - length old) 0) = slice_get_within _ gap.0 byte gap.2 in
+          inr (inr (slice_get-replicate (offset - length old) 0 byte gap.0 gap.2, omega (arith, length-replicate {A = ℕ} (offset - length old) 0, length-take offset old)))
     ]
     | inr inside ↦
-        let from : at ≡ place + inside.0 = inside.1 ∙ simp (length-append, length-take, length-replicate) (omega arith) in
-        let same : inside.0 ≡ at - place = omega arith in
+        let from : at ≡ offset + inside.0 = inside.1 ∙ simp (length-append, length-take, length-replicate) (omega arith) in
+        let same : inside.0 ≡ at - offset = omega arith in
         inr (inl (omega arith, ap (λ (k : ℕ). slice_get bytes k) (sym same) ∙ inside.2))
   ]
-  | inr behind ↦
-      let from : at ≡ place + length bytes + behind.0 = behind.1 ∙ simp (length-append, length-take, length-replicate) (omega arith) in
-      inl (ap (λ (k : ℕ). slice_get old k) from ∙ sym (slice_get-drop (place + length bytes) old behind.0) ∙ behind.2)
+  | inr after ↦
+      let from : at ≡ offset + length bytes + after.0 = after.1 ∙ simp (length-append, length-take, length-replicate) (omega arith) in
+      inl (ap (λ (k : ℕ). slice_get old k) from ∙ sym (slice_get-drop (offset + length bytes) old after.0) ∙ after.2)
 ]
 
 -- where a byte comes from that an operation leaves
 pub applied_byte : (o : Operation) (old : List ℕ) (at byte : ℕ) → slice_get (applied o old) at ≡ Some byte
     → (slice_get old at ≡ Some byte) ⊎ Writes o at byte ⊎ ((byte ≡ 0) × (length old ≤ at))
-applied_byte (Write place bytes) old at byte is = written_byte place bytes old at byte is
+applied_byte (Write offset bytes) old at byte is = written_byte offset bytes old at byte is
 applied_byte (Resize len) old at byte is = elim (joined_element (take len old) (replicate (len - length old) 0) at byte is) [
   | inl kept ↦ inl (taken_element len old at byte kept)
   | inr gap ↦
@@ -88,19 +88,19 @@ base_is_image d = whole_is_image d d.base (base_is_whole d.base d.since)
 
 -- how long an operation leaves a blob depends on how long it was
 pub applied_no_shorter : (o : Operation) (old more : List ℕ) → length old ≤ length more → length (applied o old) ≤ length (applied o more)
-applied_no_shorter (Write place bytes) old more le = omega (arith, length-applied_write place bytes old, length-applied_write place bytes more)
+applied_no_shorter (Write offset bytes) old more le = omega (arith, length-applied_write offset bytes old, length-applied_write offset bytes more)
 applied_no_shorter (Resize len) old more le = omega (arith, length-applied_resize len old, length-applied_resize len more)
 
--- a write of some operations is one of theirs and of those behind them
+-- a write of some operations is one of theirs and of those after them
 pub writes_before : (os ps : List Operation) (at byte : ℕ) → SomeWrites os at byte → SomeWrites (os ++ ps) at byte
 writes_before [] ps at byte none = elim none [ ]
 writes_before (o ∷ os) ps at byte (inl first) = inl first
 writes_before (o ∷ os) ps at byte (inr later) = inr (writes_before os ps at byte later)
 
 -- and of those in front of them
-pub writes_behind : (os ps : List Operation) (at byte : ℕ) → SomeWrites ps at byte → SomeWrites (os ++ ps) at byte
-writes_behind [] ps at byte some = some
-writes_behind (o ∷ os) ps at byte some = inr (writes_behind os ps at byte some)
+pub writes_after : (os ps : List Operation) (at byte : ℕ) → SomeWrites ps at byte → SomeWrites (os ++ ps) at byte
+writes_after [] ps at byte some = some
+writes_after (o ∷ os) ps at byte some = inr (writes_after os ps at byte some)
 
 -- a write of joined operations is one of the first or of the others
 pub writes_cases : (os ps : List Operation) (at byte : ℕ) → SomeWrites (os ++ ps) at byte → SomeWrites os at byte ⊎ SomeWrites ps at byte
@@ -108,7 +108,7 @@ writes_cases [] ps at byte some = inr some
 writes_cases (o ∷ os) ps at byte (inl first) = inl (inl first)
 writes_cases (o ∷ os) ps at byte (inr later) = elim (writes_cases os ps at byte later) [
   | inl before ↦ inl (inr before)
-  | inr behind ↦ inr behind
+  | inr after ↦ inr after
 ]
 
 -- a whole state is one also of more operations
@@ -118,10 +118,10 @@ whole_before base [] (p ∷ ps) whole is_whole = inl is_whole
 whole_before base (o ∷ os) ps whole (inl is_base) = inl is_base
 whole_before base (o ∷ os) ps whole (inr is_whole) = inr (whole_before (applied o base) os ps whole is_whole)
 
--- and so is one of the operations behind
-pub whole_behind : (base : List ℕ) (os ps : List Operation) (whole : List ℕ) → IsWhole (latest base os) ps whole → IsWhole base (os ++ ps) whole
-whole_behind base [] ps whole is_whole = is_whole
-whole_behind base (o ∷ os) ps whole is_whole = inr (whole_behind (applied o base) os ps whole is_whole)
+-- and so is one of the operations after
+pub whole_after : (base : List ℕ) (os ps : List Operation) (whole : List ℕ) → IsWhole (latest base os) ps whole → IsWhole base (os ++ ps) whole
+whole_after base [] ps whole is_whole = is_whole
+whole_after base (o ∷ os) ps whole is_whole = inr (whole_after (applied o base) os ps whole is_whole)
 
 -- a whole state of joined operations is one of the first, or one of the others from where those end
 pub whole_cases : (base : List ℕ) (os ps : List Operation) (whole : List ℕ) → IsWhole base (os ++ ps) whole → IsWhole base os whole ⊎ IsWhole (latest base os) ps whole
@@ -129,7 +129,7 @@ whole_cases base [] ps whole is_whole = inr is_whole
 whole_cases base (o ∷ os) ps whole (inl is_base) = inl (inl is_base)
 whole_cases base (o ∷ os) ps whole (inr is_whole) = elim (whole_cases (applied o base) os ps whole is_whole) [
   | inl before ↦ inl (inr before)
-  | inr behind ↦ inr behind
+  | inr after ↦ inr after
 ]
 
 -- one operation more makes one new whole state
@@ -142,7 +142,7 @@ one_more_whole base os o whole is_whole = elim (whole_cases base os (o ∷ []) w
 
 -- which is one
 pub new_is_whole : (base : List ℕ) (os : List Operation) (o : Operation) → IsWhole base (os ++ o ∷ []) (applied o (latest base os))
-new_is_whole base os o = whole_behind base os (o ∷ []) (applied o (latest base os)) (inr refl)
+new_is_whole base os o = whole_after base os (o ∷ []) (applied o (latest base os)) (inr refl)
 
 -- the last state after operations joined
 pub latest-append : (base : List ℕ) (os ps : List Operation) → latest base (os ++ ps) ≡ latest (latest base os) ps
@@ -160,20 +160,20 @@ pub new_whole : (d e : Disk) (o : Operation) → e.base ≡ d.base → e.since �
 new_whole d e o base since = rw (base, since) (new_is_whole d.base d.since o)
 
 pub new_write : (d e : Disk) (o : Operation) → e.since ≡ d.since ++ o ∷ [] → (at byte : ℕ) → Writes o at byte → SomeWrites e.since at byte
-new_write d e o since at byte written = rw since (writes_behind d.since (o ∷ []) at byte (inl written))
+new_write d e o since at byte written = rw since (writes_after d.since (o ∷ []) at byte (inl written))
 
 -- no image ends before what is fixed does
-pub fixed_length : (d : Disk) (place : ℕ) (bytes image : List ℕ) → Fixed d place bytes → IsImage d image → place + length bytes ≤ length image
-fixed_length d place bytes image fixed is_image =
-    let within : place + length bytes ≤ length is_image.no_shorter.0 = fixed.within is_image.no_shorter.0 is_image.no_shorter.1 in
+pub fixed_length : (d : Disk) (offset : ℕ) (bytes image : List ℕ) → Fixed d offset bytes → IsImage d image → offset + length bytes ≤ length image
+fixed_length d offset bytes image fixed is_image =
+    let within : offset + length bytes ≤ length is_image.no_shorter.0 = fixed.within is_image.no_shorter.0 is_image.no_shorter.1 in
     omega (arith, is_image.no_shorter.2)
 
 -- each byte that is fixed stands in each image
-pub fixed_byte : (d : Disk) (place : ℕ) (bytes image : List ℕ) → Fixed d place bytes → IsImage d image → (i byte : ℕ) → slice_get bytes i ≡ Some byte → slice_get image (place + i) ≡ Some byte
-fixed_byte d place bytes image fixed is_image i byte is =
+pub fixed_byte : (d : Disk) (offset : ℕ) (bytes image : List ℕ) → Fixed d offset bytes → IsImage d image → (i byte : ℕ) → slice_get bytes i ≡ Some byte → slice_get image (offset + i) ≡ Some byte
+fixed_byte d offset bytes image fixed is_image i byte is =
     let inside : i < length bytes = slice_get_within bytes i byte is in
-    let there = element_within image (place + i) (omega (arith, fixed_length d place bytes image fixed is_image)) in
-    let same : there.0 ≡ byte = elim (is_image.each (place + i) there.0 there.1) [
+    let there = element_within image (offset + i) (omega (arith, fixed_length d offset bytes image fixed is_image)) in
+    let same : there.0 ≡ byte = elim (is_image.each (offset + i) there.0 there.1) [
       | inl in_base ↦ same_Some there.0 byte (sym in_base ∙ fixed.base i byte is)
       | inr (inl written) ↦ fixed.repeated i byte there.0 is written
       | inr (inr gap) ↦ absurd (omega (arith, fixed.within gap.1.0 gap.1.1, gap.1.2))
@@ -181,57 +181,57 @@ fixed_byte d place bytes image fixed is_image i byte is =
     there.1 ∙ ap (λ (x : ℕ). Some x) same
 
 -- what is fixed stands in each image
-pub fixed_in_image : (d : Disk) (place : ℕ) (bytes image : List ℕ) → Fixed d place bytes → IsImage d image → take (length bytes) (drop place image) ≡ bytes
-fixed_in_image d place bytes image fixed is_image =
-    sym (same_elements bytes (take (length bytes) (drop place image))
-    (omega (arith, length-take (length bytes) (drop place image), length-drop place image, fixed_length d place bytes image fixed is_image))
+pub fixed_in_image : (d : Disk) (offset : ℕ) (bytes image : List ℕ) → Fixed d offset bytes → IsImage d image → take (length bytes) (drop offset image) ≡ bytes
+fixed_in_image d offset bytes image fixed is_image =
+    sym (same_elements bytes (take (length bytes) (drop offset image))
+    (omega (arith, length-take (length bytes) (drop offset image), length-drop offset image, fixed_length d offset bytes image fixed is_image))
     (λ i byte is.
     let inside : i < length bytes = slice_get_within bytes i byte is in
-    slice_get-take (length bytes) (drop place image) i inside ∙ slice_get-drop place image i ∙ fixed_byte d place bytes image fixed is_image i byte is))
+    slice_get-take (length bytes) (drop offset image) i inside ∙ slice_get-drop offset image i ∙ fixed_byte d offset bytes image fixed is_image i byte is))
 
--- an operation leaves the bytes at a place: it ends no earlier than they do, and each byte that it writes there is theirs
-pub record Leaves (o : Operation) (place : ℕ) (bytes : List ℕ) : Type 0 where
-  pub reaches : (old : List ℕ) → place + length bytes ≤ length old → place + length bytes ≤ length (applied o old)
-  pub repeats : (i byte other : ℕ) → slice_get bytes i ≡ Some byte → Writes o (place + i) other → other ≡ byte
+-- an operation leaves the bytes at an offset: it ends no earlier than they do, and each byte that it writes there is theirs
+pub record Leaves (o : Operation) (offset : ℕ) (bytes : List ℕ) : Type 0 where
+  pub reaches : (old : List ℕ) → offset + length bytes ≤ length old → offset + length bytes ≤ length (applied o old)
+  pub repeats : (i byte other : ℕ) → slice_get bytes i ≡ Some byte → Writes o (offset + i) other → other ≡ byte
 
 -- a resize does where it isn't shorter
-pub resize_leaves : (len place : ℕ) (bytes : List ℕ) → place + length bytes ≤ len → Leaves (Resize len) place bytes
-resize_leaves len place bytes enough = record {
+pub resize_leaves : (len offset : ℕ) (bytes : List ℕ) → offset + length bytes ≤ len → Leaves (Resize len) offset bytes
+resize_leaves len offset bytes enough = record {
   reaches = λ old there. omega (arith, length-applied_resize len old);
   repeats = λ i byte other is none. elim none [ ];
 }
 
--- a write does behind them
-pub write_behind_leaves : (at : ℕ) (written : List ℕ) (place : ℕ) (bytes : List ℕ) → place + length bytes ≤ at → Leaves (Write at written) place bytes
-write_behind_leaves at written place bytes behind = record {
+-- a write does after them
+pub write_after_leaves : (at : ℕ) (written : List ℕ) (offset : ℕ) (bytes : List ℕ) → offset + length bytes ≤ at → Leaves (Write at written) offset bytes
+write_after_leaves at written offset bytes after = record {
   reaches = λ old there. omega (arith, length-applied_write at written old);
   repeats = λ i byte other is wrote. absurd (omega (arith, slice_get_within bytes i byte is, wrote.0));
 }
 
 -- and in front of them
-pub write_in_front_leaves : (at : ℕ) (written : List ℕ) (place : ℕ) (bytes : List ℕ) → at + length written ≤ place → Leaves (Write at written) place bytes
-write_in_front_leaves at written place bytes in_front = record {
+pub write_in_front_leaves : (at : ℕ) (written : List ℕ) (offset : ℕ) (bytes : List ℕ) → at + length written ≤ offset → Leaves (Write at written) offset bytes
+write_in_front_leaves at written offset bytes in_front = record {
   reaches = λ old there. omega (arith, length-applied_write at written old);
-  repeats = λ i byte other is wrote. absurd (omega (arith, slice_get_within written (place + i - at) other wrote.1, wrote.0));
+  repeats = λ i byte other is wrote. absurd (omega (arith, slice_get_within written (offset + i - at) other wrote.1, wrote.0));
 }
 
 -- and where it repeats them, from its k-th byte on
-pub write_again_leaves : (at : ℕ) (written : List ℕ) (place : ℕ) (bytes : List ℕ) (k : ℕ) → place ≡ at + k → take (length bytes) (drop k written) ≡ bytes → Leaves (Write at written) place bytes
-write_again_leaves at written place bytes k is_place again = record {
+pub write_again_leaves : (at : ℕ) (written : List ℕ) (offset : ℕ) (bytes : List ℕ) (k : ℕ) → offset ≡ at + k → take (length bytes) (drop k written) ≡ bytes → Leaves (Write at written) offset bytes
+write_again_leaves at written offset bytes k is_offset again = record {
   reaches = λ old there. omega (arith, length-applied_write at written old);
   repeats = λ i byte other is wrote.
       let inside : i < length bytes = slice_get_within bytes i byte is in
-      let same : place + i - at ≡ k + i = omega arith in
+      let same : offset + i - at ≡ k + i = omega arith in
       let theirs : slice_get written (k + i) ≡ Some byte =
       sym (slice_get-drop k written i) ∙ sym (slice_get-take (length bytes) (drop k written) i inside) ∙ ap (λ (l : List ℕ). slice_get l i) again ∙ is in
       same_Some other byte (sym wrote.1 ∙ ap (λ (j : ℕ). slice_get written j) same ∙ theirs);
 }
 
 -- what is fixed stays under an operation that leaves it
-pub fixed_stays : (d e : Disk) (o : Operation) (place : ℕ) (bytes : List ℕ) → e.base ≡ d.base → e.since ≡ d.since ++ o ∷ [] → Leaves o place bytes → Fixed d place bytes → Fixed e place bytes
-fixed_stays d e o place bytes base since leaves fixed = record {
-  base = λ i byte is. ap (λ (l : List ℕ). slice_get l (place + i)) base ∙ fixed.base i byte is;
-  repeated = λ i byte other is some. elim (writes_cases d.since (o ∷ []) (place + i) other (subst (λ (os : List Operation). SomeWrites os (place + i) other) since some)) [
+pub fixed_stays : (d e : Disk) (o : Operation) (offset : ℕ) (bytes : List ℕ) → e.base ≡ d.base → e.since ≡ d.since ++ o ∷ [] → Leaves o offset bytes → Fixed d offset bytes → Fixed e offset bytes
+fixed_stays d e o offset bytes base since leaves fixed = record {
+  base = λ i byte is. ap (λ (l : List ℕ). slice_get l (offset + i)) base ∙ fixed.base i byte is;
+  repeated = λ i byte other is some. elim (writes_cases d.since (o ∷ []) (offset + i) other (subst (λ (os : List Operation). SomeWrites os (offset + i) other) since some)) [
     | inl before ↦ fixed.repeated i byte other is before
     | inr (inl new) ↦ leaves.repeats i byte other is new
     | inr (inr none) ↦ elim none [ ]
@@ -243,45 +243,45 @@ fixed_stays d e o place bytes base since leaves fixed = record {
 }
 
 -- bytes that stand in the base of a disk with nothing unsynced are fixed
-pub fixed_at_rest : (d : Disk) (place : ℕ) (bytes : List ℕ) → d.since ≡ [] → place + length bytes ≤ length d.base → take (length bytes) (drop place d.base) ≡ bytes → Fixed d place bytes
-fixed_at_rest d place bytes at_rest within stands = record {
+pub fixed_at_rest : (d : Disk) (offset : ℕ) (bytes : List ℕ) → d.since ≡ [] → offset + length bytes ≤ length d.base → take (length bytes) (drop offset d.base) ≡ bytes → Fixed d offset bytes
+fixed_at_rest d offset bytes at_rest within stands = record {
   base = λ i byte is.
       let inside : i < length bytes = slice_get_within bytes i byte is in
-      sym (slice_get-drop place d.base i) ∙ sym (slice_get-take (length bytes) (drop place d.base) i inside) ∙ ap (λ (l : List ℕ). slice_get l i) stands ∙ is;
-  repeated = λ i byte other is some. elim (subst (λ (os : List Operation). SomeWrites os (place + i) other) at_rest some) [ ];
+      sym (slice_get-drop offset d.base i) ∙ sym (slice_get-take (length bytes) (drop offset d.base) i inside) ∙ ap (λ (l : List ℕ). slice_get l i) stands ∙ is;
+  repeated = λ i byte other is some. elim (subst (λ (os : List Operation). SomeWrites os (offset + i) other) at_rest some) [ ];
   within = λ whole is_whole.
       let same : whole ≡ d.base = subst (λ (os : List Operation). IsWhole d.base os whole) at_rest is_whole in
       rw same within;
 }
 
 -- what is fixed stays when an image becomes the base
-pub fixed_settles : (d e : Disk) (place : ℕ) (bytes : List ℕ) → IsImage d e.base → e.since ≡ [] → Fixed d place bytes → Fixed e place bytes
-fixed_settles d e place bytes is_image at_rest fixed =
-    fixed_at_rest e place bytes at_rest (fixed_length d place bytes e.base fixed is_image) (fixed_in_image d place bytes e.base fixed is_image)
+pub fixed_settles : (d e : Disk) (offset : ℕ) (bytes : List ℕ) → IsImage d e.base → e.since ≡ [] → Fixed d offset bytes → Fixed e offset bytes
+fixed_settles d e offset bytes is_image at_rest fixed =
+    fixed_at_rest e offset bytes at_rest (fixed_length d offset bytes e.base fixed is_image) (fixed_in_image d offset bytes e.base fixed is_image)
 
 -- what is fixed says nothing of what is readable, of the started syncs and of the log
-pub fixed_alike : (d e : Disk) (place : ℕ) (bytes : List ℕ) → e.base ≡ d.base → e.since ≡ d.since → Fixed d place bytes → Fixed e place bytes
-fixed_alike d e place bytes base since fixed = record {
-  base = λ i byte is. ap (λ (l : List ℕ). slice_get l (place + i)) base ∙ fixed.base i byte is;
-  repeated = λ i byte other is some. fixed.repeated i byte other is (subst (λ (os : List Operation). SomeWrites os (place + i) other) since some);
+pub fixed_alike : (d e : Disk) (offset : ℕ) (bytes : List ℕ) → e.base ≡ d.base → e.since ≡ d.since → Fixed d offset bytes → Fixed e offset bytes
+fixed_alike d e offset bytes base since fixed = record {
+  base = λ i byte is. ap (λ (l : List ℕ). slice_get l (offset + i)) base ∙ fixed.base i byte is;
+  repeated = λ i byte other is some. fixed.repeated i byte other is (subst (λ (os : List Operation). SomeWrites os (offset + i) other) since some);
   within = λ whole is_whole. fixed.within whole (rw (base, since) at is_whole);
 }
 
 -- with one operation more there is a whole state no longer than that operation leaves an image
 shorter_whole : (d e : Disk) (o : Operation) (old whole : List ℕ) → e.base ≡ d.base → e.since ≡ d.since ++ o ∷ [] → IsWhole d.base d.since whole → length whole ≤ length old
     → (bytes : List ℕ) × IsWhole e.base e.since bytes × (length bytes ≤ length (applied o old))
-shorter_whole d e (Write place written) old whole base since is_whole le =
-    (whole, whole_kept d e (Write place written) base since whole is_whole, omega (arith, length-applied_write place written old))
+shorter_whole d e (Write offset written) old whole base since is_whole le =
+    (whole, whole_kept d e (Write offset written) base since whole is_whole, omega (arith, length-applied_write offset written old))
 shorter_whole d e (Resize len) old whole base since is_whole le =
     (applied (Resize len) (latest d.base d.since), new_whole d e (Resize len) base since, omega (arith, length-applied_resize len old, length-applied_resize len (latest d.base d.since)))
 
 -- and one no shorter
 longer_whole : (d e : Disk) (o : Operation) (old whole : List ℕ) → e.base ≡ d.base → e.since ≡ d.since ++ o ∷ [] → IsWhole d.base d.since whole → length old ≤ length whole
     → (bytes : List ℕ) × IsWhole e.base e.since bytes × (length (applied o old) ≤ length bytes)
-longer_whole d e (Write place written) old whole base since is_whole le = elim (cases_lt (length old) (place + length written)) [
+longer_whole d e (Write offset written) old whole base since is_whole le = elim (cases_lt (length old) (offset + length written)) [
   | inl past ↦
-      (applied (Write place written) (latest d.base d.since), new_whole d e (Write place written) base since, omega (arith, length-applied_write place written old, length-applied_write place written (latest d.base d.since)))
-  | inr inside ↦ (whole, whole_kept d e (Write place written) base since whole is_whole, omega (arith, length-applied_write place written old))
+      (applied (Write offset written) (latest d.base d.since), new_whole d e (Write offset written) base since, omega (arith, length-applied_write offset written old, length-applied_write offset written (latest d.base d.since)))
+  | inr inside ↦ (whole, whole_kept d e (Write offset written) base since whole is_whole, omega (arith, length-applied_write offset written old))
 ]
 longer_whole d e (Resize len) old whole base since is_whole le =
     (applied (Resize len) (latest d.base d.since), new_whole d e (Resize len) base since, omega (arith, length-applied_resize len old, length-applied_resize len (latest d.base d.since)))
@@ -358,21 +358,21 @@ IsTorn base [] bytes = bytes ≡ base
 IsTorn base (o ∷ os) bytes = (mid : List ℕ) × IsPartial o base mid × IsTorn mid os bytes
 
 -- more operations, each torn, leave an image of an image
-torn_behind : (d e : Disk) (os : List Operation) (old new : List ℕ) → e.base ≡ d.base → e.since ≡ d.since ++ os → IsImage d old → IsTorn old os new → IsImage e new
-torn_behind d e [] old new base since is_image torn = image_alike e d new (sym base) (sym (append-nil d.since) ∙ sym since) (subst (λ (bytes : List ℕ). IsImage d bytes) (sym torn) is_image)
-torn_behind d e (o ∷ os) old new base since is_image torn =
+torn_after : (d e : Disk) (os : List Operation) (old new : List ℕ) → e.base ≡ d.base → e.since ≡ d.since ++ os → IsImage d old → IsTorn old os new → IsImage e new
+torn_after d e [] old new base since is_image torn = image_alike e d new (sym base) (sym (append-nil d.since) ∙ sym since) (subst (λ (bytes : List ℕ). IsImage d bytes) (sym torn) is_image)
+torn_after d e (o ∷ os) old new base since is_image torn =
     let mid : Disk = record d { since = d.since ++ o ∷ [] } in
-    torn_behind mid e os torn.0 new base (since ∙ sym (append_assoc d.since (o ∷ []) os)) (readable_stays d mid o old torn.0 refl refl torn.1 is_image) torn.2
+    torn_after mid e os torn.0 new base (since ∙ sym (append_assoc d.since (o ∷ []) os)) (readable_stays d mid o old torn.0 refl refl torn.1 is_image) torn.2
 
 -- so what is left where each operation is torn or lost is an image
 pub torn_is_image : (d : Disk) (bytes : List ℕ) → IsTorn d.base d.since bytes → IsImage d bytes
 torn_is_image d bytes torn =
     let start : Disk = record d { since = [] } in
-    torn_behind start d d.since d.base bytes refl refl (base_is_image start) torn
+    torn_after start d d.since d.base bytes refl refl (base_is_image start) torn
 
 -- where the operations that a sync covers become durable, each whole state was one before
 pub whole_covered : (d e : Disk) (os ps : List Operation) → d.since ≡ os ++ ps → e.base ≡ latest d.base os → e.since ≡ ps → (whole : List ℕ) → IsWhole e.base e.since whole → IsWhole d.base d.since whole
-whole_covered d e os ps since base rest whole is_whole = rw since (whole_behind d.base os ps whole (rw (base, rest) at is_whole))
+whole_covered d e os ps since base rest whole is_whole = rw since (whole_after d.base os ps whole (rw (base, rest) at is_whole))
 
 -- and each image too
 pub image_covered : (d e : Disk) (os ps : List Operation) → d.since ≡ os ++ ps → e.base ≡ latest d.base os → e.since ≡ ps → (image : List ℕ) → IsImage e image → IsImage d image
@@ -383,18 +383,18 @@ image_covered d e os ps since base rest image is_image =
       no_longer = (is_image.no_longer.0, whole is_image.no_longer.0 is_image.no_longer.1, is_image.no_longer.2);
       each = λ at byte is. elim (is_image.each at byte is) [
         | inl in_base ↦ whole_byte d.base d.since e.base (whole e.base (base_is_whole e.base e.since)) at byte in_base
-        | inr (inl written) ↦ inr (inl (rw since (writes_behind os ps at byte (rw rest at written))))
+        | inr (inl written) ↦ inr (inl (rw since (writes_after os ps at byte (rw rest at written))))
         | inr (inr gap) ↦ inr (inr (gap.0, (gap.1.0, whole gap.1.0 gap.1.1, gap.1.2)))
       ];
     }
 
 -- so what is fixed stays
-pub fixed_covered : (d e : Disk) (os ps : List Operation) (place : ℕ) (bytes : List ℕ) → d.since ≡ os ++ ps → e.base ≡ latest d.base os → e.since ≡ ps → Fixed d place bytes → Fixed e place bytes
-fixed_covered d e os ps place bytes since base rest fixed =
+pub fixed_covered : (d e : Disk) (os ps : List Operation) (offset : ℕ) (bytes : List ℕ) → d.since ≡ os ++ ps → e.base ≡ latest d.base os → e.since ≡ ps → Fixed d offset bytes → Fixed e offset bytes
+fixed_covered d e os ps offset bytes since base rest fixed =
     let whole = whole_covered d e os ps since base rest in
     record {
-      base = λ i byte is. fixed_byte d place bytes e.base fixed (image_covered d e os ps since base rest e.base (base_is_image e)) i byte is;
-      repeated = λ i byte other is some. fixed.repeated i byte other is (rw since (writes_behind os ps (place + i) other (rw rest at some)));
+      base = λ i byte is. fixed_byte d offset bytes e.base fixed (image_covered d e os ps since base rest e.base (base_is_image e)) i byte is;
+      repeated = λ i byte other is some. fixed.repeated i byte other is (rw since (writes_after os ps (offset + i) other (rw rest at some)));
       within = λ state is_whole. fixed.within state (whole state is_whole);
     }
 

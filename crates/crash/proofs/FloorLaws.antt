@@ -7,9 +7,6 @@ use Rattle.page.specs.Page.{text}
 use Rattle.crash.specs.Kept.{AllKeep, Through}
 use Rattle.crash.specs.Looks.{Looked, SameButLog}
 use Rattle.crash.specs.Stays.{KeepsFloors, KeepsAllFloors}
-use Rattle.crash.specs.Sound.{IsSound, content}
-use Rattle.crash.specs.WriterState.{WriterState}
-use Rattle.crash.proofs.Soundness.{sound_leaves}
 use Rattle.crash.proofs.Promise.{whole_is_chance_free}
 use Rattle.crash.proofs.CutLaws.{resize_cases, sync_cases}
 use Rattle.crash.proofs.Disks.{base_is_image, base_is_whole, image_alike, readable_stays}
@@ -53,7 +50,7 @@ sync_image old new answer goes image = elim (sync_cases old new answer goes) [
 pub sync_readable : (old new : Life) (answer : Result (Unit {0}) Error) → SyncGoes old new answer → new.present.readable ≡ old.present.readable
 sync_readable old new answer goes = elim (sync_cases old new answer goes) [
   | inl none ↦ ap (λ (life : Life). life.present.readable) none
-  | inr (d, is, readable, behind) ↦ ap (λ (life : Life). life.present.readable) is ∙ readable
+  | inr (d, is, readable, after) ↦ ap (λ (life : Life). life.present.readable) is ∙ readable
 ]
 
 -- ---- each floor is kept
@@ -107,23 +104,8 @@ module _ (sum : List ℕ → ℕ) (P : ℕ) (content : List ℕ) where
       floors_joins old mid new (floors_resize k old mid cut image within few cuts) (floors_sync mid new synced (resize_image (k * (P + 12)) old mid cut cuts image) syncs)
 
 -- a floor of one content is one of another that begins alike
-keeps_same : (sum : List ℕ → ℕ) (P : ℕ) (content other : List ℕ) (floor : ℕ) (d : Disk) → take floor content ≡ take floor other → AllKeep sum P content floor d → AllKeep sum P other floor d
+pub keeps_same : (sum : List ℕ → ℕ) (P : ℕ) (content other : List ℕ) (floor : ℕ) (d : Disk) → take floor content ≡ take floor other → AllKeep sum P content floor d → AllKeep sum P other floor d
 keeps_same sum P content other floor d same keeps = λ image is_image. keeps image is_image ∙ same
-
--- where each floor of a sound writer's content is kept, each floor of any content is
-pub floors_of_sound : (sum : List ℕ → ℕ) (w : WriterState) (old new : Life) → IsSound sum w old.present → KeepsFloors sum w.page_size (content w old.present.readable) old new → KeepsAllFloors sum w.page_size old new
-floors_of_sound sum w old new sound floors = λ other floor enough keeps.
-    let P = w.page_size in
-    let held = content w old.present.readable in
-    let base = old.present.base in
-    let says : text sum P base ≡ take (length (text sum P base)) held =
-    (elim (sound_leaves sum w old.present sound base (base_is_image old.present) (whole_is_chance_free sum P old.present base (base_is_whole base old.present.since))) [ inl is ↦ is | inr is ↦ is ]) in
-    let kept : take floor (text sum P base) ≡ take floor other = keeps base (base_is_image old.present) in
-    let there : floor ≤ length (text sum P base) = omega (arith, ap length kept, length-take floor (text sum P base), length-take floor other) in
-    let within : floor ≤ length held = omega (arith, ap length says, length-take (length (text sum P base)) held) in
-    let same : take floor held ≡ take floor other = sym (same_floor (text sum P base) held floor says there) ∙ kept in
-    through_then (AllKeep sum P held floor) (AllKeep sum P other floor) old new (λ d still. keeps_same sum P held other floor d same still)
-    (floors floor within (keeps_same sum P other held floor old.present (sym same) keeps))
 
 -- so where each floor of the text of what is readable is kept, each floor of any content is
 pub floors_of_content : (sum : List ℕ → ℕ) (P : ℕ) (content : List ℕ) (old new : Life) → ReadsImage old → KeepsFloors sum P (text sum P old.present.readable) old new → KeepsFloors sum P content old new

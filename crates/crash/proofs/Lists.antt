@@ -10,11 +10,11 @@ module _ {X : Type 0} where
   pub take_same : (m n : ℕ) (xs ys : List X) → m ≤ n → take n xs ≡ take n ys → take m xs ≡ take m ys
   take_same m n xs ys le same = sym (take-take m n xs le) ∙ ap (λ (l : List X). take m l) same ∙ take-take m n ys le
 
-  -- a beginning that ends behind the first list
+  -- a beginning that ends after the first list
   pub take_past : (n : ℕ) (xs ys : List X) → length xs ≤ n → take n (xs ++ ys) ≡ xs ++ take (n - length xs) ys
   take_past n xs ys le = let e : n ≡ length xs + (n - length xs) = omega arith in ap (λ (k : ℕ). take k (xs ++ ys)) e ∙ take-append-add xs ys (n - length xs)
 
-  -- a rest that begins behind the first list
+  -- a rest that begins after the first list
   pub drop_past : (n : ℕ) (xs ys : List X) → length xs ≤ n → drop n (xs ++ ys) ≡ drop (n - length xs) ys
   drop_past n xs ys le = let e : n ≡ length xs + (n - length xs) = omega arith in ap (λ (k : ℕ). drop k (xs ++ ys)) e ∙ drop-append-add xs ys (n - length xs)
 
@@ -65,7 +65,7 @@ module _ {X : Type 0} where
   pub same_reach : (m : ℕ) (xs ys : List X) → take m xs ≡ take m ys → m ≤ length xs → m ≤ length ys
   same_reach m xs ys same le = omega (arith, ap length same, length-take m xs, length-take m ys)
 
--- the list has an element at each place below its length
+-- the list has an element at each offset below its length
 pub element_within : {X : Type 0} (xs : List X) (i : ℕ) → i < length xs → (x : X) × (slice_get xs i ≡ Some x)
 element_within [] i below = absurd (omega arith)
 element_within (x ∷ xs) zero below = (x, refl)

@@ -23,24 +23,24 @@ pub looked_none : (old new : Life) → new ≡ old → Looked old new
 looked_none old new is = subst (λ l. Looked old l) (sym is) (looked_start old)
 
 -- a read of the device, whatever it answers
-pub looked_read : (place len : ℕ) (old new : Life) (result : Result (List ℕ) Error) → ReadGoes place len old new result → Looked old new
-looked_read place len old new (Ok bytes) goes = looked_asked (ReadAt place len) false old new goes.2
-looked_read place len old new (Err ReadFailed) goes = looked_asked (ReadAt place len) true old new goes
-looked_read place len old new (Err WriteFailed) goes = absurd goes
-looked_read place len old new (Err ResizeFailed) goes = absurd goes
-looked_read place len old new (Err SyncFailed) goes = absurd goes
-looked_read place len old new (Err InvalidChecksum) goes = absurd goes
-looked_read place len old new (Err BlobInsufficientLength) goes = looked_none old new goes.0
-looked_read place len old new (Err OffsetOverflow) goes = absurd goes
-looked_read place len old new (Err OutOfMemory) goes = looked_none old new goes.0
-looked_read place len old new (Err IdsExhausted) goes = absurd goes
+pub looked_read : (offset len : ℕ) (old new : Life) (result : Result (List ℕ) Error) → ReadGoes offset len old new result → Looked old new
+looked_read offset len old new (Ok bytes) goes = looked_asked (ReadAt offset len) false old new goes.2
+looked_read offset len old new (Err ReadFailed) goes = looked_asked (ReadAt offset len) true old new goes
+looked_read offset len old new (Err WriteFailed) goes = absurd goes
+looked_read offset len old new (Err ResizeFailed) goes = absurd goes
+looked_read offset len old new (Err SyncFailed) goes = absurd goes
+looked_read offset len old new (Err InvalidChecksum) goes = absurd goes
+looked_read offset len old new (Err BlobInsufficientLength) goes = looked_none old new goes.0
+looked_read offset len old new (Err OffsetOverflow) goes = absurd goes
+looked_read offset len old new (Err OutOfMemory) goes = looked_none old new goes.0
+looked_read offset len old new (Err IdsExhausted) goes = absurd goes
 
 -- what a look leaves readable
 pub looked_readable : (old new : Life) → Looked old new → new.present.readable ≡ old.present.readable
 looked_readable old new looked = ap (λ (d : Disk). d.readable) looked.same
 
--- what a read behind a look gave
-pub read_gives : (place len : ℕ) (start old new : Life) (bytes : List ℕ) → Looked start old → ReadGoes place len old new (Ok bytes)
-    → bytes ≡ take len (drop place start.present.readable)
-read_gives place len start old new bytes so_far goes =
-    goes.1 ∙ ap (λ (l : List ℕ). take len (drop place l)) (looked_readable start old so_far)
+-- what a read after a look gave
+pub read_gives : (offset len : ℕ) (start old new : Life) (bytes : List ℕ) → Looked start old → ReadGoes offset len old new (Ok bytes)
+    → bytes ≡ take len (drop offset start.present.readable)
+read_gives offset len start old new bytes so_far goes =
+    goes.1 ∙ ap (λ (l : List ℕ). take len (drop offset l)) (looked_readable start old so_far)

@@ -5,7 +5,7 @@ use Rattle.disk.specs.Disk.{Disk, Operation, Life, next}
 use Rattle.page.specs.Page.{text}
 use Rattle.crash.specs.Guard.{Guards, IsTruthful, IsChanceFree}
 use Rattle.crash.specs.Kept.{AllKeep, AllOnly, Through}
-use Rattle.crash.specs.Sound.{latest}
+use Rattle.crash.specs.Contents.{latest}
 use Rattle.crash.specs.Moments.{through_start, through_more, through_joins, through_end, through_then}
 use Rattle.crash.specs.Stays.{Stays, StaysThrough}
 use Rattle.crash.proofs.Disks.{base_is_whole, base_is_image, image_alike, image_covered, whole_covered}
@@ -91,13 +91,13 @@ kept_through sum P content old new through floor enough keeps =
     through_then (Stays sum P content old.present) (AllKeep sum P content floor) old new (λ d stays. stays.kept floor enough keeps) through
 
 -- and chance aside there is only content
-pub only_through : (sum : List ℕ → ℕ) (P : ℕ) (content behind : List ℕ) (old new : Life) → StaysThrough sum P content old new → Through (AllOnly sum P content behind) old new
-only_through sum P content behind old new through =
-    through_then (Stays sum P content old.present) (AllOnly sum P content behind) old new (λ d stays. λ image is_image free. inl (stays.only image is_image free)) through
+pub only_through : (sum : List ℕ → ℕ) (P : ℕ) (content after : List ℕ) (old new : Life) → StaysThrough sum P content old new → Through (AllOnly sum P content after) old new
+only_through sum P content after old new through =
+    through_then (Stays sum P content old.present) (AllOnly sum P content after) old new (λ d stays. λ image is_image free. inl (stays.only image is_image free)) through
 
--- also where the content is the one behind the call
-pub only_behind : (sum : List ℕ → ℕ) (P : ℕ) (before content : List ℕ) (old new : Life) → StaysThrough sum P content old new → Through (AllOnly sum P before content) old new
-only_behind sum P before content old new through =
+-- also where the content is the one after the call
+pub only_after : (sum : List ℕ → ℕ) (P : ℕ) (before content : List ℕ) (old new : Life) → StaysThrough sum P content old new → Through (AllOnly sum P before content) old new
+only_after sum P before content old new through =
     through_then (Stays sum P content old.present) (AllOnly sum P before content) old new (λ d stays. λ image is_image free. inr (stays.only image is_image free)) through
 
 -- a content that grows keeps its beginning

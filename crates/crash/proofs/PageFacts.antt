@@ -70,20 +70,20 @@ slot_at P p s bytes page is =
     ∙ ap (λ (l : List ℕ). take 6 l) (drop-drop (P + slot_offset s) (p * (P + 12)) bytes)
     ∙ ap (λ (k : ℕ). take 6 (drop k bytes)) same
 
--- a page's beginning stands at its place in the blob
+-- a page's beginning stands at its offset in the blob
 pub page_begins : (P p n : ℕ) (bytes page : List ℕ) → slice_get (pages P bytes) p ≡ Some page → n ≤ P + 12 → take n page ≡ take n (drop (p * (P + 12)) bytes)
 page_begins P p n bytes page is inside = ap (λ (l : List ℕ). take n l) (page_is P p bytes page is) ∙ take-take n (P + 12) (drop (p * (P + 12)) bytes) inside
 
--- a page says what the content has at its place, as far as the floor goes
+-- a page says what the content has at its offset, as far as the floor goes
 pub record Says (sum : List ℕ → ℕ) (P : ℕ) (content : List ℕ) (floor : ℕ) (ps : List (List ℕ)) (p : ℕ) : Type 0 where
   pub page : List ℕ
   pub there : slice_get ps p ≡ Some page
   pub enough : min P (floor - p * P) ≤ value_len sum P page
   pub begins : take (min P (floor - p * P)) page ≡ take (min P (floor - p * P)) (drop (p * P) content)
 
--- so do the pages behind the first of the content behind it
-says_behind : (sum : List ℕ → ℕ) (P : ℕ) (content : List ℕ) (floor : ℕ) (page : List ℕ) (ps : List (List ℕ)) (p : ℕ) → Says sum P content floor (page ∷ ps) (suc p) → Says sum P (drop P content) (floor - P) ps p
-says_behind sum P content floor page ps p says =
+-- so do the pages after the first of the content after it
+says_after : (sum : List ℕ → ℕ) (P : ℕ) (content : List ℕ) (floor : ℕ) (page : List ℕ) (ps : List (List ℕ)) (p : ℕ) → Says sum P content floor (page ∷ ps) (suc p) → Says sum P (drop P content) (floor - P) ps p
+says_after sum P content floor page ps p says =
     let fewer : min P (floor - P - p * P) ≡ min P (floor - suc p * P) = omega arith in
     let further : P + p * P ≡ suc p * P = omega arith in
     record {
@@ -103,13 +103,13 @@ floor_here sum P content floor page rest enough there begins =
 -- the floor is past the first page
 floor_past : (sum : List ℕ → ℕ) (P : ℕ) (content : List ℕ) (floor : ℕ) (page rest : List ℕ) → floor ≤ length content → P ≤ floor → value_len sum P page ≡ P → take P page ≡ take P content → take (floor - P) rest ≡ take (floor - P) (drop P content)
     → take floor (value sum P page ++ rest) ≡ take floor content
-floor_past sum P content floor page rest enough past full begins behind =
+floor_past sum P content floor page rest enough past full begins after =
     let same : floor ≡ P + (floor - P) = omega arith in
     let here : length (take P content) ≡ P = length-take-le P content (omega arith) in
     ap (λ (l : List ℕ). take floor (l ++ rest)) (ap (λ (n : ℕ). take n page) full ∙ begins)
     ∙ ap (λ (n : ℕ). take n (take P content ++ rest)) (same ∙ ap (λ (n : ℕ). n + (floor - P)) (sym here))
     ∙ take-append-add (take P content) rest (floor - P)
-    ∙ ap (λ (l : List ℕ). take P content ++ l) behind
+    ∙ ap (λ (l : List ℕ). take P content ++ l) after
     ∙ sym (take-add P (floor - P) content)
     ∙ ap (λ (n : ℕ). take n content) (sym same)
 
@@ -137,16 +137,16 @@ text_begins sum P (page ∷ ps) content (suc floor) enough says =
           let far : min P (suc floor) ≡ P = omega arith in
           let full : value_len sum P page ≡ P = omega (arith, first.0, value_len_le sum P page) in
           let begins : take P page ≡ take P content = ap (λ (n : ℕ). take n page) (sym far) ∙ first.1 ∙ ap (λ (n : ℕ). take n content) far in
-          let behind = text_begins sum P ps (drop P content) (suc floor - P) (omega (arith, length-drop P content))
-          (λ p below. says_behind sum P content (suc floor) page ps p (says (suc p) (omega arith))) in
+          let after = text_begins sum P ps (drop P content) (suc floor - P) (omega (arith, length-drop P content))
+          (λ p below. says_after sum P content (suc floor) page ps p (says (suc p) (omega arith))) in
           let goes_on : (if value_len sum P page == P then text_of_pages sum P ps else []) ≡ text_of_pages sum P ps = cond-true (value_len sum P page == P) (text_of_pages sum P ps) [] (eq-eqb (value_len sum P page) P full) in
-          floor_past sum P content (suc floor) page _ enough (omega arith) full begins (ap (λ (l : List ℕ). take (suc floor - P) l) goes_on ∙ behind)
+          floor_past sum P content (suc floor) page _ enough (omega arith) full begins (ap (λ (l : List ℕ). take (suc floor - P) l) goes_on ∙ after)
       | inr here ↦
           let far : min P (suc floor) ≡ suc floor = omega arith in
           floor_here sum P content (suc floor) page _ enough (omega (arith, first.0)) (ap (λ (n : ℕ). take n page) (sym far) ∙ first.1 ∙ ap (λ (n : ℕ). take n content) far)
     ]
 
--- two parts of a list, one behind the other, are a beginning of it
+-- two parts of a list, one after the other, are a beginning of it
 pub joined_beginning : {X : Type 0} (xs ys zs : List X) → xs ≡ take (length xs) zs → ys ≡ take (length ys) (drop (length xs) zs) → xs ++ ys ≡ take (length (xs ++ ys)) zs
 joined_beginning xs ys zs first second =
     ap₂ (λ (first_part second_part : List _). first_part ++ second_part) first second ∙ sym (take-add (length xs) (length ys) zs) ∙ ap (λ (n : ℕ). take n zs) (sym (length-append xs ys))
@@ -166,7 +166,7 @@ rest_cases sum P page ps = elim (cases_eq (value_len sum P page) P) [
   )
 ]
 
--- the text is a beginning of the content where each page's value is the content's at its place
+-- the text is a beginning of the content where each page's value is the content's at its offset
 pub text_within : (sum : List ℕ → ℕ) (P : ℕ) (ps : List (List ℕ)) (content : List ℕ)
     → ((p : ℕ) (page : List ℕ) → slice_get ps p ≡ Some page → take (value_len sum P page) page ≡ take (value_len sum P page) (drop (p * P) content))
     → text_of_pages sum P ps ≡ take (length (text_of_pages sum P ps)) content
@@ -175,14 +175,14 @@ text_within sum P (page ∷ ps) content each =
     let start : 0 * P ≡ 0 = omega arith in
     let here : value sum P page ≡ take (value_len sum P page) content = each 0 page refl ∙ ap (λ (k : ℕ). take (value_len sum P page) (drop k content)) start in
     let first = own_beginning (value_len sum P page) (value sum P page) content here in
-    let behind = text_within sum P ps (drop P content) (λ p other is.
+    let after = text_within sum P ps (drop P content) (λ p other is.
     let further : suc p * P ≡ P + p * P = omega arith in
     each (suc p) other is ∙ ap (λ (k : ℕ). take (value_len sum P other) (drop k content)) further ∙ ap (λ (l : List ℕ). take (value_len sum P other) l) (sym (drop-drop (p * P) P content))) in
     elim (rest_cases sum P page ps) [
       | inl full ↦
           let as_long : length (value sum P page) ≡ min P (length content) = ap length here ∙ length-take (value_len sum P page) content ∙ ap (λ (n : ℕ). min n (length content)) full.0 in
           let second : text_of_pages sum P ps ≡ take (length (text_of_pages sum P ps)) (drop (length (value sum P page)) content) =
-          behind ∙ ap (λ (l : List ℕ). take (length (text_of_pages sum P ps)) l) (sym (drop_min P content) ∙ ap (λ (k : ℕ). drop k content) (sym as_long)) in
+          after ∙ ap (λ (l : List ℕ). take (length (text_of_pages sum P ps)) l) (sym (drop_min P content) ∙ ap (λ (k : ℕ). drop k content) (sym as_long)) in
           full.1 ∙ joined_beginning (value sum P page) (text_of_pages sum P ps) content first second ∙ ap (λ (l : List ℕ). take (length l) content) (sym full.1)
       | inr partial ↦ partial.1 ∙ first ∙ ap (λ (l : List ℕ). take (length l) content) (sym partial.1)
     ]
@@ -200,9 +200,9 @@ pub record HasPart (sum : List ℕ → ℕ) (P : ℕ) (whole : List ℕ) (ps : L
 first_part : {X : Type 0} (xs rest whole : List X) (n k : ℕ) → length xs ≡ n → whole ≡ xs ++ rest → k ≡ 0 → xs ≡ take n (drop k whole)
 first_part xs rest whole n k size is start = sym (take_at xs rest n size) ∙ ap₂ (λ (l : List _) (j : ℕ). take n (drop j l)) (sym is) (sym start)
 
--- a part behind the first page
-part_behind : (sum : List ℕ → ℕ) (P : ℕ) (first rest whole page : List ℕ) (ps : List (List ℕ)) (p : ℕ) → length first ≡ P → whole ≡ first ++ rest → HasPart sum P rest ps p → HasPart sum P whole (page ∷ ps) (suc p)
-part_behind sum P first rest whole page ps p size is part =
+-- a part after the first page
+part_after : (sum : List ℕ → ℕ) (P : ℕ) (first rest whole page : List ℕ) (ps : List (List ℕ)) (p : ℕ) → length first ≡ P → whole ≡ first ++ rest → HasPart sum P rest ps p → HasPart sum P whole (page ∷ ps) (suc p)
+part_after sum P first rest whole page ps p size is part =
     let further : suc p * P ≡ length first + p * P = omega arith in
     let as_long : length whole ≡ P + length rest = ap length is ∙ length-append first rest ∙ ap (λ (n : ℕ). n + length rest) size in
     let skipped : drop (suc p * P) whole ≡ drop (p * P) rest = ap₂ (λ (k : ℕ) (l : List ℕ). drop k l) further is ∙ drop-append-add first rest (p * P) in
@@ -215,7 +215,7 @@ part_behind sum P first rest whole page ps p size is part =
       enough = omega (arith, part.enough);
     }
 
--- each place of the text lies in such a page
+-- each offset of the text lies in such a page
 pub has_part : (sum : List ℕ → ℕ) (P : ℕ) (ps : List (List ℕ)) (p : ℕ) → 0 < P → ((q : ℕ) (page : List ℕ) → slice_get ps q ≡ Some page → P ≤ length page)
     → p * P < length (text_of_pages sum P ps) → HasPart sum P (text_of_pages sum P ps) ps p
 has_part sum P [] p some long below = absurd (omega arith)
@@ -252,7 +252,7 @@ has_part sum P (page ∷ ps) (suc p) some long below =
       | inl full ↦
           let size : length (text_of_pages sum P (page ∷ ps)) ≡ P + length (text_of_pages sum P ps) =
           ap length full.1 ∙ length-append (value sum P page) (text_of_pages sum P ps) ∙ ap (λ (n : ℕ). n + length (text_of_pages sum P ps)) (as_long ∙ full.0) in
-          part_behind sum P (value sum P page) (text_of_pages sum P ps) (text_of_pages sum P (page ∷ ps)) page ps p (as_long ∙ full.0) full.1
+          part_after sum P (value sum P page) (text_of_pages sum P ps) (text_of_pages sum P (page ∷ ps)) page ps p (as_long ∙ full.0) full.1
           (has_part sum P ps p some (λ q other is. long (suc q) other is) (omega arith))
       | inr partial ↦ absurd (omega (arith, ap length partial.1))
     ]

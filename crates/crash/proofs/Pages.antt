@@ -10,7 +10,7 @@ use Rattle.std.proofs.Math.Nat.{div-mul-le_self, mul-le-mul_left, mul-div_cancel
 use Rattle.disk.specs.Disk.{applied}
 use Rattle.disk.specs.Disk.Operation.{Write, Resize}
 use Rattle.page.specs.Page.{pieces, pages}
-use Rattle.crash.specs.Sound.{stored}
+use Rattle.crash.specs.Contents.{stored}
 use Rattle.crash.proofs.Lists.{take_same, drop_past, within_take, within_same, within_append, within_drop, same_reach}
 
 -- there are as many pieces as were asked for
@@ -18,7 +18,7 @@ pub length-pieces : (n size : ℕ) (bytes : List ℕ) → length (pieces n size 
 length-pieces zero size bytes = refl
 length-pieces (suc n) size bytes = ap suc (length-pieces n size (drop size bytes))
 
--- a piece by its place
+-- a piece by its offset
 pub pieces_at : (n size p : ℕ) (bytes : List ℕ) → p < n → slice_get (pieces n size bytes) p ≡ Some (take size (drop (p * size) bytes))
 pieces_at zero size p bytes lt = absurd (omega arith)
 pieces_at (suc n) size zero bytes lt = let e : 0 * size ≡ 0 = omega arith in rw e
@@ -55,7 +55,7 @@ take-pieces zero n size bytes le = refl
 take-pieces (suc k) zero size bytes le = absurd (omega arith)
 take-pieces (suc k) (suc n) size bytes le = ap (λ (l : List (List ℕ)). take size bytes ∷ l) (take-pieces k n size (drop size bytes) (omega arith))
 
--- the pieces behind the first
+-- the pieces after the first
 pub drop-pieces : (k n size : ℕ) (bytes : List ℕ) → drop k (pieces (k + n) size bytes) ≡ pieces n size (drop (k * size) bytes)
 drop-pieces k n size bytes =
     ap (λ (l : List (List ℕ)). drop k l) (pieces-add k n size bytes) ∙ drop_at (pieces k size bytes) (pieces n size (drop (k * size) bytes)) k (length-pieces k size bytes)
@@ -91,7 +91,7 @@ pages_reach P k bytes le =
 pub fewer_fit : (P k n : ℕ) (bytes : List ℕ) → k ≤ n → n * (P + 12) ≤ length bytes → k * (P + 12) ≤ length bytes
 fewer_fit P k n bytes le reach = let a : (P + 12) * k ≤ (P + 12) * n = mul-le-mul_left (P + 12) le in omega (arith, a)
 
--- a page by its place
+-- a page by its offset
 pub pages_at : (P p : ℕ) (bytes : List ℕ) → (p + 1) * (P + 12) ≤ length bytes → slice_get (pages P bytes) p ≡ Some (take (P + 12) (drop (p * (P + 12)) bytes))
 pages_at P p bytes le = pieces_at (length bytes / (P + 12)) (P + 12) p bytes (omega (arith, pages_fit P (p + 1) bytes le))
 
@@ -99,17 +99,17 @@ pages_at P p bytes le = pieces_at (length bytes / (P + 12)) (P + 12) p bytes (om
 pub page_fits : (P p : ℕ) (bytes page : List ℕ) → slice_get (pages P bytes) p ≡ Some page → (p + 1) * (P + 12) ≤ length bytes
 page_fits P p bytes page is = pages_reach P (p + 1) bytes (omega (arith, slice_get_within (pages P bytes) p page is, length-pages P bytes))
 
--- a page is the bytes at its place
+-- a page is the bytes at its offset
 pub page_is : (P p : ℕ) (bytes page : List ℕ) → slice_get (pages P bytes) p ≡ Some page → page ≡ take (P + 12) (drop (p * (P + 12)) bytes)
 page_is P p bytes page is = same_Some _ _ (sym is ∙ pages_at P p bytes (page_fits P p bytes page is))
 
--- the bytes at a page's place are as many as a page has
-pub length-place : (P p : ℕ) (bytes : List ℕ) → (p + 1) * (P + 12) ≤ length bytes → length (take (P + 12) (drop (p * (P + 12)) bytes)) ≡ P + 12
-length-place P p bytes le = length-take-le (P + 12) (drop (p * (P + 12)) bytes) (omega (arith, length-drop (p * (P + 12)) bytes))
+-- the bytes at a page's offset are as many as a page has
+pub length-offset : (P p : ℕ) (bytes : List ℕ) → (p + 1) * (P + 12) ≤ length bytes → length (take (P + 12) (drop (p * (P + 12)) bytes)) ≡ P + 12
+length-offset P p bytes le = length-take-le (P + 12) (drop (p * (P + 12)) bytes) (omega (arith, length-drop (p * (P + 12)) bytes))
 
 -- a page has P + 12 bytes
 pub length-page : (P p : ℕ) (bytes page : List ℕ) → slice_get (pages P bytes) p ≡ Some page → length page ≡ P + 12
-length-page P p bytes page is = ap length (page_is P p bytes page is) ∙ length-place P p bytes (page_fits P p bytes page is)
+length-page P p bytes page is = ap length (page_is P p bytes page is) ∙ length-offset P p bytes (page_fits P p bytes page is)
 
 -- the first pages, by the bytes that they cover
 pub take-pages : (P k : ℕ) (bytes : List ℕ) → k * (P + 12) ≤ length bytes → take k (pages P bytes) ≡ pieces k (P + 12) bytes
@@ -144,26 +144,26 @@ pages-append P q front back len =
     ∙ ap (λ (l : List (List ℕ)). l ++ pages P back) (sym (pages_whole P q front len))
 
 -- a write that begins within the blob, and reaches its end
-pub write_at_end : (place : ℕ) (new old : List ℕ) → place ≤ length old → length old ≤ place + length new → applied (Write place new) old ≡ take place old ++ new
-write_at_end place new old le reach =
-    let none : place - length old ≡ 0 = omega arith in
-    let behind : drop (place + length new) old ≡ [] = drop_all (place + length new) old reach in
-    rw (none, behind) (append-nil ((take place old ++ []) ++ new) ∙ ap (λ (l : List ℕ). l ++ new) (append-nil (take place old)))
+pub write_at_end : (offset : ℕ) (new old : List ℕ) → offset ≤ length old → length old ≤ offset + length new → applied (Write offset new) old ≡ take offset old ++ new
+write_at_end offset new old le reach =
+    let none : offset - length old ≡ 0 = omega arith in
+    let after : drop (offset + length new) old ≡ [] = drop_all (offset + length new) old reach in
+    rw (none, after) (append-nil ((take offset old ++ []) ++ new) ∙ ap (λ (l : List ℕ). l ++ new) (append-nil (take offset old)))
 
 -- a resize that cuts
 pub cut_is : (len : ℕ) (old : List ℕ) → len ≤ length old → applied (Resize len) old ≡ take len old
 cut_is len old le = let none : len - length old ≡ 0 = omega arith in rw none (append-nil (take len old))
 
 -- what stands before a write stays
-pub before_write : (place k : ℕ) (new old : List ℕ) → k ≤ place → k ≤ length old → take k (applied (Write place new) old) ≡ take k old
-before_write place k new old le within =
-    let front = take place old in
-    let gap = replicate {A = ℕ} (place - length old) 0 in
-    let rest = drop (place + length new) old in
-    let e : k ≤ length front = omega (arith, length-take place old) in
+pub before_write : (offset k : ℕ) (new old : List ℕ) → k ≤ offset → k ≤ length old → take k (applied (Write offset new) old) ≡ take k old
+before_write offset k new old le within =
+    let front = take offset old in
+    let gap = replicate {A = ℕ} (offset - length old) 0 in
+    let rest = drop (offset + length new) old in
+    let e : k ≤ length front = omega (arith, length-take offset old) in
     let f : k ≤ length (front ++ gap) = omega (arith, length-append front gap) in
     let g : k ≤ length ((front ++ gap) ++ new) = omega (arith, length-append (front ++ gap) new) in
-    take-append-le k ((front ++ gap) ++ new) rest g ∙ take-append-le k (front ++ gap) new f ∙ take-append-le k front gap e ∙ take-take k place old le
+    take-append-le k ((front ++ gap) ++ new) rest g ∙ take-append-le k (front ++ gap) new f ∙ take-append-le k front gap e ∙ take-take k offset old le
 
 module _ (P q m : ℕ) (new old : List ℕ) (len : length new ≡ m * (P + 12)) (begins : q * (P + 12) ≤ length old) (ends : length old ≤ q * (P + 12) + length new) where
   -- a blob whose last pages were written anew
@@ -268,7 +268,7 @@ take-stored P k full readable le reach =
     ∙ ap (λ (l : List ℕ). take (k * P) l) (stored-add P k (full - k) readable whole)
     ∙ take_at (stored P k readable) (stored P (full - k) (drop (k * (P + 12)) readable)) (k * P) (length-stored P k readable front)
 
--- the payloads behind the first
+-- the payloads after the first
 pub drop-stored : (P k full : ℕ) (readable : List ℕ) → k ≤ full → full * (P + 12) ≤ length readable → drop (k * P) (stored P full readable) ≡ stored P (full - k) (drop (k * (P + 12)) readable)
 drop-stored P k full readable le reach =
     let e : full ≡ k + (full - k) = omega arith in
@@ -284,7 +284,7 @@ take_pages_more P k bytes le =
     take-pages P (k + 1) bytes le ∙ pieces_more k (P + 12) bytes
     ∙ ap (λ (l : List (List ℕ)). l ++ take (P + 12) (drop (k * (P + 12)) bytes) ∷ []) (sym (take-pages P k bytes (omega arith)))
 
--- the pages before one, that one, and those behind it
+-- the pages before one, that one, and those after it
 pub pages_split : (P k : ℕ) (bytes : List ℕ) → (k + 1) * (P + 12) ≤ length bytes → pages P bytes ≡ take k (pages P bytes) ++ take (P + 12) (drop (k * (P + 12)) bytes) ∷ drop (k + 1) (pages P bytes)
 pages_split P k bytes le =
     let page = take (P + 12) (drop (k * (P + 12)) bytes) in

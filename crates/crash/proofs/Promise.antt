@@ -8,8 +8,8 @@ use Rattle.page.specs.Page.{slot_of, verified_len, value_len, pages, text}
 use Rattle.page.specs.declared.slot.Slot.{Slot}
 use Rattle.crash.specs.Guard.{Held, IsSlotFor, IsGuarded, Guards, IsTruthful, IsChanceFree}
 use Rattle.crash.specs.Kept.{AllKeep}
-use Rattle.crash.specs.Sound.{latest}
-use Rattle.crash.proofs.Disks.{fixed_length, fixed_in_image, fixed_stays, fixed_settles, fixed_at_rest, fixed_alike, Leaves, resize_leaves, write_behind_leaves, base_is_image, one_more_whole, fixed_covered, whole_covered, length-applied_resize}
+use Rattle.crash.specs.Contents.{latest}
+use Rattle.crash.proofs.Disks.{fixed_length, fixed_in_image, fixed_stays, fixed_settles, fixed_at_rest, fixed_alike, Leaves, resize_leaves, write_after_leaves, base_is_image, one_more_whole, fixed_covered, whole_covered, length-applied_resize}
 use Rattle.disk.specs.Images.{only_image}
 use Rattle.crash.proofs.Lists.{take_same, within_take}
 use Rattle.crash.proofs.Pages.{pages_at, page_fits, page_is, length-page, cut_is}
@@ -140,19 +140,19 @@ guards_alike sum P content floor d e base since guards =
     λ p below. let g = guards p below in
     guarded_on sum P content floor d e p g (held_alike sum P d e p g.slot g.bytes (take g.len (drop (p * P) content)) base since g.held)
 
--- an operation leaves whatever ends at this place or before
+-- an operation leaves whatever ends at this offset or before
 pub record LeavesBelow (o : Operation) (end : ℕ) : Type 0 where
-  pub leaves : (place : ℕ) (bytes : List ℕ) → place + length bytes ≤ end → Leaves o place bytes
+  pub leaves : (offset : ℕ) (bytes : List ℕ) → offset + length bytes ≤ end → Leaves o offset bytes
 
 -- a write does up to where it begins
 pub write_leaves_below : (at : ℕ) (written : List ℕ) → LeavesBelow (Write at written) at
-write_leaves_below at written = record { leaves = λ place bytes within. write_behind_leaves at written place bytes within }
+write_leaves_below at written = record { leaves = λ offset bytes within. write_after_leaves at written offset bytes within }
 
 -- a resize does up to the new end
 pub resize_leaves_below : (len : ℕ) → LeavesBelow (Resize len) len
-resize_leaves_below len = record { leaves = λ place bytes within. resize_leaves len place bytes within }
+resize_leaves_below len = record { leaves = λ offset bytes within. resize_leaves len offset bytes within }
 
--- such an operation leaves each page below that place
+-- such an operation leaves each page below that offset
 pub leaves_page_below : (o : Operation) (P p end : ℕ) (s : Slot) (slot bytes : List ℕ) → LeavesBelow o end → (p + 1) * (P + 12) ≤ end → length slot ≡ 6 → length bytes ≤ P → LeavesPage o P p s slot bytes
 leaves_page_below o P p end s slot bytes below within size fits = record {
   payload = below.leaves (p * (P + 12)) bytes (omega arith);

@@ -7,7 +7,7 @@ use Rattle.disk.specs.Disk.{Disk, Operation, IsImage, IsWhole, SomeWrites}
 use Rattle.disk.specs.Disk.Operation.{Resize}
 use Rattle.page.specs.Page.{pages, value_len, text, text_of_pages}
 use Rattle.crash.specs.Kept.{AllKeep}
-use Rattle.crash.specs.Sound.{latest}
+use Rattle.crash.specs.Contents.{latest}
 use Rattle.crash.proofs.Lists.{take_past, slice_get-drop, joined_element, taken_element}
 use Rattle.crash.proofs.Pages.{length-page, take-pages_same}
 use Rattle.crash.proofs.Texts.{text_full, text_part, value_len_le}
@@ -47,7 +47,7 @@ text_alike sum P k floor xs ys reach same few =
     ∙ ap (λ (l : List (List ℕ)). take floor (text_of_pages sum P l)) (take-pages_same P k xs ys reach same)
     ∙ sym (text_first sum P k floor (pages P ys) (long ys) few)
 
--- ---- images behind a cut
+-- ---- images after a cut
 
 -- where a byte of an image comes from
 abbrev Source : Disk → ℕ → ℕ → Type 0
@@ -95,9 +95,9 @@ module _ (d e : Disk) (len : ℕ) (base : e.base ≡ d.base) (since : e.since �
         no_longer = (is_long.no_longer.0, is_long.no_longer.1, omega (arith, is_long.no_longer.2, size));
         each = λ at byte is. elim (joined_element (take len image) (drop len long) at byte is) [
           | inl before ↦ cut_source at byte (omega (arith, slice_get_within (take len image) at byte before, front)) (is_image.each at byte (taken_element len image at byte before))
-          | inr behind ↦
-              let place : at ≡ len + behind.0 = omega (arith, behind.1, front) in
-              is_long.each at byte (ap (λ (i : ℕ). slice_get long i) place ∙ sym (slice_get-drop len long behind.0) ∙ behind.2)
+          | inr after ↦
+              let offset : at ≡ len + after.0 = omega (arith, after.1, front) in
+              is_long.each at byte (ap (λ (i : ℕ). slice_get long i) offset ∙ sym (slice_get-drop len long after.0) ∙ after.2)
         ];
       }
 

@@ -11,7 +11,7 @@ use Rattle.page.specs.declared.slot.Slot.TheVariants.{First, Second}
 use Rattle.page.specs.declared.slot.ActiveChecksum.{ActiveChecksum}
 use Rattle.crash.specs.Built.{kept_slot, kept_len, page_of, built_pages, built}
 use Rattle.crash.specs.Guard.{Held, IsGuarded, Guards, IsTruthful}
-use Rattle.crash.specs.Sound.{latest}
+use Rattle.crash.specs.Contents.{latest}
 use Rattle.crash.specs.Stays.{Stays}
 use Rattle.crash.proofs.Disks.{latest_is_whole, write_in_front_leaves, write_again_leaves}
 use Rattle.crash.proofs.Promise.{LeavesPage, held_stays, guards_below, write_leaves_below, SaysOnly, truthful_stays}
@@ -59,7 +59,7 @@ pub held_through_flush : (sum : List ℕ → ℕ) (P full : ℕ) (d e : Disk) (w
 held_through_flush sum P full d e w m tip bytes base since begins held =
     held_stays sum P d e (Write (full * (P + 12)) (built sum P (Some w) m tip)) full w.slot (slot_bytes w.len w.crc) bytes base since (flush_leaves_tip sum P full w m tip bytes begins held.fits) held
 
--- full pages that are guarded and a page behind them that is held are guarded together
+-- full pages that are guarded and a page after them that is held are guarded together
 pub guards_with_tip : (sum : List ℕ → ℕ) (P full : ℕ) (content : List ℕ) (len : ℕ) (d : Disk) (s : Slot) (slot : List ℕ) → full * P + len ≤ length content → Guards sum P content (full * P) d
     → Held sum P d full s slot (take len (drop (full * P) content)) → Guards sum P content (full * P + len) d
 guards_with_tip sum P full content len d s slot there guards held =
@@ -72,8 +72,8 @@ guards_with_tip sum P full content len d s slot there guards held =
           let some : 0 < P = omega (arith, held.some, held.fits) in
           let g = guards p (omega arith) in
           record { slot = g.slot; bytes = g.bytes; len = g.len; enough = omega (arith, g.enough); there = g.there; held = g.held }
-      | inr (inr behind) ↦
-          let past : suc full * P ≤ p * P = mul-le-mul_right P behind in
+      | inr (inr after) ↦
+          let past : suc full * P ≤ p * P = mul-le-mul_right P after in
           absurd (omega (arith, held.fits))
     ]
 
@@ -87,10 +87,10 @@ flush_keeps_full sum P full content floor d e written base since few guards =
 pub flush_keeps_tip : (sum : List ℕ → ℕ) (P full : ℕ) (content : List ℕ) (len : ℕ) (d e : Disk) (w : ActiveChecksum) (m : ℕ) (tip : List ℕ) → e.base ≡ d.base → e.since ≡ d.since ++ Write (full * (P + 12)) (built sum P (Some w) m tip) ∷ []
     → drop (full * P) content ≡ tip → full * P + len ≤ length content → Guards sum P content (full * P) d → Held sum P d full w.slot (slot_bytes w.len w.crc) (take len (drop (full * P) content))
     → Guards sum P content (full * P + len) e
-flush_keeps_tip sum P full content len d e w m tip base since behind there guards held =
+flush_keeps_tip sum P full content len d e w m tip base since after there guards held =
     let bytes = take len (drop (full * P) content) in
     let begins : bytes ≡ take (length bytes) tip =
-    own_beginning len bytes tip (ap (λ (l : List ℕ). take len l) behind) in
+    own_beginning len bytes tip (ap (λ (l : List ℕ). take len l) after) in
     guards_with_tip sum P full content len e w.slot (slot_bytes w.len w.crc) there
     (flush_keeps_full sum P full content (full * P) d e (built sum P (Some w) m tip) base since (le_refl (full * P)) guards)
     (held_through_flush sum P full d e w m tip bytes base since begins held)
@@ -153,9 +153,9 @@ built_say_only sum P durable (suc m) tip small fits there (suc p) page is s =
 -- a flush says only the content: the pages below the tip are as they were, and the others are built of the tip
 pub flush_says_only : (sum : List ℕ → ℕ) (P full : ℕ) (content old new : List ℕ) (durable : Option ActiveChecksum) (m : ℕ) (tip : List ℕ) → P < 2 ^ 16 → kept_len durable ≤ P → kept_len durable ≤ length tip
     → drop (full * P) content ≡ tip → full ≤ length (pages P old) → pages P new ≡ take full (pages P old) ++ built_pages sum P durable m tip → SaysOnly sum P content old → SaysOnly sum P content new
-flush_says_only sum P full content old new durable m tip small fits there behind enough new_pages says =
+flush_says_only sum P full content old new durable m tip small fits there after enough new_pages says =
     let size : length (take full (pages P old)) ≡ full = length-take-le full (pages P old) enough in
-    let rest : tip ≡ drop (length (take full (pages P old)) * P) content = sym behind ∙ ap (λ (n : ℕ). drop (n * P) content) (sym size) in
+    let rest : tip ≡ drop (length (take full (pages P old)) * P) content = sym after ∙ ap (λ (n : ℕ). drop (n * P) content) (sym size) in
     subst (λ (ps : List (List ℕ)). PagesSayOnly sum P content ps) (sym new_pages)
     (pages_say_joined sum P content (take full (pages P old)) (built_pages sum P durable m tip) (pages_say_taken sum P content (pages P old) full says)
     (subst (λ (l : List ℕ). PagesSayOnly sum P l (built_pages sum P durable m tip)) rest (built_say_only sum P durable m tip small fits there)))
@@ -166,9 +166,9 @@ pub truthful_through_flush : (sum : List ℕ → ℕ) (P full : ℕ) (content : 
     → drop (full * P) content ≡ tip → full ≤ length (pages P (latest d.base d.since))
     → pages P (applied (Write (full * (P + 12)) written) (latest d.base d.since)) ≡ take full (pages P (latest d.base d.since)) ++ built_pages sum P durable m tip
     → IsTruthful sum P content d → IsTruthful sum P content e
-truthful_through_flush sum P full content d e durable m tip written small fits there base since behind enough new_pages truthful =
+truthful_through_flush sum P full content d e durable m tip written small fits there base since after enough new_pages truthful =
     truthful_stays sum P content d e (Write (full * (P + 12)) written) base since
-    (flush_says_only sum P full content (latest d.base d.since) (applied (Write (full * (P + 12)) written) (latest d.base d.since)) durable m tip small fits there behind enough new_pages (truthful (latest d.base d.since) (latest_is_whole d.base d.since)))
+    (flush_says_only sum P full content (latest d.base d.since) (applied (Write (full * (P + 12)) written) (latest d.base d.since)) durable m tip small fits there after enough new_pages (truthful (latest d.base d.since) (latest_is_whole d.base d.since)))
     truthful
 
 -- a flush owes nothing, done or failed, where what was durable lies below the tip
@@ -181,5 +181,5 @@ flush_stays_full sum P full content floor d e written base since few durable gua
 pub flush_stays_tip : (sum : List ℕ → ℕ) (P full : ℕ) (content : List ℕ) (len : ℕ) (d e : Disk) (w : ActiveChecksum) (m : ℕ) (tip : List ℕ) → e.base ≡ d.base → e.since ≡ d.since ++ Write (full * (P + 12)) (built sum P (Some w) m tip) ∷ []
     → drop (full * P) content ≡ tip → full * P + len ≤ length content → length (text sum P d.base) ≤ full * P + len
     → Guards sum P content (full * P) d → Held sum P d full w.slot (slot_bytes w.len w.crc) (take len (drop (full * P) content)) → IsTruthful sum P content e → Stays sum P content d e
-flush_stays_tip sum P full content len d e w m tip base since behind there durable guards held truthful =
-    stays_guarded sum P content (full * P + len) d e durable (flush_keeps_tip sum P full content len d e w m tip base since behind there guards held) truthful
+flush_stays_tip sum P full content len d e w m tip base since after there durable guards held truthful =
+    stays_guarded sum P content (full * P + len) d e durable (flush_keeps_tip sum P full content len d e w m tip base since after there guards held) truthful

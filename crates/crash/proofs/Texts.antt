@@ -15,7 +15,7 @@ use Rattle.page.specs.declared.slot.Slot.{Slot}
 use Rattle.page.specs.declared.slot.Slot.TheVariants.{First, Second}
 use Rattle.page.specs.declared.slot.ActiveChecksum.{ActiveChecksum}
 use Rattle.crash.specs.Full.{AreFull}
-use Rattle.crash.specs.Sound.{stored}
+use Rattle.crash.specs.Contents.{stored}
 use Rattle.crash.proofs.Lists.{slice_get-take, within_take}
 use Rattle.crash.proofs.Pages.{pages_at, fewer_fit, take_pages_more, pages_split, pages_below, stored_same, take-pages_same}
 
@@ -37,7 +37,7 @@ module _ (sum : List ℕ → ℕ) (P : ℕ) where
   pub value_len_le : (page : List ℕ) → value_len sum P page ≤ P
   value_len_le page = omega (arith, verified_len_le First page, verified_len_le Second page)
 
-  -- the text goes on behind a full page
+  -- the text goes on after a full page
   pub text_full : (page : List ℕ) (rest : List (List ℕ)) → value_len sum P page ≡ P → text_of_pages sum P (page ∷ rest) ≡ take P page ++ text_of_pages sum P rest
   text_full page rest full = rw full (rw (eq-eqb P P refl))
 
@@ -46,7 +46,7 @@ module _ (sum : List ℕ → ℕ) (P : ℕ) where
   text_part page rest part = let e : (value_len sum P page == P) ≡ false = ne_eqb (value_len sum P page) P (λ is. omega arith) in
       rw e (append-nil (value sum P page))
 
-  -- full pages join, and the text goes on behind them
+  -- full pages join, and the text goes on after them
   pub text_of_full : (front back : List (List ℕ)) → AreFull sum P front → text_of_pages sum P (front ++ back) ≡ flat_map (take P) front ++ text_of_pages sum P back
   text_of_full [] back full = refl
   text_of_full (page ∷ front) back full =
@@ -126,7 +126,7 @@ module _ (sum : List ℕ → ℕ) (P : ℕ) where
       ∙ text_of_full (take k (pages P bytes)) (page ∷ rest) full
       ∙ ap (λ (l : List ℕ). stored P k bytes ++ l) (text_part page rest part)
 
-  -- the value of the page at a place is of the bytes at that place
+  -- the value of the page at an offset is of the bytes at that offset
   pub value_at : (k : ℕ) (bytes : List ℕ) → value sum P (take (P + 12) (drop (k * (P + 12)) bytes)) ≡ take (value_len sum P (take (P + 12) (drop (k * (P + 12)) bytes))) (drop (k * (P + 12)) bytes)
   value_at k bytes =
       let page = take (P + 12) (drop (k * (P + 12)) bytes) in
@@ -140,7 +140,7 @@ module _ (sum : List ℕ → ℕ) (P : ℕ) where
       let same : take (k * (P + 12)) front ≡ take (k * (P + 12)) bytes = take_all (k * (P + 12)) front (omega (arith, size)) in
       text_exact k front (AreFull_same k bytes front reach (sym same) full) size ∙ stored_same P k front bytes (omega (arith, size)) same
 
-  -- the blob's text is that of its full pages, where nothing behind them has a value: what is behind may be cut
+  -- the blob's text is that of its full pages, where nothing after them has a value: what is after may be cut
   pub text_cut : (k : ℕ) (bytes : List ℕ) → 0 < P → AreFull sum P (take k (pages P bytes)) → k * (P + 12) ≤ length bytes
       → ((k + 1) * (P + 12) ≤ length bytes → value_len sum P (take (P + 12) (drop (k * (P + 12)) bytes)) ≡ 0)
       → text sum P (take (k * (P + 12)) bytes) ≡ text sum P bytes
@@ -154,7 +154,7 @@ module _ (sum : List ℕ → ℕ) (P : ℕ) where
         ∙ append-nil (stored P k bytes)
   ])
 
-  -- what is behind a page that isn't full may be cut
+  -- what is after a page that isn't full may be cut
   pub text_cut_part : (k : ℕ) (bytes : List ℕ) → AreFull sum P (take k (pages P bytes)) → (k + 1) * (P + 12) ≤ length bytes
       → value_len sum P (take (P + 12) (drop (k * (P + 12)) bytes)) < P
       → text sum P (take ((k + 1) * (P + 12)) bytes) ≡ text sum P bytes

@@ -6,8 +6,6 @@ use Rattle.page.specs.Page.{slot_bytes}
 use Rattle.page.specs.declared.slot.Slot.{Slot}
 use Rattle.page.specs.declared.slot.Slot.TheVariants.{First, Second}
 use Rattle.page.specs.declared.slot.ActiveChecksum.{ActiveChecksum}
-use Rattle.crash.specs.WriterState.{WriterState}
-use Rattle.crash.specs.WriterState.SyncState.{Dirty}
 
 -- the slot that is kept; with no durable slot the second is kept empty
 abbrev pub kept_slot : Option ActiveChecksum → Slot
@@ -58,16 +56,6 @@ abbrev pub rest_written : (List ℕ → ℕ) → Option ActiveChecksum → List 
 rest_written sum durable rest false = None
 rest_written sum durable rest true =
     Some (record { slot = other (kept_slot durable); len = length rest; crc = sum rest })
-
--- the writer after k full pages were written, and the rest where asked
-abbrev pub after_write : (List ℕ → ℕ) → WriterState → ℕ → Bool → WriterState
-after_write sum w k rest = record w {
-  full_pages = w.full_pages + k;
-  tip = drop (k * w.page_size) w.tip;
-  flushed = rest_written sum (durable_after w.durable k) (drop (k * w.page_size) w.tip) rest;
-  durable = durable_after w.durable k;
-  sync = Dirty;
-}
 
 -- how many pages that writes
 abbrev pub written_pages : ℕ → Bool → ℕ

@@ -1,19 +1,22 @@
 -- Why a crash keeps what was synced: what every image of a disk holds, and what each whole state
 -- says.
 use Rattle.std.specs.Prelude.{◌≡◌, ◌≤◌, ◌<◌, ◌*◌, ◌+◌, ◌-◌, ℕ, List, [], take, drop, length}
-use Rattle.std.specs.Prelude.{slice_get, Some, min}
+use Rattle.std.specs.Prelude.{slice_get, Option, Some, None, min}
 use Rattle.disk.specs.Disk.{Disk, IsWhole, SomeWrites}
 use Rattle.page.specs.Slot.{slot_offset}
-use Rattle.page.specs.Page.{slot_len, slot_crc, pages, verified_len}
+use Rattle.page.specs.Page.{slot_bytes, slot_len, slot_crc, pages, verified_len}
 use Rattle.page.specs.declared.slot.Slot.{Slot}
+use Rattle.page.specs.declared.slot.ActiveChecksum.{ActiveChecksum}
 
--- the bytes stand at this place in the base, each write since repeats them, and no whole state ends
--- before their end
-pub record Fixed (d : Disk) (place : ℕ) (bytes : List ℕ) : Type 0 where
-  pub base : (i byte : ℕ) → slice_get bytes i ≡ Some byte → slice_get d.base (place + i) ≡ Some byte
+-- the bytes stand at this offset in the base, each write since repeats them, and no whole state
+-- ends before their end
+pub record Fixed (d : Disk) (offset : ℕ) (bytes : List ℕ) : Type 0 where
+  pub base : (i byte : ℕ) → slice_get bytes i ≡ Some byte
+      → slice_get d.base (offset + i) ≡ Some byte
   pub repeated : (i byte other : ℕ) → slice_get bytes i ≡ Some byte →
-      SomeWrites d.since (place + i) other → other ≡ byte
-  pub within : (whole : List ℕ) → IsWhole d.base d.since whole → place + length bytes ≤ length whole
+      SomeWrites d.since (offset + i) other → other ≡ byte
+  pub within : (whole : List ℕ) → IsWhole d.base d.since whole
+      → offset + length bytes ≤ length whole
 
 -- six bytes that say this length and the checksum of these bytes
 pub record IsSlotFor (sum : List ℕ → ℕ) (bytes slot : List ℕ) : Type 0 where
@@ -30,6 +33,18 @@ pub record Held (sum : List ℕ → ℕ) (P : ℕ) (d : Disk) (p : ℕ) (s : Slo
   pub is_slot : IsSlotFor sum bytes slot
   pub fixed_slot : Fixed d (p * (P + 12) + P + slot_offset s) slot
   pub end : Fixed d ((p + 1) * (P + 12)) []
+
+-- this slot of page full stays whatever a crash does, and the bytes under it
+pub record SlotGuard (sum : List ℕ → ℕ) (P : ℕ) (content : List ℕ) (d : Disk) (full : ℕ)
+    (f : ActiveChecksum) : Type 0 where
+  pub there : full * P + f.len ≤ length content
+  pub held :
+      Held sum P d full f.slot (slot_bytes f.len f.crc) (take f.len (drop (full * P) content))
+
+-- so does this one, if there is one
+abbrev pub TipGuard : (List ℕ → ℕ) → ℕ → List ℕ → Disk → ℕ → Option ActiveChecksum → Type 0
+TipGuard sum P content d full None = Unit {0}
+TipGuard sum P content d full (Some f) = SlotGuard sum P content d full f
 
 -- a page's part of the content, held as far as the floor goes
 pub record IsGuarded (sum : List ℕ → ℕ) (P : ℕ) (content : List ℕ) (floor : ℕ) (d : Disk) (p : ℕ) :

@@ -1,4 +1,4 @@
-pub mod WriterState
+pub mod Contents
 pub mod Full
 pub mod Built
 pub mod Guard
@@ -7,6 +7,5 @@ pub mod Moments
 pub mod Below
 pub mod Stays
 pub mod Looks
-pub mod Sound
 pub mod Shrink
 pub mod Started

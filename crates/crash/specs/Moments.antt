@@ -2,14 +2,14 @@
 -- and end. Whoever makes two calls in one puts their promises together by these.
 use Rattle.std.specs.Prelude.{◌≡◌, List, [], ◌∷◌, ◌++◌}
 use Rattle.std.proofs.Common.{refl, sym, ap, ◌∙◌, subst}
-use Rattle.disk.specs.Disk.{Disk, Life, next, after}
+use Rattle.disk.specs.Disk.{Disk, Life, next, life_after}
 use Rattle.crash.specs.Kept.{Each, Through}
 
 -- moments joined are the first and then the others
-pub after-append : (life : Life) (ds es : List Disk)
-    → after life (ds ++ es) ≡ after (after life ds) es
-after-append life [] es = refl
-after-append life (d ∷ ds) es = after-append (next life d) ds es
+pub life_after-append : (life : Life) (ds es : List Disk)
+    → life_after life (ds ++ es) ≡ life_after (life_after life ds) es
+life_after-append life [] es = refl
+life_after-append life (d ∷ ds) es = life_after-append (next life d) ds es
 
 -- what holds of each moment of two lists holds of each when they are joined
 each-append : (Q : Disk → Type 0) (ds es : List Disk) → Each Q ds → Each Q es → Each Q (ds ++ es)
@@ -24,7 +24,7 @@ each_then Q R (d ∷ ds) then each = (then d each.0, each_then Q R ds then each.
 
 -- what holds at the start and at each moment since holds at the end
 pub each_last : (Q : Disk → Type 0) (life : Life) (ds : List Disk) → Q life.present → Each Q ds
-    → Q (after life ds).present
+    → Q (life_after life ds).present
 each_last Q life [] start each = start
 each_last Q life (d ∷ ds) start each = each_last Q (next life d) ds each.0 each.1
 
@@ -41,7 +41,7 @@ through_more Q old new d through holds = record {
   moments = through.moments ++ d ∷ [];
   goes =
       ap (λ (life : Life). next life d) through.goes ∙ sym
-      (after-append old through.moments (d ∷ []));
+      (life_after-append old through.moments (d ∷ []));
   start = through.start;
   each = each-append Q through.moments (d ∷ []) through.each (holds, tt);
 }
@@ -53,8 +53,8 @@ unfolding Through
 through_joins Q old mid new first second = record {
   moments = first.moments ++ second.moments;
   goes =
-      second.goes ∙ ap (λ (life : Life). after life second.moments) first.goes ∙ sym
-      (after-append old first.moments second.moments);
+      second.goes ∙ ap (λ (life : Life). life_after life second.moments) first.goes ∙ sym
+      (life_after-append old first.moments second.moments);
   start = first.start;
   each = each-append Q first.moments second.moments first.each second.each;
 }

@@ -78,7 +78,7 @@ state_at bits zero byte i d less = absurd (omega arith)
 state_at bits (suc n) byte zero d less = let e : byte ≡ byte + 0 = omega arith in ap (after_bits bits) e
 state_at bits (suc n) byte (suc i) d less = state_at bits n (byte + 1) i d (omega arith) ∙ ap (after_bits bits) (let e : byte + 1 + i ≡ byte + suc i = omega arith in e)
 
--- with so many zeros behind them, and one more, and so on
+-- with so many zeros after them, and one more, and so on
 rows : (n zeros : ℕ) → List (List ℕ)
 rows zero zeros = []
 rows (suc n) zeros = states (8 * (zeros + 1)) 256 0 ∷ rows n (zeros + 1)

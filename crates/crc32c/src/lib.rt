@@ -49,9 +49,9 @@ impl Sum for Crc32c {
     fn sum(bytes: &[u8]) -> u32 {
         let mut state = u32::MAX;
         let mut rest = bytes;
-        while let Some((chunk, behind)) = rest.split_first_chunk::<8>() {
+        while let Some((chunk, after)) = rest.split_first_chunk::<8>() {
             state = eight(state, chunk);
-            rest = behind;
+            rest = after;
         }
         for byte in rest {
             state = step(state, *byte);

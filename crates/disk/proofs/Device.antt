@@ -5,11 +5,11 @@ use Rattle.disk.specs.Images.{done_is_partial, same_is_partial}
 use Rattle.disk.specs.declared.error.Error.TheVariants.{WriteFailed, ResizeFailed}
 use Rattle.disk.specs.declared.action.Action.{Action}
 use Rattle.disk.specs.declared.action.Action.TheVariants as actions
-use Rattle.disk.specs.History.{History, life_of, lives, told, operated}
+use Rattle.disk.specs.History.{History, life_of, life_after_action, told, operated}
 use Rattle.disk.proofs.Histories.{life_told}
 
 -- the life after an action, as it went
-pub life_after : (a : Action) (failed : Bool) (old new : History) → failed ≡ (old.failing == 1) → new ≡ told a old → life_of new ≡ lives a failed (life_of old)
+pub life_after : (a : Action) (failed : Bool) (old new : History) → failed ≡ (old.failing == 1) → new ≡ told a old → life_of new ≡ life_after_action a failed (life_of old)
 life_after a failed old new e same = rw (same, e) (life_told a old)
 
 -- an operation that was done, or failed and left all as it was
@@ -17,28 +17,28 @@ operated_is : (o : Operation) (request : Request) (failed : Bool) (d : Disk) →
 operated_is o request true d = record { readable = same_is_partial o d.readable; done = λ h. cc; rest = refl }
 operated_is o request false d = record { readable = done_is_partial o d.readable; done = λ h. refl; rest = refl }
 
-pub write_fails : (place : ℕ) (bytes : List ℕ) (sync : Bool) (old new : Life) → new ≡ lives (actions.Write place bytes sync) true old → WriteGoes place bytes sync old new (Err WriteFailed)
-write_fails place bytes true old new e =
-    let o : Operation = Write place bytes in
-    let request = WriteAt place (length bytes) true in
+pub write_fails : (offset : ℕ) (bytes : List ℕ) (sync : Bool) (old new : Life) → new ≡ life_after_action (actions.Write offset bytes sync) true old → WriteGoes offset bytes sync old new (Err WriteFailed)
+write_fails offset bytes true old new e =
+    let o : Operation = Write offset bytes in
+    let request = WriteAt offset (length bytes) true in
     (operated o request true old.present, e, operated_is o request true old.present)
-write_fails place bytes false old new e =
-    let o : Operation = Write place bytes in
-    let request = WriteAt place (length bytes) false in
+write_fails offset bytes false old new e =
+    let o : Operation = Write offset bytes in
+    let request = WriteAt offset (length bytes) false in
     (refl, (operated o request true old.present, e, operated_is o request true old.present))
 
-pub write_goes : (place : ℕ) (bytes : List ℕ) (sync : Bool) (old new : Life) → new ≡ lives (actions.Write place bytes sync) false old → WriteGoes place bytes sync old new (Ok tt)
-write_goes place bytes true old new e =
-    let o : Operation = Write place bytes in
-    let request = WriteAt place (length bytes) true in
+pub write_goes : (offset : ℕ) (bytes : List ℕ) (sync : Bool) (old new : Life) → new ≡ life_after_action (actions.Write offset bytes sync) false old → WriteGoes offset bytes sync old new (Ok tt)
+write_goes offset bytes true old new e =
+    let o : Operation = Write offset bytes in
+    let request = WriteAt offset (length bytes) true in
     (operated o request false old.present, e, operated_is o request false old.present)
-write_goes place bytes false old new e =
-    let o : Operation = Write place bytes in
-    let request = WriteAt place (length bytes) false in
+write_goes offset bytes false old new e =
+    let o : Operation = Write offset bytes in
+    let request = WriteAt offset (length bytes) false in
     (operated o request false old.present, e, operated_is o request false old.present)
 
-pub resize_fails : (len : ℕ) (old new : Life) → new ≡ lives (actions.Resize len) true old → ResizeGoes len old new (Err ResizeFailed)
+pub resize_fails : (len : ℕ) (old new : Life) → new ≡ life_after_action (actions.Resize len) true old → ResizeGoes len old new (Err ResizeFailed)
 resize_fails len old new e = (refl, (operated (Resize len) (ResizeTo len) true old.present, e, operated_is (Resize len) (ResizeTo len) true old.present))
 
-pub resize_goes : (len : ℕ) (old new : Life) → new ≡ lives (actions.Resize len) false old → ResizeGoes len old new (Ok tt)
+pub resize_goes : (len : ℕ) (old new : Life) → new ≡ life_after_action (actions.Resize len) false old → ResizeGoes len old new (Ok tt)
 resize_goes len old new e = (operated (Resize len) (ResizeTo len) false old.present, e, operated_is (Resize len) (ResizeTo len) false old.present)

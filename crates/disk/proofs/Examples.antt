@@ -2,10 +2,10 @@
 use Rattle.std.proofs.Common.{◌≡◌, ℕ, List, [], ◌∷◌, length, map, nat_eq, true, false, refl, true≢false, arith, Ok}
 use Rattle.std.proofs.lemmas.List.Sorted.{IsPermutation-reverse}
 use Rattle.std.proofs.lemmas.Map.Keys.{IsDistinct-head}
-use Rattle.disk.specs.Disk.{Life, Write, Resize, settle, logged, ReadMany, StartReadMany, StartReadGoes, SyncAll, next, coverings, Delivers}
+use Rattle.disk.specs.Disk.{Life, Write, Resize, settled_disk, logged, ReadMany, StartReadMany, StartReadGoes, SyncAll, next, coverings, Delivers}
 use Rattle.disk.specs.declared.action.Action.TheVariants as actions
 use Rattle.disk.specs.History.{History, begun, life_of, told}
-use Rattle.disk.specs.Past.{went}
+use Rattle.disk.specs.Past.{history_with}
 use Rattle.disk.specs.Torn.{torn}
 use Rattle.disk.proofs.Deliveries.{rising, delivers_rising, delivers_moved}
 
@@ -17,7 +17,7 @@ flagged_bytes = refl
 pub missing_flags : torn (true ∷ []) (Write 0 (7 ∷ 8 ∷ 9 ∷ []) ∷ []) (1 ∷ 2 ∷ 3 ∷ []) ≡ 7 ∷ 2 ∷ 3 ∷ []
 missing_flags = refl
 
--- a write takes a flag for each byte, and a resize behind it one
+-- a write takes a flag for each byte, and a resize after it one
 pub flags_in_turn : torn (false ∷ true ∷ []) (Write 0 (7 ∷ []) ∷ Resize 1 ∷ []) (1 ∷ 2 ∷ []) ≡ 1 ∷ []
 flags_in_turn = refl
 
@@ -29,9 +29,9 @@ at_first = record { first = 1 ∷ []; earlier = []; events = []; failing = 0 }
 pub a_begun_life : life_of at_first ≡ begun (1 ∷ []) []
 a_begun_life = refl
 
--- a write that was done behind its byte
+-- a write that was done after its byte
 abbrev pub written : History
-written = went (actions.Write 1 (7 ∷ []) false) false at_first
+written = history_with (actions.Write 1 (7 ∷ []) false) false at_first
 
 pub a_write_went : (life_of written).present.readable ≡ 1 ∷ 7 ∷ []
 a_write_went = refl
@@ -40,14 +40,14 @@ a_write_went = refl
 pub not_durable : (life_of written).present.base ≡ 1 ∷ []
 not_durable = refl
 
-pub a_sync_went : life_of (went actions.Sync false written) ≡ next (life_of written) (settle (logged SyncAll false (life_of written).present))
+pub a_sync_went : life_of (history_with actions.Sync false written) ≡ next (life_of written) (settled_disk (logged SyncAll false (life_of written).present))
 a_sync_went = refl
 
 -- a write that failed left all as it was, though a crash may do some of it
-pub a_failed_write : (life_of (went (actions.Write 1 (7 ∷ []) false) true at_first)).present.readable ≡ 1 ∷ []
+pub a_failed_write : (life_of (history_with (actions.Write 1 (7 ∷ []) false) true at_first)).present.readable ≡ 1 ∷ []
 a_failed_write = refl
 
-pub it_is_unsynced : length (life_of (went (actions.Write 1 (7 ∷ []) false) true at_first)).present.since ≡ 1
+pub it_is_unsynced : length (life_of (history_with (actions.Write 1 (7 ∷ []) false) true at_first)).present.since ≡ 1
 it_is_unsynced = refl
 
 -- the call that is to fail does, and no other
@@ -57,9 +57,9 @@ a_planned_failure = refl
 pub not_yet : told actions.Sync (record at_first { failing = 2 }) ≡ record at_first { events = record { action = actions.Sync; failed = false } ∷ []; failing = 1 }
 not_yet = refl
 
--- a sync that is started behind the write covers it, and has the bytes that are readable
+-- a sync that is started after the write covers it, and has the bytes that are readable
 abbrev pub started : History
-started = went actions.StartSync false written
+started = history_with actions.StartSync false written
 
 pub a_sync_is_started : coverings (life_of started).present ≡ (1, 1 ∷ 7 ∷ []) ∷ []
 a_sync_is_started = refl
@@ -68,9 +68,9 @@ a_sync_is_started = refl
 pub only_started : (life_of started).present.base ≡ 1 ∷ []
 only_started = refl
 
--- before a wait: then what it covers is, and a write behind the start isn't
+-- before a wait: then what it covers is, and a write after the start isn't
 abbrev pub waited_for_it : History
-waited_for_it = went (actions.WaitSync 0) false (went (actions.Write 0 (9 ∷ []) false) false started)
+waited_for_it = history_with (actions.WaitSync 0) false (history_with (actions.Write 0 (9 ∷ []) false) false started)
 
 pub a_wait_settles : (life_of waited_for_it).present.base ≡ 1 ∷ 7 ∷ []
 a_wait_settles = refl
@@ -79,14 +79,14 @@ pub not_what_came_later : (life_of waited_for_it).present.since ≡ Write 0 (9 �
 not_what_came_later = refl
 
 -- a wait for one that failed to start makes nothing durable
-pub a_failed_start : (life_of (went (actions.WaitSync 0) false (went actions.StartSync true written))).present.base ≡ 1 ∷ []
+pub a_failed_start : (life_of (history_with (actions.WaitSync 0) false (history_with actions.StartSync true written))).present.base ≡ 1 ∷ []
 a_failed_start = refl
 
 -- names go on in the next life, and an earlier sync covers nothing there
-pub names_go_on : map (λ s. s.covers) (life_of (went actions.StartSync false (record { first = 1 ∷ []; earlier = (life_of started).present.log; events = []; failing = 0 }))).present.started ≡ 0 ∷ 0 ∷ []
+pub names_go_on : map (λ s. s.covers) (life_of (history_with actions.StartSync false (record { first = 1 ∷ []; earlier = (life_of started).present.log; events = []; failing = 0 }))).present.started ≡ 0 ∷ 0 ∷ []
 names_go_on = refl
 
--- two ranges of four bytes, and an empty one behind the last byte
+-- two ranges of four bytes, and an empty one after the last byte
 abbrev pub three : List (ℕ × ℕ)
 three = (0, 2) ∷ (3, 1) ∷ (4, 0) ∷ []
 
@@ -109,11 +109,11 @@ pub not_twice : Delivers ((0, 1) ∷ (1, 1) ∷ []) (5 ∷ 5 ∷ []) ((0, 5 ∷ 
 not_twice given = true≢false (IsDistinct-head nat_eq 0 (0 ∷ []) given.once).0
 
 -- a read of ranges stands in the log, and changes nothing else
-pub a_read_of_ranges : life_of (went (actions.ReadMany three) false at_first) ≡ next (life_of at_first) (logged (ReadMany three) false (life_of at_first).present)
+pub a_read_of_ranges : life_of (history_with (actions.ReadMany three) false at_first) ≡ next (life_of at_first) (logged (ReadMany three) false (life_of at_first).present)
 a_read_of_ranges = refl
 
 -- so does a start of reads, as a call of its own
-pub a_start_of_reads : life_of (went (actions.StartReadMany three) false at_first) ≡ next (life_of at_first) (logged (StartReadMany three) false (life_of at_first).present)
+pub a_start_of_reads : life_of (history_with (actions.StartReadMany three) false at_first) ≡ next (life_of at_first) (logged (StartReadMany three) false (life_of at_first).present)
 a_start_of_reads = refl
 
 -- what it keeps stands in the order of the ranges

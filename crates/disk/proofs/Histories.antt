@@ -4,16 +4,15 @@ use Rattle.std.proofs.Math.Seq.{take-append-add}
 use Rattle.std.proofs.lemmas.Bool.{cases_lt}
 use Rattle.std.proofs.lemmas.Bool.Decides.{nat_tests}
 use Rattle.std.proofs.lemmas.List.{take-append-le, drop-append-le, take_all, drop_all, length_push, length-take-le, take-append-drop, drop-drop, drop_at, take_at}
-use Rattle.disk.specs.Disk.{Entry, Request, Life, failures, Operation, Write}
+use Rattle.disk.specs.Disk.{Entry, Request, Life, failures, Operation, Write, Disk, Started, StartSync, WaitSync, disk_settled_to, starts, waited, waited_for, failed_at}
 use Rattle.disk.specs.declared.action.Action.{Action}
 use Rattle.disk.specs.declared.action.Action.TheVariants as actions
 use Rattle.disk.specs.declared.action.Event.{Event}
 use Rattle.disk.specs.declared.action.Call.{Call}
-use Rattle.disk.specs.History.{History, life_of, lives, goes_on, begun, told, asked, operation_of, names_in, redone, replayed, operations_of, request_of}
-use Rattle.disk.specs.Past.{went}
-use Rattle.disk.specs.Disk.{Disk, Started, StartSync, WaitSync, settle_to, starts, waited, waited_for, failed_at}
+use Rattle.disk.specs.History.{History, life_of, life_after_action, life_after_events, begun, told, asked, operation_of, names_in, redone, replayed, operations_of, request_of}
+use Rattle.disk.specs.Past.{history_with}
 use Rattle.disk.specs.declared.action.Start.{Start}
-use Rattle.disk.specs.Memory.{entries_of, history_of, IsKept, settled_after, starts_after, failing_at, started_by, AreWithin, settled_for}
+use Rattle.disk.specs.Memory.{entries_of, history_of, TellsHistory, settled_after, starts_after, failing_at, started_by, AreWithin, settled_for}
 
 abbrev event : Action → Bool → Event
 event action failed = record { action = action; failed = failed }
@@ -22,9 +21,9 @@ abbrev entry : Request → Bool → Entry
 entry request failed = record { request = request; failed = failed }
 
 -- one event more is one step more of the life
-goes_on-append : (es : List Event) (life : Life) (e : Event) → goes_on life (es ++ e ∷ []) ≡ lives e.action e.failed (goes_on life es)
+goes_on-append : (es : List Event) (life : Life) (e : Event) → life_after_events life (es ++ e ∷ []) ≡ life_after_action e.action e.failed (life_after_events life es)
 goes_on-append [] life e = refl
-goes_on-append (x ∷ es) life e = goes_on-append es (lives x.action x.failed life) e
+goes_on-append (x ∷ es) life e = goes_on-append es (life_after_action x.action x.failed life) e
 
 -- a wait leaves what is readable, and the log
 module _ (d : Disk) where
@@ -34,7 +33,7 @@ module _ (d : Disk) where
   settled_if c true = (refl, refl, refl)
   settled_if c false = (refl, refl, refl)
 
-  same_if : (c : ℕ × List ℕ) (failed : Bool) → ((if failed then d else settle_to c d).readable ≡ d.readable) × ((if failed then d else settle_to c d).log ≡ d.log) × ((if failed then d else settle_to c d).started ≡ d.started)
+  same_if : (c : ℕ × List ℕ) (failed : Bool) → ((if failed then d else disk_settled_to c d).readable ≡ d.readable) × ((if failed then d else disk_settled_to c d).log ≡ d.log) × ((if failed then d else disk_settled_to c d).started ≡ d.started)
   same_if c true = (refl, refl, refl)
   same_if c false = settled_if c (nat_lt d.settled c.0)
 
@@ -52,16 +51,16 @@ pub waited_started : (name : ℕ) (d : Disk) → (waited name false d).started �
 waited_started name d = (same_of d (slice_get d.started name)).2
 
 -- what a step leaves readable
-lives_readable : (a : Action) (failed : Bool) (life : Life) → (lives a failed life).present.readable ≡ redone (event a failed) life.present.readable
-lives_readable (actions.Read place len) true life = refl
+lives_readable : (a : Action) (failed : Bool) (life : Life) → (life_after_action a failed life).present.readable ≡ redone (event a failed) life.present.readable
+lives_readable (actions.Read offset len) true life = refl
 lives_readable (actions.ReadMany ranges) true life = refl
 lives_readable (actions.StartReadMany ranges) true life = refl
-lives_readable (actions.Read place len) false life = refl
+lives_readable (actions.Read offset len) false life = refl
 lives_readable (actions.ReadMany ranges) false life = refl
 lives_readable (actions.StartReadMany ranges) false life = refl
-lives_readable (actions.Write place bytes false) failed life = refl
-lives_readable (actions.Write place bytes true) true life = refl
-lives_readable (actions.Write place bytes true) false life = refl
+lives_readable (actions.Write offset bytes false) failed life = refl
+lives_readable (actions.Write offset bytes true) true life = refl
+lives_readable (actions.Write offset bytes true) false life = refl
 lives_readable (actions.Resize len) failed life = refl
 lives_readable actions.Sync true life = refl
 lives_readable actions.Sync false life = refl
@@ -71,13 +70,13 @@ lives_readable (actions.WaitSync name) true life = refl
 lives_readable (actions.WaitSync name) false life = waited_readable name life.present
 
 -- what a step adds to the log
-lives_log : (a : Action) (failed : Bool) (life : Life) → (lives a failed life).present.log ≡ life.present.log ++ entry (asked a) failed ∷ []
-lives_log (actions.Read place len) failed life = refl
+lives_log : (a : Action) (failed : Bool) (life : Life) → (life_after_action a failed life).present.log ≡ life.present.log ++ entry (asked a) failed ∷ []
+lives_log (actions.Read offset len) failed life = refl
 lives_log (actions.ReadMany ranges) failed life = refl
 lives_log (actions.StartReadMany ranges) failed life = refl
-lives_log (actions.Write place bytes false) failed life = refl
-lives_log (actions.Write place bytes true) true life = refl
-lives_log (actions.Write place bytes true) false life = refl
+lives_log (actions.Write offset bytes false) failed life = refl
+lives_log (actions.Write offset bytes true) true life = refl
+lives_log (actions.Write offset bytes true) false life = refl
 lives_log (actions.Resize len) failed life = refl
 lives_log actions.Sync true life = refl
 lives_log actions.Sync false life = refl
@@ -86,9 +85,9 @@ lives_log (actions.WaitSync name) true life = refl
 lives_log (actions.WaitSync name) false life = ap (λ l. l ++ entry (WaitSync name) false ∷ []) (waited_log name life.present)
 
 -- what is readable in the end is what the events do to the bytes
-goes_on_readable : (es : List Event) (life : Life) → (goes_on life es).present.readable ≡ replayed es life.present.readable
+goes_on_readable : (es : List Event) (life : Life) → (life_after_events life es).present.readable ≡ replayed es life.present.readable
 goes_on_readable [] life = refl
-goes_on_readable (e ∷ es) life = goes_on_readable es (lives e.action e.failed life) ∙ ap (replayed es) (lives_readable e.action e.failed life)
+goes_on_readable (e ∷ es) life = goes_on_readable es (life_after_action e.action e.failed life) ∙ ap (replayed es) (lives_readable e.action e.failed life)
 
 operations_of-append : (xs ys : List Event) → operations_of (xs ++ ys) ≡ operations_of xs ++ operations_of ys
 operations_of-append [] ys = refl
@@ -124,7 +123,7 @@ length-entries_of [] failed e = refl
 length-entries_of (c ∷ calls) [] e = absurd (omega arith)
 length-entries_of (c ∷ calls) (f ∷ failed) e = ap (λ n. suc n) (length-entries_of calls failed (omega arith))
 
-pub faults_le : (h : History) (readable : List ℕ) (calls : List Call) (failed : List Bool) (faults earlier settled : ℕ) (starts : List Start) → IsKept h readable calls failed faults earlier settled starts → faults ≤ length calls
+pub faults_le : (h : History) (readable : List ℕ) (calls : List Call) (failed : List Bool) (faults earlier settled : ℕ) (starts : List Start) → TellsHistory h readable calls failed faults earlier settled starts → faults ≤ length calls
 faults_le h readable calls failed faults earlier settled starts k =
     omega (arith, k.failures, ap failures k.log, failures_le (entries_of calls failed), length-entries_of calls failed k.outcomes)
 
@@ -134,15 +133,15 @@ history_more first earlier calls failed events failing a c before outcomes =
     rw (take-append-le earlier calls (c ∷ []) before, take-append-le earlier failed ((failing == 1) ∷ []) (omega arith)) refl
 
 -- the life of a history with one event more
-pub life_told : (a : Action) (h : History) → life_of (told a h) ≡ lives a (h.failing == 1) (life_of h)
+pub life_told : (a : Action) (h : History) → life_of (told a h) ≡ life_after_action a (h.failing == 1) (life_of h)
 life_told a h = goes_on-append h.events (begun h.first h.earlier) (event a (h.failing == 1))
 
 -- the same, whatever its outcome
-pub life_went : (a : Action) (failed : Bool) (old new : History) → new ≡ went a failed old → life_of new ≡ lives a failed (life_of old)
+pub life_went : (a : Action) (failed : Bool) (old new : History) → new ≡ history_with a failed old → life_of new ≡ life_after_action a failed (life_of old)
 life_went a failed old new e = rw e (goes_on-append old.events (begun old.first old.earlier) (event a failed))
 
 -- what is readable then
-pub reads_went : (a : Action) (failed : Bool) (old new : History) (bytes after : List ℕ) → new ≡ went a failed old → bytes ≡ (life_of old).present.readable → after ≡ redone (event a failed) bytes → after ≡ (life_of new).present.readable
+pub reads_went : (a : Action) (failed : Bool) (old new : History) (bytes after : List ℕ) → new ≡ history_with a failed old → bytes ≡ (life_of old).present.readable → after ≡ redone (event a failed) bytes → after ≡ (life_of new).present.readable
 reads_went a failed old new bytes after e same moved =
     moved ∙ ap (redone (event a failed)) same ∙ sym (ap (λ l. l.present.readable) (life_went a failed old new e) ∙ lives_readable a failed (life_of old))
 
@@ -154,7 +153,7 @@ readable_is h = goes_on_readable h.events (begun h.first h.earlier)
 log_more : (h : History) (a : Action) → (life_of (told a h)).present.log ≡ (life_of h).present.log ++ entry (asked a) (h.failing == 1) ∷ []
 log_more h a = ap (λ life. life.present.log) (life_told a h) ∙ lives_log a (h.failing == 1) (life_of h)
 
--- so many of the events are what is durable, and those behind them what isn't
+-- so many of the events are what is durable, and those after them what isn't
 record DurableTo (h : History) (m : ℕ) (d : Disk) : Type 0 where
   base : d.base ≡ replayed (take m h.events) h.first
   since : d.since ≡ operations_of (drop m h.events)
@@ -196,10 +195,10 @@ replayed-append (x ∷ xs) ys bytes = replayed-append xs ys (redone x bytes)
 -- events without operations leave the bytes
 idle_redone : (a : Action) (failed : Bool) (bytes : List ℕ) → length (operation_of a) ≡ 0 → redone (event a failed) bytes ≡ bytes
 idle_redone a true bytes none = refl
-idle_redone (actions.Read place len) false bytes none = refl
+idle_redone (actions.Read offset len) false bytes none = refl
 idle_redone (actions.ReadMany ranges) false bytes none = refl
 idle_redone (actions.StartReadMany ranges) false bytes none = refl
-idle_redone (actions.Write place new sync) false bytes none = absurd (omega (arith, none))
+idle_redone (actions.Write offset new sync) false bytes none = absurd (omega (arith, none))
 idle_redone (actions.Resize len) false bytes none = absurd (omega (arith, none))
 idle_redone actions.Sync false bytes none = refl
 idle_redone actions.StartSync false bytes none = refl
@@ -287,7 +286,7 @@ module _ (h : History) (m k : ℕ) (d : Disk) (at : DurableTo h m d) (covered : 
         | inr enough ↦ let e : max m k ≡ m = omega (arith, enough) in rw e at
       ]
 
-  settles_to : DurableTo h (max m k) (settle_to c d)
+  settles_to : DurableTo h (max m k) (disk_settled_to c d)
   settles_to = settles_if (nat_lt d.settled c.0) refl
 
 -- what a started sync of these is
@@ -307,7 +306,7 @@ within_at n (t ∷ ss) (suc name) s are is = within_at n ss name s are.1 is
 
 -- a wait that goes well
 module _ (h : History) (m : ℕ) (d : Disk) (at : DurableTo h m d) where
-  waits_if : (s : Start) (failed : Bool) → s.events ≤ length h.events → DurableTo h (if failed then m else max m s.events) (if failed then d else settle_to ((started_by h s).covers, (started_by h s).bytes) d)
+  waits_if : (s : Start) (failed : Bool) → s.events ≤ length h.events → DurableTo h (if failed then m else max m s.events) (if failed then d else disk_settled_to ((started_by h s).covers, (started_by h s).bytes) d)
   waits_if s true within = at
   waits_if s false within = settles_to h m s.events d at within
 
@@ -335,26 +334,26 @@ module _ (h : History) (starts : List Start) (m : ℕ) (at : DurableTo h m (life
   now = (life_of h).present
 
   abbrev next_disk : Action → Bool → Disk
-  next_disk a failed = (lives a failed (life_of h)).present
+  next_disk a failed = (life_after_action a failed (life_of h)).present
 
   -- the bytes after it
   read_next : (a : Action) (failed : Bool) → (next_disk a failed).readable ≡ replayed (h.events ++ event a failed ∷ []) h.first
   read_next a failed = lives_readable a failed (life_of h) ∙ ap (redone (event a failed)) (readable_is h) ∙ sym (replayed-append h.events (event a failed ∷ []) h.first)
 
   durable_more : (a : Action) (failed : Bool) → DurableTo (with_event h (event a failed)) (settled_after a failed starts m (length h.events)) (next_disk a failed)
-  durable_more (actions.Read place len) true = kept_to h (event (actions.Read place len) true) m now (next_disk (actions.Read place len) true) at refl (sym (append-nil now.since)) refl
+  durable_more (actions.Read offset len) true = kept_to h (event (actions.Read offset len) true) m now (next_disk (actions.Read offset len) true) at refl (sym (append-nil now.since)) refl
   durable_more (actions.ReadMany ranges) true = kept_to h (event (actions.ReadMany ranges) true) m now (next_disk (actions.ReadMany ranges) true) at refl (sym (append-nil now.since)) refl
   durable_more (actions.StartReadMany ranges) true = kept_to h (event (actions.StartReadMany ranges) true) m now (next_disk (actions.StartReadMany ranges) true) at refl (sym (append-nil now.since)) refl
-  durable_more (actions.Read place len) false = kept_to h (event (actions.Read place len) false) m now (next_disk (actions.Read place len) false) at refl (sym (append-nil now.since)) refl
+  durable_more (actions.Read offset len) false = kept_to h (event (actions.Read offset len) false) m now (next_disk (actions.Read offset len) false) at refl (sym (append-nil now.since)) refl
   durable_more (actions.ReadMany ranges) false = kept_to h (event (actions.ReadMany ranges) false) m now (next_disk (actions.ReadMany ranges) false) at refl (sym (append-nil now.since)) refl
   durable_more (actions.StartReadMany ranges) false = kept_to h (event (actions.StartReadMany ranges) false) m now (next_disk (actions.StartReadMany ranges) false) at refl (sym (append-nil now.since)) refl
-  durable_more (actions.Write place bytes false) true = kept_to h (event (actions.Write place bytes false) true) m now (next_disk (actions.Write place bytes false) true) at refl refl refl
-  durable_more (actions.Write place bytes false) false = kept_to h (event (actions.Write place bytes false) false) m now (next_disk (actions.Write place bytes false) false) at refl refl refl
-  durable_more (actions.Write place bytes true) true = kept_to h (event (actions.Write place bytes true) true) m now (next_disk (actions.Write place bytes true) true) at refl refl refl
-  durable_more (actions.Write place bytes true) false =
-      let e = event (actions.Write place bytes true) false in
-      let o : Operation = Write place bytes in
-      all_to h e (next_disk (actions.Write place bytes true) false) (read_next (actions.Write place bytes true) false) refl (omega (arith, total_more h e m now at, length-append now.since (o ∷ [])))
+  durable_more (actions.Write offset bytes false) true = kept_to h (event (actions.Write offset bytes false) true) m now (next_disk (actions.Write offset bytes false) true) at refl refl refl
+  durable_more (actions.Write offset bytes false) false = kept_to h (event (actions.Write offset bytes false) false) m now (next_disk (actions.Write offset bytes false) false) at refl refl refl
+  durable_more (actions.Write offset bytes true) true = kept_to h (event (actions.Write offset bytes true) true) m now (next_disk (actions.Write offset bytes true) true) at refl refl refl
+  durable_more (actions.Write offset bytes true) false =
+      let e = event (actions.Write offset bytes true) false in
+      let o : Operation = Write offset bytes in
+      all_to h e (next_disk (actions.Write offset bytes true) false) (read_next (actions.Write offset bytes true) false) refl (omega (arith, total_more h e m now at, length-append now.since (o ∷ [])))
   durable_more (actions.Resize len) true = kept_to h (event (actions.Resize len) true) m now (next_disk (actions.Resize len) true) at refl refl refl
   durable_more (actions.Resize len) false = kept_to h (event (actions.Resize len) false) m now (next_disk (actions.Resize len) false) at refl refl refl
   durable_more actions.Sync true = kept_to h (event actions.Sync true) m now (next_disk actions.Sync true) at refl (sym (append-nil now.since)) refl
@@ -400,10 +399,10 @@ within_more : (a : Action) (failed : Bool) (n : ℕ) (starts : List Start) → A
 within_more actions.StartSync failed n starts are = push_within n starts failed are
 within_more (actions.WaitSync name) true n starts are = later_within n (failing_at name starts) (failing_within n name starts are)
 within_more (actions.WaitSync name) false n starts are = later_within n starts are
-within_more (actions.Read place len) failed n starts are = later_within n starts are
+within_more (actions.Read offset len) failed n starts are = later_within n starts are
 within_more (actions.ReadMany ranges) failed n starts are = later_within n starts are
 within_more (actions.StartReadMany ranges) failed n starts are = later_within n starts are
-within_more (actions.Write place bytes sync) failed n starts are = later_within n starts are
+within_more (actions.Write offset bytes sync) failed n starts are = later_within n starts are
 within_more (actions.Resize len) failed n starts are = later_within n starts are
 within_more actions.Sync failed n starts are = later_within n starts are
 
@@ -413,13 +412,13 @@ map_push h (t ∷ ss) s = ap (λ (l : List Started). started_by h t ∷ l) (map_
 
 -- the started syncs after one event more
 module _ (h : History) (starts : List Start) (m : ℕ) (at : DurableTo h m (life_of h).present) (is : (life_of h).present.started ≡ map (started_by h) starts) (are : AreWithin (length h.events) starts) where
-  started_more : (a : Action) (failed : Bool) → (lives a failed (life_of h)).present.started ≡ map (started_by (with_event h (event a failed))) (starts_after a failed starts (length h.events))
-  started_more (actions.Read place len) failed = is ∙ sym (same_starts h (event (actions.Read place len) failed) starts are)
+  started_more : (a : Action) (failed : Bool) → (life_after_action a failed (life_of h)).present.started ≡ map (started_by (with_event h (event a failed))) (starts_after a failed starts (length h.events))
+  started_more (actions.Read offset len) failed = is ∙ sym (same_starts h (event (actions.Read offset len) failed) starts are)
   started_more (actions.ReadMany ranges) failed = is ∙ sym (same_starts h (event (actions.ReadMany ranges) failed) starts are)
   started_more (actions.StartReadMany ranges) failed = is ∙ sym (same_starts h (event (actions.StartReadMany ranges) failed) starts are)
-  started_more (actions.Write place bytes false) failed = is ∙ sym (same_starts h (event (actions.Write place bytes false) failed) starts are)
-  started_more (actions.Write place bytes true) true = is ∙ sym (same_starts h (event (actions.Write place bytes true) true) starts are)
-  started_more (actions.Write place bytes true) false = is ∙ sym (same_starts h (event (actions.Write place bytes true) false) starts are)
+  started_more (actions.Write offset bytes false) failed = is ∙ sym (same_starts h (event (actions.Write offset bytes false) failed) starts are)
+  started_more (actions.Write offset bytes true) true = is ∙ sym (same_starts h (event (actions.Write offset bytes true) true) starts are)
+  started_more (actions.Write offset bytes true) false = is ∙ sym (same_starts h (event (actions.Write offset bytes true) false) starts are)
   started_more (actions.Resize len) failed = is ∙ sym (same_starts h (event (actions.Resize len) failed) starts are)
   started_more actions.Sync true = is ∙ sym (same_starts h (event actions.Sync true) starts are)
   started_more actions.Sync false = is ∙ sym (same_starts h (event actions.Sync false) starts are)
@@ -444,16 +443,16 @@ names_more : (a : Action) (failed : Bool) (starts : List Start) (n : ℕ) (log :
 names_more actions.StartSync failed starts n log is = omega (arith, is, names_append log (entry StartSync failed), length_push starts (record { events = n; failed = failed }))
 names_more (actions.WaitSync name) true starts n log is = omega (arith, is, failing_length name starts, names_append log (entry (WaitSync name) true))
 names_more (actions.WaitSync name) false starts n log is = omega (arith, is, names_append log (entry (WaitSync name) false))
-names_more (actions.Read place len) failed starts n log is = omega (arith, is, names_append log (entry (asked (actions.Read place len)) failed))
+names_more (actions.Read offset len) failed starts n log is = omega (arith, is, names_append log (entry (asked (actions.Read offset len)) failed))
 names_more (actions.ReadMany ranges) failed starts n log is = omega (arith, is, names_append log (entry (asked (actions.ReadMany ranges)) failed))
 names_more (actions.StartReadMany ranges) failed starts n log is = omega (arith, is, names_append log (entry (asked (actions.StartReadMany ranges)) failed))
-names_more (actions.Write place bytes sync) failed starts n log is = omega (arith, is, names_append log (entry (asked (actions.Write place bytes sync)) failed))
+names_more (actions.Write offset bytes sync) failed starts n log is = omega (arith, is, names_append log (entry (asked (actions.Write offset bytes sync)) failed))
 names_more (actions.Resize len) failed starts n log is = omega (arith, is, names_append log (entry (asked (actions.Resize len)) failed))
 names_more actions.Sync failed starts n log is = omega (arith, is, names_append log (entry (asked actions.Sync) failed))
 
 -- the fields keep a history with one event more
-pub kept_more : (h : History) (a : Action) (readable : List ℕ) (calls : List Call) (failed : List Bool) (faults earlier settled : ℕ) (starts : List Start) (c : Call) → IsKept h readable calls failed faults earlier settled starts → request_of c ≡ asked a
-    → IsKept (told a h) (redone (event a (h.failing == 1)) readable) (calls ++ c ∷ []) (failed ++ (h.failing == 1) ∷ []) (faults + (if h.failing == 1 then 1 else 0)) earlier (settled_after a (h.failing == 1) starts settled (length h.events)) (starts_after a (h.failing == 1) starts (length h.events))
+pub kept_more : (h : History) (a : Action) (readable : List ℕ) (calls : List Call) (failed : List Bool) (faults earlier settled : ℕ) (starts : List Start) (c : Call) → TellsHistory h readable calls failed faults earlier settled starts → request_of c ≡ asked a
+    → TellsHistory (told a h) (redone (event a (h.failing == 1)) readable) (calls ++ c ∷ []) (failed ++ (h.failing == 1) ∷ []) (faults + (if h.failing == 1 then 1 else 0)) earlier (settled_after a (h.failing == 1) starts settled (length h.events)) (starts_after a (h.failing == 1) starts (length h.events))
 kept_more h a readable calls failed faults earlier settled starts c k same =
     let fails = h.failing == 1 in
     let long_calls = length_push calls c in
@@ -478,9 +477,9 @@ kept_more h a readable calls failed faults earlier settled starts c k same =
 
 -- the fields after one action more
 pub kept_next : (first readable readable' : List ℕ) (calls calls' : List Call) (failed failed' : List Bool) (events events' : List Event) (earlier settled settled' faults faults' failing failing' : ℕ) (starts starts' : List Start) (a : Action) (c : Call)
-    → IsKept (history_of first earlier calls failed events failing) readable calls failed faults earlier settled starts → request_of c ≡ asked a → calls' ≡ calls ++ c ∷ [] → failed' ≡ failed ++ (failing == 1) ∷ [] → events' ≡ events ++ event a (failing == 1) ∷ [] → readable' ≡ redone (event a (failing == 1)) readable → failing' ≡ failing - 1 → faults' ≡ faults + (if failing == 1 then 1 else 0)
+    → TellsHistory (history_of first earlier calls failed events failing) readable calls failed faults earlier settled starts → request_of c ≡ asked a → calls' ≡ calls ++ c ∷ [] → failed' ≡ failed ++ (failing == 1) ∷ [] → events' ≡ events ++ event a (failing == 1) ∷ [] → readable' ≡ redone (event a (failing == 1)) readable → failing' ≡ failing - 1 → faults' ≡ faults + (if failing == 1 then 1 else 0)
     → settled' ≡ settled_after a (failing == 1) starts settled (length events) → starts' ≡ starts_after a (failing == 1) starts (length events)
-    → IsKept (history_of first earlier calls' failed' events' failing') readable' calls' failed' faults' earlier settled' starts'
+    → TellsHistory (history_of first earlier calls' failed' events' failing') readable' calls' failed' faults' earlier settled' starts'
 kept_next first readable readable' calls calls' failed failed' events events' earlier settled settled' faults faults' failing failing' starts starts' a c k same ec ef ee er en eu es et =
     rw (ec, ef, ee, er, en, eu, es, et, history_more first earlier calls failed events failing a c k.before k.outcomes)
     (kept_more (history_of first earlier calls failed events failing) a readable calls failed faults earlier settled starts c k same)

@@ -7,3 +7,4 @@ pub mod Logs
 pub mod Examples
 pub mod Starts
 pub mod Deliveries
+pub mod Stops

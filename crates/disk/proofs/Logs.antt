@@ -18,9 +18,9 @@ grows_joins a b c (first, one) (second, two) =
     (first ++ second, two ∙ ap (λ l. l ++ second) one ∙ append_assoc a.log first second)
 
 -- what failed in the later of two logs, or in the earlier
-some_behind : (e : Error) (xs ys : List Entry) → SomeFailed e ys → SomeFailed e (xs ++ ys)
-some_behind e [] ys some = some
-some_behind e (x ∷ xs) ys some = inr (some_behind e xs ys some)
+some_after : (e : Error) (xs ys : List Entry) → SomeFailed e ys → SomeFailed e (xs ++ ys)
+some_after e [] ys some = some
+some_after e (x ∷ xs) ys some = inr (some_after e xs ys some)
 
 -- an entry that is marked
 pub failed_once : (request : Request) (a b : Disk)
@@ -30,7 +30,7 @@ failed_once request a b is = (record { request = request; failed = true } ∷ []
 -- what failed in a later part of a call failed in the call
 pub failed_later : (e : Error) (a b c : Disk) → LogGrows a b → HasFailed e b c → HasFailed e a c
 failed_later e a b c (first, one) (second, two, some) =
-    (first ++ second, two ∙ ap (λ l. l ++ second) one ∙ append_assoc a.log first second, some_behind e first second some)
+    (first ++ second, two ∙ ap (λ l. l ++ second) one ∙ append_assoc a.log first second, some_after e first second some)
 
 -- and so did what failed in an earlier one
 some_before : (e : Error) (xs ys : List Entry) → SomeFailed e xs → SomeFailed e (xs ++ ys)

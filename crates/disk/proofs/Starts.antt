@@ -2,16 +2,17 @@
 use Rattle.std.proofs.Common.{◌≡◌, ◌⊎◌, ◌<◌, ◌≤◌, ◌+◌, ℕ, suc, zero, List, [], ◌∷◌, ◌++◌, length, map, take, replicate, ap, sym, ◌∙◌, subst, refl, arith, Bool, true, false, inl, inr, slice_set, Ok, Err}
 use Rattle.std.specs.Prelude.{slice_get, Option, Some, None, if◌then◌else◌}
 use Rattle.std.proofs.lemmas.List.{length_push, length-map, length-replicate, take_all}
-use Rattle.disk.specs.Disk.{Disk, Life, Started, WaitSync, next, logged, settle_to, waited, waited_for, is_failed, had_failed, failed_at, WaitGoes, failures}
+use Rattle.disk.specs.Disk.{Disk, Life, Started, WaitSync, next, logged, disk_settled_to, waited, waited_for, is_failed, had_failed, failed_at, WaitGoes, failures}
 use Rattle.disk.specs.declared.error.Error.TheVariants.{SyncFailed}
 use Rattle.disk.specs.declared.action.Action.{Action}
 use Rattle.disk.specs.declared.action.Action.TheVariants as actions
 use Rattle.disk.specs.declared.action.Start.{Start}
 use Rattle.disk.specs.declared.action.Call.{Call}
 use Rattle.disk.specs.declared.action.Event.{Event}
-use Rattle.disk.specs.History.{History, life_of, lives, spent, redone, names_in}
-use Rattle.disk.specs.Past.{went}
-use Rattle.disk.specs.Memory.{failing_at, started_by, AreWell, AreWithin, IsPlain, IsKept, entries_of, history_of}
+use Rattle.disk.specs.History.{History, life_of, life_after_action, spent, done, redone, names_in}
+use Rattle.disk.specs.Past.{history_with}
+use Rattle.disk.specs.VecBlob.{IsPlain}
+use Rattle.disk.specs.Memory.{failing_at, started_by, AreWell, AreWithin, TellsHistory, entries_of, history_of}
 use Rattle.disk.proofs.Histories.{life_went, reads_went, waited_started}
 
 -- one of them is marked
@@ -55,9 +56,9 @@ failed_again (s ∷ ss) (suc name) is = ap (λ (l : List Started). s ∷ l) (fai
 -- and the wait leaves the disk
 waited_in_vain : (d : Disk) (o : Option Started) → is_failed o ≡ true → waited_for o d ≡ d
 waited_in_vain d None is = refl
-waited_in_vain d (Some s) is = ap (λ (b : Bool). if b then d else settle_to (s.covers, s.bytes) d) is
+waited_in_vain d (Some s) is = ap (λ (b : Bool). if b then d else disk_settled_to (s.covers, s.bytes) d) is
 
-pub wait_fails : (name : ℕ) (failed : Bool) (old new : Life) → (failed ≡ true) ⊎ (had_failed old.present.started name ≡ true) → new ≡ lives (actions.WaitSync name) failed old → WaitGoes name old new (Err SyncFailed)
+pub wait_fails : (name : ℕ) (failed : Bool) (old new : Life) → (failed ≡ true) ⊎ (had_failed old.present.started name ≡ true) → new ≡ life_after_action (actions.WaitSync name) failed old → WaitGoes name old new (Err SyncFailed)
 wait_fails name true old new why e = (true, inl refl, e)
 wait_fails name false old new (inl wrong) e = absurd (cc)
 wait_fails name false old new (inr is) e =
@@ -69,9 +70,9 @@ wait_fails name false old new (inr is) e =
 waits_well : (name : ℕ) (old new : Life) (o : Option Started) → slice_get old.present.started name ≡ o → is_failed o ≡ false → new ≡ next old (logged (WaitSync name) false (waited_for o old.present)) → WaitGoes name old new (Ok tt)
 waits_well name old new None is well e = absurd (cc)
 waits_well name old new (Some s) is well e =
-    (s, is, well, e ∙ ap (λ (b : Bool). next old (logged (WaitSync name) false (if b then old.present else settle_to (s.covers, s.bytes) old.present))) well)
+    (s, is, well, e ∙ ap (λ (b : Bool). next old (logged (WaitSync name) false (if b then old.present else disk_settled_to (s.covers, s.bytes) old.present))) well)
 
-pub wait_goes : (name : ℕ) (old new : Life) → had_failed old.present.started name ≡ false → new ≡ lives (actions.WaitSync name) false old → WaitGoes name old new (Ok tt)
+pub wait_goes : (name : ℕ) (old new : Life) → had_failed old.present.started name ≡ false → new ≡ life_after_action (actions.WaitSync name) false old → WaitGoes name old new (Ok tt)
 wait_goes name old new well e = waits_well name old new (slice_get old.present.started name) refl well e
 
 -- a blob of which no start failed
@@ -90,33 +91,55 @@ well_more [] s well is = (is, tt)
 well_more (t ∷ ss) s well is = (well.0, well_more ss s well.1 is)
 
 -- a write starts none
-pub write_keeps : (place : ℕ) (bytes : List ℕ) (sync : Bool) (life : Life) → (lives (actions.Write place bytes sync) false life).present.started ≡ life.present.started
-write_keeps place bytes true life = refl
-write_keeps place bytes false life = refl
+pub write_keeps : (offset : ℕ) (bytes : List ℕ) (sync failed : Bool) (life : Life) → (life_after_action (actions.Write offset bytes sync) failed life).present.started ≡ life.present.started
+write_keeps offset bytes true true life = refl
+write_keeps offset bytes true false life = refl
+write_keeps offset bytes false failed life = refl
+
+pub sync_keeps : (failed : Bool) (life : Life) → (life_after_action actions.Sync failed life).present.started ≡ life.present.started
+sync_keeps true life = refl
+sync_keeps false life = refl
+
+length-failed_at : (name : ℕ) (ss : List Started) → length (failed_at name ss) ≡ length ss
+length-failed_at name [] = refl
+length-failed_at zero (s ∷ ss) = refl
+length-failed_at (suc name) (s ∷ ss) = ap (λ n. suc n) (length-failed_at name ss)
 
 -- it is asked for something that starts no sync, and waits for none
-pub plain_went : (a : Action) (old new : History) (bytes after : List ℕ) (n : ℕ) → ((life : Life) → (lives a false life).present.started ≡ life.present.started) → new ≡ went a false old → IsPlain (life_of old).present bytes n
-    → after ≡ redone (record { action = a; failed = false }) bytes → IsPlain (life_of new).present after n
-plain_went a old new bytes after n keeps e plain moved =
-    let same : (life_of new).present.started ≡ (life_of old).present.started = ap (λ (l : Life). l.present.started) (life_went a false old new e) ∙ keeps (life_of old) in
+pub plain_went : (a : Action) (stopped : Bool) (old new : History) (bytes after : List ℕ) (n : ℕ) → ((life : Life) → (life_after_action a stopped life).present.started ≡ life.present.started) → new ≡ history_with a stopped old → IsPlain (life_of old).present bytes n stopped
+    → after ≡ redone (record { action = a; failed = stopped }) bytes → IsPlain (life_of new).present after n stopped
+plain_went a stopped old new bytes after n keeps e plain moved =
+    let same : (life_of new).present.started ≡ (life_of old).present.started = ap (λ (l : Life). l.present.started) (life_went a stopped old new e) ∙ keeps (life_of old) in
     record {
-      reads = reads_went a false old new bytes after e plain.reads moved;
+      reads = reads_went a stopped old new bytes after e plain.reads moved;
       names = ap length same ∙ plain.names;
-      well = subst AreWell (sym same) plain.well;
+      well = λ goes. subst AreWell (sym same) (plain.well goes);
     }
 
-pub plain_waits : (name : ℕ) (old new : History) (bytes : List ℕ) (n : ℕ) → new ≡ went (actions.WaitSync name) false old → IsPlain (life_of old).present bytes n → IsPlain (life_of new).present bytes n
-plain_waits name old new bytes n e plain = plain_went (actions.WaitSync name) old new bytes bytes n (λ life. waited_started name life.present) e plain refl
+-- what reads, and fails or doesn't, leaves the bytes
+pub same_bytes : (a : Action) (stopped : Bool) (bytes : List ℕ) → done a bytes ≡ bytes → bytes ≡ redone (record { action = a; failed = stopped }) bytes
+same_bytes a true bytes is = refl
+same_bytes a false bytes is = sym is
 
-pub plain_starts : (old new : History) (bytes : List ℕ) (n : ℕ) → new ≡ went actions.StartSync false old → IsPlain (life_of old).present bytes n → IsPlain (life_of new).present bytes (n + 1)
-plain_starts old new bytes n e plain =
-    let d = (life_of old).present in
-    let s : Started = record { covers = d.settled + length d.since; bytes = d.readable; failed = false } in
-    let same : (life_of new).present.started ≡ d.started ++ s ∷ [] = ap (λ (l : Life). l.present.started) (life_went actions.StartSync false old new e) in
+pub plain_waits : (name : ℕ) (stopped : Bool) (old new : History) (bytes : List ℕ) (n : ℕ) → new ≡ history_with (actions.WaitSync name) stopped old → IsPlain (life_of old).present bytes n stopped → IsPlain (life_of new).present bytes n stopped
+plain_waits name false old new bytes n e plain = plain_went (actions.WaitSync name) false old new bytes bytes n (λ life. waited_started name life.present) e plain refl
+plain_waits name true old new bytes n e plain =
+    let same : (life_of new).present.started ≡ failed_at name (life_of old).present.started = ap (λ (l : Life). l.present.started) (life_went (actions.WaitSync name) true old new e) in
     record {
-      reads = reads_went actions.StartSync false old new bytes bytes e plain.reads refl;
+      reads = reads_went (actions.WaitSync name) true old new bytes bytes e plain.reads refl;
+      names = ap length same ∙ length-failed_at name (life_of old).present.started ∙ plain.names;
+      well = λ goes. absurd (cc);
+    }
+
+pub plain_starts : (stopped : Bool) (old new : History) (bytes : List ℕ) (n : ℕ) → new ≡ history_with actions.StartSync stopped old → IsPlain (life_of old).present bytes n stopped → IsPlain (life_of new).present bytes (n + 1) stopped
+plain_starts stopped old new bytes n e plain =
+    let d = (life_of old).present in
+    let s : Started = record { covers = d.settled + length d.since; bytes = d.readable; failed = stopped } in
+    let same : (life_of new).present.started ≡ d.started ++ s ∷ [] = ap (λ (l : Life). l.present.started) (life_went actions.StartSync stopped old new e) in
+    record {
+      reads = reads_went actions.StartSync stopped old new bytes bytes e plain.reads (same_bytes actions.StartSync stopped bytes refl);
       names = ap length same ∙ omega (arith, length_push d.started s, plain.names);
-      well = subst AreWell (sym same) (well_more d.started s plain.well refl);
+      well = λ goes. subst AreWell (sym same) (well_more d.started s (plain.well goes) goes);
     }
 
 -- as many as the blob counts
@@ -126,7 +149,7 @@ length-started h starts is = ap length is ∙ length-map starts (started_by h)
 -- a life that begins with what a crash left
 pub begun_kept : (first readable : List ℕ) (calls : List Call) (failed : List Bool) (failing faults earlier : ℕ) (starts starts' : List Start) (events : List Event) → events ≡ [] → readable ≡ first → earlier ≡ length calls → length failed ≡ length calls
     → faults ≡ failures (entries_of calls failed) → length starts ≡ names_in (entries_of calls failed) → starts' ≡ replicate (length starts) (record { events = 0; failed = true })
-    → IsKept (history_of first earlier calls failed events failing) readable calls failed faults earlier 0 starts'
+    → TellsHistory (history_of first earlier calls failed events failing) readable calls failed faults earlier 0 starts'
 begun_kept first readable calls failed failing faults earlier starts starts' events none same before outcomes few names is =
     rw (none, same, is, before) (
     let all_calls : take (length calls) calls ≡ calls = take_all (length calls) calls (omega arith) in

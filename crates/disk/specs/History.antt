@@ -2,8 +2,8 @@
 use Rattle.std.specs.Prelude.{◌≡◌, ℕ, ◌-◌, ◌==◌, List, [], ◌∷◌, ◌++◌, length, Bool, true, false}
 use Rattle.std.specs.Prelude.{if◌then◌else◌, replicate, ◌+◌}
 use Rattle.disk.specs.Disk.{Operation, Write, Resize, applied, Disk, Life, Entry, Request, ReadAt}
-use Rattle.disk.specs.Disk.{WriteAt, ResizeTo, SyncAll, StartSync, WaitSync, next, logged, settle}
-use Rattle.disk.specs.Disk.{ReadMany, StartReadMany, Started, starts, waited}
+use Rattle.disk.specs.Disk.{WriteAt, ResizeTo, SyncAll, StartSync, WaitSync, next, logged}
+use Rattle.disk.specs.Disk.{ReadMany, StartReadMany, Started, starts, waited, settled_disk}
 use Rattle.disk.specs.Torn.{torn}
 use Rattle.disk.specs.declared.action.Action.{Action}
 use Rattle.disk.specs.declared.action.Action.TheVariants as actions
@@ -13,10 +13,10 @@ use Rattle.disk.specs.declared.action.Call.TheVariants as calls
 
 -- what stands in the log for a call
 abbrev pub request_of : Call → Request
-request_of (calls.ReadAt place len) = ReadAt place len
+request_of (calls.ReadAt offset len) = ReadAt offset len
 request_of (calls.ReadMany ranges) = ReadMany ranges.items
 request_of (calls.StartReadMany ranges) = StartReadMany ranges.items
-request_of (calls.WriteAt place len sync) = WriteAt place len sync
+request_of (calls.WriteAt offset len sync) = WriteAt offset len sync
 request_of (calls.Resize len) = ResizeTo len
 request_of calls.Sync = SyncAll
 request_of calls.StartSync = StartSync
@@ -24,10 +24,10 @@ request_of (calls.WaitSync name) = WaitSync name
 
 -- what stands in the log for an action
 abbrev pub asked : Action → Request
-asked (actions.Read place len) = ReadAt place len
+asked (actions.Read offset len) = ReadAt offset len
 asked (actions.ReadMany ranges) = ReadMany ranges
 asked (actions.StartReadMany ranges) = StartReadMany ranges
-asked (actions.Write place bytes sync) = WriteAt place (length bytes) sync
+asked (actions.Write offset bytes sync) = WriteAt offset (length bytes) sync
 asked (actions.Resize len) = ResizeTo len
 asked actions.Sync = SyncAll
 asked actions.StartSync = StartSync
@@ -35,10 +35,10 @@ asked (actions.WaitSync name) = WaitSync name
 
 -- the bytes after an action that is done
 abbrev pub done : Action → List ℕ → List ℕ
-done (actions.Read place len) bytes = bytes
+done (actions.Read offset len) bytes = bytes
 done (actions.ReadMany ranges) bytes = bytes
 done (actions.StartReadMany ranges) bytes = bytes
-done (actions.Write place new sync) bytes = applied (Write place new) bytes
+done (actions.Write offset new sync) bytes = applied (Write offset new) bytes
 done (actions.Resize len) bytes = applied (Resize len) bytes
 done actions.Sync bytes = bytes
 done actions.StartSync bytes = bytes
@@ -46,10 +46,10 @@ done (actions.WaitSync name) bytes = bytes
 
 -- the write or resize of an action
 abbrev pub operation_of : Action → List Operation
-operation_of (actions.Read place len) = []
+operation_of (actions.Read offset len) = []
 operation_of (actions.ReadMany ranges) = []
 operation_of (actions.StartReadMany ranges) = []
-operation_of (actions.Write place bytes sync) = Write place bytes ∷ []
+operation_of (actions.Write offset bytes sync) = Write offset bytes ∷ []
 operation_of (actions.Resize len) = Resize len ∷ []
 operation_of actions.Sync = []
 operation_of actions.StartSync = []
@@ -81,33 +81,34 @@ operations_of [] = []
 operations_of (e ∷ es) = operation_of e.action ++ operations_of es
 
 -- a life goes on by one action, done or failed
-abbrev pub lives : Action → Bool → Life → Life
-lives (actions.Read place len) failed life =
-    next life (logged (ReadAt place len) failed life.present)
-lives (actions.ReadMany ranges) failed life =
+abbrev pub life_after_action : Action → Bool → Life → Life
+life_after_action (actions.Read offset len) failed life =
+    next life (logged (ReadAt offset len) failed life.present)
+life_after_action (actions.ReadMany ranges) failed life =
     next life (logged (ReadMany ranges) failed life.present)
-lives (actions.StartReadMany ranges) failed life =
+life_after_action (actions.StartReadMany ranges) failed life =
     next life (logged (StartReadMany ranges) failed life.present)
-lives (actions.Write place bytes false) failed life =
-    let request = WriteAt place (length bytes) false in
-    next life (operated (Write place bytes) request failed life.present)
-lives (actions.Write place bytes true) true life =
-    next life (operated (Write place bytes) (WriteAt place (length bytes) true) true life.present)
-lives (actions.Write place bytes true) false life =
-    let d = operated (Write place bytes) (WriteAt place (length bytes) true) false life.present in
-    next (next life d) (settle d)
-lives (actions.Resize len) failed life =
+life_after_action (actions.Write offset bytes false) failed life =
+    let request = WriteAt offset (length bytes) false in
+    next life (operated (Write offset bytes) request failed life.present)
+life_after_action (actions.Write offset bytes true) true life =
+    next life (operated (Write offset bytes) (WriteAt offset (length bytes) true) true life.present)
+life_after_action (actions.Write offset bytes true) false life =
+    let d = operated (Write offset bytes) (WriteAt offset (length bytes) true) false life.present in
+    next (next life d) (settled_disk d)
+life_after_action (actions.Resize len) failed life =
     next life (operated (Resize len) (ResizeTo len) failed life.present)
-lives actions.Sync true life = next life (logged SyncAll true life.present)
-lives actions.Sync false life = next life (settle (logged SyncAll false life.present))
-lives actions.StartSync failed life = next life (starts failed life.present)
-lives (actions.WaitSync name) failed life =
+life_after_action actions.Sync true life = next life (logged SyncAll true life.present)
+life_after_action actions.Sync false life =
+    next life (settled_disk (logged SyncAll false life.present))
+life_after_action actions.StartSync failed life = next life (starts failed life.present)
+life_after_action (actions.WaitSync name) failed life =
     next life (logged (WaitSync name) failed (waited name failed life.present))
 
 -- a life goes on by these events
-abbrev pub goes_on : Life → List Event → Life
-goes_on life [] = life
-goes_on life (e ∷ es) = goes_on (lives e.action e.failed life) es
+abbrev pub life_after_events : Life → List Event → Life
+life_after_events life [] = life
+life_after_events life (e ∷ es) = life_after_events (life_after_action e.action e.failed life) es
 
 -- how many syncs these calls started, or failed to start: so many names were given
 abbrev pub names_in : List Entry → ℕ
@@ -147,7 +148,7 @@ pub record History : Type 0 where
 
 -- its life
 abbrev pub life_of : History → Life
-life_of h = goes_on (begun h.first h.earlier) h.events
+life_of h = life_after_events (begun h.first h.earlier) h.events
 
 -- one action more, which fails if it is the one that is to fail
 abbrev pub told : Action → History → History
@@ -158,7 +159,7 @@ told action h =
       failing = h.failing - 1;
     }
 
--- what these flags leave of an action that isn't durable, and the flags behind them
+-- what these flags leave of an action that isn't durable, and the flags after them
 abbrev pub TornBy : Action → List Bool → List Bool → List ℕ → List ℕ → Type 0
 TornBy action keep rest old new =
     (os : List Operation) → torn keep (operation_of action ++ os) old ≡ torn rest os new

@@ -50,33 +50,33 @@ slice_get_zeros zero at byte h = cc
 slice_get_zeros (suc n) zero byte h = (cc, omega arith)
 slice_get_zeros (suc n) (suc at) byte h = ((slice_get_zeros n at byte h).0, omega arith)
 
--- what stands before the bytes of a write is as long as their place
-length_front : (place : ℕ) (old : List ℕ) →
-    length (take place old ++ replicate (place - length old) 0) ≡ place
-length_front place old = simp (length-append, length-take, length-replicate) (omega arith)
+-- what stands before the bytes of a write is as long as their offset
+length_front : (offset : ℕ) (old : List ℕ) →
+    length (take offset old ++ replicate (offset - length old) 0) ≡ offset
+length_front offset old = simp (length-append, length-take, length-replicate) (omega arith)
 
 -- the length after a write
-pub length_write : (place : ℕ) (bytes old : List ℕ) →
-    length (applied (Write place bytes) old)
-    ≡ place + length bytes + (length old - (place + length bytes))
-length_write place bytes old =
+pub length_write : (offset : ℕ) (bytes old : List ℕ) →
+    length (applied (Write offset bytes) old)
+    ≡ offset + length bytes + (length old - (offset + length bytes))
+length_write offset bytes old =
     simp (length-append, length-take, length-drop, length-replicate) (omega arith)
 
 -- the length after a resize
 length_resize : (len : ℕ) (old : List ℕ) → length (applied (Resize len) old) ≡ len
 length_resize len old = simp (length-append, length-take, length-replicate) (omega arith)
 
--- a byte after a beginning with zeros behind it: an old one, or a zero past the old end
+-- a byte after a beginning with zeros after it: an old one, or a zero past the old end
 front_byte : (n : ℕ) (old : List ℕ) (at byte : ℕ) →
     slice_get (take n old ++ replicate (n - length old) 0) at ≡ Some byte →
     (slice_get old at ≡ Some byte) ⊎ ((byte ≡ 0) × (length old ≤ at))
 front_byte n old at byte h =
     elim (slice_get_append (take n old) (replicate (n - length old) 0) at byte h) [
       | inl there ↦ inl (slice_get_take n old at byte there)
-      | inr behind ↦
+      | inr after ↦
           let skip = length (take n old) in
-          let z = slice_get_zeros (n - length old) (at - skip) byte behind.1 in
-          let l : length (take n old) ≤ at = behind.0 in
+          let z = slice_get_zeros (n - length old) (at - skip) byte after.1 in
+          let l : length (take n old) ≤ at = after.0 in
           let e : length (take n old) ≡ min n (length old) = length-take n old in
           inr (z.0, omega arith)
     ]
@@ -85,26 +85,26 @@ front_byte n old at byte h =
 pub applied_byte : (o : Operation) (old : List ℕ) (at byte : ℕ) →
     slice_get (applied o old) at ≡ Some byte → (slice_get old at ≡ Some byte) ⊎ Writes o at byte ⊎
     ((byte ≡ 0) × (length old ≤ at))
-applied_byte (Write place bytes) old at byte h =
-    let front : List ℕ = take place old ++ replicate (place - length old) 0 in
-    let f : length front ≡ place = length_front place old in
-    elim (slice_get_append (front ++ bytes) (drop (place + length bytes) old) at byte h) [
+applied_byte (Write offset bytes) old at byte h =
+    let front : List ℕ = take offset old ++ replicate (offset - length old) 0 in
+    let f : length front ≡ offset = length_front offset old in
+    elim (slice_get_append (front ++ bytes) (drop (offset + length bytes) old) at byte h) [
       | inl before ↦ elim (slice_get_append front bytes at byte before) [
-        | inl there ↦ elim (front_byte place old at byte there) [
+        | inl there ↦ elim (front_byte offset old at byte there) [
           | inl a ↦ inl a
           | inr b ↦ inr (inr b)
         ]
         | inr written ↦
-            let e : at - length front ≡ at - place = omega arith in
+            let e : at - length front ≡ at - offset = omega arith in
             inr (inl (omega arith, rw e at written.1))
       ]
-      | inr behind ↦
-          let end = place + length bytes in
+      | inr after ↦
+          let end = offset + length bytes in
           let rest = at - length (front ++ bytes) in
-          let l : end ≤ at = omega (arith, behind.0, length-append front bytes) in
+          let l : end ≤ at = omega (arith, after.0, length-append front bytes) in
           let e : end + rest ≡ at = omega (arith, length-append front bytes) in
           let g : slice_get old (end + rest) ≡ Some byte =
-          sym (slice_get_drop end old rest) ∙ behind.1 in
+          sym (slice_get_drop end old rest) ∙ after.1 in
           inl (rw e at g)
     ]
 applied_byte (Resize len) old at byte h =
@@ -162,10 +162,10 @@ base_is_image d = record {
 -- length
 longest : (o : Operation) (old other : List ℕ) → (length (applied o old) ≤ length old) ⊎
     (length (applied o old) ≤ length (applied o other))
-longest (Write place bytes) old other =
-    let a = length_write place bytes old in
-    let b = length_write place bytes other in
-    elim (cases_lt (length old) (place + length bytes)) [
+longest (Write offset bytes) old other =
+    let a = length_write offset bytes old in
+    let b = length_write offset bytes other in
+    elim (cases_lt (length old) (offset + length bytes)) [
       | inl h ↦ inr (omega arith)
       | inr h ↦ inl (omega arith)
     ]
@@ -174,7 +174,7 @@ longest (Resize len) old other = inr (omega (arith, length_resize len old, lengt
 -- a write leaves no list shorter; and a resize leaves one length
 shortest : (o : Operation) (old other : List ℕ) → (length old ≤ length (applied o old)) ⊎
     (length (applied o other) ≤ length (applied o old))
-shortest (Write place bytes) old other = inl (omega (arith, length_write place bytes old))
+shortest (Write offset bytes) old other = inl (omega (arith, length_write offset bytes old))
 shortest (Resize len) old other =
     inr (omega (arith, length_resize len old, length_resize len other))
 
@@ -249,12 +249,12 @@ torn_each d e o old new f torn i at byte h =
     let from_old : slice_get old at ≡ Some byte → Source e at byte =
     λ k. same_source d e o at byte f (i.each at byte k) in
     let whole = still_whole d e o w.0 f w.1 in
-    let zero_behind : (byte ≡ 0) × (length old ≤ at) → Source e at byte =
+    let zero_after : (byte ≡ 0) × (length old ≤ at) → Source e at byte =
     λ k. inr (inr (k.0, (w.0, whole, omega (arith, w.2, k.1)))) in
     elim (torn.each at byte h) [
       | inl k ↦ from_old k
       | inr (inl k) ↦ inr (inl (rw f.since (written_last d.since o at byte k)))
-      | inr (inr k) ↦ zero_behind k
+      | inr (inr k) ↦ zero_after k
     ]
 
 -- an image stays one through an operation that is done, failed or torn

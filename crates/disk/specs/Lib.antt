@@ -7,4 +7,5 @@ pub mod Torn
 pub mod Lives
 pub mod Memory
 pub mod Past
+pub mod VecBlob
 pub mod StartedRead

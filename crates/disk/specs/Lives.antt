@@ -10,14 +10,15 @@ use Rattle.disk.specs.Disk.{Started, AreCovered, coverings, Operation, Write, Re
 use Rattle.disk.specs.Disk.{Disk, IsImage, Life, Request, ReadAt, ReadMany, StartReadMany}
 use Rattle.disk.specs.Disk.{WaitSync, starts}
 use Rattle.disk.specs.Disk.{WriteAt, ResizeTo, SyncAll, logged}
-use Rattle.disk.specs.Disk.{settle, settle_to, waited, waited_for}
+use Rattle.disk.specs.Disk.{settled_disk, disk_settled_to, waited, waited_for}
 use Rattle.disk.specs.Disk.{failed_at}
 use Rattle.disk.specs.Images.{same_image, base_is_image, partial_image, done_is_partial}
 use Rattle.disk.specs.Images.{same_is_partial}
 use Rattle.disk.specs.declared.action.Action.{Action}
 use Rattle.disk.specs.declared.action.Action.TheVariants as actions
 use Rattle.disk.specs.declared.action.Event.{Event}
-use Rattle.disk.specs.History.{History, operated, lives, goes_on, begun, life_of, spent, names_in}
+use Rattle.disk.specs.History.{History, operated, life_after_action, life_after_events, begun}
+use Rattle.disk.specs.History.{life_of, spent, names_in}
 
 -- what a started sync covers
 abbrev covering : Started → ℕ × List ℕ
@@ -28,15 +29,15 @@ abbrev pub from_start : ℕ × List ℕ → Disk → Disk
 from_start c d = record d { base = c.1; since = drop (c.0 - d.settled) d.since }
 
 -- what is readable is an image, and would be one whichever started sync were done
-pub record Reads (d : Disk) : Type 0 where
+pub record ReadableIsImage (d : Disk) : Type 0 where
   pub image : IsImage d d.readable
   pub covered : AreCovered d
   pub later : (name : ℕ) (c : ℕ × List ℕ) → slice_get (coverings d) name ≡ Some c
       → d.settled < c.0 → IsImage (from_start c d) d.readable
 
 -- the log plays no part in it
-logged_reads : (request : Request) (failed : Bool) (d : Disk) → Reads d
-    → Reads (logged request failed d)
+logged_reads : (request : Request) (failed : Bool) (d : Disk) → ReadableIsImage d
+    → ReadableIsImage (logged request failed d)
 logged_reads request failed d r = record {
   image = same_image d (logged request failed d) d.readable refl refl r.image;
   covered = r.covered;
@@ -47,7 +48,7 @@ logged_reads request failed d r = record {
 
 -- nor does which of the syncs failed
 started_reads : (d : Disk) (ss : List Started) → map covering ss ≡ coverings d
-    → Reads d → Reads (record d { started = ss })
+    → ReadableIsImage d → ReadableIsImage (record d { started = ss })
 started_reads d ss same r =
     let was : (name : ℕ) (c : ℕ × List ℕ)
     → slice_get (map covering ss) name ≡ Some c
@@ -62,8 +63,8 @@ started_reads d ss same r =
     }
 
 -- a write or a resize, whatever of it was done
-operated_reads : (o : Operation) (request : Request) (failed : Bool) (d : Disk) → Reads d
-    → Reads (operated o request failed d)
+operated_reads : (o : Operation) (request : Request) (failed : Bool) (d : Disk) → ReadableIsImage d
+    → ReadableIsImage (operated o request failed d)
 operated_reads o request true d r = record {
   image =
       partial_image d (operated o request true d) o d.readable d.readable refl refl
@@ -88,9 +89,9 @@ operated_reads o request false d r = record {
 }
 
 -- where all is durable no started sync covers more
-settled_reads : (d : Disk) → Reads d → Reads (settle d)
+settled_reads : (d : Disk) → ReadableIsImage d → ReadableIsImage (settled_disk d)
 settled_reads d r = record {
-  image = base_is_image (settle d);
+  image = base_is_image (settled_disk d);
   covered = λ name c is. omega (arith, r.covered name c is);
   later = λ name c is above. absurd (omega (arith, above, r.covered name c is));
 }
@@ -109,7 +110,7 @@ coverings_more [] s = refl
 coverings_more (t ∷ ss) s = ap (λ (l : List (ℕ × List ℕ)). covering t ∷ l) (coverings_more ss s)
 
 -- a sync that starts covers all that there is
-starts_reads : (failed : Bool) (d : Disk) → Reads d → Reads (starts failed d)
+starts_reads : (failed : Bool) (d : Disk) → ReadableIsImage d → ReadableIsImage (starts failed d)
 starts_reads failed d r =
     let all = d.settled + length d.since in
     let e = starts failed d in
@@ -136,8 +137,12 @@ starts_reads failed d r =
 
 -- a started sync that is done
 done_reads : (d : Disk) (name : ℕ) (c : ℕ × List ℕ) → slice_get (coverings d) name ≡ Some c
-    → d.settled < c.0 → Reads d
-    → Reads (record d { base = c.1; since = drop (c.0 - d.settled) d.since; settled = c.0 })
+    → d.settled < c.0 → ReadableIsImage d
+    → ReadableIsImage (record d {
+      base = c.1;
+      since = drop (c.0 - d.settled) d.since;
+      settled = c.0;
+    })
 done_reads d name c is more r =
     let e = record d { base = c.1; since = drop (c.0 - d.settled) d.since; settled = c.0 } in
     record {
@@ -158,16 +163,16 @@ done_reads d name c is more r =
     }
 
 settle_reads_if : (d : Disk) (name : ℕ) (c : ℕ × List ℕ) (b : Bool) → b ≡ nat_lt d.settled c.0
-    → slice_get (coverings d) name ≡ Some c → Reads d
-    → Reads (if b
+    → slice_get (coverings d) name ≡ Some c → ReadableIsImage d
+    → ReadableIsImage (if b
     then record d { base = c.1; since = drop (c.0 - d.settled) d.since; settled = c.0 } else d)
 settle_reads_if d name c true b is r =
     done_reads d name c is (let test = b in grind (arith, nat_tests, test)) r
 settle_reads_if d name c false b is r = r
 
 wait_reads_if : (d : Disk) (name : ℕ) (c : ℕ × List ℕ) (failed : Bool)
-    → slice_get (coverings d) name ≡ Some c → Reads d
-    → Reads (if failed then d else settle_to c d)
+    → slice_get (coverings d) name ≡ Some c → ReadableIsImage d
+    → ReadableIsImage (if failed then d else disk_settled_to c d)
 wait_reads_if d name c true is r = r
 wait_reads_if d name c false is r = settle_reads_if d name c (nat_lt d.settled c.0) refl is r
 
@@ -177,8 +182,9 @@ covering_at [] name s is = absurd (cc)
 covering_at (t ∷ ss) zero s is = cc
 covering_at (t ∷ ss) (suc name) s is = covering_at ss name s is
 
-wait_reads_of : (d : Disk) (name : ℕ) (o : Option Started) → slice_get d.started name ≡ o → Reads d
-    → Reads (waited_for o d)
+wait_reads_of : (d : Disk) (name : ℕ) (o : Option Started) → slice_get d.started name ≡ o
+    → ReadableIsImage d
+    → ReadableIsImage (waited_for o d)
 wait_reads_of d name None is r = r
 wait_reads_of d name (Some s) is r =
     wait_reads_if d name (s.covers, s.bytes) s.failed (covering_at d.started name s is) r
@@ -190,27 +196,28 @@ failed_covers zero (s ∷ ss) = refl
 failed_covers (suc name) (s ∷ ss) =
     ap (λ (l : List (ℕ × List ℕ)). covering s ∷ l) (failed_covers name ss)
 
-waited_reads : (name : ℕ) (failed : Bool) (d : Disk) → Reads d → Reads (waited name failed d)
+waited_reads : (name : ℕ) (failed : Bool) (d : Disk) → ReadableIsImage d
+    → ReadableIsImage (waited name failed d)
 waited_reads name true d r =
     started_reads d (failed_at name d.started) (failed_covers name d.started) r
 waited_reads name false d r = wait_reads_of d name (slice_get d.started name) refl r
 
-lives_reads : (action : Action) (failed : Bool) (life : Life) → Reads life.present →
-    Reads (lives action failed life).present
-lives_reads (actions.Read place len) failed life r =
-    logged_reads (ReadAt place len) failed life.present r
+lives_reads : (action : Action) (failed : Bool) (life : Life) → ReadableIsImage life.present →
+    ReadableIsImage (life_after_action action failed life).present
+lives_reads (actions.Read offset len) failed life r =
+    logged_reads (ReadAt offset len) failed life.present r
 lives_reads (actions.ReadMany ranges) failed life r =
     logged_reads (ReadMany ranges) failed life.present r
 lives_reads (actions.StartReadMany ranges) failed life r =
     logged_reads (StartReadMany ranges) failed life.present r
-lives_reads (actions.Write place bytes false) failed life r =
-    operated_reads (Write place bytes) (WriteAt place (length bytes) false) failed life.present r
-lives_reads (actions.Write place bytes true) true life r =
-    operated_reads (Write place bytes) (WriteAt place (length bytes) true) true life.present r
-lives_reads (actions.Write place bytes true) false life r =
-    let request = WriteAt place (length bytes) true in
-    settled_reads (operated (Write place bytes) request false life.present)
-    (operated_reads (Write place bytes) request false life.present r)
+lives_reads (actions.Write offset bytes false) failed life r =
+    operated_reads (Write offset bytes) (WriteAt offset (length bytes) false) failed life.present r
+lives_reads (actions.Write offset bytes true) true life r =
+    operated_reads (Write offset bytes) (WriteAt offset (length bytes) true) true life.present r
+lives_reads (actions.Write offset bytes true) false life r =
+    let request = WriteAt offset (length bytes) true in
+    settled_reads (operated (Write offset bytes) request false life.present)
+    (operated_reads (Write offset bytes) request false life.present r)
 lives_reads (actions.Resize len) failed life r =
     operated_reads (Resize len) (ResizeTo len) failed life.present r
 lives_reads actions.Sync true life r = logged_reads SyncAll true life.present r
@@ -221,11 +228,12 @@ lives_reads (actions.WaitSync name) failed life r =
     logged_reads (WaitSync name) failed (waited name failed life.present)
     (waited_reads name failed life.present r)
 
-goes_on_reads : (es : List Event) (life : Life) → Reads life.present →
-    Reads (goes_on life es).present
+goes_on_reads : (es : List Event) (life : Life) → ReadableIsImage life.present →
+    ReadableIsImage (life_after_events life es).present
 goes_on_reads [] life r = r
 goes_on_reads (e ∷ es) life r =
-    goes_on_reads es (lives e.action e.failed life) (lives_reads e.action e.failed life r)
+    goes_on_reads es (life_after_action e.action e.failed life)
+    (lives_reads e.action e.failed life r)
 
 -- a sync of an earlier life covers nothing
 spent_at : (bytes : List ℕ) (n name : ℕ) (c : ℕ × List ℕ)
@@ -235,7 +243,7 @@ spent_at bytes zero name c is = absurd (cc)
 spent_at bytes (suc n) zero c is = cc
 spent_at bytes (suc n) (suc name) c is = spent_at bytes n name c is
 
-begun_reads : (h : History) → Reads (begun h.first h.earlier).present
+begun_reads : (h : History) → ReadableIsImage (begun h.first h.earlier).present
 begun_reads h =
     let d = (begun h.first h.earlier).present in
     record {

@@ -2,7 +2,7 @@
 use Rattle.std.specs.Prelude.{◌≡◌, ◌≤◌, ◌<◌, ◌≢◌, ℕ, ◌+◌, ◌-◌, List, [], ◌∷◌, length, take, drop}
 use Rattle.std.specs.Prelude.{Bool, true, false, Result, Ok, Err, if◌then◌else◌, ◌++◌, suc, zero}
 use Rattle.std.specs.Prelude.{Option, Some, None, slice_get, max, map}
-use Rattle.disk.specs.Disk.{Entry, Disk, Started, Delivers, IsWithin, bytes_of, failures}
+use Rattle.disk.specs.Disk.{Entry, Started, Delivers, IsWithin, bytes_of, failures}
 use Rattle.disk.specs.declared.action.Event.{Event}
 use Rattle.disk.specs.declared.action.Call.{Call}
 use Rattle.disk.specs.declared.error.Error.{Error}
@@ -21,12 +21,6 @@ abbrev pub AreWell : List Started → Type 0
 AreWell [] = Unit {0}
 AreWell (s ∷ ss) = (s.failed ≡ false) × AreWell ss
 
--- a disk with these bytes and so many started syncs, of which none failed
-pub record IsPlain (d : Disk) (bytes : List ℕ) (starts : ℕ) : Type 0 where
-  pub reads : bytes ≡ d.readable
-  pub names : length d.started ≡ starts
-  pub well : AreWell d.started
-
 -- the entries of calls, with whether each failed
 abbrev pub entries_of : List Call → List Bool → List Entry
 entries_of [] failed = []
@@ -44,7 +38,7 @@ history_of first earlier calls failed events failing =
       failing = failing;
     }
 
--- a started sync of a history, that stands behind so many of its events
+-- a started sync of a history, that stands after so many of its events
 abbrev pub started_by : History → Start → Started
 started_by h s =
     let before = take s.events h.events in
@@ -54,13 +48,13 @@ started_by h s =
       failed = s.failed;
     }
 
--- each stands behind no more events than these
+-- each stands after no more events than these
 abbrev pub AreWithin : ℕ → List Start → Type 0
 AreWithin n [] = Unit {0}
 AreWithin n (s ∷ ss) = (s.events ≤ n) × AreWithin n ss
 
 -- the fields agree with the history
-pub record IsKept (h : History) (readable : List ℕ) (calls : List Call) (failed : List Bool)
+pub record TellsHistory (h : History) (readable : List ℕ) (calls : List Call) (failed : List Bool)
     (faults earlier settled : ℕ) (starts : List Start) : Type 0 where
   pub bytes : readable ≡ (life_of h).present.readable
   -- the events up to here are durable, and no later one made anything so
@@ -81,13 +75,13 @@ abbrev pub settled_for : Option Start → ℕ → ℕ
 settled_for None settled = settled
 settled_for (Some s) settled = if s.failed then settled else max settled s.events
 
--- how many events are settled after one more, which stands behind so many
+-- how many events are settled after one more, which stands after so many
 abbrev pub settled_after : Action → (failed : Bool) → List Start → (settled events : ℕ) → ℕ
 settled_after action true starts settled events = settled
-settled_after (actions.Read place len) false starts settled events = settled
+settled_after (actions.Read offset len) false starts settled events = settled
 settled_after (actions.ReadMany ranges) false starts settled events = settled
 settled_after (actions.StartReadMany ranges) false starts settled events = settled
-settled_after (actions.Write place bytes sync) false starts settled events =
+settled_after (actions.Write offset bytes sync) false starts settled events =
     if sync then events + 1 else settled
 settled_after (actions.Resize len) false starts settled events = settled
 settled_after actions.Sync false starts settled events = events + 1
@@ -107,10 +101,10 @@ starts_after actions.StartSync failed starts events =
     starts ++ record { events = events; failed = failed } ∷ []
 starts_after (actions.WaitSync name) true starts events = failing_at name starts
 starts_after (actions.WaitSync name) false starts events = starts
-starts_after (actions.Read place len) failed starts events = starts
+starts_after (actions.Read offset len) failed starts events = starts
 starts_after (actions.ReadMany ranges) failed starts events = starts
 starts_after (actions.StartReadMany ranges) failed starts events = starts
-starts_after (actions.Write place bytes sync) failed starts events = starts
+starts_after (actions.Write offset bytes sync) failed starts events = starts
 starts_after (actions.Resize len) failed starts events = starts
 starts_after actions.Sync failed starts events = starts
 
@@ -138,11 +132,11 @@ CountsWait (Named name) old new (Err _) = new ≡ old
 
 -- the bytes of a range, or none where it passes the end, or no memory
 abbrev pub IsRange : ℕ → ℕ → List ℕ → Result (List ℕ) Error → Type 0
-IsRange place len readable (Ok bytes) =
-    (place + len ≤ length readable) × (bytes ≡ take len (drop place readable))
-IsRange place len readable (Err BlobInsufficientLength) = length readable < place + len
-IsRange place len readable (Err OutOfMemory) = place + len ≤ length readable
-IsRange place len readable (Err _) = ⊥
+IsRange offset len readable (Ok bytes) =
+    (offset + len ≤ length readable) × (bytes ≡ take len (drop offset readable))
+IsRange offset len readable (Err BlobInsufficientLength) = length readable < offset + len
+IsRange offset len readable (Err OutOfMemory) = offset + len ≤ length readable
+IsRange offset len readable (Err _) = ⊥
 
 -- the bytes of several ranges, or none where one passes the end, or no memory
 abbrev pub AreRanges : List (ℕ × ℕ) → List ℕ → List (ℕ × List ℕ) → Result (Unit {0}) Error → Type 0

@@ -13,25 +13,30 @@ use Rattle.disk.specs.History.{History}
 -- listed ranges as a list
 abbrev pub listed_of : Range → List (ℕ × ℕ)
 listed_of ranges.Nothing = []
-listed_of (ranges.Behind before place len) = before.value.value ++ (place, len) ∷ []
+listed_of (ranges.After before offset len) = before.value.value ++ (offset, len) ∷ []
 
 -- one action more, done or failed
-abbrev pub went : Action → Bool → History → History
-went action failed h =
+abbrev pub history_with : Action → Bool → History → History
+history_with action failed h =
     record h { events = h.events ++ record { action = action; failed = failed } ∷ [] }
+
+-- the history of a device that was asked for nothing yet
+abbrev pub begun_history : List ℕ → History
+begun_history bytes = record { first = bytes; earlier = []; events = []; failing = 0 }
 
 -- a past as a history
 abbrev pub past_of : Asked → History
-past_of (Nothing first) =
-    record { first = first.value.items; earlier = []; events = []; failing = 0 }
-past_of (Read before place len failed) = went (actions.Read place len) failed before.value.value
+past_of (Nothing first) = begun_history first.value.items
+past_of (Read before offset len failed) =
+    history_with (actions.Read offset len) failed before.value.value
 past_of (ReadMany before ranges failed) =
-    went (actions.ReadMany ranges.value) failed before.value.value
+    history_with (actions.ReadMany ranges.value) failed before.value.value
 past_of (StartReadMany before ranges failed) =
-    went (actions.StartReadMany ranges.value) failed before.value.value
-past_of (Write before place bufs sync failed) =
-    went (actions.Write place (concat bufs.value) sync) failed before.value.value
-past_of (Resize before len failed) = went (actions.Resize len) failed before.value.value
-past_of (Sync before failed) = went actions.Sync failed before.value.value
-past_of (StartSync before failed) = went actions.StartSync failed before.value.value
-past_of (WaitSync before name failed) = went (actions.WaitSync name) failed before.value.value
+    history_with (actions.StartReadMany ranges.value) failed before.value.value
+past_of (Write before offset bufs sync failed) =
+    history_with (actions.Write offset (concat bufs.value) sync) failed before.value.value
+past_of (Resize before len failed) = history_with (actions.Resize len) failed before.value.value
+past_of (Sync before failed) = history_with actions.Sync failed before.value.value
+past_of (StartSync before failed) = history_with actions.StartSync failed before.value.value
+past_of (WaitSync before name failed) =
+    history_with (actions.WaitSync name) failed before.value.value

@@ -2,13 +2,13 @@
 use Rattle.std.specs.Prelude.{ℕ, ◌+◌, List, [], ◌∷◌, length, drop, Bool, if◌then◌else◌}
 use Rattle.disk.specs.Disk.{Operation, Write, Resize, applied}
 
--- the bytes of a write for which there is a true flag, each at its place; a missing flag is false
+-- the bytes of a write for which there is a true flag, each at its offset; a missing flag is false
 abbrev pub torn_write : List Bool → ℕ → List ℕ → List ℕ → List ℕ
-torn_write [] place bytes image = image
-torn_write (flag ∷ keep) place [] image = image
-torn_write (flag ∷ keep) place (byte ∷ bytes) image =
-    let written = applied (Write place (byte ∷ [])) image in
-    torn_write keep (place + 1) bytes (if flag then written else image)
+torn_write [] offset bytes image = image
+torn_write (flag ∷ keep) offset [] image = image
+torn_write (flag ∷ keep) offset (byte ∷ bytes) image =
+    let written = applied (Write offset (byte ∷ [])) image in
+    torn_write keep (offset + 1) bytes (if flag then written else image)
 
 -- a resize where its flag is true
 abbrev pub torn_resize : List Bool → ℕ → List ℕ → List ℕ
@@ -18,6 +18,6 @@ torn_resize (flag ∷ keep) len image = if flag then applied (Resize len) image 
 -- operations in order, each with its flags: one for each byte of a write, one for a resize
 abbrev pub torn : List Bool → List Operation → List ℕ → List ℕ
 torn keep [] image = image
-torn keep (Write place bytes ∷ os) image =
-    torn (drop (length bytes) keep) os (torn_write keep place bytes image)
+torn keep (Write offset bytes ∷ os) image =
+    torn (drop (length bytes) keep) os (torn_write keep offset bytes image)
 torn keep (Resize len ∷ os) image = torn (drop 1 keep) os (torn_resize keep len image)

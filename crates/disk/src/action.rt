@@ -15,13 +15,13 @@ use std::alloc::{AllocError, Global};
 /// A device call, as it stands in the log.
 #[derive(Debug, Drop, PartialEq, Eq)]
 pub enum Call {
-    /// A read: the place and the number of bytes.
+    /// A read: the offset and the number of bytes.
     ReadAt(u64, usize),
-    /// A read of several ranges: of each the place and the number of bytes.
+    /// A read of several ranges: of each the offset and the number of bytes.
     ReadMany(Vec<(u64, usize)>),
-    /// The start of a read of several ranges: of each the place and the number of bytes.
+    /// The start of a read of several ranges: of each the offset and the number of bytes.
     StartReadMany(Vec<(u64, usize)>),
-    /// A write: the place, the number of bytes, and whether it was to be durable.
+    /// A write: the offset, the number of bytes, and whether it was to be durable.
     WriteAt(u64, usize, bool),
     /// A resize: the new length in bytes.
     Resize(u64),
@@ -67,10 +67,10 @@ impl Action {
         ensures { IfOk result (λ call. request_of call ≡ asked self.now) }
     {
         Ok(match self {
-            Action::Read(place, len) => Call::ReadAt(*place, *len),
+            Action::Read(offset, len) => Call::ReadAt(*offset, *len),
             Action::ReadMany(ranges) => Call::ReadMany(ranges.to_vec(alloc)?),
             Action::StartReadMany(ranges) => Call::StartReadMany(ranges.to_vec(alloc)?),
-            Action::Write(place, bytes, sync) => Call::WriteAt(*place, bytes.len(), *sync),
+            Action::Write(offset, bytes, sync) => Call::WriteAt(*offset, bytes.len(), *sync),
             Action::Resize(len) => Call::Resize(*len),
             Action::Sync => Call::Sync,
             Action::StartSync => Call::StartSync,
@@ -85,9 +85,9 @@ impl Action {
             TornBy self.now keep.now rest.now image.old.items image.new.items) }
     {
         match self {
-            Action::Write(place, bytes, _) => {
+            Action::Write(offset, bytes, _) => {
                 let (flags, rest) = keep.split_at(bytes.len().min(keep.len()));
-                tear_write(image, *place as usize, bytes.as_ref(), flags)?;
+                tear_write(image, *offset as usize, bytes.as_ref(), flags)?;
                 Ok(rest)
             }
             Action::Resize(len) => match keep.split_first() {
@@ -110,7 +110,7 @@ impl Action {
             (length (done self.now bytes.old.items) ≤ vec_capacity bytes.new) }
     {
         let len = match self {
-            Action::Write(place, new, _) => (*place as usize).checked_add(new.len()),
+            Action::Write(offset, new, _) => (*offset as usize).checked_add(new.len()),
             Action::Resize(len) => Some(*len as usize),
             _ => Some(0),
         };
@@ -126,7 +126,7 @@ impl Action {
         ensures err { OnErr result (bytes.new.items ≡ bytes.old.items) }
     {
         match self {
-            Action::Write(place, new, _) => write_over(bytes, *place as usize, new.as_ref()),
+            Action::Write(offset, new, _) => write_over(bytes, *offset as usize, new.as_ref()),
             Action::Resize(len) => bytes.resize(*len as usize, 0),
             _ => Ok(()),
         }
@@ -154,7 +154,7 @@ impl Event {
         }
     }
 
-    /// Adds the sync that it starts, behind so many events, or marks the one that it waited for in
+    /// Adds the sync that it starts, after so many events, or marks the one that it waited for in
     /// vain.
     pub fn record_start(&self, starts: &mut Vec<Start>, events: usize)
         requires { vec_len starts.old < vec_capacity starts.old }
@@ -222,17 +222,17 @@ pub fn tear(image: &mut Vec<u8>, events: &[Event], keep: &[bool]) -> Result<(), 
     Ok(())
 }
 
-/// Puts bytes at a place, behind zeros where it lies past the end. An `Err` leaves all as it was.
+/// Puts bytes at an offset, after zeros where it lies past the end. An `Err` leaves all as it was.
 #[tactic(auto, using(crate::proofs::Writes::written_over))]
-pub fn write_over(bytes: &mut Vec<u8>, place: usize, new: &[u8]) -> Result<(), AllocError>
-    ensures ok { OnOk result (bytes.new.items ≡ applied (Write place new.now) bytes.old.items) }
+pub fn write_over(bytes: &mut Vec<u8>, offset: usize, new: &[u8]) -> Result<(), AllocError>
+    ensures ok { OnOk result (bytes.new.items ≡ applied (Write offset new.now) bytes.old.items) }
     ensures err { OnErr result (bytes.new.items ≡ bytes.old.items) }
 {
-    let Some(end) = place.checked_add(new.len()) else {
+    let Some(end) = offset.checked_add(new.len()) else {
         return Err(AllocError);
     };
     grow(bytes, end)?;
-    put(bytes, place, new);
+    put(bytes, offset, new);
     Ok(())
 }
 
@@ -250,44 +250,44 @@ pub fn grow(bytes: &mut Vec<u8>, len: usize) -> Result<(), AllocError>
     bytes.resize(len, 0)
 }
 
-/// Copies bytes to a place among others.
-pub fn put(bytes: &mut Vec<u8>, place: usize, new: &[u8])
-    requires { place + length new.now ≤ length bytes.old.items }
+/// Copies bytes to an offset among others.
+pub fn put(bytes: &mut Vec<u8>, offset: usize, new: &[u8])
+    requires { offset + length new.now ≤ length bytes.old.items }
     ensures items { bytes.new.items
-        ≡ take place bytes.old.items ++ new.now ++ drop (place + length new.now) bytes.old.items }
+        ≡ take offset bytes.old.items ++ new.now ++ drop (offset + length new.now) bytes.old.items }
     ensures capacity { vec_capacity bytes.new ≡ vec_capacity bytes.old }
 {
-    bytes[place..place + new.len()].copy_from_slice(new);
+    bytes[offset..offset + new.len()].copy_from_slice(new);
 }
 
 // Puts each byte for which there is a true flag.
 #[tactic(auto, using(crate::proofs::Torn::torn_write_more))]
 fn tear_write(
     image: &mut Vec<u8>,
-    place: usize,
+    offset: usize,
     bytes: &[u8],
     keep: &[bool],
 ) -> Result<(), AllocError>
     requires { length keep.now ≤ length bytes.now }
-    ensures { OnOk result (image.new.items ≡ torn_write keep.now place bytes.now image.old.items) }
+    ensures { OnOk result (image.new.items ≡ torn_write keep.now offset bytes.now image.old.items) }
 {
-    if place.checked_add(bytes.len()).is_none() {
+    if offset.checked_add(bytes.len()).is_none() {
         return Err(AllocError);
     }
     for (index, flag) in keep.iter().enumerate() {
-        put_flagged(image, place + index, bytes[index], *flag)?;
+        put_flagged(image, offset + index, bytes[index], *flag)?;
     }
     Ok(())
 }
 
 // Puts a byte where its flag is true.
-fn put_flagged(image: &mut Vec<u8>, place: usize, byte: u8, flag: bool) -> Result<(), AllocError>
+fn put_flagged(image: &mut Vec<u8>, offset: usize, byte: u8, flag: bool) -> Result<(), AllocError>
     ensures { let old = image.old.items in
-        let written = applied (Write place (byte ∷ [])) old in
+        let written = applied (Write offset (byte ∷ [])) old in
         OnOk result (image.new.items ≡ (if flag then written else old)) }
 {
     if flag {
-        write_over(image, place, &[byte])
+        write_over(image, offset, &[byte])
     } else {
         Ok(())
     }

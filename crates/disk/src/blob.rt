@@ -24,7 +24,7 @@ pub struct WriteOptions {
     pub dont_cache: bool,
 }
 
-/// A run of bytes on a device, read and written at places in bytes.
+/// A run of bytes on a device, read and written at offsets in bytes.
 ///
 /// Each call has one clause, by cases on its answer: what it did to the blob's life, and why an
 /// error came. A call looks for an overflow first, then for the end, then for memory, and asks the
@@ -53,7 +53,7 @@ pub trait Blob {
     ) -> Result<IoBuf, Error>
         ensures goes { ReadGoes offset len (life self.old) (life self.new) result };
 
-    /// The bytes of each of the ranges, a place and a length, in one device call. At `Ok` `out`
+    /// The bytes of each of the ranges, an offset and a length, in one device call. At `Ok` `out`
     /// holds the number of each range once, with its bytes, in any order; what stood in it is gone.
     /// `BlobInsufficientLength` where a range passes the end, `OutOfMemory` only where none does,
     /// `ReadFailed` where the device failed; then `out` says nothing.
@@ -67,7 +67,7 @@ pub trait Blob {
         ensures goes { ReadManyGoes ranges.now (life self.old) (life self.new) out.new.items
             result };
 
-    /// Starts a read of each of the ranges, a place and a length, in one device call, and answers
+    /// Starts a read of each of the ranges, an offset and a length, in one device call, and answers
     /// what keeps their bytes, in the order of the ranges and as they were at the start. The call
     /// itself is never refused: what would have refused it shows at the wait.
     /// `BlobInsufficientLength` where a range passes the end, `OutOfMemory` only where none does,
@@ -80,9 +80,9 @@ pub trait Blob {
     ) -> StartedRead
         ensures goes { StartReadGoes ranges.now (life self.old) (life self.new) result };
 
-    /// Sets the bytes at `offset`; a gap behind the end is filled with zeros. With `sync` they are
+    /// Sets the bytes at `offset`; a gap after the end is filled with zeros. With `sync` they are
     /// durable at `Ok`, and nothing may be unsynced before. `OffsetOverflow` where the range passes
-    /// the greatest place, `OutOfMemory` only where it doesn't, `WriteFailed` where the device
+    /// the greatest offset, `OutOfMemory` only where it doesn't, `WriteFailed` where the device
     /// failed: then each byte of the range is the old one or the new one.
     fn write_at(&mut self, offset: u64, bufs: &IoBufs, options: WriteOptions) -> Result<(), Error>
         requires settled { options.sync ≡ true → (life self.old).present.since ≡ [] }

@@ -44,20 +44,20 @@ impl IoBuf {
         Ok(IoBuf { bytes })
     }
 
-    /// A buffer with a copy of the `len` bytes at a place of these. `BlobInsufficientLength` where
-    /// the range passes their end, and else `OutOfMemory` alone.
+    /// A buffer with a copy of the `len` bytes at an offset of these. `BlobInsufficientLength`
+    /// where the range passes their end, and else `OutOfMemory` alone.
     pub(crate) fn copy_range(
         alloc: Global,
         bytes: &[u8],
-        place: u64,
+        offset: u64,
         len: usize,
     ) -> Result<Self, Error>
-        ensures { IsRange place len bytes.now result }
+        ensures { IsRange offset len bytes.now result }
     {
-        if bytes.len() < len || ((bytes.len() - len) as u64) < place {
+        if bytes.len() < len || ((bytes.len() - len) as u64) < offset {
             return Err(Error::BlobInsufficientLength);
         }
-        let start = place as usize;
+        let start = offset as usize;
         Self::copy_from_slice(alloc, &bytes[start..start + len])
     }
 

@@ -23,10 +23,10 @@ pub enum Error {
     /// A page that must verify doesn't.
     #[error("InvalidChecksum")]
     InvalidChecksum,
-    /// A range or a place passes the end.
+    /// A range or an offset passes the end.
     #[error("BlobInsufficientLength")]
     BlobInsufficientLength,
-    /// A place or a length passes the greatest number of its type.
+    /// An offset or a length passes the greatest number of its type.
     #[error("OffsetOverflow")]
     OffsetOverflow,
     /// A request for memory was refused.

@@ -22,6 +22,7 @@ pub use buf::{IoBuf, IoBufs};
 pub use counted::Counted;
 pub use error::Error;
 pub use memory::MemBlob;
+pub use past::Past;
 pub use started_read::StartedRead;
 pub use started_sync::StartedSync;
 pub use vec_blob::VecBlob;

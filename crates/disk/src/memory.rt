@@ -48,14 +48,14 @@ pub struct MemBlob {
 
 impl Model for MemBlob {
     ghost use Rattle.disk.specs.History.{History};
-    ghost use Rattle.disk.specs.Memory.{history_of, IsKept};
+    ghost use Rattle.disk.specs.Memory.{history_of, TellsHistory};
 
     ghost Value = { History };
 
     ghost view = { λ m. history_of m.first.items m.earlier m.calls.items m.failed.items
         m.events.items m.failing };
 
-    ghost invariant = { λ m. IsKept
+    ghost invariant = { λ m. TellsHistory
         (history_of m.first.items m.earlier m.calls.items m.failed.items m.events.items m.failing)
         m.readable.items m.calls.items m.failed.items m.failures m.earlier m.settled
         m.starts.items };
@@ -191,10 +191,10 @@ impl MemBlob {
     }
 
     // The bytes of a range, copied.
-    fn range(&self, alloc: Global, place: u64, len: usize) -> Result<IoBuf, Error>
-        ensures { IsRange place len (life_of self.now).present.readable result }
+    fn range(&self, alloc: Global, offset: u64, len: usize) -> Result<IoBuf, Error>
+        ensures { IsRange offset len (life_of self.now).present.readable result }
     {
-        IoBuf::copy_range(alloc, self.bytes(), place, len)
+        IoBuf::copy_range(alloc, self.bytes(), offset, len)
     }
 
     // The bytes of several ranges, copied, in the order in which they are to be delivered.

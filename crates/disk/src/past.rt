@@ -1,16 +1,17 @@
 // What a device was asked for, as ghost data: nothing of it is left at run time.
-ghost use Rattle.std.specs.Prelude.{◌≡◌, []};
+ghost use Rattle.std.specs.Prelude.{◌≡◌};
 ghost use Rattle.std.specs.List.{concat};
 ghost use Rattle.disk.specs.declared.action.Action.TheVariants as actions;
-ghost use Rattle.disk.specs.History.{life_of, begun};
-ghost use Rattle.disk.specs.Past.{went};
+ghost use Rattle.disk.specs.Past.{begun_history, history_with};
 
 use crate::IoBufs;
 use crate::ranges::Listed;
 use std::marker::Model;
 use std::snapshot::Snapshot;
 
-/// What a device was asked for so far, from the bytes on that it began with.
+/// What a device was asked for so far, from the bytes on that it began with, and how each call
+/// went. It is for whoever writes a [`crate::Blob`] that keeps no history at run time: hold one as
+/// a `Snapshot`, which takes no memory, and let each call put one event more after it.
 #[cycle(past)]
 #[derive(Drop)]
 pub struct Past {
@@ -52,7 +53,7 @@ impl Model for Past {
 impl Past {
     /// A device that begins with these bytes was asked for nothing yet.
     pub fn begun(bytes: &Vec<u8>) -> Snapshot<Self>
-        ensures life { life_of result.value ≡ begun bytes.now.items [] }
+        ensures { result.value ≡ begun_history bytes.now.items }
     {
         let past = Past {
             last: Asked::Nothing(Snapshot::of(bytes)),
@@ -61,11 +62,11 @@ impl Past {
     }
 
     /// A read more.
-    pub fn read(before: &Snapshot<Self>, place: u64, len: usize, failed: bool) -> Snapshot<Self>
-        ensures { result.value ≡ went (actions.Read place len) failed before.now.value }
+    pub fn read(before: &Snapshot<Self>, offset: u64, len: usize, failed: bool) -> Snapshot<Self>
+        ensures { result.value ≡ history_with (actions.Read offset len) failed before.now.value }
     {
         let past = Past {
-            last: Asked::Read(Snapshot::of(before), place, len, failed),
+            last: Asked::Read(Snapshot::of(before), offset, len, failed),
         };
         Snapshot::of(&past)
     }
@@ -76,7 +77,8 @@ impl Past {
         ranges: &[(u64, usize)],
         failed: bool,
     ) -> Snapshot<Self>
-        ensures { result.value ≡ went (actions.ReadMany ranges.now) failed before.now.value }
+        ensures { result.value
+            ≡ history_with (actions.ReadMany ranges.now) failed before.now.value }
     {
         let past = Past {
             last: Asked::ReadMany(Snapshot::of(before), Listed::of(ranges), failed),
@@ -90,7 +92,8 @@ impl Past {
         ranges: &[(u64, usize)],
         failed: bool,
     ) -> Snapshot<Self>
-        ensures { result.value ≡ went (actions.StartReadMany ranges.now) failed before.now.value }
+        ensures { result.value
+            ≡ history_with (actions.StartReadMany ranges.now) failed before.now.value }
     {
         let past = Past {
             last: Asked::StartReadMany(Snapshot::of(before), Listed::of(ranges), failed),
@@ -101,18 +104,18 @@ impl Past {
     /// A write more.
     pub fn write(
         before: &Snapshot<Self>,
-        place: u64,
+        offset: u64,
         bufs: &IoBufs,
         sync: bool,
         failed: bool,
     ) -> Snapshot<Self>
         ensures { let bytes = concat bufs.now in
-            result.value ≡ went (actions.Write place bytes sync) failed before.now.value }
+            result.value ≡ history_with (actions.Write offset bytes sync) failed before.now.value }
     {
         let past = Past {
             last: Asked::Write(
                 Snapshot::of(before),
-                place,
+                offset,
                 Snapshot::of(bufs),
                 sync,
                 failed,
@@ -123,7 +126,7 @@ impl Past {
 
     /// A resize more.
     pub fn resize(before: &Snapshot<Self>, len: u64, failed: bool) -> Snapshot<Self>
-        ensures { result.value ≡ went (actions.Resize len) failed before.now.value }
+        ensures { result.value ≡ history_with (actions.Resize len) failed before.now.value }
     {
         let past = Past {
             last: Asked::Resize(Snapshot::of(before), len, failed),
@@ -133,7 +136,7 @@ impl Past {
 
     /// A start of a sync more.
     pub fn start_sync(before: &Snapshot<Self>, failed: bool) -> Snapshot<Self>
-        ensures { result.value ≡ went actions.StartSync failed before.now.value }
+        ensures { result.value ≡ history_with actions.StartSync failed before.now.value }
     {
         let past = Past {
             last: Asked::StartSync(Snapshot::of(before), failed),
@@ -143,7 +146,7 @@ impl Past {
 
     /// A wait more for a sync.
     pub fn wait_sync(before: &Snapshot<Self>, name: u64, failed: bool) -> Snapshot<Self>
-        ensures { result.value ≡ went (actions.WaitSync name) failed before.now.value }
+        ensures { result.value ≡ history_with (actions.WaitSync name) failed before.now.value }
     {
         let past = Past {
             last: Asked::WaitSync(Snapshot::of(before), name, failed),
@@ -153,7 +156,7 @@ impl Past {
 
     /// A sync more.
     pub fn sync(before: &Snapshot<Self>, failed: bool) -> Snapshot<Self>
-        ensures { result.value ≡ went actions.Sync failed before.now.value }
+        ensures { result.value ≡ history_with actions.Sync failed before.now.value }
     {
         let past = Past {
             last: Asked::Sync(Snapshot::of(before), failed),

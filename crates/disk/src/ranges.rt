@@ -9,7 +9,7 @@ use std::alloc::{AllocError, Global};
 use std::marker::Model;
 use std::snapshot::Snapshot;
 
-/// Ranges of bytes, each a place and a length.
+/// Ranges of bytes, each an offset and a length.
 #[derive(Drop)]
 pub struct Ranges {
     ranges: Vec<(u64, usize)>,
@@ -48,12 +48,12 @@ pub struct Listed {
     last: Range,
 }
 
-// The last of them, behind the others.
+// The last of them, after the others.
 #[cycle(listed)]
 #[derive(Drop)]
 enum Range {
     Nothing,
-    Behind(Snapshot<Snapshot<Listed>>, u64, usize),
+    After(Snapshot<Snapshot<Listed>>, u64, usize),
 }
 
 impl Model for Listed {
@@ -78,8 +78,8 @@ impl Listed {
         ensures { result.value ≡ ranges.now }
     {
         let mut listed = Listed::nothing();
-        for &(place, len) in ranges {
-            listed = Listed::behind(&listed, place, len);
+        for &(offset, len) in ranges {
+            listed = Listed::after(&listed, offset, len);
         }
         listed
     }
@@ -95,11 +95,11 @@ impl Listed {
     }
 
     // One more.
-    fn behind(before: &Snapshot<Self>, place: u64, len: usize) -> Snapshot<Self>
-        ensures { result.value ≡ before.now.value ++ (place, len) ∷ [] }
+    fn after(before: &Snapshot<Self>, offset: u64, len: usize) -> Snapshot<Self>
+        ensures { result.value ≡ before.now.value ++ (offset, len) ∷ [] }
     {
         let listed = Listed {
-            last: Range::Behind(Snapshot::of(before), place, len),
+            last: Range::After(Snapshot::of(before), offset, len),
         };
         Snapshot::of(&listed)
     }
@@ -122,8 +122,8 @@ pub fn copy_ranges(
     }
     out.clear();
     out.try_reserve(ranges.len())?;
-    for (index, &(place, len)) in ranges.iter().enumerate() {
-        let start = place as usize;
+    for (index, &(offset, len)) in ranges.iter().enumerate() {
+        let start = offset as usize;
         let range = IoBuf::copy_from_slice(alloc, &bytes[start..start + len])?;
         out.push((index, range))?;
     }
@@ -143,8 +143,8 @@ pub fn copy_in_order(
         return Err(Error::BlobInsufficientLength);
     }
     let mut bufs = Vec::with_capacity(alloc, ranges.len())?;
-    for &(place, len) in ranges {
-        let start = place as usize;
+    for &(offset, len) in ranges {
+        let start = offset as usize;
         bufs.push(IoBuf::copy_from_slice(alloc, &bytes[start..start + len])?)?;
     }
     Ok(bufs)
@@ -154,8 +154,8 @@ pub fn copy_in_order(
 fn are_within(ranges: &[(u64, usize)], bytes: &[u8]) -> bool
     ensures { (result ≡ true) ↔ IsWithin ranges.now bytes.now }
 {
-    for &(place, len) in ranges {
-        if bytes.len() < len || ((bytes.len() - len) as u64) < place {
+    for &(offset, len) in ranges {
+        if bytes.len() < len || ((bytes.len() - len) as u64) < offset {
             return false;
         }
     }

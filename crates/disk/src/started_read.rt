@@ -1,4 +1,4 @@
-// Reads that were started.
+// ReadableIsImage that were started.
 ghost use Rattle.std.specs.Prelude.{◌≡◌};
 ghost use Rattle.disk.specs.StartedRead.{answer_of};
 
@@ -31,7 +31,7 @@ impl StartedRead {
     }
 
     /// The bytes of each range, in the order of the ranges, or the error that was kept in their
-    /// place. It asks no device and takes no memory.
+    /// offset. It asks no device and takes no memory.
     pub fn wait(self) -> Result<Vec<IoBuf>, Error>
         ensures { answer_of result ≡ self }
     {

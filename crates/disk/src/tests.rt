@@ -1,13 +1,14 @@
-// Reads that are started.
+// ReadableIsImage that are started, and a blob that was stopped.
 use crate::{
-    Blob, Call, Counted, Error, IoBuf, IoBufs, MemBlob, ReadOptions, VecBlob, WriteOptions,
+    Blob, Call, Counted, Error, IoBuf, IoBufs, MemBlob, ReadOptions, StartedSync, VecBlob,
+    WriteOptions,
 };
 use std::alloc::Global;
 use std::test::Fail;
 
 const LETTERS: &[u8] = b"abcdef";
 
-// Two that lie across each other, an empty one behind the last byte, and one of all bytes.
+// Two that lie across each other, an empty one after the last byte, and one of all bytes.
 const RANGES: &[(u64, usize)] = &[(1, 3), (3, 2), (6, 0), (0, 6)];
 
 const PIECES: &[&[u8]] = &[b"bcd", b"de", b"", b"abcdef"];
@@ -119,5 +120,40 @@ fn a_failed_start_shows_at_the_wait(rt: HostRuntime) -> Result<(), Fail> {
     assert!(rt; keeps(alloc, &mut blob, RANGES, Ok(PIECES)));
     assert_eq!(rt; blob.calls().len(), 2);
     assert_eq!(rt; blob.failures(), 1);
+    Ok(())
+}
+
+// Whether each call fails with its own error, where each of them could be done.
+fn fails<B: Blob>(alloc: Global, blob: &mut B, started: StartedSync) -> Result<bool, Error> {
+    let options = ReadOptions::default();
+    let later = blob.start_sync()?;
+    let mut bufs = IoBufs::new(alloc);
+    bufs.append(IoBuf::copy_from_slice(alloc, OVER)?)?;
+    Ok(
+        matches!(blob.read_at(alloc, 0, 1, options), Err(Error::ReadFailed))
+            && keeps(alloc, blob, RANGES, Err(Error::ReadFailed))
+            && blob.write_at(0, &bufs, PLAIN) == Err(Error::WriteFailed)
+            && blob.resize(1) == Err(Error::ResizeFailed)
+            && blob.sync() == Err(Error::SyncFailed)
+            && blob.wait_sync(started) == Err(Error::SyncFailed)
+            && blob.wait_sync(later) == Err(Error::SyncFailed),
+    )
+}
+
+#[test]
+fn each_call_of_a_stopped_blob_fails(rt: HostRuntime) -> Result<(), Fail> {
+    let alloc = rt.alloc();
+    let mut blob = VecBlob::from_vec(Vec::from_slice(alloc, LETTERS)?);
+    let started = blob.start_sync()?;
+    assert!(rt; !blob.is_stopped());
+    blob.stop();
+    assert!(rt; blob.is_stopped());
+    assert!(rt; fails(alloc, &mut blob, started)?);
+    assert_eq!(rt; blob.bytes(), LETTERS);
+    // What asks no device is refused as ever.
+    assert!(rt; keeps(alloc, &mut blob, PAST, Err(Error::BlobInsufficientLength)));
+    assert_eq!(rt; blob.reserve(u64::MAX, 1), Err(Error::OffsetOverflow));
+    assert_eq!(rt; blob.reserve(u64::MAX, 0), Err(Error::OutOfMemory));
+    assert_eq!(rt; blob.reserve(3, 40), Ok(()));
     Ok(())
 }

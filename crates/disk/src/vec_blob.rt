@@ -1,11 +1,14 @@
 // A blob in memory that keeps its bytes and nothing else.
-ghost use Rattle.std.specs.Prelude.{◌≡◌, ◌≤◌, ◌<◌, ◌+◌, ◌^◌, ◌++◌, [], length, take, drop, OnOk};
-ghost use Rattle.std.specs.Prelude.{OnErr, IsOk, IsOkUnless, vec_capacity};
+ghost use Rattle.std.specs.Prelude.{◌≡◌, ◌≤◌, ◌<◌, ◌+◌, ◌^◌, ◌++◌, [], length, take, drop};
+ghost use Rattle.std.specs.Prelude.{OnOk, OnErr, IsOk, IsOkUnless, vec_capacity, true, false};
 ghost use Rattle.std.specs.List.{concat};
+ghost use Rattle.disk.specs.declared.action.Action.TheVariants as actions;
 ghost use Rattle.disk.specs.Disk.{ReadGoes, ReadManyGoes, WriteGoes, ResizeGoes, SyncGoes};
 ghost use Rattle.disk.specs.Disk.{StartReadGoes, StartGoes, WaitsFor};
 ghost use Rattle.disk.specs.History.{life_of, begun};
+ghost use Rattle.disk.specs.Past.{begun_history, history_with};
 ghost use Rattle.disk.specs.StartedRead.{answer_of};
+ghost use Rattle.disk.specs.VecBlob.{Tells, TellsStart, TellsWait, HasRoom, Reserves};
 
 use crate::action::{grow, put};
 use crate::past::Past;
@@ -16,97 +19,149 @@ use std::marker::Model;
 use std::snapshot::Snapshot;
 
 /// A blob in memory, for whoever wants no more than its bytes. No call of it fails but for want of
-/// memory, and it can't crash; [`crate::MemBlob`] can do both.
+/// memory, until it is told to [`stop`](VecBlob::stop), and it can't crash; [`crate::MemBlob`] can
+/// do both.
 ///
 /// Its life, which contracts speak of, is ghost data: nothing of it is kept, so it takes as much
-/// memory as its bytes however often it is called. A write goes in place.
+/// memory as its bytes however often it is called, and at most twice that where it grew. A write
+/// goes in place.
 #[derive(Drop)]
 pub struct VecBlob {
     bytes: Vec<u8>,
     // How many syncs were started.
     starts: u64,
+    stopped: bool,
     past: Snapshot<Past>,
 }
 
 impl Model for VecBlob {
-    ghost use Rattle.disk.specs.History.{History, life_of};
-    ghost use Rattle.disk.specs.Memory.{IsPlain};
+    ghost use Rattle.std.specs.Prelude.{vec_capacity};
+    ghost use Rattle.disk.specs.History.{life_of};
+    ghost use Rattle.disk.specs.VecBlob.{VecState, IsPlain};
 
-    ghost Value = { History };
+    ghost Value = { VecState };
 
-    ghost view = { λ b. b.past.value };
+    ghost view = { λ b. record {
+      history = b.past.value;
+      room = vec_capacity b.bytes;
+      stopped = b.stopped;
+    } };
 
-    ghost invariant = { λ b. IsPlain (life_of b.past.value).present b.bytes.items b.starts };
+    ghost invariant = { λ b.
+        IsPlain (life_of b.past.value).present b.bytes.items b.starts b.stopped };
 }
 
 impl VecBlob {
     /// An empty blob.
     pub fn new(alloc: Global) -> Self
-        ensures life { life_of result ≡ begun [] [] }
+        ensures begins { result.history ≡ begun_history [] }
+        ensures life { life_of result.history ≡ begun [] [] }
+        ensures stopped { result.stopped ≡ false }
     {
         Self::from_vec(Vec::new(alloc))
     }
 
     /// A blob of these bytes, all of them durable. They aren't copied.
     pub fn from_vec(bytes: Vec<u8>) -> Self
-        ensures life { life_of result ≡ begun bytes.items [] }
+        ensures begins { result.history ≡ begun_history bytes.items }
+        ensures life { life_of result.history ≡ begun bytes.items [] }
+        ensures stopped { result.stopped ≡ false }
     {
         let past = Past::begun(&bytes);
         VecBlob {
             bytes,
             starts: 0,
+            stopped: false,
             past,
         }
     }
 
     /// What a read of all bytes would give.
     pub fn bytes(&self) -> &[u8]
-        ensures { result.now ≡ (life_of self.now).present.readable }
+        ensures { result.now ≡ (life_of self.now.history).present.readable }
     {
         &self.bytes
     }
 
     /// How many bytes it has.
     pub fn len(&self) -> u64
-        ensures { result ≡ length (life_of self.now).present.readable }
+        ensures { result ≡ length (life_of self.now.history).present.readable }
     {
         self.bytes.len() as u64
     }
 
+    /// Lets each call from now on fail with its own error, as a device does that broke down: a
+    /// write with `WriteFailed`, and so on. What would be refused before the device is asked still
+    /// is.
+    pub fn stop(&mut self)
+        ensures history { self.new.history ≡ self.old.history }
+        ensures room { self.new.room ≡ self.old.room }
+        ensures stopped { self.new.stopped ≡ true }
+    {
+        self.stopped = true;
+    }
+
+    /// Whether it was told to.
+    pub fn is_stopped(&self) -> bool
+        ensures { result ≡ self.now.stopped }
+    {
+        self.stopped
+    }
+
+    /// Makes room for a write of `len` bytes at `offset`, or for a resize to `offset` bytes where
+    /// `len` is 0: neither is refused then before the device is asked. `OffsetOverflow` where the
+    /// range passes the greatest offset, `OutOfMemory` only where it doesn't; an error changes
+    /// nothing.
+    pub fn reserve(&mut self, offset: u64, len: usize) -> Result<(), Error>
+        ensures { Reserves offset len self.old self.new result }
+    {
+        let Some(end) = offset.checked_add(len as u64) else {
+            return Err(Error::OffsetOverflow);
+        };
+        let more = (end as usize).saturating_sub(self.bytes.len());
+        self.bytes.try_reserve(more)?;
+        Ok(())
+    }
+
     // Starts a read of several ranges, and answers what is to be kept of it.
     fn start_ranges(&mut self, alloc: Global, ranges: &[(u64, usize)]) -> Result<Vec<IoBuf>, Error>
-        ensures { let old = life_of self.old in let new = life_of self.new in
+        ensures goes { let old = life_of self.old.history in let new = life_of self.new.history in
             StartReadGoes ranges.now old new (answer_of result) }
+        ensures tells { Tells (actions.StartReadMany ranges.now) self.old self.new result }
+        ensures stopped { self.new.stopped ≡ self.old.stopped }
     {
         let bufs = copy_in_order(alloc, &self.bytes, ranges)?;
-        self.past = Past::start_read_many(&self.past, ranges, false);
+        self.past = Past::start_read_many(&self.past, ranges, self.stopped);
+        if self.stopped {
+            return Err(Error::ReadFailed);
+        }
         Ok(bufs)
     }
 }
 
-// Writes bytes at a place among others, over those that stand there, and then behind them. Where
+// Writes bytes at an offset among others, over those that stand there, and then after them. Where
 // there is room for all, it answers Ok.
-fn put_over(bytes: &mut Vec<u8>, place: usize, new: &[u8]) -> Result<(), AllocError>
-    requires { place ≤ length bytes.old.items }
+fn put_over(bytes: &mut Vec<u8>, offset: usize, new: &[u8]) -> Result<(), AllocError>
+    requires { offset ≤ length bytes.old.items }
     ensures ok { let old = bytes.old.items in OnOk result
-        (bytes.new.items ≡ take place old ++ new.now ++ drop (place + length new.now) old) }
-    ensures room { place + length new.now ≤ vec_capacity bytes.old → IsOk result }
+        (bytes.new.items ≡ take offset old ++ new.now ++ drop (offset + length new.now) old) }
+    ensures room { offset + length new.now ≤ vec_capacity bytes.old → IsOk result }
     ensures capacity { vec_capacity bytes.old ≤ vec_capacity bytes.new }
 {
-    let (over, behind) = new.split_at(new.len().min(bytes.len() - place));
-    put(bytes, place, over);
-    bytes.extend_from_slice(behind)
+    let (over, after) = new.split_at(new.len().min(bytes.len() - offset));
+    put(bytes, offset, over);
+    bytes.extend_from_slice(after)
 }
 
-// The same with buffers, one behind another.
-fn put_all(bytes: &mut Vec<u8>, place: usize, bufs: &IoBufs) -> Result<(), AllocError>
-    requires among { place ≤ length bytes.old.items }
-    requires small { place + length (concat bufs.now) < 2 ^ 64 }
+// The same with buffers, one after another.
+fn put_all(bytes: &mut Vec<u8>, offset: usize, bufs: &IoBufs) -> Result<(), AllocError>
+    requires among { offset ≤ length bytes.old.items }
+    requires small { offset + length (concat bufs.now) < 2 ^ 64 }
     ensures ok { let new = concat bufs.now in let old = bytes.old.items in OnOk result
-        (bytes.new.items ≡ take place old ++ new ++ drop (place + length new) old) }
-    ensures room { place + length (concat bufs.now) ≤ vec_capacity bytes.old → IsOk result }
+        (bytes.new.items ≡ take offset old ++ new ++ drop (offset + length new) old) }
+    ensures room { offset + length (concat bufs.now) ≤ vec_capacity bytes.old → IsOk result }
 {
-    let mut at = place;
+    let mut at = offset;
     for buf in bufs.as_slice() {
         put_over(bytes, at, buf.as_ref())?;
         at += buf.len();
@@ -117,7 +172,7 @@ fn put_all(bytes: &mut Vec<u8>, place: usize, bufs: &IoBufs) -> Result<(), Alloc
 impl Blob for VecBlob {
     ghost use Rattle.disk.specs.Lives.{life_reads, life_covers};
 
-    ghost life = { life_of };
+    ghost life = { λ b. life_of b.history };
 
     fn read_at(
         &mut self,
@@ -126,10 +181,16 @@ impl Blob for VecBlob {
         len: usize,
         _options: ReadOptions,
     ) -> Result<IoBuf, Error>
-        ensures goes { ReadGoes offset len (life_of self.old) (life_of self.new) result }
+        ensures goes { let old = life_of self.old.history in let new = life_of self.new.history in
+            ReadGoes offset len old new result }
+        ensures tells { Tells (actions.Read offset len) self.old self.new result }
+        ensures stopped { self.new.stopped ≡ self.old.stopped }
     {
         let bytes = IoBuf::copy_range(alloc, &self.bytes, offset, len)?;
-        self.past = Past::read(&self.past, offset, len, false);
+        self.past = Past::read(&self.past, offset, len, self.stopped);
+        if self.stopped {
+            return Err(Error::ReadFailed);
+        }
         Ok(bytes)
     }
 
@@ -140,11 +201,16 @@ impl Blob for VecBlob {
         _options: ReadOptions,
         out: &mut Vec<(usize, IoBuf)>,
     ) -> Result<(), Error>
-        ensures goes { let old = life_of self.old in let new = life_of self.new in
+        ensures goes { let old = life_of self.old.history in let new = life_of self.new.history in
             ReadManyGoes ranges.now old new out.new.items result }
+        ensures tells { Tells (actions.ReadMany ranges.now) self.old self.new result }
+        ensures stopped { self.new.stopped ≡ self.old.stopped }
     {
         copy_ranges(alloc, &self.bytes, ranges, out)?;
-        self.past = Past::read_many(&self.past, ranges, false);
+        self.past = Past::read_many(&self.past, ranges, self.stopped);
+        if self.stopped {
+            return Err(Error::ReadFailed);
+        }
         Ok(())
     }
 
@@ -154,20 +220,30 @@ impl Blob for VecBlob {
         ranges: &[(u64, usize)],
         _options: ReadOptions,
     ) -> StartedRead
-        ensures goes { StartReadGoes ranges.now (life_of self.old) (life_of self.new) result }
+        ensures goes { let old = life_of self.old.history in let new = life_of self.new.history in
+            StartReadGoes ranges.now old new result }
+        ensures tells { Tells (actions.StartReadMany ranges.now) self.old self.new result }
+        ensures stopped { self.new.stopped ≡ self.old.stopped }
     {
         StartedRead::kept(self.start_ranges(alloc, ranges))
     }
 
     fn write_at(&mut self, offset: u64, bufs: &IoBufs, options: WriteOptions) -> Result<(), Error>
-        ensures goes { let bytes = concat bufs.now in
-            WriteGoes offset bytes options.sync (life_of self.old) (life_of self.new) result }
+        ensures goes { let old = life_of self.old.history in let new = life_of self.new.history in
+            WriteGoes offset (concat bufs.now) options.sync old new result }
+        ensures tells { let action = actions.Write offset (concat bufs.now) options.sync in
+            Tells action self.old self.new result }
+        ensures stopped { self.new.stopped ≡ self.old.stopped }
+        ensures asked { let bytes = concat bufs.now in
+            let action = actions.Write offset bytes options.sync in
+            HasRoom offset (length bytes) self.old
+            → self.new.history ≡ history_with action self.old.stopped self.old.history }
     {
-        let Some(end) = offset.checked_add(bufs.len() as u64) else {
-            return Err(Error::OffsetOverflow);
-        };
-        let more = (end as usize).saturating_sub(self.bytes.len());
-        self.bytes.try_reserve(more)?;
+        self.reserve(offset, bufs.len())?;
+        if self.stopped {
+            self.past = Past::write(&self.past, offset, bufs, options.sync, true);
+            return Err(Error::WriteFailed);
+        }
         grow(&mut self.bytes, offset as usize)?;
         put_all(&mut self.bytes, offset as usize, bufs)?;
         self.past = Past::write(&self.past, offset, bufs, options.sync, false);
@@ -175,46 +251,70 @@ impl Blob for VecBlob {
     }
 
     fn resize(&mut self, len: u64) -> Result<(), Error>
-        ensures goes { ResizeGoes len (life_of self.old) (life_of self.new) result }
+        ensures goes { let old = life_of self.old.history in let new = life_of self.new.history in
+            ResizeGoes len old new result }
+        ensures tells { Tells (actions.Resize len) self.old self.new result }
+        ensures stopped { self.new.stopped ≡ self.old.stopped }
+        ensures asked { HasRoom len 0 self.old
+            → self.new.history
+            ≡ history_with (actions.Resize len) self.old.stopped self.old.history }
     {
+        self.reserve(len, 0)?;
+        if self.stopped {
+            self.past = Past::resize(&self.past, len, true);
+            return Err(Error::ResizeFailed);
+        }
         self.bytes.resize(len as usize, 0)?;
         self.past = Past::resize(&self.past, len, false);
         Ok(())
     }
 
     fn sync(&mut self) -> Result<(), Error>
-        ensures goes { SyncGoes (life_of self.old) (life_of self.new) result }
+        ensures goes { SyncGoes (life_of self.old.history) (life_of self.new.history) result }
+        ensures tells { Tells actions.Sync self.old self.new result }
+        ensures stopped { self.new.stopped ≡ self.old.stopped }
+        ensures asked { self.new.history
+            ≡ history_with actions.Sync self.old.stopped self.old.history }
     {
-        self.past = Past::sync(&self.past, false);
+        self.past = Past::sync(&self.past, self.stopped);
+        if self.stopped {
+            return Err(Error::SyncFailed);
+        }
         Ok(())
     }
 
     fn start_sync(&mut self) -> Result<StartedSync, Error>
-        ensures goes { StartGoes (life_of self.old) (life_of self.new) result }
+        ensures goes { StartGoes (life_of self.old.history) (life_of self.new.history) result }
+        ensures tells { TellsStart self.old self.new result }
+        ensures stopped { self.new.stopped ≡ self.old.stopped }
     {
         let name = self.starts;
         let Some(starts) = name.checked_add(1) else {
             return Err(Error::OutOfMemory);
         };
         self.starts = starts;
-        self.past = Past::start_sync(&self.past, false);
+        self.past = Past::start_sync(&self.past, self.stopped);
         Ok(StartedSync::Named(name))
     }
 
     fn wait_sync(&mut self, started: StartedSync) -> Result<(), Error>
-        ensures goes { WaitsFor started (life_of self.old) (life_of self.new) result }
+        ensures goes { let old = life_of self.old.history in let new = life_of self.new.history in
+            WaitsFor started old new result }
+        ensures tells { let names = length (life_of self.old.history).present.started in
+            TellsWait started names self.old self.new result }
+        ensures stopped { self.new.stopped ≡ self.old.stopped }
     {
         let StartedSync::Named(name) = started else {
             return Ok(());
         };
-        self.past = Past::wait_sync(&self.past, name, false);
-        if name >= self.starts {
+        self.past = Past::wait_sync(&self.past, name, self.stopped);
+        if self.stopped || name >= self.starts {
             return Err(Error::SyncFailed);
         }
         Ok(())
     }
 
-    ghost readable_is_image = { life_reads };
+    ghost readable_is_image = { λ b. life_reads b.history };
 
-    ghost starts_are_covered = { life_covers };
+    ghost starts_are_covered = { λ b. life_covers b.history };
 }

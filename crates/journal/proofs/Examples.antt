@@ -68,7 +68,7 @@ pub two_records : records add_sum (ab_frame ++ c_frame) ≡ (97 ∷ 98 ∷ []) �
 unfolding record_len is_record record_of frames records
 two_records = refl
 
--- a whole frame that is no record is passed over, and what was appended behind it is there
+-- a whole frame that is no record is passed over, and what was appended after it is there
 pub passed_over : records add_sum (ab_frame ++ bad_frame ++ c_frame) ≡ (97 ∷ 98 ∷ []) ∷ (99 ∷ []) ∷ []
 unfolding record_len is_record record_of frames records
 passed_over = refl

@@ -80,22 +80,22 @@ is_record-marked sum xs n crc is mark same =
     ap₂ (λ m c. judged sum m c (take n (drop 2 xs))) (sym mark) read
     ∙ ap (λ k. judged sum (get_or xs (k + 6) 0) (from_be_bytes w32 (drop (k + 2) xs)) (take k (drop 2 xs))) is
 
--- ---- what stands behind a frame's length
+-- ---- what stands after a frame's length
 
-behind_at : (frame bytes : List ℕ) (i j : ℕ) → drop 2 frame ≡ bytes → j ≡ 2 + i → get_or bytes i 0 ≡ get_or frame j 0
-behind_at frame bytes i j is e = ap (λ (l : List ℕ). get_or l i 0) (sym is) ∙ get_or-drop 2 frame i 0 ∙ ap (λ k. get_or frame k 0) (sym e)
+after_at : (frame bytes : List ℕ) (i j : ℕ) → drop 2 frame ≡ bytes → j ≡ 2 + i → get_or bytes i 0 ≡ get_or frame j 0
+after_at frame bytes i j is e = ap (λ (l : List ℕ). get_or l i 0) (sym is) ∙ get_or-drop 2 frame i 0 ∙ ap (λ k. get_or frame k 0) (sym e)
 
 -- it has another mark
-pub unmarked_behind : (sum : List ℕ → ℕ) (frame bytes : List ℕ) (n : ℕ) → record_len frame ≡ n → drop 2 frame ≡ bytes → (get_or bytes (n + 4) 0 ≡ 1 → ⊥) → false ≡ is_record sum frame
-unmarked_behind sum frame bytes n len is other =
-    sym (is_record-other sum frame (λ one. other (behind_at frame bytes (n + 4) (record_len frame + 6) is (omega (arith, len)) ∙ one)))
+pub unmarked_after : (sum : List ℕ → ℕ) (frame bytes : List ℕ) (n : ℕ) → record_len frame ≡ n → drop 2 frame ≡ bytes → (get_or bytes (n + 4) 0 ≡ 1 → ⊥) → false ≡ is_record sum frame
+unmarked_after sum frame bytes n len is other =
+    sym (is_record-other sum frame (λ one. other (after_at frame bytes (n + 4) (record_len frame + 6) is (omega (arith, len)) ∙ one)))
 
 -- it has the mark
-pub marked_behind : (sum : List ℕ → ℕ) (frame bytes : List ℕ) (n crc : ℕ) → record_len frame ≡ n → drop 2 frame ≡ bytes → get_or bytes (n + 4) 0 ≡ 1
+pub marked_after : (sum : List ℕ → ℕ) (frame bytes : List ℕ) (n crc : ℕ) → record_len frame ≡ n → drop 2 frame ≡ bytes → get_or bytes (n + 4) 0 ≡ 1
     → crc ≡ from_be_bytes w32 (get_or bytes n 0 ∷ get_or bytes (n + 1) 0 ∷ get_or bytes (n + 2) 0 ∷ get_or bytes (n + 3) 0 ∷ [])
     → (crc == sum (take n bytes)) ≡ is_record sum frame
-marked_behind sum frame bytes n crc len is mark same =
-    let at : (i j : ℕ) → j ≡ 2 + i → get_or bytes i 0 ≡ get_or frame j 0 = λ i j e. behind_at frame bytes i j is e in
+marked_after sum frame bytes n crc len is mark same =
+    let at : (i j : ℕ) → j ≡ 2 + i → get_or bytes i 0 ≡ get_or frame j 0 = λ i j e. after_at frame bytes i j is e in
     let read : crc ≡ from_be_bytes w32 (get_or frame (n + 2) 0 ∷ get_or frame (n + 3) 0 ∷ get_or frame (n + 4) 0 ∷ get_or frame (n + 5) 0 ∷ []) =
     same
     ∙ ap₂ (λ a b. from_be_bytes w32 (a ∷ b ∷ get_or bytes (n + 2) 0 ∷ get_or bytes (n + 3) 0 ∷ [])) (at n (n + 2) (omega arith)) (at (n + 1) (n + 3) (omega arith))
@@ -107,12 +107,12 @@ pub record_of-none : (sum : List ℕ → ℕ) (frame : List ℕ) → is_record s
 unfolding record_of
 record_of-none sum frame is = ap (λ b. if b then Some (take (record_len frame) (drop 2 frame)) else None) (sym is)
 
-pub record_of-behind : (sum : List ℕ → ℕ) (frame bytes : List ℕ) (place n : ℕ) → is_record sum frame ≡ true → record_len frame ≡ n → drop 2 frame ≡ drop place bytes → Some (slice_range bytes place (place + n)) ≡ record_of sum frame
+pub record_of-after : (sum : List ℕ → ℕ) (frame bytes : List ℕ) (offset n : ℕ) → is_record sum frame ≡ true → record_len frame ≡ n → drop 2 frame ≡ drop offset bytes → Some (slice_range bytes offset (offset + n)) ≡ record_of sum frame
 unfolding record_of
-record_of-behind sum frame bytes place n is len behind =
-    let k : place + n - place ≡ n = omega arith in
-    ap (λ m. Some (take m (drop place bytes))) k
-    ∙ ap (λ (l : List ℕ). Some (take n l)) (sym behind)
+record_of-after sum frame bytes offset n is len after =
+    let k : offset + n - offset ≡ n = omega arith in
+    ap (λ m. Some (take m (drop offset bytes))) k
+    ∙ ap (λ (l : List ℕ). Some (take n l)) (sym after)
     ∙ ap₂ (λ b m. if b then Some (take m (drop 2 frame)) else None) (sym is) (sym len)
 
 -- what a beginning holds that has the whole frame
@@ -130,7 +130,7 @@ record_of-unmarked sum xs none = ap (λ b. if b then Some (take (record_len xs) 
 pub record_of-short : (sum : List ℕ → ℕ) (xs : List ℕ) → length xs < frame_len xs → record_of sum xs ≡ None
 record_of-short sum xs lt = record_of-unmarked sum xs (get_or_past xs (record_len xs + 6) 0 (omega arith))
 
--- a whole frame is what it is, whatever stands behind it
+-- a whole frame is what it is, whatever stands after it
 record_of-append : (sum : List ℕ → ℕ) (xs ys : List ℕ) → frame_len xs ≤ length xs → record_of sum (xs ++ ys) ≡ record_of sum xs
 record_of-append sum xs ys le =
     sym (record_of-take sum (length xs) (xs ++ ys) (omega (arith, record_len-append xs ys (omega arith))))
@@ -170,7 +170,7 @@ whole-none : whole_frames [] ≡ []
 unfolding whole_frames
 whole-none = ap (λ fs. flat_map if_whole fs) frames-none
 
--- the record of the first frame, if it is one, and those behind it
+-- the record of the first frame, if it is one, and those after it
 pub records-step : (sum : List ℕ → ℕ) (xs : List ℕ) → 0 < length xs → records sum xs ≡ listed (record_of sum xs) ++ records sum (drop (frame_len xs) xs)
 unfolding records
 records-step sum xs some =
@@ -178,7 +178,7 @@ records-step sum xs some =
     ap (λ fs. flat_map g fs) (frames-step xs some)
     ∙ ap (λ (r : Option (List ℕ)). listed r ++ flat_map g (frames (drop (frame_len xs) xs))) (record_of-take sum (frame_len xs) xs (omega arith))
 
--- the first frame, if it is whole, and the whole ones behind it
+-- the first frame, if it is whole, and the whole ones after it
 whole-step : (xs : List ℕ) → 0 < length xs → whole_frames xs ≡ if_whole (take (frame_len xs) xs) ++ whole_frames (drop (frame_len xs) xs)
 unfolding whole_frames
 whole-step xs some = ap (λ fs. flat_map if_whole fs) (frames-step xs some)
@@ -206,7 +206,7 @@ none_left sum (x ∷ xs) short =
       whole-step l (omega arith) ∙ ap₂ (λ b t. (if b then [] else f) ++ whole_frames t) (lt-ltb (length f) (frame_len f) lacks) end ∙ whole-none,
     )
 
--- what stands behind the first frame of two joined lists
+-- what stands after the first frame of two joined lists
 drop_whole : (n : ℕ) (xs ys : List ℕ) → n ≤ length xs → drop n (xs ++ ys) ≡ drop n xs ++ ys
 drop_whole n xs ys le = drop-append-le n xs ys le
 
@@ -253,7 +253,7 @@ whole_append (suc n) (x ∷ xs) ys le whole =
     ∙ sym (append_assoc (take F l) (drop F l) (whole_frames ys))
     ∙ ap (λ (a : List ℕ). a ++ whole_frames ys) (take-append-drop F l)
 
--- behind whole frames the records of what follows are appended
+-- after whole frames the records of what follows are appended
 pub records-append : (sum : List ℕ → ℕ) (xs ys : List ℕ) → IsWhole xs → records sum (xs ++ ys) ≡ records sum xs ++ records sum ys
 records-append sum xs ys whole = records_append sum (length xs) xs ys (omega arith) whole
 
@@ -373,7 +373,7 @@ length-whole xs =
     let kept = whole_kept (λ l. 0) (length xs) xs (omega arith) in
     omega (arith, ap length kept.joined, length-append (whole_frames xs) kept.rest)
 
--- the parts of a record's frame, with what stands behind it
+-- the parts of a record's frame, with what stands after it
 frame_parts : (sum : List ℕ → ℕ) (bytes rest : List ℕ) → frame sum bytes ++ rest ≡ to_be_bytes w16 (length bytes) ++ (bytes ++ (to_be_bytes w32 (sum bytes) ++ 1 ∷ rest))
 unfolding frame
 frame_parts sum bytes rest = simp append_assoc
@@ -488,15 +488,15 @@ record_of-front sum k xs enough = elim (cases_lt k (frame_len xs)) [
   | inr le ↦ record_of-take sum k xs le
 ]
 
--- the records from a place of some bytes on: that of the frame there, and those behind it
-pub records-from : (sum : List ℕ → ℕ) (xs : List ℕ) (place : ℕ) → place < length xs
-    → records sum (drop place xs) ≡ listed (record_of sum (drop place xs)) ++ records sum (drop (place + min (frame_len (drop place xs)) (length xs - place)) xs)
-records-from sum xs place lt =
-    let rest = drop place xs in
+-- the records from an offset of some bytes on: that of the frame there, and those after it
+pub records-from : (sum : List ℕ → ℕ) (xs : List ℕ) (offset : ℕ) → offset < length xs
+    → records sum (drop offset xs) ≡ listed (record_of sum (drop offset xs)) ++ records sum (drop (offset + min (frame_len (drop offset xs)) (length xs - offset)) xs)
+records-from sum xs offset lt =
+    let rest = drop offset xs in
     let F = frame_len rest in
-    let long : length rest ≡ length xs - place = length-drop place xs in
-    let same : drop F rest ≡ drop (min F (length xs - place)) rest = (elim (cases_lt F (length xs - place)) [
-      | inl less ↦ ap (λ n. drop n rest) (let e : F ≡ min F (length xs - place) = omega (arith, less) in e)
-      | inr more ↦ drop_all F rest (omega (arith, more)) ∙ sym (drop_all (min F (length xs - place)) rest (omega (arith, more)))
+    let long : length rest ≡ length xs - offset = length-drop offset xs in
+    let same : drop F rest ≡ drop (min F (length xs - offset)) rest = (elim (cases_lt F (length xs - offset)) [
+      | inl less ↦ ap (λ n. drop n rest) (let e : F ≡ min F (length xs - offset) = omega (arith, less) in e)
+      | inr more ↦ drop_all F rest (omega (arith, more)) ∙ sym (drop_all (min F (length xs - offset)) rest (omega (arith, more)))
     ]) in
-    records-step sum rest (omega arith) ∙ ap (λ (l : List ℕ). listed (record_of sum rest) ++ records sum l) (same ∙ drop-drop (min F (length xs - place)) place xs)
+    records-step sum rest (omega arith) ∙ ap (λ (l : List ℕ). listed (record_of sum rest) ++ records sum l) (same ∙ drop-drop (min F (length xs - offset)) offset xs)

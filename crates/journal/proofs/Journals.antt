@@ -15,8 +15,8 @@ use Rattle.cache.specs.Pages.{IsFresh}
 use Rattle.crash.specs.Kept.{AllKeep, AllOnly, Through}
 use Rattle.crash.specs.Stays.{KeepsAllFloors, LeavesOnly, KeepsAll}
 use Rattle.crash.specs.Looks.{Looked, looked_start, looked_joins}
-use Rattle.crash.specs.Sound.{IsSound, LeavesItsContent, content}
-use Rattle.crash.specs.WriterState.{WriterState}
+use Rattle.writer_state.specs.Sound.{IsSound, LeavesItsContent, content}
+use Rattle.writer_state.specs.WriterState.{WriterState}
 use Rattle.crash.specs.Moments.{through_start, through_then, through_joins, through_end}
 use Rattle.paged_read.specs.Snapshots.{LeavesOthers, LeavesReads, LeavesTails}
 use Rattle.paged_read.specs.Tail.{Tail, CanRead}
@@ -26,7 +26,7 @@ use Rattle.paged.specs.Calls.{GoesOn, Appends, Syncs}
 use Rattle.paged.specs.Reads.{size_of}
 use Rattle.paged.specs.Recovers.{Recovers}
 use Rattle.paged.specs.Truncate.{Truncates, KeepsFloorsWithin}
-use Rattle.paged.specs.Writer.{physical_size}
+use Rattle.paged.specs.Writer.{physical_blob_size}
 use Rattle.journal.specs.declared.frame.Found.{Found}
 use Rattle.journal.specs.Frame.{frame, record_len, frame_len, listed, record_of, records, whole_frames, IsWhole, IsPrefix}
 use Rattle.journal.specs.Journal.{IsReady, IsJournal, IsNewId, OthersStay, AllStay, OnlyReads, LeavesContent, Commits, OnlyRecords, KeepsCommitted, LeavesRecords, CommitsAll, IsAppended, AppendsRecord, IsCommitted, CommitGoes, BringsBack, BringsOnly, ReadRefused, ReadsBytes, ReadsFrame, ReadsRecord, IsFound, IsTrimmed, Trims, HasRecovered, RecoversJournal}
@@ -61,17 +61,17 @@ text_prefix : (own : List ℕ → ℕ) (read content : List ℕ) → read ≡ ta
 text_prefix own read content is = subst (λ (l : List ℕ). IsPrefix (records own l) (records own content)) (sym is) (records-take own (length read) content)
 
 -- contents that are left leave their records
-pub only_records : (sum own : List ℕ → ℕ) (P : ℕ) (before behind : List ℕ) (all : List (List ℕ)) (d : Disk) → IsPrefix (records own before) all → IsPrefix (records own behind) all
-    → AllOnly sum P before behind d → OnlyRecords sum own P all d
-only_records sum own P before behind all d first second only = λ image is_image free. elim (only image is_image free) [
+pub only_records : (sum own : List ℕ → ℕ) (P : ℕ) (before after : List ℕ) (all : List (List ℕ)) (d : Disk) → IsPrefix (records own before) all → IsPrefix (records own after) all
+    → AllOnly sum P before after d → OnlyRecords sum own P all d
+only_records sum own P before after all d first second only = λ image is_image free. elim (only image is_image free) [
   | inl is ↦ prefix_trans (records own (text sum P image)) (records own before) all (text_prefix own (text sum P image) before is) first
-  | inr is ↦ prefix_trans (records own (text sum P image)) (records own behind) all (text_prefix own (text sum P image) behind is) second
+  | inr is ↦ prefix_trans (records own (text sum P image)) (records own after) all (text_prefix own (text sum P image) after is) second
 ]
 
-pub leaves_records : (sum own : List ℕ → ℕ) (P : ℕ) (before behind : List ℕ) (all : List (List ℕ)) (old new : Life) → IsPrefix (records own before) all → IsPrefix (records own behind) all
-    → LeavesOnly sum P before behind old new → LeavesRecords sum own P all old new
-leaves_records sum own P before behind all old new first second leaves =
-    through_then (AllOnly sum P before behind) (OnlyRecords sum own P all) old new (λ d only. only_records sum own P before behind all d first second only) leaves
+pub leaves_records : (sum own : List ℕ → ℕ) (P : ℕ) (before after : List ℕ) (all : List (List ℕ)) (old new : Life) → IsPrefix (records own before) all → IsPrefix (records own after) all
+    → LeavesOnly sum P before after old new → LeavesRecords sum own P all old new
+leaves_records sum own P before after all old new first second leaves =
+    through_then (AllOnly sum P before after) (OnlyRecords sum own P all) old new (λ d only. only_records sum own P before after all d first second only) leaves
 
 -- where nothing was asked, there is what there was
 pub leaves_still : (sum own : List ℕ → ℕ) (w : WriterState) (all : List (List ℕ)) (life : Life) → LeavesItsContent sum w life.present → IsPrefix (records own (content w life.present.readable)) all
@@ -114,54 +114,54 @@ unfolding IsJournal
 is_journal sum w cache life ready whole = record { ready = ready; whole = whole }
 
 -- a journal that can still be read stays one
-stays_journal : (sum : List ℕ → ℕ) (w : WriterState) (cache behind : CacheState) (life : Life) → CanRead (tail_of w) behind life.present → (IsFresh cache → IsFresh behind) → IsJournal sum w cache life → IsJournal sum w behind life
+stays_journal : (sum : List ℕ → ℕ) (w : WriterState) (cache after : CacheState) (life : Life) → CanRead (tail_of w) after life.present → (IsFresh cache → IsFresh after) → IsJournal sum w cache life → IsJournal sum w after life
 unfolding IsJournal
-stays_journal sum w cache behind life can fresh journal = record {
+stays_journal sum w cache after life can fresh journal = record {
   ready = record { sound = journal.ready.sound; can = can; fresh = fresh journal.ready.fresh; size = journal.ready.size; only = journal.ready.only };
   whole = journal.whole;
 }
 
 -- a call of another blob leaves a journal one
-pub others_stay : (id : ℕ) (cache behind : CacheState) → LeavesOthers id cache behind → (IsFresh cache → IsFresh behind) → OthersStay id cache behind
-others_stay id cache behind leaves fresh = λ sum w life apart journal.
-    stays_journal sum w cache behind life (leaves (tail_of w) life.present apart (ready_of sum w cache life journal).can) fresh journal
+pub others_stay : (id : ℕ) (cache after : CacheState) → LeavesOthers id cache after → (IsFresh cache → IsFresh after) → OthersStay id cache after
+others_stay id cache after leaves fresh = λ sum w life apart journal.
+    stays_journal sum w cache after life (leaves (tail_of w) life.present apart (ready_of sum w cache life journal).can) fresh journal
 
 -- so does a call that leaves the reads of each blob
-pub recovery_stays : (cache behind : CacheState) → LeavesReads cache behind → (IsFresh cache → IsFresh behind) → AllStay cache behind
-recovery_stays cache behind leaves fresh = λ sum w life journal.
-    stays_journal sum w cache behind life (leaves (tail_of w) life.present (ready_of sum w cache life journal).can) fresh journal
+pub recovery_stays : (cache after : CacheState) → LeavesReads cache after → (IsFresh cache → IsFresh after) → AllStay cache after
+recovery_stays cache after leaves fresh = λ sum w life journal.
+    stays_journal sum w cache after life (leaves (tail_of w) life.present (ready_of sum w cache life journal).can) fresh journal
 
 -- no journal has an id that is still to come
 pub new_id : (id : ℕ) (cache : CacheState) → id ≡ cache.ids_given → IsNewId id cache
 new_id id cache is = λ sum w life journal same. omega (arith, is, same, (ready_of sum w cache life journal).can.given)
 
 -- what follows a recovery leaves each journal: none has its id
-pub all_stay : (id : ℕ) (cache mid behind : CacheState) → id ≡ cache.ids_given → AllStay cache mid → OthersStay id mid behind → AllStay cache behind
-all_stay id cache mid behind is first second = λ sum w life journal.
+pub all_stay : (id : ℕ) (cache mid after : CacheState) → id ≡ cache.ids_given → AllStay cache mid → OthersStay id mid after → AllStay cache after
+all_stay id cache mid after is first second = λ sum w life journal.
     second sum w life (new_id id cache is sum w life journal) (first sum w life journal)
 
 -- ---- the calls
 
 -- a writer that went on is ready
-pub gone_on : (sum : List ℕ → ℕ) (w : WriterState) (old : Life) (more : List ℕ) (now : WriterState) (behind : CacheState) (new : Life) → GoesOn sum w old more now new → CanRead (tail_of now) behind new.present → IsFresh behind
-    → IsReady sum now behind new
-gone_on sum w old more now behind new goes can fresh = record { sound = goes.sound; can = can; fresh = fresh; size = goes.size; only = goes.only }
+pub gone_on : (sum : List ℕ → ℕ) (w : WriterState) (old : Life) (more : List ℕ) (now : WriterState) (after : CacheState) (new : Life) → GoesOn sum w old more now new → CanRead (tail_of now) after new.present → IsFresh after
+    → IsReady sum now after new
+gone_on sum w old more now after new goes can fresh = record { sound = goes.sound; can = can; fresh = fresh; size = goes.size; only = goes.only }
 
 -- a record that was appended
-pub appended : (sum own : List ℕ → ℕ) (w : WriterState) (bytes : List ℕ) (behind : CacheState) (old new : Life) (now : WriterState) (place : ℕ) → length bytes ≤ 65535 → own bytes < 2 ^ 32
-    → IsWhole (content w old.present.readable) → CanRead (tail_of now) behind new.present → IsFresh behind → Appends sum w (frame own bytes) old new (Ok (now, place)) → IsAppended sum own w bytes behind old new now place
-appended sum own w bytes behind old new now place short small whole can fresh (at, goes) =
+pub appended : (sum own : List ℕ → ℕ) (w : WriterState) (bytes : List ℕ) (after : CacheState) (old new : Life) (now : WriterState) (offset : ℕ) → length bytes ≤ 65535 → own bytes < 2 ^ 32
+    → IsWhole (content w old.present.readable) → CanRead (tail_of now) after new.present → IsFresh after → Appends sum w (frame own bytes) old new (Ok (now, offset)) → IsAppended sum own w bytes after old new now offset
+appended sum own w bytes after old new now offset short small whole can fresh (at, goes) =
     let before = content w old.present.readable in
     let framed = frame own bytes in
     let fits : length bytes < 2 ^ 16 = omega arith in
-    let stood : drop place (before ++ framed) ≡ framed ++ [] = ap (λ n. drop n (before ++ framed)) at ∙ drop_at before framed (length before) refl ∙ sym (append-nil framed) in
+    let stood : drop offset (before ++ framed) ≡ framed ++ [] = ap (λ n. drop n (before ++ framed)) at ∙ drop_at before framed (length before) refl ∙ sym (append-nil framed) in
     record {
       at = at;
-      journal = is_journal sum now behind new (gone_on sum w old framed now behind new goes can fresh)
+      journal = is_journal sum now after new (gone_on sum w old framed now after new goes can fresh)
           (subst (λ (l : List ℕ). IsWhole l) (sym goes.content) (whole_more before framed whole (frame_is_whole own bytes fits)));
       holds = goes.content;
       added = ap (λ (l : List ℕ). records own l) goes.content ∙ records-append own before framed whole ∙ ap (λ rs. records own before ++ rs) (records-frame own bytes fits small);
-      there = ap (λ (l : List ℕ). record_of own (drop place l)) goes.content ∙ ap (λ (l : List ℕ). record_of own l) stood ∙ record_of-frame own bytes [] fits small;
+      there = ap (λ (l : List ℕ). record_of own (drop offset l)) goes.content ∙ ap (λ (l : List ℕ). record_of own l) stood ∙ record_of-frame own bytes [] fits small;
       same = goes.same;
       commits = λ n d commits.
           subst (λ (P : ℕ). Commits sum own P (content now new.present.readable) n d) (sym goes.same.page_size)
@@ -169,41 +169,41 @@ appended sum own w bytes behind old new now place short small whole can fresh (a
     }
 
 -- an append that was refused
-pub not_appended : (sum own : List ℕ → ℕ) (w : WriterState) (bytes : List ℕ) (behind : CacheState) (old new : Life) (e : Error) → Appends sum w (frame own bytes) old new (Err e) → AppendsRecord sum own w bytes behind old new (Err e)
-not_appended sum own w bytes behind old new OffsetOverflow (same, passes) =
-    (same, subst (λ (n : ℕ). 2 ^ 64 ≤ physical_size w.page_size w.full_pages (length w.tip + n)) (length-frame own bytes) passes)
-not_appended sum own w bytes behind old new ReadFailed refused = refused.cause
-not_appended sum own w bytes behind old new WriteFailed refused = refused.cause
-not_appended sum own w bytes behind old new ResizeFailed refused = refused.cause
-not_appended sum own w bytes behind old new SyncFailed refused = refused.cause
-not_appended sum own w bytes behind old new InvalidChecksum refused = refused.cause
-not_appended sum own w bytes behind old new BlobInsufficientLength refused = refused.cause
-not_appended sum own w bytes behind old new OutOfMemory refused = refused.cause
-not_appended sum own w bytes behind old new IdsExhausted refused = refused.cause
+pub not_appended : (sum own : List ℕ → ℕ) (w : WriterState) (bytes : List ℕ) (after : CacheState) (old new : Life) (e : Error) → Appends sum w (frame own bytes) old new (Err e) → AppendsRecord sum own w bytes after old new (Err e)
+not_appended sum own w bytes after old new OffsetOverflow (same, passes) =
+    (same, subst (λ (n : ℕ). 2 ^ 64 ≤ physical_blob_size w.page_size w.full_pages (length w.tip + n)) (length-frame own bytes) passes)
+not_appended sum own w bytes after old new ReadFailed refused = refused.cause
+not_appended sum own w bytes after old new WriteFailed refused = refused.cause
+not_appended sum own w bytes after old new ResizeFailed refused = refused.cause
+not_appended sum own w bytes after old new SyncFailed refused = refused.cause
+not_appended sum own w bytes after old new InvalidChecksum refused = refused.cause
+not_appended sum own w bytes after old new BlobInsufficientLength refused = refused.cause
+not_appended sum own w bytes after old new OutOfMemory refused = refused.cause
+not_appended sum own w bytes after old new IdsExhausted refused = refused.cause
 
--- the records before an append are the first of those behind it, and those behind it are all
+-- the records before an append are the first of those after it, and those after it are all
 pub before_append : (own : List ℕ → ℕ) (before bytes : List ℕ) → IsPrefix (records own before) (records own before ++ bytes ∷ [])
 before_append own before bytes = (bytes ∷ [], refl)
 
-pub behind_append : (own : List ℕ → ℕ) (before bytes : List ℕ) → length bytes ≤ 65535 → own bytes < 2 ^ 32 → IsWhole before → IsPrefix (records own (before ++ frame own bytes)) (records own before ++ bytes ∷ [])
-behind_append own before bytes short small whole =
+pub after_append : (own : List ℕ → ℕ) (before bytes : List ℕ) → length bytes ≤ 65535 → own bytes < 2 ^ 32 → IsWhole before → IsPrefix (records own (before ++ frame own bytes)) (records own before ++ bytes ∷ [])
+after_append own before bytes short small whole =
     ([], sym (append-nil (records own (before ++ frame own bytes)) ∙ records-append own before (frame own bytes) whole ∙ ap (λ rs. records own before ++ rs) (records-frame own bytes (omega arith) small)))
 
 -- a commit
-pub committed : (sum own : List ℕ → ℕ) (w : WriterState) (behind : CacheState) (old new : Life) (now : WriterState) → IsWhole (content w old.present.readable) → CanRead (tail_of now) behind new.present → IsFresh behind
-    → Syncs sum w old new (Ok now) → KeepsAll sum w.page_size (content w old.present.readable) new → IsCommitted sum own w behind old new now
-committed sum own w behind old new now whole can fresh (goes, settled) keeps =
+pub committed : (sum own : List ℕ → ℕ) (w : WriterState) (after : CacheState) (old new : Life) (now : WriterState) → IsWhole (content w old.present.readable) → CanRead (tail_of now) after new.present → IsFresh after
+    → Syncs sum w old new (Ok now) → KeepsAll sum w.page_size (content w old.present.readable) new → IsCommitted sum own w after old new now
+committed sum own w after old new now whole can fresh (goes, settled) keeps =
     let same : content now new.present.readable ≡ content w old.present.readable = goes.content ∙ append-nil (content w old.present.readable) in
     record {
-      journal = is_journal sum now behind new (gone_on sum w old [] now behind new goes can fresh) (subst (λ (l : List ℕ). IsWhole l) (sym same) whole);
+      journal = is_journal sum now after new (gone_on sum w old [] now after new goes can fresh) (subst (λ (l : List ℕ). IsWhole l) (sym same) whole);
       holds = same;
       same = goes.same;
       all = subst (λ (P : ℕ). CommitsAll sum own P (content now new.present.readable) new.present) (sym goes.same.page_size)
           (subst (λ (l : List ℕ). CommitsAll sum own w.page_size l new.present) (sym same) (commits_all sum own w.page_size (content w old.present.readable) new.present keeps));
     }
 
-pub not_committed : (sum own : List ℕ → ℕ) (w : WriterState) (behind : CacheState) (old new : Life) (e : Error) → Syncs sum w old new (Err e) → CommitGoes sum own w behind old new (Err e)
-not_committed sum own w behind old new e refused = refused.cause
+pub not_committed : (sum own : List ℕ → ℕ) (w : WriterState) (after : CacheState) (old new : Life) (e : Error) → Syncs sum w old new (Err e) → CommitGoes sum own w after old new (Err e)
+not_committed sum own w after old new e refused = refused.cause
 
 take_first : (n : ℕ) (xs ys : List (List ℕ)) → n ≤ length xs → take n (xs ++ ys) ≡ take n xs
 take_first n xs ys le = take-append-le n xs ys le
@@ -223,50 +223,50 @@ brings_back sum own P d image is_image = λ content n commits.
     )
 
 -- an append of a record's frame, by its answer
-pub append_goes : (sum own : List ℕ → ℕ) (w : WriterState) (bytes : List ℕ) (behind : CacheState) (old new : Life) (result : Result (WriterState × ℕ) Error) → length bytes ≤ 65535 → own bytes < 2 ^ 32
-    → IsWhole (content w old.present.readable) → Appends sum w (frame own bytes) old new result → IfOk result (λ r. CanRead (tail_of r.0) behind new.present) → IsFresh behind → AppendsRecord sum own w bytes behind old new result
-append_goes sum own w bytes behind old new (Ok r) short small whole appends can fresh = appended sum own w bytes behind old new r.0 r.1 short small whole can fresh appends
-append_goes sum own w bytes behind old new (Err e) short small whole appends can fresh = not_appended sum own w bytes behind old new e appends
+pub append_goes : (sum own : List ℕ → ℕ) (w : WriterState) (bytes : List ℕ) (after : CacheState) (old new : Life) (result : Result (WriterState × ℕ) Error) → length bytes ≤ 65535 → own bytes < 2 ^ 32
+    → IsWhole (content w old.present.readable) → Appends sum w (frame own bytes) old new result → IfOk result (λ r. CanRead (tail_of r.0) after new.present) → IsFresh after → AppendsRecord sum own w bytes after old new result
+append_goes sum own w bytes after old new (Ok r) short small whole appends can fresh = appended sum own w bytes after old new r.0 r.1 short small whole can fresh appends
+append_goes sum own w bytes after old new (Err e) short small whole appends can fresh = not_appended sum own w bytes after old new e appends
 
-pub append_gives : (sum own : List ℕ → ℕ) (w : WriterState) (bytes : List ℕ) (behind : CacheState) (old new : Life) (result : Result (WriterState × ℕ) Error) → AppendsRecord sum own w bytes behind old new result
-    → IfOk result (λ r. IsJournal sum r.0 behind new)
-append_gives sum own w bytes behind old new (Ok r) is = is.journal
-append_gives sum own w bytes behind old new (Err e) is = tt
+pub append_gives : (sum own : List ℕ → ℕ) (w : WriterState) (bytes : List ℕ) (after : CacheState) (old new : Life) (result : Result (WriterState × ℕ) Error) → AppendsRecord sum own w bytes after old new result
+    → IfOk result (λ r. IsJournal sum r.0 after new)
+append_gives sum own w bytes after old new (Ok r) is = is.journal
+append_gives sum own w bytes after old new (Err e) is = tt
 
 -- a commit, by its answer
-pub commit_goes : (sum own : List ℕ → ℕ) (w : WriterState) (behind : CacheState) (old new : Life) (result : Result WriterState Error) → IsWhole (content w old.present.readable)
-    → Syncs sum w old new result → IfOk result (λ now. CanRead (tail_of now) behind new.present) → IsFresh behind → OnOk result (KeepsAll sum w.page_size (content w old.present.readable) new)
-    → CommitGoes sum own w behind old new result
-commit_goes sum own w behind old new (Ok now) whole syncs can fresh keeps = committed sum own w behind old new now whole can fresh syncs keeps
-commit_goes sum own w behind old new (Err e) whole syncs can fresh keeps = not_committed sum own w behind old new e syncs
+pub commit_goes : (sum own : List ℕ → ℕ) (w : WriterState) (after : CacheState) (old new : Life) (result : Result WriterState Error) → IsWhole (content w old.present.readable)
+    → Syncs sum w old new result → IfOk result (λ now. CanRead (tail_of now) after new.present) → IsFresh after → OnOk result (KeepsAll sum w.page_size (content w old.present.readable) new)
+    → CommitGoes sum own w after old new result
+commit_goes sum own w after old new (Ok now) whole syncs can fresh keeps = committed sum own w after old new now whole can fresh syncs keeps
+commit_goes sum own w after old new (Err e) whole syncs can fresh keeps = not_committed sum own w after old new e syncs
 
-pub commit_gives : (sum own : List ℕ → ℕ) (w : WriterState) (behind : CacheState) (old new : Life) (result : Result WriterState Error) → CommitGoes sum own w behind old new result → IfOk result (λ now. IsJournal sum now behind new)
-commit_gives sum own w behind old new (Ok now) is = is.journal
-commit_gives sum own w behind old new (Err e) is = tt
+pub commit_gives : (sum own : List ℕ → ℕ) (w : WriterState) (after : CacheState) (old new : Life) (result : Result WriterState Error) → CommitGoes sum own w after old new result → IfOk result (λ now. IsJournal sum now after new)
+commit_gives sum own w after old new (Ok now) is = is.journal
+commit_gives sum own w after old new (Err e) is = tt
 
 -- a read within the content is refused only where the device failed, or memory was refused
-pub read_refused : {A : Type 0} (sum : List ℕ → ℕ) (t : Tail) (cache : CacheState) (place len : ℕ) (bytes : A → List ℕ) (old new : Life) (e : Error) → place + len ≤ t.full_pages * t.page_size + length t.bytes → place + len < 2 ^ 64
-    → Reads sum t cache (place, len) bytes old new (Err e) → (e ≡ InvalidChecksum → ⊥) → ReadRefused old new e
-read_refused sum t cache place len bytes old new ReadFailed within fits reads never = reads
-read_refused sum t cache place len bytes old new OutOfMemory within fits reads never = tt
-read_refused sum t cache place len bytes old new InvalidChecksum within fits reads never = never refl
-read_refused sum t cache place len bytes old new OffsetOverflow within fits reads never = omega (arith, fits, reads.1)
-read_refused sum t cache place len bytes old new BlobInsufficientLength within fits reads never = omega (arith, within, reads.2)
-read_refused sum t cache place len bytes old new WriteFailed within fits reads never = reads
-read_refused sum t cache place len bytes old new ResizeFailed within fits reads never = reads
-read_refused sum t cache place len bytes old new SyncFailed within fits reads never = reads
-read_refused sum t cache place len bytes old new IdsExhausted within fits reads never = reads
+pub read_refused : {A : Type 0} (sum : List ℕ → ℕ) (t : Tail) (cache : CacheState) (offset len : ℕ) (bytes : A → List ℕ) (old new : Life) (e : Error) → offset + len ≤ t.full_pages * t.page_size + length t.bytes → offset + len < 2 ^ 64
+    → Reads sum t cache (offset, len) bytes old new (Err e) → (e ≡ InvalidChecksum → ⊥) → ReadRefused old new e
+read_refused sum t cache offset len bytes old new ReadFailed within fits reads never = reads
+read_refused sum t cache offset len bytes old new OutOfMemory within fits reads never = tt
+read_refused sum t cache offset len bytes old new InvalidChecksum within fits reads never = never refl
+read_refused sum t cache offset len bytes old new OffsetOverflow within fits reads never = omega (arith, fits, reads.1)
+read_refused sum t cache offset len bytes old new BlobInsufficientLength within fits reads never = omega (arith, within, reads.2)
+read_refused sum t cache offset len bytes old new WriteFailed within fits reads never = reads
+read_refused sum t cache offset len bytes old new ResizeFailed within fits reads never = reads
+read_refused sum t cache offset len bytes old new SyncFailed within fits reads never = reads
+read_refused sum t cache offset len bytes old new IdsExhausted within fits reads never = reads
 
 -- what failed in a later part of a log failed in all of it
-some_behind : (e : Error) (xs ys : List Entry) → SomeFailed e ys → SomeFailed e (xs ++ ys)
-some_behind e [] ys some = some
-some_behind e (x ∷ xs) ys some = inr (some_behind e xs ys some)
+some_after : (e : Error) (xs ys : List Entry) → SomeFailed e ys → SomeFailed e (xs ++ ys)
+some_after e [] ys some = some
+some_after e (x ∷ xs) ys some = inr (some_after e xs ys some)
 
 failed_later : (e : Error) (a b c : Disk) → LogGrows a b → HasFailed e b c → HasFailed e a c
 failed_later e a b c (first, one) (second, two, some) =
-    (first ++ second, two ∙ ap (λ l. l ++ second) one ∙ append_assoc a.log first second, some_behind e first second some)
+    (first ++ second, two ∙ ap (λ l. l ++ second) one ∙ append_assoc a.log first second, some_after e first second some)
 
--- so is one behind another
+-- so is one after another
 pub refused_later : (old mid new : Life) (e : Error) → Looked old mid → ReadRefused mid new e → ReadRefused old new e
 refused_later old mid new ReadFailed looked refused = failed_later ReadFailed old.present mid.present new.present looked.log refused
 refused_later old mid new OutOfMemory looked refused = tt
@@ -279,38 +279,38 @@ refused_later old mid new SyncFailed looked refused = refused
 refused_later old mid new IdsExhausted looked refused = refused
 
 -- a frame is read in two reads: how long it is, and all of it
-pub frame_read : (held again : List ℕ) (place rest len : ℕ) (head : List ℕ) (old mid new : Life) (result : Result (List ℕ) Error) → Looked old mid → again ≡ held
-    → length (drop place held) ≡ rest → ReadsBytes held place (min rest 2) old mid (Ok head) → len ≡ min rest (record_len head + 7) → ReadsBytes again place len mid new result
-    → ReadsFrame held place rest old new result
-frame_read held again place rest len head old mid new (Ok bytes) looked same long first is second =
-    let behind = drop place held in
-    let said : record_len head ≡ record_len behind = ap record_len first ∙ record_len-front (min rest 2) behind (omega (arith, long)) in
-    let n : len ≡ min (frame_len behind) rest = omega arith in
-    second ∙ ap₂ (λ k (l : List ℕ). take k (drop place l)) n same
-frame_read held again place rest len head old mid new (Err e) looked same long first is second = refused_later old mid new e looked second
+pub frame_read : (held again : List ℕ) (offset rest len : ℕ) (head : List ℕ) (old mid new : Life) (result : Result (List ℕ) Error) → Looked old mid → again ≡ held
+    → length (drop offset held) ≡ rest → ReadsBytes held offset (min rest 2) old mid (Ok head) → len ≡ min rest (record_len head + 7) → ReadsBytes again offset len mid new result
+    → ReadsFrame held offset rest old new result
+frame_read held again offset rest len head old mid new (Ok bytes) looked same long first is second =
+    let after = drop offset held in
+    let said : record_len head ≡ record_len after = ap record_len first ∙ record_len-front (min rest 2) after (omega (arith, long)) in
+    let n : len ≡ min (frame_len after) rest = omega arith in
+    second ∙ ap₂ (λ k (l : List ℕ). take k (drop offset l)) n same
+frame_read held again offset rest len head old mid new (Err e) looked same long first is second = refused_later old mid new e looked second
 
--- the frame at a place
-pub found : (own : List ℕ → ℕ) (content : List ℕ) (place rest : ℕ) (framed : List ℕ) (bytes : Option (List ℕ)) (end : ℕ) → place + rest ≡ length content → 0 < rest
-    → framed ≡ take (min (frame_len (drop place content)) rest) (drop place content) → bytes ≡ record_of own (drop 0 framed) → end ≡ place + length framed → IsFound own content place bytes end
-found own content place rest framed bytes end within some is held behind =
-    let from = drop place content in
-    let e : rest ≡ length content - place = omega arith in
-    let long : length from ≡ rest = omega (arith, length-drop place content) in
+-- the frame at an offset
+pub found : (own : List ℕ → ℕ) (content : List ℕ) (offset rest : ℕ) (framed : List ℕ) (bytes : Option (List ℕ)) (end : ℕ) → offset + rest ≡ length content → 0 < rest
+    → framed ≡ take (min (frame_len (drop offset content)) rest) (drop offset content) → bytes ≡ record_of own (drop 0 framed) → end ≡ offset + length framed → IsFound own content offset bytes end
+found own content offset rest framed bytes end within some is held after =
+    let from = drop offset content in
+    let e : rest ≡ length content - offset = omega arith in
+    let long : length from ≡ rest = omega (arith, length-drop offset content) in
     let size : length framed ≡ min (frame_len from) rest = ap length is ∙ (let t = length-take (min (frame_len from) rest) from in omega arith) in
-    let ends : end ≡ place + min (frame_len from) (length content - place) = omega arith in
+    let ends : end ≡ offset + min (frame_len from) (length content - offset) = omega arith in
     let is_record : bytes ≡ record_of own from = held ∙ ap (λ (l : List ℕ). record_of own l) is ∙ record_of-front own (min (frame_len from) rest) from (omega arith) in
     record {
       within = omega arith;
       held = is_record;
-      behind = ends;
-      rest = records-from own content place (omega arith)
+      after = ends;
+      rest = records-from own content offset (omega arith)
           ∙ ap₂ (λ b n. listed b ++ records own (drop n content)) (sym is_record) (sym ends);
     }
 
 -- a read of the writer's content
-pub read_leaves : (sum : List ℕ → ℕ) (w : WriterState) (cache behind : CacheState) (old new : Life) → IsReady sum w cache old → LeavesAll (tail_of w) cache behind old new → LeavesTails sum w.full_pages cache behind old new → LeavesOthers w.id cache behind → (IsSound sum w old.present → IsSound sum w new.present)
-    → (IsSound sum w old.present → KeepsAllFloors sum w.page_size old new) → (IsSound sum w old.present → LeavesContent sum w.page_size (content w old.present.readable) old new) → OnlyReads sum w cache behind old new
-read_leaves sum w cache behind old new ready leaves tails others sound kept only =
+pub read_leaves : (sum : List ℕ → ℕ) (w : WriterState) (cache after : CacheState) (old new : Life) → IsReady sum w cache old → LeavesAll (tail_of w) cache after old new → LeavesTails sum w.full_pages cache after old new → LeavesOthers w.id cache after → (IsSound sum w old.present → IsSound sum w new.present)
+    → (IsSound sum w old.present → KeepsAllFloors sum w.page_size old new) → (IsSound sum w old.present → LeavesContent sum w.page_size (content w old.present.readable) old new) → OnlyReads sum w cache after old new
+read_leaves sum w cache after old new ready leaves tails others sound kept only =
     let held = content w old.present.readable in
     let same : new.present.readable ≡ old.present.readable = ap (λ (d : Disk). d.readable) leaves.looked.same in
     let holds : content w new.present.readable ≡ held = ap (λ (l : List ℕ). content w l) same in
@@ -345,8 +345,8 @@ reads_start sum w cache life ready =
     }
 
 -- one after another
-pub reads_join : (sum : List ℕ → ℕ) (w : WriterState) (cache between behind : CacheState) (old mid new : Life) → OnlyReads sum w cache between old mid → OnlyReads sum w between behind mid new → OnlyReads sum w cache behind old new
-reads_join sum w cache between behind old mid new first second =
+pub reads_join : (sum : List ℕ → ℕ) (w : WriterState) (cache between after : CacheState) (old mid new : Life) → OnlyReads sum w cache between old mid → OnlyReads sum w between after mid new → OnlyReads sum w cache after old new
+reads_join sum w cache between after old mid new first second =
     let held = content w old.present.readable in
     record {
       ready = second.ready;
@@ -360,9 +360,9 @@ reads_join sum w cache between behind old mid new first second =
     }
 
 -- where a crash leaves only the content, it leaves that or another
-pub leaves_or : (sum : List ℕ → ℕ) (P : ℕ) (held behind : List ℕ) (old new : Life) → LeavesContent sum P held old new → LeavesOnly sum P held behind old new
-leaves_or sum P held behind old new only =
-    through_then (AllOnly sum P held held) (AllOnly sum P held behind) old new
+pub leaves_or : (sum : List ℕ → ℕ) (P : ℕ) (held after : List ℕ) (old new : Life) → LeavesContent sum P held old new → LeavesOnly sum P held after old new
+leaves_or sum P held after old new only =
+    through_then (AllOnly sum P held held) (AllOnly sum P held after) old new
     (λ d left. λ image is_image free. elim (left image is_image free) [ inl is ↦ inl is | inr is ↦ inl is ]) only
 
 -- all floors are kept, so those within the first n bytes are
@@ -375,7 +375,7 @@ within_join sum n P old mid new first second = λ content floor enough kept.
     let begun = first content floor enough kept in
     through_joins (AllKeep sum P (take n content) floor) old mid new begun (second content floor enough (through_end (AllKeep sum P (take n content) floor) old mid begun))
 
--- a cut behind the whole frames, after a read
+-- a cut after the whole frames, after a read
 pub trim_leaves : (sum : List ℕ → ℕ) (w : WriterState) (cache between : CacheState) (end : ℕ) (old mid new : Life) → OnlyReads sum w cache between old mid → end ≡ length (whole_frames (content w old.present.readable))
     → LeavesOnly sum w.page_size (content w mid.present.readable) (take end (content w mid.present.readable)) mid new
     → LeavesOnly sum w.page_size (content w old.present.readable) (whole_frames (content w old.present.readable)) old new
@@ -388,10 +388,10 @@ trim_leaves sum w cache between end old mid new left is leaves =
     (subst (λ (l : List ℕ). LeavesOnly sum w.page_size (content w mid.present.readable) l mid new) first leaves))
 
 -- so the whole frames are left
-pub trim_goes : (sum own : List ℕ → ℕ) (w : WriterState) (cache between behind : CacheState) (end : ℕ) (found : List (List ℕ)) (old mid new : Life) (now : WriterState) → OnlyReads sum w cache between old mid → found ≡ records own (content w old.present.readable)
-    → end ≡ length (whole_frames (content w old.present.readable)) → Truncates sum end w mid new (Ok now) → IsSound sum now new.present → CanRead (tail_of now) behind new.present → IsFresh behind
-    → LeavesItsContent sum now new.present → IsTrimmed sum own w behind old new now found
-trim_goes sum own w cache between behind end found old mid new now left given is cut sound can fresh only =
+pub trim_goes : (sum own : List ℕ → ℕ) (w : WriterState) (cache between after : CacheState) (end : ℕ) (found : List (List ℕ)) (old mid new : Life) (now : WriterState) → OnlyReads sum w cache between old mid → found ≡ records own (content w old.present.readable)
+    → end ≡ length (whole_frames (content w old.present.readable)) → Truncates sum end w mid new (Ok now) → IsSound sum now new.present → CanRead (tail_of now) after new.present → IsFresh after
+    → LeavesItsContent sum now new.present → IsTrimmed sum own w after old new now found
+trim_goes sum own w cache between after end found old mid new now left given is cut sound can fresh only =
     let held = content w old.present.readable in
     let whole = whole_frames held in
     let holds : content now new.present.readable ≡ whole = cut.content ∙ ap₂ (λ n (l : List ℕ). take n l) is left.holds ∙ whole_first held in
@@ -406,9 +406,9 @@ trim_goes sum own w cache between behind end found old mid new now left given is
     }
 
 -- where all frames are whole nothing is to be cut
-pub trim_stays : (sum own : List ℕ → ℕ) (w : WriterState) (cache behind : CacheState) (end : ℕ) (found : List (List ℕ)) (old new : Life) → OnlyReads sum w cache behind old new → found ≡ records own (content w old.present.readable)
-    → end ≡ length (whole_frames (content w old.present.readable)) → end ≡ size_of w → IsTrimmed sum own w behind old new w found
-trim_stays sum own w cache behind end found old new left given is all =
+pub trim_stays : (sum own : List ℕ → ℕ) (w : WriterState) (cache after : CacheState) (end : ℕ) (found : List (List ℕ)) (old new : Life) → OnlyReads sum w cache after old new → found ≡ records own (content w old.present.readable)
+    → end ≡ length (whole_frames (content w old.present.readable)) → end ≡ size_of w → IsTrimmed sum own w after old new w found
+trim_stays sum own w cache after end found old new left given is all =
     let held = content w old.present.readable in
     let long : length held ≤ length (whole_frames held) = omega (arith, is, all, left.ready.size, ap length left.holds) in
     record {
@@ -420,9 +420,9 @@ trim_stays sum own w cache behind end found old new left given is all =
     }
 
 -- the cut was refused
-pub trim_refused : (sum own : List ℕ → ℕ) (w : WriterState) (cache between behind : CacheState) (end : ℕ) (old mid new : Life) (e : Error) → OnlyReads sum w cache between old mid → end ≡ length (whole_frames (content w old.present.readable)) → (end ≡ size_of w → ⊥)
-    → Truncates sum end w mid new (Err e) → Trims sum own w behind old new (Err e)
-trim_refused sum own w cache between behind end old mid new e left is more refused =
+pub trim_refused : (sum own : List ℕ → ℕ) (w : WriterState) (cache between after : CacheState) (end : ℕ) (old mid new : Life) (e : Error) → OnlyReads sum w cache between old mid → end ≡ length (whole_frames (content w old.present.readable)) → (end ≡ size_of w → ⊥)
+    → Truncates sum end w mid new (Err e) → Trims sum own w after old new (Err e)
+trim_refused sum own w cache between after end old mid new e left is more refused =
     let held = content w old.present.readable in
     let whole = length (whole_frames held) in
     let less : whole < size_of w = (elim (cases_lt whole (size_of w)) [
@@ -432,10 +432,10 @@ trim_refused sum own w cache between behind end old mid new e left is more refus
     inr (mid, left.looked, less, subst (λ (n : ℕ). Truncates sum n w mid new (Err e)) is refused)
 
 -- no frame was read
-pub not_found : (own : List ℕ → ℕ) (held : List ℕ) (place rest : ℕ) (old new : Life) (e : Error) (result : Result (Option Found) Error) → IsErrAnd result (λ x. x ≡ e)
-    → ReadsFrame held place rest old new (Err e) → ReadsRecord own held place old new result
-not_found own held place rest old new e (Ok f) is refused = absurd is
-not_found own held place rest old new e (Err x) is refused = subst (λ (y : Error). ReadRefused old new y) (sym is) refused
+pub not_found : (own : List ℕ → ℕ) (held : List ℕ) (offset rest : ℕ) (old new : Life) (e : Error) (result : Result (Option Found) Error) → IsErrAnd result (λ x. x ≡ e)
+    → ReadsFrame held offset rest old new (Err e) → ReadsRecord own held offset old new result
+not_found own held offset rest old new e (Ok f) is refused = absurd is
+not_found own held offset rest old new e (Err x) is refused = subst (λ (y : Error). ReadRefused old new y) (sym is) refused
 
 -- a floor is one of less, too
 less_kept : (sum : List ℕ → ℕ) (P : ℕ) (content : List ℕ) (floor less : ℕ) (d : Disk) → less ≤ floor → AllKeep sum P content floor d → AllKeep sum P content less d
@@ -518,10 +518,10 @@ pub commits_through : (sum own : List ℕ → ℕ) (P : ℕ) (T : List ℕ) (old
 commits_through sum own P T old new through = through_then (AllKeep sum P T (length T)) (CommitsAll sum own P T) old new (λ d keeps. commits_all sum own P T d keeps) through
 
 -- a recovery, from that of the blob and the rest
-pub recovery_goes : (sum own : List ℕ → ℕ) (cache behind : CacheState) (capacity : ℕ) (old mid new : Life) (w now : WriterState) (found : List (List ℕ))
+pub recovery_goes : (sum own : List ℕ → ℕ) (cache after : CacheState) (capacity : ℕ) (old mid new : Life) (w now : WriterState) (found : List (List ℕ))
     → Recovers sum cache capacity old mid (Ok w) → w.id ≡ cache.ids_given → KeepsAll sum cache.page_size (text sum cache.page_size old.present.readable) mid
-    → KeepsFloorsWithin (length (whole_frames (text sum cache.page_size old.present.readable))) sum cache.page_size mid new → IsTrimmed sum own w behind mid new now found → HasRecovered sum own cache behind old new now found
-recovery_goes sum own cache behind capacity old mid new w now found recovers id all keeps trims =
+    → KeepsFloorsWithin (length (whole_frames (text sum cache.page_size old.present.readable))) sum cache.page_size mid new → IsTrimmed sum own w after mid new now found → HasRecovered sum own cache after old new now found
+recovery_goes sum own cache after capacity old mid new w now found recovers id all keeps trims =
     let P = cache.page_size in
     let T = text sum P old.present.readable in
     let whole = whole_frames T in
@@ -535,7 +535,7 @@ recovery_goes sum own cache behind capacity old mid new w now found recovers id 
     record {
       page_size = trims.page_size ∙ recovers.page_size;
       id = trims.id ∙ id;
-      journal = is_journal sum now behind new trims.ready (subst (λ (l : List ℕ). IsWhole l) (sym holds) (whole_is_whole T));
+      journal = is_journal sum now after new trims.ready (subst (λ (l : List ℕ). IsWhole l) (sym holds) (whole_is_whole T));
       holds = holds;
       given = given;
       same = given ∙ sym (ap (λ (l : List ℕ). records own l) holds ∙ records-whole own T);
@@ -543,28 +543,28 @@ recovery_goes sum own cache behind capacity old mid new w now found recovers id 
     }
 
 -- one whose content wasn't trimmed
-pub recovery_refused : (sum own : List ℕ → ℕ) (cache behind : CacheState) (capacity : ℕ) (old mid new : Life) (w : WriterState) (e : Error) (result : Result (WriterState × Vec (List ℕ) Global) Error) → IsErrAnd result (λ x. x ≡ e)
-    → Recovers sum cache capacity old mid (Ok w) → Trims sum own w behind mid new (Err e) → RecoversJournal sum own cache behind capacity old new result
-recovery_refused sum own cache behind capacity old mid new w e (Ok r) is recovers trims = absurd is
-recovery_refused sum own cache behind capacity old mid new w e (Err x) is recovers trims =
-    inr (mid, w, recovers, subst (λ (y : Error). Trims sum own w behind mid new (Err y)) (sym is) trims)
+pub recovery_refused : (sum own : List ℕ → ℕ) (cache after : CacheState) (capacity : ℕ) (old mid new : Life) (w : WriterState) (e : Error) (result : Result (WriterState × Vec (List ℕ) Global) Error) → IsErrAnd result (λ x. x ≡ e)
+    → Recovers sum cache capacity old mid (Ok w) → Trims sum own w after mid new (Err e) → RecoversJournal sum own cache after capacity old new result
+recovery_refused sum own cache after capacity old mid new w e (Ok r) is recovers trims = absurd is
+recovery_refused sum own cache after capacity old mid new w e (Err x) is recovers trims =
+    inr (mid, w, recovers, subst (λ (y : Error). Trims sum own w after mid new (Err y)) (sym is) trims)
 
 -- a recovery of what a crash left
-pub brought_back : (sum own : List ℕ → ℕ) (cache behind : CacheState) (capacity : ℕ) (d : Disk) (image : List ℕ) (old new : Life) (result : Result (WriterState × Vec (List ℕ) Global) Error) → IsImage d image
-    → old.present.readable ≡ image → RecoversJournal sum own cache behind capacity old new result → IfOk result (λ r. BringsBack sum own cache.page_size d r.1.items)
-brought_back sum own cache behind capacity d image old new (Ok r) is_image is recovered =
+pub brought_back : (sum own : List ℕ → ℕ) (cache after : CacheState) (capacity : ℕ) (d : Disk) (image : List ℕ) (old new : Life) (result : Result (WriterState × Vec (List ℕ) Global) Error) → IsImage d image
+    → old.present.readable ≡ image → RecoversJournal sum own cache after capacity old new result → IfOk result (λ r. BringsBack sum own cache.page_size d r.1.items)
+brought_back sum own cache after capacity d image old new (Ok r) is_image is recovered =
     let P = cache.page_size in
     let found : r.1.items ≡ records own (text sum P image) = recovered.given ∙ ap (λ (l : List ℕ). records own (text sum P l)) is in
     subst (λ (rs : List (List ℕ)). BringsBack sum own P d rs) (sym found) (brings_back sum own P d image is_image)
-brought_back sum own cache behind capacity d image old new (Err e) is_image is recovered = tt
+brought_back sum own cache after capacity d image old new (Err e) is_image is recovered = tt
 
-pub brought_only : (sum own : List ℕ → ℕ) (cache behind : CacheState) (capacity : ℕ) (d : Disk) (image : List ℕ) (old new : Life) (result : Result (WriterState × Vec (List ℕ) Global) Error) → IsImage d image
-    → old.present.readable ≡ image → RecoversJournal sum own cache behind capacity old new result → IfOk result (λ r. BringsOnly sum own cache.page_size d image r.1.items)
-brought_only sum own cache behind capacity d image old new (Ok r) is_image is recovered = λ free all only.
+pub brought_only : (sum own : List ℕ → ℕ) (cache after : CacheState) (capacity : ℕ) (d : Disk) (image : List ℕ) (old new : Life) (result : Result (WriterState × Vec (List ℕ) Global) Error) → IsImage d image
+    → old.present.readable ≡ image → RecoversJournal sum own cache after capacity old new result → IfOk result (λ r. BringsOnly sum own cache.page_size d image r.1.items)
+brought_only sum own cache after capacity d image old new (Ok r) is_image is recovered = λ free all only.
     let P = cache.page_size in
     let found : r.1.items ≡ records own (text sum P image) = recovered.given ∙ ap (λ (l : List ℕ). records own (text sum P l)) is in
     subst (λ (rs : List (List ℕ)). IsPrefix rs all) (sym found) (only image is_image free)
-brought_only sum own cache behind capacity d image old new (Err e) is_image is recovered = tt
+brought_only sum own cache after capacity d image old new (Err e) is_image is recovered = tt
 
 -- what was committed as a blob crashed still is: a crash of what it left leaves nothing else
 pub commits_left : (sum own : List ℕ → ℕ) (P : ℕ) (content : List ℕ) (n : ℕ) (d e : Disk) → LeavesNoMore d e → Commits sum own P content n d → Commits sum own P content n e
@@ -576,7 +576,7 @@ commits_left sum own P content n d e less commits = record {
 }
 
 -- the content wasn't read, and so the last frame wasn't cut off
-pub trim_unread : (sum own : List ℕ → ℕ) (w : WriterState) (behind : CacheState) (old new : Life) (e : Error) (result : Result (WriterState × Vec (List ℕ) Global) Error) → IsErrAnd result (λ x. x ≡ e)
-    → ReadRefused old new e → Trims sum own w behind old new result
-trim_unread sum own w behind old new e (Ok r) is refused = absurd is
-trim_unread sum own w behind old new e (Err x) is refused = inl (subst (λ (y : Error). ReadRefused old new y) (sym is) refused)
+pub trim_unread : (sum own : List ℕ → ℕ) (w : WriterState) (after : CacheState) (old new : Life) (e : Error) (result : Result (WriterState × Vec (List ℕ) Global) Error) → IsErrAnd result (λ x. x ≡ e)
+    → ReadRefused old new e → Trims sum own w after old new result
+trim_unread sum own w after old new e (Ok r) is refused = absurd is
+trim_unread sum own w after old new e (Err x) is refused = inl (subst (λ (y : Error). ReadRefused old new y) (sym is) refused)

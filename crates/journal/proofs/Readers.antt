@@ -11,9 +11,9 @@ use Rattle.crash.specs.Guard.{IsChanceFree}
 use Rattle.crash.specs.Kept.{AllKeep, AllOnly}
 use Rattle.crash.specs.Looks.{Looked, SameButLog, looked_start, looked_joins}
 use Rattle.crash.specs.Moments.{through_then}
-use Rattle.crash.specs.Sound.{IsSound, content}
+use Rattle.writer_state.specs.Sound.{IsSound, content}
 use Rattle.crash.specs.Stays.{KeepsAllFloors, LeavesOnly}
-use Rattle.crash.specs.WriterState.{WriterState}
+use Rattle.writer_state.specs.WriterState.{WriterState}
 use Rattle.paged_read.specs.Ranges.{LeavesAll}
 use Rattle.paged_read.specs.Snapshots.{LeavesAllTails, LeavesOthers, LeavesReads, LeavesTails, LeavesWriters, StandsOn}
 use Rattle.paged_read.specs.Tail.{Tail, CanRead, HasFullPages, told, size_of}
@@ -38,49 +38,49 @@ is_reader sum r cache life opened = opened
 -- ---- what stays
 
 -- a snapshot that stands where it stood tells what it told
-module _ (sum : List ℕ → ℕ) (t : Tail) (cache behind : CacheState) (old new : Life) (opened : IsOpen sum t cache old)
-    (stands : StandsOn sum t (told t old.present.readable) behind new.present) where
+module _ (sum : List ℕ → ℕ) (t : Tail) (cache after : CacheState) (old new : Life) (opened : IsOpen sum t cache old)
+    (stands : StandsOn sum t (told t old.present.readable) after new.present) where
   pub still_tells : told t new.present.readable ≡ told t old.present.readable
   still_tells = stands.tail.is
 
-  pub still_open : IsOpen sum t behind new
+  pub still_open : IsOpen sum t after new
   still_open = record {
-    stands = subst (λ (l : List ℕ). StandsOn sum t l behind new.present) (sym still_tells) stands;
+    stands = subst (λ (l : List ℕ). StandsOn sum t l after new.present) (sym still_tells) stands;
     size = opened.size ∙ sym (ap length still_tells);
   }
 
 -- a call of a journal leaves the readers of its blob
-pub readers_stay : (sum : List ℕ → ℕ) (w : WriterState) (cache behind : CacheState) (old new : Life) → LeavesTails sum w.full_pages cache behind old new → ReadersStay sum w cache behind old new
-readers_stay sum w cache behind old new leaves = λ r below reader.
+pub readers_stay : (sum : List ℕ → ℕ) (w : WriterState) (cache after : CacheState) (old new : Life) → LeavesTails sum w.full_pages cache after old new → ReadersStay sum w cache after old new
+readers_stay sum w cache after old new leaves = λ r below reader.
     let opened = opened_by sum r cache old reader in
     let stands = leaves r.tail (read_over r old) below opened.stands in
     record {
-      reader = is_reader sum r behind new (still_open sum r.tail cache behind old new opened stands);
-      holds = still_tells sum r.tail cache behind old new opened stands;
+      reader = is_reader sum r after new (still_open sum r.tail cache after old new opened stands);
+      holds = still_tells sum r.tail cache after old new opened stands;
     }
 
 -- a read leaves all of them
-pub all_readers_stay : (sum : List ℕ → ℕ) (cache behind : CacheState) (old new : Life) → LeavesAllTails sum cache behind old new → AllReadersStay sum cache behind old new
-all_readers_stay sum cache behind old new leaves = λ r reader.
+pub all_readers_stay : (sum : List ℕ → ℕ) (cache after : CacheState) (old new : Life) → LeavesAllTails sum cache after old new → AllReadersStay sum cache after old new
+all_readers_stay sum cache after old new leaves = λ r reader.
     let opened = opened_by sum r cache old reader in
     let stands = leaves r.tail (read_over r old) opened.stands in
     record {
-      reader = is_reader sum r behind new (still_open sum r.tail cache behind old new opened stands);
-      holds = still_tells sum r.tail cache behind old new opened stands;
+      reader = is_reader sum r after new (still_open sum r.tail cache after old new opened stands);
+      holds = still_tells sum r.tail cache after old new opened stands;
     }
 
 -- a call of another blob leaves a reader
-pub other_readers_stay : (id : ℕ) (cache behind : CacheState) → LeavesOthers id cache behind → OtherReadersStay id cache behind
+pub other_readers_stay : (id : ℕ) (cache after : CacheState) → LeavesOthers id cache after → OtherReadersStay id cache after
 unfolding IsReader
-other_readers_stay id cache behind leaves = λ sum r life apart reader. record {
+other_readers_stay id cache after leaves = λ sum r life apart reader. record {
   stands = record { tail = reader.stands.tail; can = leaves r.tail life.present apart reader.stands.can };
   size = reader.size;
 }
 
 -- so does a call that leaves the reads of each blob
-pub each_reader_stays : (cache behind : CacheState) → LeavesReads cache behind → EachReaderStays cache behind
+pub each_reader_stays : (cache after : CacheState) → LeavesReads cache after → EachReaderStays cache after
 unfolding IsReader
-each_reader_stays cache behind leaves = λ sum r life reader. record {
+each_reader_stays cache after leaves = λ sum r life reader. record {
   stands = record { tail = reader.stands.tail; can = leaves r.tail life.present reader.stands.can };
   size = reader.size;
 }
@@ -90,20 +90,20 @@ pub new_to_readers : (id : ℕ) (cache : CacheState) → id ≡ cache.ids_given 
 new_to_readers id cache is = λ sum r life reader same. omega (arith, is, same, (opened_by sum r cache life reader).stands.can.given)
 
 -- what follows a recovery leaves each reader: none is of its blob
-pub each_reader_still : (id : ℕ) (cache mid behind : CacheState) → id ≡ cache.ids_given → EachReaderStays cache mid → OtherReadersStay id mid behind → EachReaderStays cache behind
-each_reader_still id cache mid behind is first second = λ sum r life reader.
+pub each_reader_still : (id : ℕ) (cache mid after : CacheState) → id ≡ cache.ids_given → EachReaderStays cache mid → OtherReadersStay id mid after → EachReaderStays cache after
+each_reader_still id cache mid after is first second = λ sum r life reader.
     second sum r life (new_to_readers id cache is sum r life reader) (first sum r life reader)
 
 -- ---- reads of a snapshot
 
 -- a read
-pub read_looks : (sum : List ℕ → ℕ) (t : Tail) (cache behind : CacheState) (old new : Life) → IsOpen sum t cache old → LeavesAll t cache behind old new → LeavesWriters sum old new → LeavesAllTails sum cache behind old new
-    → LeavesOthers t.id cache behind → OnlyLooks sum t cache behind old new
-read_looks sum t cache behind old new opened leaves writers tails others =
+pub read_looks : (sum : List ℕ → ℕ) (t : Tail) (cache after : CacheState) (old new : Life) → IsOpen sum t cache old → LeavesAll t cache after old new → LeavesWriters sum old new → LeavesAllTails sum cache after old new
+    → LeavesOthers t.id cache after → OnlyLooks sum t cache after old new
+read_looks sum t cache after old new opened leaves writers tails others =
     let stands = tails t (told t old.present.readable) opened.stands in
     record {
-      opened = still_open sum t cache behind old new opened stands;
-      holds = still_tells sum t cache behind old new opened stands;
+      opened = still_open sum t cache after old new opened stands;
+      holds = still_tells sum t cache after old new opened stands;
       looked = leaves.looked;
       sound = λ w sound. (writers w sound).sound;
       tails = tails;
@@ -124,8 +124,8 @@ looks_start sum t cache life opened = record {
 }
 
 -- one after another
-pub looks_join : (sum : List ℕ → ℕ) (t : Tail) (cache between behind : CacheState) (old mid new : Life) → OnlyLooks sum t cache between old mid → OnlyLooks sum t between behind mid new → OnlyLooks sum t cache behind old new
-looks_join sum t cache between behind old mid new first second = record {
+pub looks_join : (sum : List ℕ → ℕ) (t : Tail) (cache between after : CacheState) (old mid new : Life) → OnlyLooks sum t cache between old mid → OnlyLooks sum t between after mid new → OnlyLooks sum t cache after old new
+looks_join sum t cache between after old mid new first second = record {
   opened = second.opened;
   holds = second.holds ∙ first.holds;
   looked = looked_joins old mid new first.looked second.looked;
@@ -135,7 +135,7 @@ looks_join sum t cache between behind old mid new first second = record {
   fresh = λ fresh. second.fresh (first.fresh fresh);
 }
 
--- ---- a crash behind such reads
+-- ---- a crash after such reads
 
 -- a disk that is the same but for its log has the same images
 image_before : (d e : Disk) (image : List ℕ) → SameButLog d e → IsImage e image → IsImage d image
@@ -172,8 +172,8 @@ unfolding IsSound
 pages_full sum w d sound = sound.stands.full
 
 -- so it stays a journal
-pub journals_stay : (sum : List ℕ → ℕ) (t : Tail) (cache behind : CacheState) (old new : Life) → OnlyLooks sum t cache behind old new → JournalsStay sum cache behind old new
-journals_stay sum t cache behind old new looks = λ w journal.
+pub journals_stay : (sum : List ℕ → ℕ) (t : Tail) (cache after : CacheState) (old new : Life) → OnlyLooks sum t cache after old new → JournalsStay sum cache after old new
+journals_stay sum t cache after old new looks = λ w journal.
     let ready = ready_of sum w cache old journal in
     let held = content w old.present.readable in
     let stood : StandsOn sum (tail_of w) held cache old.present = record {
@@ -184,7 +184,7 @@ journals_stay sum t cache behind old new looks = λ w journal.
     let same : content w new.present.readable ≡ held = stands.tail.is in
     let left_only : AllOnly sum w.page_size held held new.present = only_later sum w.page_size held old.present new.present looks.looked.same ready.only in
     record {
-      journal = is_journal sum w behind new (record {
+      journal = is_journal sum w after new (record {
         sound = looks.sound w ready.sound;
         can = stands.can;
         fresh = looks.fresh ready.fresh;
@@ -197,26 +197,26 @@ journals_stay sum t cache behind old new looks = λ w journal.
 -- ---- the next record
 
 -- none is left at the end
-pub next_none : (own : List ℕ → ℕ) (held : List ℕ) (from place : ℕ) → records own (drop from held) ≡ records own (drop place held) → length held ≤ place → IsNext own held from None place
-next_none own held from place so_far end =
-    record { goes = so_far; ends = λ none. ap (λ (l : List ℕ). records own l) (drop_all place held end) ∙ records-none own }
+pub next_none : (own : List ℕ → ℕ) (held : List ℕ) (from offset : ℕ) → records own (drop from held) ≡ records own (drop offset held) → length held ≤ offset → IsNext own held from None offset
+next_none own held from offset so_far end =
+    record { goes = so_far; ends = λ none. ap (λ (l : List ℕ). records own l) (drop_all offset held end) ∙ records-none own }
 
 -- the frame that was found is it
-pub next_some : (own : List ℕ → ℕ) (held : List ℕ) (from place : ℕ) (bytes : Option (List ℕ)) (end : ℕ) → records own (drop from held) ≡ records own (drop place held)
-    → IsFound own held place bytes end → (bytes ≡ None → ⊥) → IsNext own held from bytes end
-next_some own held from place bytes end so_far found some = record { goes = so_far ∙ found.rest; ends = λ none. absurd (some none) }
+pub next_some : (own : List ℕ → ℕ) (held : List ℕ) (from offset : ℕ) (bytes : Option (List ℕ)) (end : ℕ) → records own (drop from held) ≡ records own (drop offset held)
+    → IsFound own held offset bytes end → (bytes ≡ None → ⊥) → IsNext own held from bytes end
+next_some own held from offset bytes end so_far found some = record { goes = so_far ∙ found.rest; ends = λ none. absurd (some none) }
 
 -- it is no record, and is passed over
-pub next_later : (own : List ℕ → ℕ) (held : List ℕ) (from place : ℕ) (bytes : Option (List ℕ)) (end : ℕ) → records own (drop from held) ≡ records own (drop place held)
-    → IsFound own held place bytes end → bytes ≡ None → records own (drop from held) ≡ records own (drop end held)
-next_later own held from place bytes end so_far found none =
+pub next_later : (own : List ℕ → ℕ) (held : List ℕ) (from offset : ℕ) (bytes : Option (List ℕ)) (end : ℕ) → records own (drop from held) ≡ records own (drop offset held)
+    → IsFound own held offset bytes end → bytes ≡ None → records own (drop from held) ≡ records own (drop end held)
+next_later own held from offset bytes end so_far found none =
     so_far ∙ found.rest ∙ ap (λ (b : Option (List ℕ)). listed b ++ records own (drop end held)) none
 
 -- it wasn't read
-pub next_refused : (own : List ℕ → ℕ) (held : List ℕ) (place : ℕ) (old mid new : Life) (e : Error) (result : Result Found Error) → IsErrAnd result (λ x. x ≡ e) → Looked old mid → ReadRefused mid new e
-    → FindsNext own held place old new result
-next_refused own held place old mid new e (Ok f) is looked refused = absurd is
-next_refused own held place old mid new e (Err x) is looked refused = refused_later old mid new x looked (subst (λ (y : Error). ReadRefused mid new y) (sym is) refused)
+pub next_refused : (own : List ℕ → ℕ) (held : List ℕ) (offset : ℕ) (old mid new : Life) (e : Error) (result : Result Found Error) → IsErrAnd result (λ x. x ≡ e) → Looked old mid → ReadRefused mid new e
+    → FindsNext own held offset old new result
+next_refused own held offset old mid new e (Ok f) is looked refused = absurd is
+next_refused own held offset old mid new e (Err x) is looked refused = refused_later old mid new x looked (subst (λ (y : Error). ReadRefused mid new y) (sym is) refused)
 
 -- nothing that is found is nothing
 pub not_some : (o : Option (List ℕ)) → is_some o ≡ false → o ≡ None
@@ -225,20 +225,20 @@ not_some (Some bytes) is = cc
 
 -- ---- a reader that was made
 
-pub reader_made : (sum own : List ℕ → ℕ) (w : WriterState) (behind : CacheState) (old new : Life) (now : WriterState) (t : Tail) → IsWhole (content w old.present.readable) → GoesOn sum w old [] now new → t ≡ tail_of now
-    → CanRead (tail_of now) behind new.present → IsFresh behind → StandsOn sum t (content w old.present.readable) behind new.present → HasReader sum own w behind old new now (record { tail = t; place = 0 })
-reader_made sum own w behind old new now t whole goes is can fresh stands =
+pub reader_made : (sum own : List ℕ → ℕ) (w : WriterState) (after : CacheState) (old new : Life) (now : WriterState) (t : Tail) → IsWhole (content w old.present.readable) → GoesOn sum w old [] now new → t ≡ tail_of now
+    → CanRead (tail_of now) after new.present → IsFresh after → StandsOn sum t (content w old.present.readable) after new.present → HasReader sum own w after old new now (record { tail = t; offset = 0 })
+reader_made sum own w after old new now t whole goes is can fresh stands =
     let held = content w old.present.readable in
     let same : content now new.present.readable ≡ held = goes.content ∙ append-nil held in
     let over : told t new.present.readable ≡ held = stands.tail.is in
     let long : size_of t ≡ length (told t new.present.readable) =
     ap (λ (u : Tail). size_of u) is ∙ goes.size ∙ ap length same ∙ sym (ap length over) in
     record {
-      journal = is_journal sum now behind new (gone_on sum w old [] now behind new goes can fresh) (subst (λ (l : List ℕ). IsWhole l) (sym same) whole);
+      journal = is_journal sum now after new (gone_on sum w old [] now after new goes can fresh) (subst (λ (l : List ℕ). IsWhole l) (sym same) whole);
       holds = same;
       same = goes.same;
-      reader = is_reader sum (record { tail = t; place = 0 }) behind new
-          (record { stands = subst (λ (l : List ℕ). StandsOn sum t l behind new.present) (sym over) stands; size = long });
+      reader = is_reader sum (record { tail = t; offset = 0 }) after new
+          (record { stands = subst (λ (l : List ℕ). StandsOn sum t l after new.present) (sym over) stands; size = long });
       id = ap (λ (u : Tail). u.id) is ∙ goes.same.id;
       below = (let pages : t.full_pages ≡ now.full_pages = ap (λ (u : Tail). u.full_pages) is in omega arith);
       over = over;

@@ -13,8 +13,8 @@ use Rattle.cache.specs.CacheState.{CacheState}
 use Rattle.crash.specs.Kept.{AllOnly}
 use Rattle.crash.specs.Looks.{Looked, looked_start, looked_joins}
 use Rattle.crash.specs.Moments.{through_end}
-use Rattle.crash.specs.Sound.{content}
-use Rattle.crash.specs.WriterState.{WriterState}
+use Rattle.writer_state.specs.Sound.{content}
+use Rattle.writer_state.specs.WriterState.{WriterState}
 use Rattle.paged_read.specs.Replay.{ReplayState, IsReplayOf, FillFault, Gives, ReplaysOn, ReplaysThrough, advanced}
 use Rattle.paged_read.specs.Snapshots.{IsTailOf, LeavesAllReads, LeavesAllTails, LeavesWriters}
 use Rattle.paged_read.specs.Tail.{Tail, size_of, told}
@@ -73,7 +73,7 @@ leaves_join sum old mid new first second = record {
       reads_join sum w cache cache cache old mid new left (second.reads w cache left.ready);
 }
 
--- behind a call that asked nothing
+-- after a call that asked nothing
 pub walk_leaves : (sum : List ℕ → ℕ) (w : WriterState) (cache between : CacheState) (old mid new : Life) → IsReady sum w cache old → mid ≡ old → between ≡ cache → LeavesReady sum mid new → OnlyReads sum w cache between old new
 walk_leaves sum w cache between old mid new ready is same leaves =
     subst (λ (c : CacheState). OnlyReads sum w cache c old new) (sym same)
@@ -129,48 +129,48 @@ fault_refused sum t content old new BlobInsufficientLength of fault = fault
 fault_refused sum t content old new OffsetOverflow of fault = fault
 fault_refused sum t content old new IdsExhausted of fault = fault
 
--- it gives what it gave, behind a call that asked the device
+-- it gives what it gave, after a call that asked the device
 pub plays_on : (sum : List ℕ → ℕ) (r now : ReplayState) (content : List ℕ) (old new : Life) → Plays sum r content old.present → now.tail ≡ r.tail → ReplaysThrough r now old new → Plays sum now content new.present
 plays_on sum r now content old new plays same through = record { of = through sum content plays.of; size = ap (λ (t : Tail). size_of t) same ∙ plays.size }
 
--- and behind bytes that were taken
+-- and after bytes that were taken
 pub plays_taken : (sum : List ℕ → ℕ) (r now : ReplayState) (content : List ℕ) (d : Disk) (count : ℕ) → Plays sum r content d → now ≡ advanced count r → ReplaysOn r now → Plays sum now content d
 plays_taken sum r now content d count plays is on = record { of = on.1 sum content d plays.of; size = ap (λ (s : ReplayState). size_of s.tail) is ∙ plays.size }
 
 -- where the replay stands then
-pub place_taken : (r now : ReplayState) (count : ℕ) → now ≡ advanced count r → count ≤ length r.hand → now.position ≡ r.position + count
-place_taken r now count is enough =
+pub offset_taken : (r now : ReplayState) (count : ℕ) → now ≡ advanced count r → count ≤ length r.hand → now.position ≡ r.position + count
+offset_taken r now count is enough =
     let most : min count (length r.hand) ≡ count = omega (arith, enough) in
     ap (λ (s : ReplayState). s.position) is ∙ ap (λ n. r.position + n) most
 
--- the frame at a place, by its length and what stands behind that
-pub record Behind (own : List ℕ → ℕ) (content : List ℕ) (place len : ℕ) (rest : List ℕ) (frame : List ℕ) : Type 0 where
+-- the frame at an offset, by its length and what stands after that
+pub record After (own : List ℕ → ℕ) (content : List ℕ) (offset len : ℕ) (rest : List ℕ) (frame : List ℕ) : Type 0 where
   pub says : record_len frame ≡ len
   pub is : drop 2 frame ≡ drop 0 rest
-  pub held : record_of own frame ≡ record_of own (drop place content)
-  pub long : frame_len (drop place content) ≡ len + 7
+  pub held : record_of own frame ≡ record_of own (drop offset content)
+  pub long : frame_len (drop offset content) ≡ len + 7
 
-pub said : (content head : List ℕ) (place len : ℕ) → head ≡ take 2 (drop place content) → len ≡ record_len head → len ≡ record_len (drop place content)
-said content head place len is says = says ∙ ap (λ (l : List ℕ). record_len l) is ∙ record_len-take 2 (drop place content) (omega arith)
+pub said : (content head : List ℕ) (offset len : ℕ) → head ≡ take 2 (drop offset content) → len ≡ record_len head → len ≡ record_len (drop offset content)
+said content head offset len is says = says ∙ ap (λ (l : List ℕ). record_len l) is ∙ record_len-take 2 (drop offset content) (omega arith)
 
-pub behind : (own : List ℕ → ℕ) (content : List ℕ) (place len : ℕ) (rest : List ℕ) → len ≡ record_len (drop place content) → rest ≡ take (len + 5) (drop (place + 2) content)
-    → Behind own content place len rest (take (len + 7) (drop place content))
-behind own content place len rest says is =
-    let from = drop place content in
+pub after : (own : List ℕ → ℕ) (content : List ℕ) (offset len : ℕ) (rest : List ℕ) → len ≡ record_len (drop offset content) → rest ≡ take (len + 5) (drop (offset + 2) content)
+    → After own content offset len rest (take (len + 7) (drop offset content))
+after own content offset len rest says is =
+    let from = drop offset content in
     let long : frame_len from ≡ len + 7 = ap (λ n. n + 7) (sym says) in
     let e : len + 7 ≡ 2 + (len + 5) = omega arith in
     record {
       says = record_len-take (len + 7) from (omega arith) ∙ sym says;
-      is = ap (λ n. drop 2 (take n from)) e ∙ drop-take 2 (len + 5) from ∙ ap (λ (l : List ℕ). take (len + 5) l) (drop-drop 2 place content) ∙ sym is;
+      is = ap (λ n. drop 2 (take n from)) e ∙ drop-take 2 (len + 5) from ∙ ap (λ (l : List ℕ). take (len + 5) l) (drop-drop 2 offset content) ∙ sym is;
       held = record_of-take own (len + 7) from (omega (arith, long));
       long = long;
     }
 
 -- the next frame wasn't read
-pub frame_refused : (sum own : List ℕ → ℕ) (now : ReplayState) (content : List ℕ) (place : ℕ) (old new : Life) (e : Error) (result : Result (Option Found) Error) → IsErrAnd result (λ x. x ≡ e) → ReadRefused old new e
-    → PlaysFrame sum own now content place old new result
-frame_refused sum own now content place old new e (Ok f) is refused = absurd is
-frame_refused sum own now content place old new e (Err x) is refused = subst (λ (y : Error). ReadRefused old new y) (sym is) refused
+pub frame_refused : (sum own : List ℕ → ℕ) (now : ReplayState) (content : List ℕ) (offset : ℕ) (old new : Life) (e : Error) (result : Result (Option Found) Error) → IsErrAnd result (λ x. x ≡ e) → ReadRefused old new e
+    → PlaysFrame sum own now content offset old new result
+frame_refused sum own now content offset old new e (Ok f) is refused = absurd is
+frame_refused sum own now content offset old new e (Err x) is refused = subst (λ (y : Error). ReadRefused old new y) (sym is) refused
 
 -- nor all records
 pub all_refused : (own : List ℕ → ℕ) (content : List ℕ) (old new : Life) (e : Error) (result : Result (Vec (List ℕ) Global × ℕ) Error) → IsErrAnd result (λ x. x ≡ e) → ReadRefused old new e → PlaysAll own content old new result
@@ -181,7 +181,7 @@ pub walk_refused : (own : List ℕ → ℕ) (w : WriterState) (old new : Life) (
 walk_refused own w old new e (Ok r) is refused = absurd is
 walk_refused own w old new e (Err x) is refused = subst (λ (y : Error). ReadRefused old new y) (sym is) refused
 
--- so many bytes that were given, from a place on
-pub given : (r : ReplayState) (bytes content : List ℕ) (sum : List ℕ → ℕ) (d : Disk) (place count : ℕ) → Plays sum r content d → (length bytes ≡ count) × Gives r bytes → r.position ≡ place → bytes ≡ take count (drop place content)
-given r bytes content sum d place count plays gives at =
+-- so many bytes that were given, from an offset on
+pub given : (r : ReplayState) (bytes content : List ℕ) (sum : List ℕ → ℕ) (d : Disk) (offset count : ℕ) → Plays sum r content d → (length bytes ≡ count) × Gives r bytes → r.position ≡ offset → bytes ≡ take count (drop offset content)
+given r bytes content sum d offset count plays gives at =
     gives.1 sum content d plays.of ∙ ap₂ (λ n p. take n (drop p content)) gives.0 at

@@ -1,4 +1,4 @@
--- A journal's bytes: frames one behind another, of which some are records. A byte that a frame
+-- A journal's bytes: frames one after another, of which some are records. A byte that a frame
 -- lacks counts as 0.
 use Rattle.std.specs.Prelude.{◌≡◌, ◌&&◌, ◌==◌, ℕ, zero, suc, ◌+◌, List, [], ◌∷◌, ◌++◌, length}
 use Rattle.std.specs.Prelude.{take, drop, nat_lt, Bool, Option, Some, None, if◌then◌else◌}

@@ -12,18 +12,18 @@ use Rattle.cache.specs.Pages.{IsFresh}
 use Rattle.crash.specs.Guard.{IsChanceFree}
 use Rattle.crash.specs.Kept.{AllKeep, Through}
 use Rattle.crash.specs.Looks.{Looked}
-use Rattle.crash.specs.Sound.{IsSound, LeavesItsContent, content}
+use Rattle.writer_state.specs.Sound.{IsSound, LeavesItsContent, content}
 use Rattle.crash.specs.Stays.{KeepsAllFloors, LeavesOnly}
-use Rattle.crash.specs.WriterState.{WriterState}
+use Rattle.writer_state.specs.WriterState.{WriterState}
 use Rattle.paged_read.specs.Snapshots.{LeavesOthers, LeavesTails}
 use Rattle.paged_read.specs.Tail.{CanRead}
 use Rattle.paged.specs.Caches.{tail_of}
-use Rattle.paged.specs.Calls.{IsSameWriter, HasCause}
+use Rattle.paged.specs.Calls.{IsSameWriter, CallCause}
 use Rattle.paged.specs.Reads.{size_of}
 use Rattle.paged.specs.Recovery.{IsDurable}
 use Rattle.paged.specs.Recovers.{Recovers}
 use Rattle.paged.specs.Truncate.{Truncates}
-use Rattle.paged.specs.Writer.{physical_size}
+use Rattle.paged.specs.Writer.{physical_blob_size}
 use Rattle.journal.specs.declared.frame.Found.{Found}
 use Rattle.journal.specs.Frame.{frame, frame_len, record_of, records, listed, whole_frames}
 use Rattle.journal.specs.Frame.{IsWhole, IsPrefix}
@@ -52,15 +52,15 @@ IsJournal sum w cache life = StandsAsJournal sum w cache life
 
 -- a call over the blob with this id: every other journal that has this cache stays one
 abbrev pub OthersStay : ℕ → CacheState → CacheState → Type 0
-OthersStay id cache behind =
+OthersStay id cache after =
     (sum : List ℕ → ℕ) (w : WriterState) (life : Life) → w.id ≢ id
-    → IsJournal sum w cache life → IsJournal sum w behind life
+    → IsJournal sum w cache life → IsJournal sum w after life
 
 -- one over a blob that is new to the cache: every journal does
 abbrev pub AllStay : CacheState → CacheState → Type 0
-AllStay cache behind =
+AllStay cache after =
     (sum : List ℕ → ℕ) (w : WriterState) (life : Life)
-    → IsJournal sum w cache life → IsJournal sum w behind life
+    → IsJournal sum w cache life → IsJournal sum w after life
 
 -- no journal that has this cache has this id
 abbrev pub IsNewId : ℕ → CacheState → Type 0
@@ -74,11 +74,11 @@ LeavesContent sum P content old new = LeavesOnly sum P content content old new
 -- reads: the writer is ready again, the content is the same, snapshots and whoever reads other
 -- blobs stand as they stood, and a crash at any moment since keeps and leaves what one before them
 -- did
-pub record OnlyReads (sum : List ℕ → ℕ) (w : WriterState) (cache behind : CacheState)
+pub record OnlyReads (sum : List ℕ → ℕ) (w : WriterState) (cache after : CacheState)
     (old new : Life) : Type 0 where
-  pub ready : IsReady sum w behind new
-  pub tails : LeavesTails sum w.full_pages cache behind old new
-  pub others : LeavesOthers w.id cache behind
+  pub ready : IsReady sum w after new
+  pub tails : LeavesTails sum w.full_pages cache after old new
+  pub others : LeavesOthers w.id cache after
   pub holds : content w new.present.readable ≡ content w old.present.readable
   pub looked : Looked old new
   pub kept : KeepsAllFloors sum w.page_size old new
@@ -118,21 +118,21 @@ abbrev pub LeavesItsRecords : (sum own : List ℕ → ℕ) → WriterState → L
 LeavesItsRecords sum own w old new =
     LeavesRecords sum own w.page_size (records own (content w old.present.readable)) old new
 
--- and of its records with one behind them
+-- and of its records with one after them
 abbrev pub LeavesOneMore : (sum own : List ℕ → ℕ) → WriterState → List ℕ → Life → Life → Type 0
 LeavesOneMore sum own w bytes old new =
     let all = records own (content w old.present.readable) in
     LeavesRecords sum own w.page_size (all ++ bytes ∷ []) old new
 
--- a record was appended: at this place, behind the records that there were
+-- a record was appended: at this offset, after the records that there were
 pub record IsAppended (sum own : List ℕ → ℕ) (w : WriterState) (bytes : List ℕ)
-    (behind : CacheState) (old new : Life) (now : WriterState) (place : ℕ) : Type 0 where
-  pub at : place ≡ length (content w old.present.readable)
-  pub journal : IsJournal sum now behind new
+    (after : CacheState) (old new : Life) (now : WriterState) (offset : ℕ) : Type 0 where
+  pub at : offset ≡ length (content w old.present.readable)
+  pub journal : IsJournal sum now after new
   pub holds : content now new.present.readable ≡ content w old.present.readable ++ frame own bytes
   pub added : records own (content now new.present.readable)
       ≡ records own (content w old.present.readable) ++ bytes ∷ []
-  pub there : record_of own (drop place (content now new.present.readable)) ≡ Some bytes
+  pub there : record_of own (drop offset (content now new.present.readable)) ≡ Some bytes
   pub same : IsSameWriter w now
   -- what was committed of the content before is of the content now
   pub commits : (n : ℕ) (d : Disk)
@@ -141,25 +141,25 @@ pub record IsAppended (sum own : List ℕ → ℕ) (w : WriterState) (bytes : Li
 
 abbrev pub AppendsRecord : (sum own : List ℕ → ℕ) → WriterState → List ℕ → CacheState → Life
     → Life → Result (WriterState × ℕ) Error → Type 0
-AppendsRecord sum own w bytes behind old new (Ok r) =
-    IsAppended sum own w bytes behind old new r.0 r.1
-AppendsRecord sum own w bytes behind old new (Err OffsetOverflow) =
+AppendsRecord sum own w bytes after old new (Ok r) =
+    IsAppended sum own w bytes after old new r.0 r.1
+AppendsRecord sum own w bytes after old new (Err OffsetOverflow) =
     (new ≡ old)
-    × (2 ^ 64 ≤ physical_size w.page_size w.full_pages (length w.tip + (length bytes + 7)))
-AppendsRecord sum own w bytes behind old new (Err e) = HasCause w.sync old new e
+    × (2 ^ 64 ≤ physical_blob_size w.page_size w.full_pages (length w.tip + (length bytes + 7)))
+AppendsRecord sum own w bytes after old new (Err e) = CallCause w.sync old new e
 
 -- all records were committed
-pub record IsCommitted (sum own : List ℕ → ℕ) (w : WriterState) (behind : CacheState)
+pub record IsCommitted (sum own : List ℕ → ℕ) (w : WriterState) (after : CacheState)
     (old new : Life) (now : WriterState) : Type 0 where
-  pub journal : IsJournal sum now behind new
+  pub journal : IsJournal sum now after new
   pub holds : content now new.present.readable ≡ content w old.present.readable
   pub same : IsSameWriter w now
   pub all : CommitsAll sum own now.page_size (content now new.present.readable) new.present
 
 abbrev pub CommitGoes : (sum own : List ℕ → ℕ) → WriterState → CacheState → Life → Life
     → Result WriterState Error → Type 0
-CommitGoes sum own w behind old new (Ok now) = IsCommitted sum own w behind old new now
-CommitGoes sum own w behind old new (Err e) = HasCause w.sync old new e
+CommitGoes sum own w after old new (Ok now) = IsCommitted sum own w after old new now
+CommitGoes sum own w after old new (Err e) = CallCause w.sync old new e
 
 -- why a read within the content may answer this error: the device failed in the call, or memory was
 -- refused
@@ -169,31 +169,31 @@ ReadRefused old new OutOfMemory = Unit {0}
 ReadRefused old new _ = ⊥
 
 -- a read of bytes within a content
-abbrev pub ReadsBytes : List ℕ → (place len : ℕ) → Life → Life → Result (List ℕ) Error → Type 0
-ReadsBytes content place len old new (Ok bytes) = bytes ≡ take len (drop place content)
-ReadsBytes content place len old new (Err e) = ReadRefused old new e
+abbrev pub ReadsBytes : List ℕ → (offset len : ℕ) → Life → Life → Result (List ℕ) Error → Type 0
+ReadsBytes content offset len old new (Ok bytes) = bytes ≡ take len (drop offset content)
+ReadsBytes content offset len old new (Err e) = ReadRefused old new e
 
--- a read of the frame at a place behind which so many bytes stand, where it may be cut short
-abbrev pub ReadsFrame : List ℕ → (place rest : ℕ) → Life → Life → Result (List ℕ) Error → Type 0
-ReadsFrame content place rest old new (Ok bytes) =
-    let behind = drop place content in bytes ≡ take (min (frame_len behind) rest) behind
-ReadsFrame content place rest old new (Err e) = ReadRefused old new e
+-- a read of the frame at an offset after which so many bytes stand, where it may be cut short
+abbrev pub ReadsFrame : List ℕ → (offset rest : ℕ) → Life → Life → Result (List ℕ) Error → Type 0
+ReadsFrame content offset rest old new (Ok bytes) =
+    let after = drop offset content in bytes ≡ take (min (frame_len after) rest) after
+ReadsFrame content offset rest old new (Err e) = ReadRefused old new e
 
--- the frame that begins at a place of a content: its record, if it is one, the place behind it, and
--- the records from there on
-pub record IsFound (own : List ℕ → ℕ) (content : List ℕ) (place : ℕ) (bytes : Option (List ℕ))
+-- the frame that begins at an offset of a content: its record, if it is one, the offset after it,
+-- and the records from there on
+pub record IsFound (own : List ℕ → ℕ) (content : List ℕ) (offset : ℕ) (bytes : Option (List ℕ))
     (end : ℕ) : Type 0 where
-  pub within : place < length content
-  pub held : bytes ≡ record_of own (drop place content)
-  pub behind : end ≡ place + min (frame_len (drop place content)) (length content - place)
-  pub rest : records own (drop place content) ≡ listed bytes ++ records own (drop end content)
+  pub within : offset < length content
+  pub held : bytes ≡ record_of own (drop offset content)
+  pub after : end ≡ offset + min (frame_len (drop offset content)) (length content - offset)
+  pub rest : records own (drop offset content) ≡ listed bytes ++ records own (drop end content)
 
--- a read of the frame at a place: none begins at the end or behind it
+-- a read of the frame at an offset: none begins at the end or after it
 abbrev pub ReadsRecord : (own : List ℕ → ℕ) → List ℕ → ℕ → Life → Life
     → Result (Option Found) Error → Type 0
-ReadsRecord own content place old new (Ok None) = length content ≤ place
-ReadsRecord own content place old new (Ok (Some f)) = IsFound own content place f.bytes f.end
-ReadsRecord own content place old new (Err e) = ReadRefused old new e
+ReadsRecord own content offset old new (Ok None) = length content ≤ offset
+ReadsRecord own content offset old new (Ok (Some f)) = IsFound own content offset f.bytes f.end
+ReadsRecord own content offset old new (Err e) = ReadRefused old new e
 
 -- a walk over all records, and over how many bytes the whole frames have: the writer stays as it is
 abbrev pub ReadsAll : (own : List ℕ → ℕ) → WriterState → Life → Life
@@ -205,19 +205,19 @@ ReadsAll own w old new (Ok r) =
 ReadsAll own w old new (Err e) = ReadRefused old new e
 
 -- the whole frames are left of a content; these are the records
-pub record IsTrimmed (sum own : List ℕ → ℕ) (w : WriterState) (behind : CacheState)
+pub record IsTrimmed (sum own : List ℕ → ℕ) (w : WriterState) (after : CacheState)
     (old new : Life) (now : WriterState) (found : List (List ℕ)) : Type 0 where
-  pub ready : IsReady sum now behind new
+  pub ready : IsReady sum now after new
   pub holds : content now new.present.readable ≡ whole_frames (content w old.present.readable)
   pub given : found ≡ records own (content w old.present.readable)
   pub page_size : now.page_size ≡ w.page_size
   pub id : now.id ≡ w.id
 
--- they aren't: a read of the content was refused, or the cut behind them, where there is more
+-- they aren't: a read of the content was refused, or the cut after them, where there is more
 abbrev pub Trims : (sum own : List ℕ → ℕ) → WriterState → CacheState → Life → Life
     → Result (WriterState × Vec (List ℕ) Global) Error → Type 0
-Trims sum own w behind old new (Ok r) = IsTrimmed sum own w behind old new r.0 r.1.items
-Trims sum own w behind old new (Err e) =
+Trims sum own w after old new (Ok r) = IsTrimmed sum own w after old new r.0 r.1.items
+Trims sum own w after old new (Err e) =
     let whole = whole_frames (content w old.present.readable) in
     ReadRefused old new e
     ⊎ ((mid : Life) × Looked old mid × (length whole < size_of w)
@@ -225,11 +225,11 @@ Trims sum own w behind old new (Err e) =
 
 -- a journal was recovered, under the cache's next id: its content is the whole frames of the text
 -- that was readable; these are its records, and all of them are committed
-pub record HasRecovered (sum own : List ℕ → ℕ) (cache behind : CacheState) (old new : Life)
+pub record HasRecovered (sum own : List ℕ → ℕ) (cache after : CacheState) (old new : Life)
     (w : WriterState) (found : List (List ℕ)) : Type 0 where
   pub page_size : w.page_size ≡ cache.page_size
   pub id : w.id ≡ cache.ids_given
-  pub journal : IsJournal sum w behind new
+  pub journal : IsJournal sum w after new
   pub holds : content w new.present.readable
       ≡ whole_frames (text sum cache.page_size old.present.readable)
   pub given : found ≡ records own (text sum cache.page_size old.present.readable)
@@ -237,14 +237,14 @@ pub record HasRecovered (sum own : List ℕ → ℕ) (cache behind : CacheState)
   pub all : CommitsAll sum own cache.page_size (content w new.present.readable) new.present
 
 -- a recovery: that of the blob was refused, or it ended well and the content wasn't trimmed
-abbrev pub RecoversJournal : (sum own : List ℕ → ℕ) → (cache behind : CacheState) → ℕ → Life
+abbrev pub RecoversJournal : (sum own : List ℕ → ℕ) → (cache after : CacheState) → ℕ → Life
     → Life → Result (WriterState × Vec (List ℕ) Global) Error → Type 0
-RecoversJournal sum own cache behind capacity old new (Ok r) =
-    HasRecovered sum own cache behind old new r.0 r.1.items
-RecoversJournal sum own cache behind capacity old new (Err e) =
+RecoversJournal sum own cache after capacity old new (Ok r) =
+    HasRecovered sum own cache after old new r.0 r.1.items
+RecoversJournal sum own cache after capacity old new (Err e) =
     Recovers sum cache capacity old new (Err e)
     ⊎ ((mid : Life) × (w : WriterState) × Recovers sum cache capacity old mid (Ok w)
-    × Trims sum own w behind mid new (Err e))
+    × Trims sum own w after mid new (Err e))
 
 -- what was committed at one moment still is at a later one
 abbrev pub StaysCommitted : (sum own : List ℕ → ℕ) → ℕ → Disk → Disk → Type 0

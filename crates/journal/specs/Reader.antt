@@ -6,19 +6,19 @@ use Rattle.disk.specs.declared.error.Error.{Error}
 use Rattle.cache.specs.CacheState.{CacheState}
 use Rattle.cache.specs.Pages.{IsFresh}
 use Rattle.crash.specs.Looks.{Looked}
-use Rattle.crash.specs.Sound.{IsSound, content}
-use Rattle.crash.specs.WriterState.{WriterState}
+use Rattle.writer_state.specs.Sound.{IsSound, content}
+use Rattle.writer_state.specs.WriterState.{WriterState}
 use Rattle.paged_read.specs.Snapshots.{LeavesAllTails, LeavesOthers, StandsOn}
 use Rattle.paged_read.specs.Tail.{Tail, told, size_of}
-use Rattle.paged.specs.Calls.{HasCause, IsSameWriter}
+use Rattle.paged.specs.Calls.{CallCause, IsSameWriter}
 use Rattle.journal.specs.declared.frame.Found.{Found}
 use Rattle.journal.specs.Frame.{listed, records}
 use Rattle.journal.specs.Journal.{IsJournal, LeavesItsRecords, ReadRefused}
 
--- a snapshot of a journal's blob, and the place of the frame that is read next
+-- a snapshot of a journal's blob, and the offset of the frame that is read next
 pub record ReaderState : Type 0 where
   pub tail : Tail
-  pub place : ℕ
+  pub offset : ℕ
 
 -- the content that a reader goes over
 abbrev pub read_over : ReaderState → Life → List ℕ
@@ -26,7 +26,7 @@ read_over r life = told r.tail life.present.readable
 
 -- the records that it is still to answer, in order
 abbrev pub left : (own : List ℕ → ℕ) → ReaderState → Life → List (List ℕ)
-left own r life = records own (drop r.place (read_over r life))
+left own r life = records own (drop r.offset (read_over r life))
 
 -- a snapshot that tells its content, and can be read with this cache
 pub record IsOpen (sum : List ℕ → ℕ) (t : Tail) (cache : CacheState) (life : Life) : Type 0 where
@@ -39,34 +39,34 @@ unfoldable pub IsReader : (List ℕ → ℕ) → ReaderState → CacheState → 
 IsReader sum r cache life = IsOpen sum r.tail cache life
 
 -- a reader stays one, of the same content
-pub record StaysReader (sum : List ℕ → ℕ) (r : ReaderState) (behind : CacheState) (old new : Life)
+pub record StaysReader (sum : List ℕ → ℕ) (r : ReaderState) (after : CacheState) (old new : Life)
     : Type 0 where
-  pub reader : IsReader sum r behind new
+  pub reader : IsReader sum r after new
   pub holds : read_over r new ≡ read_over r old
 
 -- a call of a journal, whatever it answers: each reader of its blob does whose pages lie below the
 -- journal's tip, as they do of each that it made
 abbrev pub ReadersStay : (List ℕ → ℕ) → WriterState → CacheState → CacheState → Life → Life → Type 0
-ReadersStay sum w cache behind old new =
+ReadersStay sum w cache after old new =
     (r : ReaderState) → r.tail.full_pages ≤ w.full_pages → IsReader sum r cache old
-    → StaysReader sum r behind old new
+    → StaysReader sum r after old new
 
 -- a call that only reads the blob: each reader of the blob does
 abbrev pub AllReadersStay : (List ℕ → ℕ) → CacheState → CacheState → Life → Life → Type 0
-AllReadersStay sum cache behind old new =
-    (r : ReaderState) → IsReader sum r cache old → StaysReader sum r behind old new
+AllReadersStay sum cache after old new =
+    (r : ReaderState) → IsReader sum r cache old → StaysReader sum r after old new
 
 -- a call over the blob with this id: each reader of another blob, with this cache, stays one
 abbrev pub OtherReadersStay : ℕ → CacheState → CacheState → Type 0
-OtherReadersStay id cache behind =
+OtherReadersStay id cache after =
     (sum : List ℕ → ℕ) (r : ReaderState) (life : Life) → r.tail.id ≢ id
-    → IsReader sum r cache life → IsReader sum r behind life
+    → IsReader sum r cache life → IsReader sum r after life
 
 -- one over a blob that is new to the cache: each of another blob does
 abbrev pub EachReaderStays : CacheState → CacheState → Type 0
-EachReaderStays cache behind =
+EachReaderStays cache after =
     (sum : List ℕ → ℕ) (r : ReaderState) (life : Life)
-    → IsReader sum r cache life → IsReader sum r behind life
+    → IsReader sum r cache life → IsReader sum r after life
 
 -- no reader that has this cache is of a blob with this id
 abbrev pub IsNewToReaders : ℕ → CacheState → Type 0
@@ -75,28 +75,28 @@ IsNewToReaders id cache =
 
 -- reads of a snapshot: it can be read on, over the same content; each writer of the blob stays
 -- sound, each snapshot stands, and so does what reads of other blobs stand on
-pub record OnlyLooks (sum : List ℕ → ℕ) (t : Tail) (cache behind : CacheState) (old new : Life)
+pub record OnlyLooks (sum : List ℕ → ℕ) (t : Tail) (cache after : CacheState) (old new : Life)
     : Type 0 where
-  pub opened : IsOpen sum t behind new
+  pub opened : IsOpen sum t after new
   pub holds : told t new.present.readable ≡ told t old.present.readable
   pub looked : Looked old new
   pub sound : (w : WriterState) → IsSound sum w old.present → IsSound sum w new.present
-  pub tails : LeavesAllTails sum cache behind old new
-  pub others : LeavesOthers t.id cache behind
-  pub fresh : IsFresh cache → IsFresh behind
+  pub tails : LeavesAllTails sum cache after old new
+  pub others : LeavesOthers t.id cache after
+  pub fresh : IsFresh cache → IsFresh after
 
--- the next record of a content from a place on, and the place behind its frame; none is left where
--- it finds none
-pub record IsNext (own : List ℕ → ℕ) (content : List ℕ) (place : ℕ) (bytes : Option (List ℕ))
+-- the next record of a content from an offset on, and the offset after its frame; none is left
+-- where it finds none
+pub record IsNext (own : List ℕ → ℕ) (content : List ℕ) (offset : ℕ) (bytes : Option (List ℕ))
     (end : ℕ) : Type 0 where
-  pub goes : records own (drop place content) ≡ listed bytes ++ records own (drop end content)
+  pub goes : records own (drop offset content) ≡ listed bytes ++ records own (drop end content)
   pub ends : bytes ≡ None → records own (drop end content) ≡ []
 
 abbrev pub FindsNext : (own : List ℕ → ℕ) → List ℕ → ℕ → Life → Life → Result Found Error → Type 0
-FindsNext own content place old new (Ok f) = IsNext own content place f.bytes f.end
-FindsNext own content place old new (Err e) = ReadRefused old new e
+FindsNext own content offset old new (Ok f) = IsNext own content offset f.bytes f.end
+FindsNext own content offset old new (Err e) = ReadRefused old new e
 
--- a reader moved on behind its next record, where there is one
+-- a reader moved on after its next record, where there is one
 pub record MovesOn (own : List ℕ → ℕ) (r now : ReaderState) (old new : Life)
     (bytes : Option (List ℕ)) : Type 0 where
   pub same : now.tail ≡ r.tail
@@ -111,15 +111,15 @@ ReadsNext own r now old new (Ok bytes) = MovesOn own r now old new bytes
 ReadsNext own r now old new (Err e) = (now ≡ r) × ReadRefused old new e
 
 -- a journal stays one, with the same content
-pub record StaysJournal (sum : List ℕ → ℕ) (w : WriterState) (behind : CacheState) (old new : Life)
+pub record StaysJournal (sum : List ℕ → ℕ) (w : WriterState) (after : CacheState) (old new : Life)
     : Type 0 where
-  pub journal : IsJournal sum w behind new
+  pub journal : IsJournal sum w after new
   pub holds : content w new.present.readable ≡ content w old.present.readable
 
 -- a call of a reader: each journal of its blob does
 abbrev pub JournalsStay : (List ℕ → ℕ) → CacheState → CacheState → Life → Life → Type 0
-JournalsStay sum cache behind old new =
-    (w : WriterState) → IsJournal sum w cache old → StaysJournal sum w behind old new
+JournalsStay sum cache after old new =
+    (w : WriterState) → IsJournal sum w cache old → StaysJournal sum w after old new
 
 -- and chance aside a crash at any moment since leaves only the first of its records
 abbrev pub LeavesTheirRecords : (sum own : List ℕ → ℕ) → CacheState → Life → Life → Type 0
@@ -127,12 +127,12 @@ LeavesTheirRecords sum own cache old new =
     (w : WriterState) → IsJournal sum w cache old → LeavesItsRecords sum own w old new
 
 -- a reader of all records of a journal was made: its pages lie below the journal's tip
-pub record HasReader (sum own : List ℕ → ℕ) (w : WriterState) (behind : CacheState)
+pub record HasReader (sum own : List ℕ → ℕ) (w : WriterState) (after : CacheState)
     (old new : Life) (now : WriterState) (r : ReaderState) : Type 0 where
-  pub journal : IsJournal sum now behind new
+  pub journal : IsJournal sum now after new
   pub holds : content now new.present.readable ≡ content w old.present.readable
   pub same : IsSameWriter w now
-  pub reader : IsReader sum r behind new
+  pub reader : IsReader sum r after new
   pub id : r.tail.id ≡ w.id
   pub below : r.tail.full_pages ≤ now.full_pages
   pub over : read_over r new ≡ content w old.present.readable
@@ -140,5 +140,5 @@ pub record HasReader (sum own : List ℕ → ℕ) (w : WriterState) (behind : Ca
 
 abbrev pub MakesReader : (sum own : List ℕ → ℕ) → WriterState → CacheState → Life → Life
     → Result (WriterState × ReaderState) Error → Type 0
-MakesReader sum own w behind old new (Ok r) = HasReader sum own w behind old new r.0 r.1
-MakesReader sum own w behind old new (Err e) = HasCause w.sync old new e
+MakesReader sum own w after old new (Ok r) = HasReader sum own w after old new r.0 r.1
+MakesReader sum own w after old new (Err e) = CallCause w.sync old new e

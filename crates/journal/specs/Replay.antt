@@ -6,7 +6,7 @@ use Rattle.disk.specs.Disk.{Disk, Life}
 use Rattle.disk.specs.declared.error.Error.{Error}
 use Rattle.cache.specs.CacheState.{CacheState}
 use Rattle.crash.specs.Looks.{Looked}
-use Rattle.crash.specs.WriterState.{WriterState}
+use Rattle.writer_state.specs.WriterState.{WriterState}
 use Rattle.paged_read.specs.Replay.{ReplayState, IsReplayOf}
 use Rattle.paged_read.specs.Tail.{size_of}
 use Rattle.journal.specs.declared.frame.Found.{Found}
@@ -24,24 +24,24 @@ pub record LeavesReady (sum : List ℕ → ℕ) (old new : Life) : Type 0 where
   pub reads : (w : WriterState) (cache : CacheState)
       → IsReady sum w cache old → OnlyReads sum w cache cache old new
 
--- the whole frame that begins at a place of a content: its record, if it is one, and the place
--- behind it, where the replay stands now
-pub record IsPlayed (sum own : List ℕ → ℕ) (now : ReplayState) (content : List ℕ) (place : ℕ)
+-- the whole frame that begins at an offset of a content: its record, if it is one, and the offset
+-- after it, where the replay stands now
+pub record IsPlayed (sum own : List ℕ → ℕ) (now : ReplayState) (content : List ℕ) (offset : ℕ)
     (bytes : Option (List ℕ)) (end : ℕ) (d : Disk) : Type 0 where
   pub plays : Plays sum now content d
   pub at : end ≡ now.position
-  pub held : bytes ≡ record_of own (drop place content)
-  pub behind : end ≡ place + frame_len (drop place content)
+  pub held : bytes ≡ record_of own (drop offset content)
+  pub after : end ≡ offset + frame_len (drop offset content)
   pub within : end ≤ length content
 
 -- the next frame of a replay: none is whole where the content ends before it does
-abbrev pub PlaysFrame : (sum own : List ℕ → ℕ) → ReplayState → List ℕ → (place : ℕ) → Life → Life
+abbrev pub PlaysFrame : (sum own : List ℕ → ℕ) → ReplayState → List ℕ → (offset : ℕ) → Life → Life
     → Result (Option Found) Error → Type 0
-PlaysFrame sum own now content place old new (Ok None) =
-    length content < place + frame_len (drop place content)
-PlaysFrame sum own now content place old new (Ok (Some f)) =
-    IsPlayed sum own now content place f.bytes f.end new.present
-PlaysFrame sum own now content place old new (Err e) = ReadRefused old new e
+PlaysFrame sum own now content offset old new (Ok None) =
+    length content < offset + frame_len (drop offset content)
+PlaysFrame sum own now content offset old new (Ok (Some f)) =
+    IsPlayed sum own now content offset f.bytes f.end new.present
+PlaysFrame sum own now content offset old new (Err e) = ReadRefused old new e
 
 -- all records of a content, and how many bytes its whole frames have
 abbrev pub PlaysAll : (own : List ℕ → ℕ) → List ℕ → Life → Life

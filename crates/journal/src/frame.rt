@@ -13,7 +13,7 @@ pub const MOST_BYTES: usize = 65_535;
 /// How many bytes of a frame stand in front of its record: the length.
 pub const IN_FRONT: usize = 2;
 
-/// How many stand behind it: the checksum and the mark.
+/// How many stand after it: the checksum and the mark.
 pub const BEHIND: usize = 5;
 
 /// A frame that was found in a journal.
@@ -21,7 +21,7 @@ pub const BEHIND: usize = 5;
 pub struct Found {
     /// The record; none where the frame is passed over.
     pub bytes: Option<IoBuf>,
-    /// The place behind the frame.
+    /// The offset after the frame.
     pub end: u64,
 }
 
@@ -40,12 +40,16 @@ pub fn frame_of<R: Sum>(alloc: Global, bytes: &[u8]) -> Result<Vec<u8>, Error>
     Ok(framed)
 }
 
-// The byte at a place of some bytes, 0 behind their end.
-fn byte_at(bytes: &[u8], place: usize) -> u8
-    ensures byte { result ≡ slice_index bytes.now place }
-    ensures within { 0 < result → place < length bytes.now }
+// The byte at an offset of some bytes, 0 after their end.
+fn byte_at(bytes: &[u8], offset: usize) -> u8
+    ensures byte { result ≡ slice_index bytes.now offset }
+    ensures within { 0 < result → offset < length bytes.now }
 {
-    if place < bytes.len() { bytes[place] } else { 0 }
+    if offset < bytes.len() {
+        bytes[offset]
+    } else {
+        0
+    }
 }
 
 /// How many bytes the frame at the front of these says that its record has.
@@ -57,7 +61,7 @@ pub fn record_len_of(bytes: &[u8]) -> usize
     usize::from(u16::from_be_bytes([byte_at(bytes, 0), byte_at(bytes, 1)]))
 }
 
-// Whether a frame is a record. So many bytes are to be its record's, and these stand behind its
+// Whether a frame is a record. So many bytes are to be its record's, and these stand after its
 // length.
 fn is_record_of<R: Sum>(len: usize, bytes: &[u8]) -> bool
     requires { len < 2 ^ 16 }
@@ -78,23 +82,23 @@ fn is_record_of<R: Sum>(len: usize, bytes: &[u8]) -> bool
 }
 
 /// The record of a frame, if it is one. So many bytes are to be the record's, and what stands
-/// behind the frame's length begins at a place of these. It answers `OutOfMemory` alone.
-pub fn record_behind<R: Sum>(
+/// after the frame's length begins at an offset of these. It answers `OutOfMemory` alone.
+pub fn record_after<R: Sum>(
     len: usize,
     bytes: &IoBuf,
-    place: usize,
+    offset: usize,
 ) -> Result<Option<IoBuf>, Error>
     requires small { len < 2 ^ 16 }
-    requires within { place ≤ length bytes.now }
+    requires within { offset ≤ length bytes.now }
     ensures found { (frame : List ℕ) → record_len frame ≡ len
-        → drop 2 frame ≡ drop place bytes.now
+        → drop 2 frame ≡ drop offset bytes.now
         → IfOk result (λ found. found ≡ record_of R.sum_of frame) }
     ensures err { IsOkUnless result Error.OutOfMemory }
 {
-    if !is_record_of::<R>(len, &bytes.as_ref()[place..]) {
+    if !is_record_of::<R>(len, &bytes.as_ref()[offset..]) {
         return Ok(None);
     }
-    Ok(Some(bytes.slice(place, place + len)?))
+    Ok(Some(bytes.slice(offset, offset + len)?))
 }
 
 /// The record of the frame at the front of some bytes, if it is one. It answers `OutOfMemory`
@@ -106,5 +110,5 @@ pub fn record_at<R: Sum>(bytes: &IoBuf) -> Result<Option<IoBuf>, Error>
     if bytes.len() < IN_FRONT {
         return Ok(None);
     }
-    record_behind::<R>(record_len_of(bytes.as_ref()), bytes, IN_FRONT)
+    record_after::<R>(record_len_of(bytes.as_ref()), bytes, IN_FRONT)
 }

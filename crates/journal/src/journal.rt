@@ -3,7 +3,7 @@ ghost use Rattle.std.specs.Prelude.{◌≡◌, ◌+◌, ◌*◌, ◌^◌, ◌<�
 ghost use Rattle.std.specs.Prelude.{IfOk, OnOk};
 ghost use Rattle.cache.specs.Pages.{IsFresh};
 ghost use Rattle.crash.specs.Looks.{Looked};
-ghost use Rattle.crash.specs.Sound.{IsSound, content};
+ghost use Rattle.writer_state.specs.Sound.{IsSound, content};
 ghost use Rattle.crash.specs.Stays.{KeepsAll, KeepsAllFloors, LeavesOnly};
 ghost use Rattle.page.specs.Page.{text};
 ghost use Rattle.paged.specs.Calls.{Appends, IsSettled, Syncs};
@@ -35,7 +35,7 @@ use std::alloc::Global;
 use std::marker::{Model, PhantomData};
 use std::num::NonZeroUsize;
 
-/// A journal: records, one behind another, in a blob of the type `B` with pages under the checksum
+/// A journal: records, one after another, in a blob of the type `B` with pages under the checksum
 /// function `H`. Each record has a checksum of its own, by `R`.
 ///
 /// The blob and the cache are lent to each call, as a writer's are: always the same ones, and many
@@ -49,7 +49,7 @@ pub struct Journal<B, H, R> {
 }
 
 impl<B, H, R> Model for Journal<B, H, R> {
-    ghost use Rattle.crash.specs.WriterState.{WriterState};
+    ghost use Rattle.writer_state.specs.WriterState.{WriterState};
 
     ghost Value = { WriterState };
 
@@ -61,18 +61,18 @@ fn read_bytes<B: Blob, H: Sum, Phase>(
     writer: &Writer<B, H, Phase>,
     blob: &mut B,
     cache: &mut CacheRef,
-    place: u64,
+    offset: u64,
     len: usize,
 ) -> Result<IoBuf, Error>
     requires ready { IsReady H.sum_of writer.now cache.old (B.life blob.old) }
-    requires within { place + len ≤ size_of writer.now }
-    requires fits { place + len < 2 ^ 64 }
+    requires within { offset + len ≤ size_of writer.now }
+    requires fits { offset + len < 2 ^ 64 }
     ensures reads { let old = B.life blob.old in let new = B.life blob.new in
-        ReadsBytes (content writer.now old.present.readable) place len old new result }
+        ReadsBytes (content writer.now old.present.readable) offset len old new result }
     ensures leaves { let old = B.life blob.old in let new = B.life blob.new in
         OnlyReads H.sum_of writer.now cache.old cache.new old new }
 {
-    match writer.read_at(blob, cache, place, len) {
+    match writer.read_at(blob, cache, offset, len) {
         Ok(bufs) => bufs.coalesce(),
         Err(error) => Err(error),
     }
@@ -143,7 +143,7 @@ impl<B, H, R> Journal<B, H, R> {
         }
     }
 
-    /// The bytes of all frames. A place behind them is no record's.
+    /// The bytes of all frames. An offset after them is no record's.
     pub fn size(&self) -> u64
         ensures { result ≡ size_of self.now }
     {
@@ -152,10 +152,10 @@ impl<B, H, R> Journal<B, H, R> {
 }
 
 impl<B: Blob, H: Sum, R: Sum> Journal<B, H, R> {
-    /// Appends a record, and answers the place of its frame, in logical bytes. It is committed by
+    /// Appends a record, and answers the offset of its frame, in logical bytes. It is committed by
     /// the next [`Journal::commit`].
     ///
-    /// `OffsetOverflow` where the blob has no places for the frame, `WriteFailed` where the device
+    /// `OffsetOverflow` where the blob has no room for the frame, `WriteFailed` where the device
     /// failed, `OutOfMemory`. The journal is gone then.
     pub fn append_record(
         self,
@@ -204,7 +204,7 @@ impl<B: Blob, H: Sum, R: Sum> Journal<B, H, R> {
     {
         let alloc = self.alloc;
         match self.writer.append(blob, cache, bytes) {
-            Ok((writer, place)) => Ok((Journal::new(alloc, writer), place)),
+            Ok((writer, offset)) => Ok((Journal::new(alloc, writer), offset)),
             Err(error) => Err(error),
         }
     }
@@ -317,23 +317,23 @@ impl<B: Blob, H: Sum, R: Sum> Journal<B, H, R> {
         &self,
         blob: &mut B,
         cache: &mut CacheRef,
-        place: u64,
+        offset: u64,
         len: usize,
     ) -> Result<IoBuf, Error>
         requires ready { IsReady H.sum_of self.now cache.old (B.life blob.old) }
-        requires within { place + len ≤ size_of self.now }
-        requires fits { place + len < 2 ^ 64 }
+        requires within { offset + len ≤ size_of self.now }
+        requires fits { offset + len < 2 ^ 64 }
         ensures reads { let old = B.life blob.old in let new = B.life blob.new in
-            ReadsBytes (content self.now old.present.readable) place len old new result }
+            ReadsBytes (content self.now old.present.readable) offset len old new result }
         ensures leaves { let old = B.life blob.old in let new = B.life blob.new in
             OnlyReads H.sum_of self.now cache.old cache.new old new }
     {
-        read_bytes(&self.writer, blob, cache, place, len)
+        read_bytes(&self.writer, blob, cache, offset, len)
     }
 
     /// Recovers the journal of a blob of `size` physical bytes, whatever they are, and answers its
     /// records: those of the blob's text, in order, which begin with all that were committed. Where
-    /// the last frame is half-written it is cut off, so that what is appended stands behind whole
+    /// the last frame is half-written it is cut off, so that what is appended stands after whole
     /// frames. A whole frame that is no record stays, and is passed over. The frames are found by a
     /// replay of the blob, which reads batches of a quarter of `buffer_size` ahead. The other
     /// arguments are those of [`paged::recover`]. The cache is a new one, or one that other
@@ -379,50 +379,50 @@ impl<B: Blob, H: Sum, R: Sum> Journal<B, H, R> {
         Ok((Self::new(alloc, Writer::from(recovery)), found))
     }
 
-    // The bytes of the frame that begins at a place, behind which so many stand in the journal.
+    // The bytes of the frame that begins at an offset, after which so many stand in the journal.
     fn read_frame(
         &self,
         blob: &mut B,
         cache: &mut CacheRef,
-        place: u64,
+        offset: u64,
         rest: u64,
     ) -> Result<IoBuf, Error>
         requires ready { IsReady H.sum_of self.now cache.old (B.life blob.old) }
-        requires within { place + rest ≡ size_of self.now }
-        requires fits { place + rest < 2 ^ 64 }
+        requires within { offset + rest ≡ size_of self.now }
+        requires fits { offset + rest < 2 ^ 64 }
         ensures reads { let old = B.life blob.old in let new = B.life blob.new in
-            ReadsFrame (content self.now old.present.readable) place rest old new result }
+            ReadsFrame (content self.now old.present.readable) offset rest old new result }
         ensures leaves { let old = B.life blob.old in let new = B.life blob.new in
             OnlyReads H.sum_of self.now cache.old cache.new old new }
     {
-        let head = self.read(blob, cache, place, rest.min(2) as usize)?;
+        let head = self.read(blob, cache, offset, rest.min(2) as usize)?;
         let len = rest.min(record_len_of(head.as_ref()) as u64 + 7);
-        self.read(blob, cache, place, len as usize)
+        self.read(blob, cache, offset, len as usize)
     }
 
-    // The frame that begins at a place, or none.
-    fn find(&self, blob: &mut B, cache: &mut CacheRef, place: u64) -> Result<Option<Found>, Error>
+    // The frame that begins at an offset, or none.
+    fn find(&self, blob: &mut B, cache: &mut CacheRef, offset: u64) -> Result<Option<Found>, Error>
         requires ready { IsReady H.sum_of self.now cache.old (B.life blob.old) }
         ensures reads { let old = B.life blob.old in let new = B.life blob.new in
-            ReadsRecord R.sum_of (content self.now old.present.readable) place old new result }
+            ReadsRecord R.sum_of (content self.now old.present.readable) offset old new result }
         ensures leaves { let old = B.life blob.old in let new = B.life blob.new in
             OnlyReads H.sum_of self.now cache.old cache.new old new }
     {
         let size = self.size();
-        if size <= place {
+        if size <= offset {
             return Ok(None);
         }
-        let framed = self.read_frame(blob, cache, place, size - place)?;
+        let framed = self.read_frame(blob, cache, offset, size - offset)?;
         let bytes = record_at::<R>(&framed)?;
         Ok(Some(Found {
             bytes,
-            end: place + framed.len() as u64,
+            end: offset + framed.len() as u64,
         }))
     }
 
-    /// The frame that begins at a place, in logical bytes: one that an append answered, or the
-    /// place behind another frame, the first of which begins at 0. `None` where none begins there:
-    /// at the end of the journal and behind it.
+    /// The frame that begins at an offset, in logical bytes: one that an append answered, or the
+    /// offset after another frame, the first of which begins at 0. `None` where none begins there:
+    /// at the end of the journal and after it.
     ///
     /// `ReadFailed` where the device failed, `OutOfMemory`. An error leaves all as it was, but for
     /// pages that the cache may hold now.
@@ -430,11 +430,11 @@ impl<B: Blob, H: Sum, R: Sum> Journal<B, H, R> {
         &self,
         blob: &mut B,
         cache: &mut CacheRef,
-        place: u64,
+        offset: u64,
     ) -> Result<Option<Found>, Error>
         requires journal { IsJournal H.sum_of self.now cache.old (B.life blob.old) }
         ensures reads { let old = B.life blob.old in let new = B.life blob.new in
-            ReadsRecord R.sum_of (content self.now old.present.readable) place old new result }
+            ReadsRecord R.sum_of (content self.now old.present.readable) offset old new result }
         ensures looked { Looked (B.life blob.old) (B.life blob.new) }
         ensures journal { IsJournal H.sum_of self.now cache.new (B.life blob.new) }
         ensures fresh { IsFresh cache.new }
@@ -451,6 +451,6 @@ impl<B: Blob, H: Sum, R: Sum> Journal<B, H, R> {
         ensures only { let old = B.life blob.old in let new = B.life blob.new in
             LeavesItsRecords H.sum_of R.sum_of self.now old new }
     {
-        self.find(blob, cache, place)
+        self.find(blob, cache, offset)
     }
 }

@@ -62,9 +62,9 @@ fn keep_two(alloc: Global) -> Result<Told, Error> {
         &mut cache,
         NonZeroUsize::MIN,
     )?;
-    let (journal, place) = journal.append_record(&mut blob, &mut cache, b"hello")?;
+    let (journal, offset) = journal.append_record(&mut blob, &mut cache, b"hello")?;
     let journal = journal.commit(&mut blob, &mut cache)?;
-    let found = journal.read_record(&mut blob, &mut cache, place)?;
+    let found = journal.read_record(&mut blob, &mut cache, offset)?;
     let (journal, _) = journal.append_record(&mut blob, &mut cache, b"world")?;
     let journal = journal.commit(&mut blob, &mut cache)?;
     Ok(Told {
@@ -75,7 +75,7 @@ fn keep_two(alloc: Global) -> Result<Told, Error> {
     })
 }
 
-/// Commits a record, and answers what comes back where the commit of another is cut short behind
+/// Commits a record, and answers what comes back where the commit of another is cut short after
 /// its first page.
 fn cut_short(alloc: Global) -> Result<Vec<IoBuf>, Error> {
     let mut cache = new_cache(alloc)?;

@@ -27,7 +27,7 @@ use std::marker::{Model, PhantomData};
 pub struct Reader<B, H, R> {
     snapshot: Sealed<B, H>,
     /// Where the next frame begins.
-    place: u64,
+    offset: u64,
     of: PhantomData<R>,
 }
 
@@ -36,7 +36,7 @@ impl<B, H, R> Model for Reader<B, H, R> {
 
     ghost Value = { ReaderState };
 
-    ghost view = { λ r. record { tail = r.snapshot; place = r.place } };
+    ghost view = { λ r. record { tail = r.snapshot; offset = r.offset } };
 }
 
 // Reads bytes of a snapshot's content, in one buffer.
@@ -44,70 +44,70 @@ fn read_bytes<B: Blob, H: Sum>(
     snapshot: &Sealed<B, H>,
     blob: &mut B,
     cache: &mut CacheRef,
-    place: u64,
+    offset: u64,
     len: usize,
 ) -> Result<IoBuf, Error>
     requires opened { IsOpen H.sum_of snapshot.now cache.old (B.life blob.old) }
-    requires within { place + len ≤ size_of snapshot.now }
-    requires fits { place + len < 2 ^ 64 }
+    requires within { offset + len ≤ size_of snapshot.now }
+    requires fits { offset + len < 2 ^ 64 }
     ensures reads { let old = B.life blob.old in let new = B.life blob.new in
-        ReadsBytes (told snapshot.now old.present.readable) place len old new result }
+        ReadsBytes (told snapshot.now old.present.readable) offset len old new result }
     ensures leaves { let old = B.life blob.old in let new = B.life blob.new in
         OnlyLooks H.sum_of snapshot.now cache.old cache.new old new }
 {
-    match snapshot.read_at(blob, cache, place, len) {
+    match snapshot.read_at(blob, cache, offset, len) {
         Ok(bufs) => bufs.coalesce(),
         Err(error) => Err(error),
     }
 }
 
-// The bytes of the frame that begins at a place, behind which so many stand in the snapshot.
+// The bytes of the frame that begins at an offset, after which so many stand in the snapshot.
 fn read_frame<B: Blob, H: Sum>(
     snapshot: &Sealed<B, H>,
     blob: &mut B,
     cache: &mut CacheRef,
-    place: u64,
+    offset: u64,
     rest: u64,
 ) -> Result<IoBuf, Error>
     requires opened { IsOpen H.sum_of snapshot.now cache.old (B.life blob.old) }
-    requires within { place + rest ≡ size_of snapshot.now }
-    requires fits { place + rest < 2 ^ 64 }
+    requires within { offset + rest ≡ size_of snapshot.now }
+    requires fits { offset + rest < 2 ^ 64 }
     ensures reads { let old = B.life blob.old in let new = B.life blob.new in
-        ReadsFrame (told snapshot.now old.present.readable) place rest old new result }
+        ReadsFrame (told snapshot.now old.present.readable) offset rest old new result }
     ensures leaves { let old = B.life blob.old in let new = B.life blob.new in
         OnlyLooks H.sum_of snapshot.now cache.old cache.new old new }
 {
-    let head = read_bytes(snapshot, blob, cache, place, rest.min(2) as usize)?;
+    let head = read_bytes(snapshot, blob, cache, offset, rest.min(2) as usize)?;
     let len = rest.min(record_len_of(head.as_ref()) as u64 + 7);
-    read_bytes(snapshot, blob, cache, place, len as usize)
+    read_bytes(snapshot, blob, cache, offset, len as usize)
 }
 
-// The frame that begins at a place, or none at the end.
+// The frame that begins at an offset, or none at the end.
 fn find<B: Blob, H: Sum, R: Sum>(
     snapshot: &Sealed<B, H>,
     blob: &mut B,
     cache: &mut CacheRef,
-    place: u64,
+    offset: u64,
 ) -> Result<Option<Found>, Error>
     requires opened { IsOpen H.sum_of snapshot.now cache.old (B.life blob.old) }
     ensures reads { let old = B.life blob.old in let new = B.life blob.new in
-        ReadsRecord R.sum_of (told snapshot.now old.present.readable) place old new result }
+        ReadsRecord R.sum_of (told snapshot.now old.present.readable) offset old new result }
     ensures leaves { let old = B.life blob.old in let new = B.life blob.new in
         OnlyLooks H.sum_of snapshot.now cache.old cache.new old new }
 {
     let size = snapshot.size();
-    if size <= place {
+    if size <= offset {
         return Ok(None);
     }
-    let framed = read_frame(snapshot, blob, cache, place, size - place)?;
+    let framed = read_frame(snapshot, blob, cache, offset, size - offset)?;
     let bytes = record_at::<R>(&framed)?;
     Ok(Some(Found {
         bytes,
-        end: place + framed.len() as u64,
+        end: offset + framed.len() as u64,
     }))
 }
 
-// The first frame from a place on that is a record; at the end one with no record.
+// The first frame from an offset on that is a record; at the end one with no record.
 fn find_record<B: Blob, H: Sum, R: Sum>(
     snapshot: &Sealed<B, H>,
     blob: &mut B,
@@ -120,36 +120,36 @@ fn find_record<B: Blob, H: Sum, R: Sum>(
     ensures leaves { let old = B.life blob.old in let new = B.life blob.new in
         OnlyLooks H.sum_of snapshot.now cache.old cache.new old new }
 {
-    let mut place = from;
+    let mut offset = from;
     'frames: loop {
-        let Some(found) = find::<B, H, R>(snapshot, blob, cache, place)? else {
+        let Some(found) = find::<B, H, R>(snapshot, blob, cache, offset)? else {
             return Ok(Found {
                 bytes: None,
-                end: place,
+                end: offset,
             });
         };
         if found.bytes.is_some() {
             return Ok(found);
         }
-        place = found.end;
+        offset = found.end;
     }
 }
 
 impl<B, H, R> Reader<B, H, R> {
     /// A reader that begins at the first record of a snapshot.
     pub(crate) fn new(snapshot: Sealed<B, H>) -> Self
-        ensures { result ≡ record { tail = snapshot; place = 0 } }
+        ensures { result ≡ record { tail = snapshot; offset = 0 } }
     {
         Reader {
             snapshot,
-            place: 0,
+            offset: 0,
             of: PhantomData,
         }
     }
 }
 
 impl<B: Blob, H: Sum, R: Sum> Reader<B, H, R> {
-    /// The next record, or `None` behind the last. A frame that is no record is passed over. This
+    /// The next record, or `None` after the last. A frame that is no record is passed over. This
     /// isn't `Iterator::next`, since the blob and the cache are lent to each call.
     ///
     /// `ReadFailed` where the device failed, `OutOfMemory`. An error leaves the reader where it
@@ -176,8 +176,8 @@ impl<B: Blob, H: Sum, R: Sum> Reader<B, H, R> {
         ensures only { let old = B.life blob.old in let new = B.life blob.new in
             LeavesTheirRecords H.sum_of R.sum_of cache.old old new }
     {
-        let found = find_record::<B, H, R>(&self.snapshot, blob, cache, self.place)?;
-        self.place = found.end;
+        let found = find_record::<B, H, R>(&self.snapshot, blob, cache, self.offset)?;
+        self.offset = found.end;
         Ok(found.bytes)
     }
 }

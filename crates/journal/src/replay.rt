@@ -1,29 +1,29 @@
-// What a replay of a journal's blob gives: frames, one behind another.
+// What a replay of a journal's blob gives: frames, one after another.
 ghost use Rattle.std.specs.Prelude.{◌≡◌, ◌<◌, ◌≤◌, ◌^◌, ◌++◌, ℕ, List, OnOk, IsOkUnless};
 ghost use Rattle.paged_read.specs.Replay.{CanReplay};
 ghost use Rattle.paged_read.specs.Tail.{size_of, told};
 ghost use Rattle.journal.specs.Frame.{listed};
 ghost use Rattle.journal.specs.Replay.{LeavesReady, Plays, PlaysAll, PlaysFrame};
 
-use crate::frame::{BEHIND, Found, IN_FRONT, record_behind, record_len_of};
+use crate::frame::{BEHIND, Found, IN_FRONT, record_after, record_len_of};
 use disk::{Blob, Error, IoBuf};
 use page::Sum;
 use paged_read::Replay;
 use std::alloc::Global;
 
-// The frame that begins at a place, where the replay stands; it goes behind it. None where there is
-// no whole one: so a length that passes what is left asks for no memory.
+// The frame that begins at an offset, where the replay stands; it goes after it. None where there
+// is no whole one: so a length that passes what is left asks for no memory.
 fn next_frame<B: Blob, H: Sum, R: Sum>(
     replay: &mut Replay<B, H>,
     blob: &mut B,
-    place: u64,
+    offset: u64,
 ) -> Result<Option<Found>, Error>
     requires can { CanReplay replay.old (B.life blob.old).present }
-    requires at { place ≡ replay.old.position }
+    requires at { offset ≡ replay.old.position }
     requires fits { size_of replay.old.tail < 2 ^ 64 }
     ensures plays { (content : List ℕ) → Plays H.sum_of replay.old content (B.life blob.old).present
         → let old = B.life blob.old in let new = B.life blob.new in
-        PlaysFrame H.sum_of R.sum_of replay.new content place old new result }
+        PlaysFrame H.sum_of R.sum_of replay.new content offset old new result }
     ensures leaves { LeavesReady H.sum_of (B.life blob.old) (B.life blob.new) }
 {
     if !replay.ensure(blob, IN_FRONT)? {
@@ -34,10 +34,10 @@ fn next_frame<B: Blob, H: Sum, R: Sum>(
         return Ok(None);
     }
     let rest = replay.copy_to_bytes(len + BEHIND)?;
-    let bytes = record_behind::<R>(len, &rest, 0)?;
+    let bytes = record_after::<R>(len, &rest, 0)?;
     Ok(Some(Found {
         bytes,
-        end: place + (IN_FRONT + len + BEHIND) as u64,
+        end: offset + (IN_FRONT + len + BEHIND) as u64,
     }))
 }
 
@@ -52,7 +52,7 @@ fn push_record(found: &mut Vec<IoBuf>, more: Option<IoBuf>) -> Result<(), Error>
     Ok(())
 }
 
-/// The records of a replay that begins, in order, and the place behind the last whole frame.
+/// The records of a replay that begins, in order, and the offset after the last whole frame.
 ///
 /// `ReadFailed` where the device failed, `OutOfMemory`.
 pub fn records_of<B: Blob, H: Sum, R: Sum>(
@@ -69,13 +69,13 @@ pub fn records_of<B: Blob, H: Sum, R: Sum>(
 {
     let size = replay.blob_size();
     let mut found = Vec::new(alloc);
-    let mut place = 0;
-    while place < size {
-        let Some(frame) = next_frame::<B, H, R>(&mut replay, blob, place)? else {
+    let mut offset = 0;
+    while offset < size {
+        let Some(frame) = next_frame::<B, H, R>(&mut replay, blob, offset)? else {
             break;
         };
         push_record(&mut found, frame.bytes)?;
-        place = frame.end;
+        offset = frame.end;
     }
-    Ok((found, place))
+    Ok((found, offset))
 }

@@ -31,8 +31,8 @@ fn a_frame(rt: HostRuntime) -> Result<(), Fail> {
 }
 
 /// Commits a record, appends another, fails its commit, and crashes so that the first page of that
-/// write is kept whole and nothing behind it: what came back of the second record is cut off. Then
-/// appends a third behind the first, and commits it.
+/// write is kept whole and nothing after it: what came back of the second record is cut off. Then
+/// appends a third after the first, and commits it.
 fn cut_short<H: Sum, R: Sum>(rt: &impl Abort, alloc: Global, first: &[u8]) -> Result<MemBlob, Error>
     requires { length first.now ≤ 65535 }
 {
@@ -44,8 +44,8 @@ fn cut_short<H: Sum, R: Sum>(rt: &impl Abort, alloc: Global, first: &[u8]) -> Re
         alloc, &mut blob, size, CAPACITY, &mut cache, one,
     )?;
     assert_eq!(rt; found.len(), 0);
-    let (journal, place) = journal.append_record(&mut blob, &mut cache, first)?;
-    assert_eq!(rt; place, 0);
+    let (journal, offset) = journal.append_record(&mut blob, &mut cache, first)?;
+    assert_eq!(rt; offset, 0);
     let end = journal.size();
     let journal = journal.commit(&mut blob, &mut cache)?;
     let (journal, _) = journal.append_record(&mut blob, &mut cache, b"second")?;
@@ -62,8 +62,8 @@ fn cut_short<H: Sum, R: Sum>(rt: &impl Abort, alloc: Global, first: &[u8]) -> Re
     assert_eq!(rt; found.len(), 1);
     assert_eq!(rt; found[0].as_ref(), first);
     assert_eq!(rt; journal.size(), end);
-    let (journal, place) = journal.append_record(&mut blob, &mut cache, b"third")?;
-    assert_eq!(rt; place, end);
+    let (journal, offset) = journal.append_record(&mut blob, &mut cache, b"third")?;
+    assert_eq!(rt; offset, end);
     let journal = journal.commit(&mut blob, &mut cache)?;
     drop(journal);
     Ok(blob)
@@ -82,16 +82,16 @@ fn comes_back<H: Sum, R: Sum>(
     assert_eq!(rt; found.len(), 2);
     assert_eq!(rt; found[0].as_ref(), first);
     assert_eq!(rt; found[1].as_ref(), b"third".as_slice());
-    let (is_record, place) = told(journal.read_record(blob, &mut cache, 0)?);
+    let (is_record, offset) = told(journal.read_record(blob, &mut cache, 0)?);
     assert!(rt; is_record);
-    let (is_record, place) = told(journal.read_record(blob, &mut cache, place)?);
+    let (is_record, offset) = told(journal.read_record(blob, &mut cache, offset)?);
     assert!(rt; is_record);
-    assert_eq!(rt; place, journal.size());
-    assert!(rt; journal.read_record(blob, &mut cache, place)?.is_none());
+    assert_eq!(rt; offset, journal.size());
+    assert!(rt; journal.read_record(blob, &mut cache, offset)?.is_none());
     Ok(())
 }
 
-/// Whether a frame was found that is a record, and the place behind it.
+/// Whether a frame was found that is a record, and the offset after it.
 fn told(found: Option<Found>) -> (bool, u64) {
     match found {
         None => (false, 0),
@@ -167,18 +167,18 @@ fn a_whole_frame_stays(rt: HostRuntime) -> Result<(), Fail> {
     assert_eq!(rt; found[0].as_ref(), b"a".as_slice());
     assert_eq!(rt; journal.size(), 16);
     assert_eq!(rt; blob.len(), 28);
-    let (journal, place) = journal.append_record(&mut blob, &mut cache, b"c")?;
-    assert_eq!(rt; place, 16);
-    let (is_record, place) = told(journal.read_record(&mut blob, &mut cache, 8)?);
+    let (journal, offset) = journal.append_record(&mut blob, &mut cache, b"c")?;
+    assert_eq!(rt; offset, 16);
+    let (is_record, offset) = told(journal.read_record(&mut blob, &mut cache, 8)?);
     assert!(rt; !is_record);
-    assert_eq!(rt; place, 16);
-    let (is_record, place) = told(journal.read_record(&mut blob, &mut cache, place)?);
+    assert_eq!(rt; offset, 16);
+    let (is_record, offset) = told(journal.read_record(&mut blob, &mut cache, offset)?);
     assert!(rt; is_record);
-    assert_eq!(rt; place, 24);
+    assert_eq!(rt; offset, 24);
     Ok(())
 }
 
-// Behind the frame of "a" and one with no mark the frame of "c" ends where all does but for the
+// After the frame of "a" and one with no mark the frame of "c" ends where all does but for the
 // first byte of a length.
 #[test]
 fn a_byte_of_a_length_is_cut(rt: HostRuntime) -> Result<(), Fail> {
@@ -235,7 +235,7 @@ const RECORDS: [&[u8]; 5] = [
     b"",
     b"a record of more than two pages, as they have 16 bytes",
     b"four",
-    b"and one behind it",
+    b"and one after it",
 ];
 
 /// A blob of a journal of these records, all committed.
@@ -317,8 +317,8 @@ const FIRST: &[u8] = b"the first journal holds thirty";
 
 const SECOND: &[u8] = b"the other one holds thirty too";
 
-// The first frame of each journal has 37 bytes: pages 0 and 1, for which the cache has one place,
-// and five more. The device of the first fails as its next pages are written, behind their being
+// The first frame of each journal has 37 bytes: pages 0 and 1, for which the cache has room for one,
+// and five more. The device of the first fails as its next pages are written, after their being
 // put in the cache; the second reads on what it holds, and goes on.
 fn take_turns<H: Sum, R: Sum>(
     rt: &impl Abort,
@@ -354,8 +354,8 @@ fn take_turns<H: Sum, R: Sum>(
     assert!(rt; matches!(refused, Err(Error::WriteFailed)));
     let found = second.read_record(second_blob, cache, 0)?;
     assert!(rt; is_record(found, SECOND));
-    let (second, place) = second.append_record(second_blob, cache, b"more")?;
-    assert_eq!(rt; place, 37);
+    let (second, offset) = second.append_record(second_blob, cache, b"more")?;
+    assert_eq!(rt; offset, 37);
     let found = second.read_record(second_blob, cache, 37)?;
     assert!(rt; is_record(found, b"more"));
     assert!(rt; second.read_record(second_blob, cache, 48)?.is_none());

@@ -4,12 +4,11 @@ use Rattle.std.specs.List.{concat, All}
 use Rattle.std.specs.Int.{next_multiple_of}
 use Rattle.std.proofs.Math.Seq.{take-add, take-nil, drop-nil}
 use Rattle.std.proofs.lemmas.Bool.{cases_lt}
-use Rattle.std.proofs.lemmas.List.{length-take-le, length-drop, take_more, take_min, drop_min}
+use Rattle.std.proofs.lemmas.List.{length-take-le, length-drop, take_more, take_min, drop_min, nil_from_length}
 use Rattle.std.proofs.lemmas.List.Folds.{concat-append}
 use Rattle.std.proofs.lemmas.List.Elements.{All-append}
 use Rattle.std.proofs.Math.Nat.{zero-mod, mod-eq_of_lt, add-mul-mod_self_right, add-mul-div_left, mod_self, mul-mod_left, mod-lt}
 use Rattle.std.proofs.lemmas.Nat.{div-add-mod'}
-use Rattle.std.proofs.lemmas.List.{nil_from_length}
 use Rattle.disk.specs.Bufs.{with_buf}
 use Rattle.page.specs.Tip.{ArePages, AreWholePages, page_limit}
 

@@ -24,11 +24,11 @@ efg_page = 101 ∷ 102 ∷ 103 ∷ 0 ∷ 0 ∷ 2 ∷ 0 ∷ 0 ∷ 0 ∷ 203 ∷ 0
 pub a_slots_bytes : slot_bytes 4 394 ≡ 0 ∷ 4 ∷ 0 ∷ 0 ∷ 1 ∷ 138 ∷ []
 a_slots_bytes = refl
 
--- it stands first behind the four bytes of "abcd"
+-- it stands first after the four bytes of "abcd"
 pub the_first_slot : slot_of 4 First abcd_page ≡ slot_bytes 4 394
 the_first_slot = refl
 
--- the second slot of "efg" stands six bytes behind the first
+-- the second slot of "efg" stands six bytes after the first
 pub the_second_slot : slot_of 4 Second efg_page ≡ slot_bytes 3 306
 the_second_slot = refl
 
@@ -80,7 +80,7 @@ two_pages = refl
 pub the_text : text add_sum 4 (abcd_page ++ ef_page ++ 255 ∷ []) ≡ 97 ∷ 98 ∷ 99 ∷ 100 ∷ 101 ∷ 102 ∷ []
 the_text = refl
 
--- the text ends with the first page that isn't full: behind "ef" no page counts
+-- the text ends with the first page that isn't full: after "ef" no page counts
 pub the_text_ends : text add_sum 4 (ef_page ++ abcd_page) ≡ 101 ∷ 102 ∷ []
 the_text_ends = refl
 
@@ -100,11 +100,11 @@ a_greatest_sum = refl
 pub a_capacity : adjusted 5 4 ≡ 8
 a_capacity = refl
 
--- behind 2 buffered bytes, 6 are not too big for 8, and 7 are
+-- after 2 buffered bytes, 6 are not too big for 8, and 7 are
 pub too_big : is_too_big 2 8 6 4 ≡ false
 too_big = refl
 
--- seven bytes behind place 10, in pages of 8, of which 64 are to be buffered
+-- seven bytes after offset 10, in pages of 8, of which 64 are to be buffered
 abbrev pub seven : Tip
 seven = record { page_size = 8; capacity = 64; offset = 10; bytes = 1 ∷ 1 ∷ 1 ∷ 1 ∷ 1 ∷ 1 ∷ 1 ∷ [] }
 
@@ -119,7 +119,7 @@ nine = joined seven (2 ∷ 2 ∷ [])
 pub whole_pages_of_a_tip : full_len nine ≡ 8
 whole_pages_of_a_tip = refl
 
--- handed out, the page leaves one byte behind it
+-- handed out, the page leaves one byte after it
 pub a_drained_tip : drained nine ≡ record { page_size = 8; capacity = 64; offset = 18; bytes = 2 ∷ [] }
 a_drained_tip = refl
 
@@ -127,7 +127,7 @@ a_drained_tip = refl
 pub an_append : AppendGoes seven (2 ∷ 2 ∷ []) nine (Ok false)
 an_append = (lit< tt, refl, refl)
 
--- so many fit, and the first stands behind the seven
+-- so many fit, and the first stands after the seven
 pub a_try : TryAppendGoes seven (2 ∷ 2 ∷ []) nine (Ok (Some 17))
 a_try = (lit< tt, lit≤ tt, refl, refl)
 
@@ -135,7 +135,7 @@ a_try = (lit< tt, lit≤ tt, refl, refl)
 pub a_drain : DrainGoes nine (drained nine) (Ok ((1 ∷ 1 ∷ 1 ∷ 1 ∷ 1 ∷ 1 ∷ 1 ∷ 2 ∷ []) ∷ []))
 a_drain = (refl, All-single (λ chunk. length chunk % 8 ≡ 0) _ refl, refl)
 
--- behind one page 17 bytes need three
+-- after one page 17 bytes need three
 pub room_for_what_is_needed : grown_limit 8 17 64 8 ≡ 24
 room_for_what_is_needed = refl
 
@@ -154,6 +154,6 @@ room_for_a_page = refl
 pub no_room : page_limit [] 8 ≡ 0
 no_room = refl
 
--- a byte behind a page in a chunk of two pages moves to a page of its own
+-- a byte after a page in a chunk of two pages moves to a page of its own
 pub room_that_is_kept : kept_limit nine.bytes 16 8 ≡ 8
 room_that_is_kept = refl

@@ -13,20 +13,20 @@ adjusted capacity page_size = max (next_multiple_of capacity page_size) (2 * pag
 abbrev pub fill : ℕ → ℕ → ℕ
 fill len page_size = next_multiple_of len page_size - len
 
--- n bytes behind these pass the capacity, and would leave a whole page behind the one that they
+-- n bytes after these pass the capacity, and would leave a whole page after the one that they
 -- fill
 abbrev pub is_too_big : ℕ → ℕ → ℕ → ℕ → Bool
 is_too_big len capacity n page_size =
     nat_lt capacity (len + n) && nat_le (fill len page_size + page_size) n
 
--- each range, a place and a length, begins at or behind the end of the one before; the first at or
--- behind this place
+-- each range, an offset and a length, begins at or after the end of the one before; the first at or
+-- after this offset
 abbrev pub AreInOrderFrom : ℕ → List (ℕ × ℕ) → Type 0
-AreInOrderFrom place [] = Unit {0}
-AreInOrderFrom place (range ∷ ranges) =
-    (place ≤ range.0) × AreInOrderFrom (range.0 + range.1) ranges
+AreInOrderFrom offset [] = Unit {0}
+AreInOrderFrom offset (range ∷ ranges) =
+    (offset ≤ range.0) × AreInOrderFrom (range.0 + range.1) ranges
 
--- each range begins at or behind the end of the one before
+-- each range begins at or after the end of the one before
 abbrev pub AreInOrder : List (ℕ × ℕ) → Type 0
 AreInOrder ranges = AreInOrderFrom 0 ranges
 
@@ -34,7 +34,7 @@ AreInOrder ranges = AreInOrderFrom 0 ranges
 abbrev pub EndWithin : ℕ → List (ℕ × ℕ) → Type 0
 EndWithin size ranges = All (λ range. range.0 + range.1 ≤ size) ranges
 
--- a range can be read, or its end passes the greatest place, or only the size
+-- a range can be read, or its end passes the greatest offset, or only the size
 abbrev pub RangeGoes : ℕ → ℕ × ℕ → Result (Unit {0}) Error → Type 0
 RangeGoes size range (Ok _) = range.0 + range.1 ≤ size
 RangeGoes size range (Err OffsetOverflow) = 2 ^ 64 ≤ range.0 + range.1
@@ -46,6 +46,6 @@ RangeGoes size range (Err _) = ⊥
 abbrev pub RangesGo : ℕ → List (ℕ × ℕ) → Result (Unit {0}) Error → Type 0
 RangesGo size ranges (Ok _) = EndWithin size ranges
 RangesGo size ranges (Err error) =
-    (before behind : List (ℕ × ℕ))
-    × ((range : ℕ × ℕ) × (ranges ≡ before ++ range ∷ behind) × EndWithin size before
+    (before after : List (ℕ × ℕ))
+    × ((range : ℕ × ℕ) × (ranges ≡ before ++ range ∷ after) × EndWithin size before
     × RangeGoes size range (Err error))

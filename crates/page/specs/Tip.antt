@@ -1,4 +1,4 @@
--- A tip: the bytes of a blob from a place on that are buffered, and what each call of its buffer
+-- A tip: the bytes of a blob from an offset on that are buffered, and what each call of its buffer
 -- does.
 use Rattle.std.specs.Prelude.{◌≡◌, ℕ, ◌+◌, ◌*◌, ◌/◌, ◌%◌, ◌<◌, ◌≤◌, ◌^◌, ◌++◌, Bool, ◌&&◌}
 use Rattle.std.specs.Prelude.{if◌then◌else◌, nat_lt, nat_le, min, max, List, [], ◌∷◌, ◌-◌, length}
@@ -8,7 +8,7 @@ use Rattle.std.specs.List.{concat}
 use Rattle.disk.specs.declared.error.Error.{Error}
 use Rattle.disk.specs.declared.error.Error.TheVariants.{OffsetOverflow, OutOfMemory}
 
--- the bytes behind a logical place, in pages of so many bytes; as many as the capacity are to be
+-- the bytes after a logical offset, in pages of so many bytes; as many as the capacity are to be
 -- buffered
 pub record Tip : Type 0 where
   pub page_size : ℕ
@@ -20,7 +20,7 @@ pub record Tip : Type 0 where
 abbrev pub tip_size : Tip → ℕ
 tip_size t = t.offset + length t.bytes
 
--- with these bytes behind its own
+-- with these bytes after its own
 abbrev pub joined : Tip → List ℕ → Tip
 joined t more = record t { bytes = t.bytes ++ more }
 
@@ -49,11 +49,11 @@ AppendGoes old bytes new (Err OffsetOverflow) = (2 ^ 64 ≤ tip_size old + lengt
 AppendGoes old bytes new (Err OutOfMemory) = (tip_size old + length bytes < 2 ^ 64) × (new ≡ old)
 AppendGoes old bytes new (Err _) = ⊥
 
--- an append within the capacity: it tells the place of the first byte, or that they don't fit
+-- an append within the capacity: it tells the offset of the first byte, or that they don't fit
 abbrev pub TryAppendGoes : Tip → List ℕ → Tip → Result (Option ℕ) Error → Type 0
-TryAppendGoes old bytes new (Ok (Some place)) =
+TryAppendGoes old bytes new (Ok (Some offset)) =
     (tip_size old + length bytes < 2 ^ 64) × (length old.bytes + length bytes ≤ old.capacity)
-    × (place ≡ tip_size old) × (new ≡ joined old bytes)
+    × (offset ≡ tip_size old) × (new ≡ joined old bytes)
 TryAppendGoes old bytes new (Ok None) =
     (tip_size old + length bytes < 2 ^ 64) × (old.capacity < length old.bytes + length bytes)
     × (new ≡ old)
@@ -72,7 +72,7 @@ DrainGoes old new (Ok chunks) =
 DrainGoes old new (Err OutOfMemory) = new ≡ old
 DrainGoes old new (Err _) = ⊥
 
--- other bytes at another place
+-- other bytes at another offset
 abbrev pub ReplaceGoes : Tip → ℕ → List ℕ → Tip → Result (Unit {0}) Error → Type 0
 ReplaceGoes old offset bytes new (Ok _) = new ≡ record old { offset = offset; bytes = bytes }
 ReplaceGoes old offset bytes new (Err OffsetOverflow) =
@@ -93,7 +93,7 @@ abbrev pub page_limit : List ℕ → ℕ → ℕ
 page_limit [] P = 0
 page_limit (byte ∷ bytes) P = P
 
--- how many the next tail has room for, behind so many bytes in whole pages, of which this many more
+-- how many the next tail has room for, after so many bytes in whole pages, of which this many more
 -- are needed: as many as are buffered already, within the capacity; at least a page and what is
 -- needed; in whole pages
 abbrev pub grown_limit : (filled needed capacity P : ℕ) → ℕ
@@ -112,7 +112,7 @@ kept_limit tail limit P =
 abbrev pub AreSame : List ℕ → ℕ → List ℕ → ℕ → Type 0
 AreSame bytes limit as_bytes as_limit = (bytes ≡ as_bytes) × (limit ≡ as_limit)
 
--- the tip in frozen chunks, each of whole pages, and a tail behind them with room for whole pages
+-- the tip in frozen chunks, each of whole pages, and a tail after them with room for whole pages
 pub record IsBuffer (page_size capacity offset : ℕ) (chunks : List (List ℕ)) (tail : List ℕ)
     (limit : ℕ) : Type 0 where
   pub some : 0 < page_size

@@ -1,4 +1,4 @@
-// The tip of a blob: the bytes behind its full pages.
+// The tip of a blob: the bytes after its full pages.
 ghost use Rattle.std.specs.Prelude.{◌≡◌, ◌==◌, ◌<◌, ◌≤◌, ◌+◌, ◌-◌, ◌^◌, ◌%◌, ◌↔◌, ◌++◌, length};
 ghost use Rattle.std.specs.Prelude.{take, drop, slice_range, IsTrue, OnOk, IsOkUnless};
 ghost use Rattle.std.specs.List.{concat};
@@ -12,9 +12,9 @@ use std::alloc::Global;
 use std::marker::Model;
 use std::mem;
 
-/// Bytes that are appended behind a logical place of a blob, in pages of one size.
+/// Bytes that are appended after a logical offset of a blob, in pages of one size.
 ///
-/// They stand in frozen chunks, each a whole number of pages, and one tail behind them that still
+/// They stand in frozen chunks, each a whole number of pages, and one tail after them that still
 /// grows. An append copies each byte once, and full pages are handed out where they stand. After an
 /// error the buffer is as it was.
 #[derive(Drop)]
@@ -45,11 +45,11 @@ impl Model for Buffer {
         b.tail.limit };
 }
 
-/// Whether the places behind one go on for so many bytes.
-fn has_places(place: u64, len: usize) -> bool
-    ensures { IsTrue result ↔ place + len < 2 ^ 64 }
+/// Whether the offsets after one go on for so many bytes.
+fn has_offsets(offset: u64, len: usize) -> bool
+    ensures { IsTrue result ↔ offset + len < 2 ^ 64 }
 {
-    place.checked_add(len as u64).is_some()
+    offset.checked_add(len as u64).is_some()
 }
 
 /// Adds the bytes of a chunk from `start` to before `end`, shared with it. `OutOfMemory` alone.
@@ -77,8 +77,8 @@ fn append_copy(alloc: Global, bufs: &mut IoBufs, bytes: &[u8]) -> Result<(), Err
     bufs.append(IoBuf::copy_from_slice(alloc, bytes)?)
 }
 
-/// Copies bytes into a buffer, behind the first `done`, and answers how many it has then.
-fn copy_behind(buf: &mut [u8], done: usize, bytes: &[u8]) -> usize
+/// Copies bytes into a buffer, after the first `done`, and answers how many it has then.
+fn copy_after(buf: &mut [u8], done: usize, bytes: &[u8]) -> usize
     requires { done + length bytes.now ≤ length buf.old }
     ensures done { result ≡ done + length bytes.now }
     ensures size { length buf.new ≡ length buf.old }
@@ -90,10 +90,10 @@ fn copy_behind(buf: &mut [u8], done: usize, bytes: &[u8]) -> usize
 }
 
 impl Buffer {
-    /// A buffer of these bytes at a logical place. As many bytes as `capacity`, in whole pages, are
-    /// to be buffered; no memory is taken for them yet.
+    /// A buffer of these bytes at a logical offset. As many bytes as `capacity`, in whole pages,
+    /// are to be buffered; no memory is taken for them yet.
     ///
-    /// `OffsetOverflow` where the bytes pass the greatest place, `OutOfMemory`.
+    /// `OffsetOverflow` where the bytes pass the greatest offset, `OutOfMemory`.
     pub fn from(
         alloc: Global,
         offset: u64,
@@ -111,7 +111,7 @@ impl Buffer {
           bytes = bytes.now;
         }) result }
     {
-        if !has_places(offset, bytes.len()) {
+        if !has_offsets(offset, bytes.len()) {
             return Err(Error::OffsetOverflow);
         }
         Ok(Buffer {
@@ -145,7 +145,7 @@ impl Buffer {
         self.len() == 0
     }
 
-    /// The logical place of the first byte.
+    /// The logical offset of the first byte.
     pub fn offset(&self) -> u64
         ensures { result ≡ self.now.offset }
     {
@@ -166,7 +166,7 @@ impl Buffer {
         self.page_size
     }
 
-    /// The bytes: frozen chunks, each of whole pages, and the tail behind them.
+    /// The bytes: frozen chunks, each of whole pages, and the tail after them.
     pub fn parts(&self) -> (&IoBufs, &[u8])
         ensures bytes { concat result.0.now ++ result.1.now ≡ self.now.bytes }
         ensures whole { AreWholePages self.now.page_size result.0.now }
@@ -201,7 +201,7 @@ impl Buffer {
         append_copy(self.alloc, bufs, bytes)
     }
 
-    /// Copies the bytes from byte `offset` on into `buf`, as many as it has places for. It takes no
+    /// Copies the bytes from byte `offset` on into `buf`, as many as it has room for. It takes no
     /// memory.
     pub fn copy_to(&self, offset: usize, buf: &mut [u8])
         requires { offset + length buf.old ≤ length self.now.bytes }
@@ -214,22 +214,22 @@ impl Buffer {
         for chunk in chunks {
             let from = offset.saturating_sub(at).min(chunk.len());
             let to = end.saturating_sub(at).min(chunk.len());
-            done = copy_behind(buf, done, &chunk.as_ref()[from..to]);
+            done = copy_after(buf, done, &chunk.as_ref()[from..to]);
             at += chunk.len();
         }
         let bytes = &self.tail.bytes[offset.saturating_sub(at)..end.saturating_sub(at)];
-        copy_behind(buf, done, bytes);
+        copy_after(buf, done, bytes);
     }
 
     /// Appends bytes, and answers whether the capacity is now passed.
     ///
-    /// `OffsetOverflow`, before anything else, where the new size passes the greatest place;
+    /// `OffsetOverflow`, before anything else, where the new size passes the greatest offset;
     /// `OutOfMemory`.
     pub fn append(&mut self, bytes: &[u8]) -> Result<bool, Error>
         ensures { AppendGoes self.old bytes.now self.new result }
     {
         let len = self.len();
-        if !has_places(self.size(), bytes.len()) {
+        if !has_offsets(self.size(), bytes.len()) {
             return Err(Error::OffsetOverflow);
         }
         let end = len + bytes.len();
@@ -249,29 +249,29 @@ impl Buffer {
         Ok(end > self.capacity)
     }
 
-    /// Appends bytes where the capacity isn't passed then, and answers the logical place of the
+    /// Appends bytes where the capacity isn't passed then, and answers the logical offset of the
     /// first; `None` where it would be.
     ///
-    /// `OffsetOverflow`, before anything else, where the new size passes the greatest place;
+    /// `OffsetOverflow`, before anything else, where the new size passes the greatest offset;
     /// `OutOfMemory`.
     pub fn try_append(&mut self, bytes: &[u8]) -> Result<Option<u64>, Error>
         ensures { TryAppendGoes self.old bytes.now self.new result }
     {
-        let place = self.size();
-        if !has_places(place, bytes.len()) {
+        let offset = self.size();
+        if !has_offsets(offset, bytes.len()) {
             return Err(Error::OffsetOverflow);
         }
         if self.len() + bytes.len() > self.capacity {
             return Ok(None);
         }
         self.append(bytes)?;
-        Ok(Some(place))
+        Ok(Some(offset))
     }
 
     /// Appends a value's encoded bytes where the capacity isn't passed then, and answers the
-    /// logical place of the first; `None` where it would be: then the value isn't encoded.
+    /// logical offset of the first; `None` where it would be: then the value isn't encoded.
     ///
-    /// `OffsetOverflow`, before anything else, where the new size passes the greatest place;
+    /// `OffsetOverflow`, before anything else, where the new size passes the greatest offset;
     /// `OutOfMemory`.
     pub fn try_append_value<T: EncodeSize + Write>(
         &mut self,
@@ -280,8 +280,8 @@ impl Buffer {
         ensures { TryAppendGoes self.old (T.encoded value.now) self.new result }
     {
         let size = value.encode_size();
-        let place = self.size();
-        if !has_places(place, size) {
+        let offset = self.size();
+        if !has_offsets(offset, size) {
             return Err(Error::OffsetOverflow);
         }
         if self.len() + size > self.capacity {
@@ -290,15 +290,15 @@ impl Buffer {
         if size <= self.tail.spare() {
             self.tail.bytes.try_reserve(size)?;
             value.write(&mut self.tail.bytes)?;
-            return Ok(Some(place));
+            return Ok(Some(offset));
         }
         let mut bytes = Vec::with_capacity(self.alloc, size)?;
         value.write(&mut bytes)?;
         self.append(&bytes)?;
-        Ok(Some(place))
+        Ok(Some(offset))
     }
 
-    /// Hands out the full pages, in order, in chunks of whole pages, and keeps the bytes behind
+    /// Hands out the full pages, in order, in chunks of whole pages, and keeps the bytes after
     /// them. `OutOfMemory` alone.
     pub fn drain_full_pages(&mut self) -> Result<IoBufs, Error>
         ensures { DrainGoes self.old self.new result }
@@ -313,14 +313,14 @@ impl Buffer {
         Ok(mem::replace(&mut self.chunks, IoBufs::new(self.alloc)))
     }
 
-    /// Sets other bytes, less than a page, at another logical place.
+    /// Sets other bytes, less than a page, at another logical offset.
     ///
-    /// `OffsetOverflow` where they pass the greatest place, `OutOfMemory`.
+    /// `OffsetOverflow` where they pass the greatest offset, `OutOfMemory`.
     pub fn replace(&mut self, offset: u64, bytes: &[u8]) -> Result<(), Error>
         requires { length bytes.now < self.old.page_size }
         ensures { ReplaceGoes self.old offset bytes.now self.new result }
     {
-        if !has_places(offset, bytes.len()) {
+        if !has_offsets(offset, bytes.len()) {
             return Err(Error::OffsetOverflow);
         }
         self.tail = Tail::partial(self.alloc, bytes, self.page_size)?;

@@ -16,7 +16,7 @@ pub trait EncodeSize {
 
 /// A value that writes its encoding.
 pub trait Write: EncodeSize {
-    /// Writes the encoded bytes behind those that `out` holds. Where `out` has room for all of them
+    /// Writes the encoded bytes after those that `out` holds. Where `out` has room for all of them
     /// it answers `Ok`.
     fn write<O: BufMut>(&self, out: &mut O) -> Result<(), AllocError>
         ensures bytes { OnOk result

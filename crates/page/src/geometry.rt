@@ -22,21 +22,21 @@ pub fn page_size(n: u32) -> NonZeroU16
     NonZeroU16::new((n - 12) as u16).unwrap()
 }
 
-/// The place of a physical page, in bytes, and how many bytes it has. `OffsetOverflow` exactly
-/// where the page's end passes the greatest place.
+/// The offset of a physical page, in bytes, and how many bytes it has. `OffsetOverflow` exactly
+/// where the page's end passes the greatest offset.
 pub fn physical_page(page: u64, page_size: u64) -> Result<(u64, usize), Error>
-    ensures place { OkIff result ((page + 1) * (page_size + 12) < 2 ^ 64)
+    ensures offset { OkIff result ((page + 1) * (page_size + 12) < 2 ^ 64)
         (page * (page_size + 12), page_size + 12) }
     ensures err { IsOkUnless result Error.OffsetOverflow }
 {
     let size = page_size
         .checked_add(CHECKSUM_SIZE)
         .ok_or(Error::OffsetOverflow)?;
-    let place = page.checked_mul(size).ok_or(Error::OffsetOverflow)?;
-    if place.checked_add(size).is_none() {
+    let offset = page.checked_mul(size).ok_or(Error::OffsetOverflow)?;
+    if offset.checked_add(size).is_none() {
         return Err(Error::OffsetOverflow);
     }
-    Ok((place, size as usize))
+    Ok((offset, size as usize))
 }
 
 /// The capacity of a buffer, in bytes, that holds `capacity` bytes in whole pages, and at least two
@@ -56,7 +56,7 @@ pub fn adjusted_capacity(capacity: usize, page_size: u64) -> Result<usize, Error
 }
 
 /// Whether `n` bytes are too many to go through a buffer of `len` bytes: they pass its capacity,
-/// and would leave a whole page behind the one that they fill. `OffsetOverflow` exactly where a sum
+/// and would leave a whole page after the one that they fill. `OffsetOverflow` exactly where a sum
 /// that this takes passes the greatest length: the bytes together, those of the pages that hold
 /// `len` bytes, or the fewest that are too many.
 pub fn too_big_for_buffer(
@@ -83,25 +83,25 @@ pub fn too_big_for_buffer(
     Ok(total > capacity && n >= too_many)
 }
 
-/// Checks that ranges, each a place and a length in bytes, lie within a blob of `size` bytes. The
+/// Checks that ranges, each an offset and a length in bytes, lie within a blob of `size` bytes. The
 /// caller sees to it that they are in order, without overlaps, and fill a buffer of `buf_len` bytes
 /// together. The first that can't be read decides: `OffsetOverflow` where its end passes the
-/// greatest place, and else `BlobInsufficientLength` where that passes the size.
+/// greatest offset, and else `BlobInsufficientLength` where that passes the size.
 pub fn validate_read_ranges(buf_len: usize, ranges: &[(u64, usize)], size: u64) -> Result<(), Error>
     requires in_order { AreInOrder ranges.now }
     requires filled { buf_len ≡ sum_by (λ range. range.1) ranges.now }
     ensures { RangesGo size ranges.now result }
 {
-    for &(place, len) in ranges {
-        validate_range(place, len, size)?;
+    for &(offset, len) in ranges {
+        validate_range(offset, len, size)?;
     }
     Ok(())
 }
 
-fn validate_range(place: u64, len: usize, size: u64) -> Result<(), Error>
-    ensures { RangeGoes size (place, len) result }
+fn validate_range(offset: u64, len: usize, size: u64) -> Result<(), Error>
+    ensures { RangeGoes size (offset, len) result }
 {
-    let end = place.checked_add(len as u64).ok_or(Error::OffsetOverflow)?;
+    let end = offset.checked_add(len as u64).ok_or(Error::OffsetOverflow)?;
     if end > size {
         return Err(Error::BlobInsufficientLength);
     }

@@ -8,7 +8,7 @@ use disk::{Error, IoBufs};
 use std::alloc::Global;
 use std::mem;
 
-/// The bytes of a tip behind its frozen chunks. When they come to the limit they are frozen too,
+/// The bytes of a tip after its frozen chunks. When they come to the limit they are frozen too,
 /// where they stand.
 #[derive(Drop)]
 pub(crate) struct Tail {
@@ -96,7 +96,7 @@ impl Tail {
         self.retire(chunks, front, next)
     }
 
-    /// Fills the tail with these bytes and freezes it behind the chunks; the next takes its place.
+    /// Fills the tail with these bytes and freezes it after the chunks; the next takes its place.
     /// After an error, `OutOfMemory` alone, nothing has changed.
     fn retire(&mut self, chunks: &mut IoBufs, front: &[u8], next: Tail) -> Result<(), Error>
         ensures chunks { OnOk result
@@ -121,7 +121,7 @@ impl Tail {
         Ok(())
     }
 
-    /// Freezes the tail's full pages behind the chunks, and keeps the bytes behind them: in memory
+    /// Freezes the tail's full pages after the chunks, and keeps the bytes after them: in memory
     /// of their own, where they stood in a chunk of more than a page. After an error, `OutOfMemory`
     /// alone, nothing has changed.
     pub fn freeze_full_pages(

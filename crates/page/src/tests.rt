@@ -69,7 +69,7 @@ impl Step {
     }
 }
 
-/// Bytes that count up, and on behind the last ones.
+/// Bytes that count up, and on after the last ones.
 fn counted(alloc: Global, count: &mut usize, len: usize) -> Result<Vec<u8>, Error> {
     let mut bytes = Vec::new(alloc);
     for _ in 0..len {
@@ -95,7 +95,7 @@ fn replaces(buffer: &mut Buffer, offset: u64, bytes: &[u8], want: Result<(), Err
     bytes.len() < buffer.page_size() && buffer.replace(offset, bytes) == want
 }
 
-/// Whether the buffer is these bytes at this place, by all that it tells.
+/// Whether the buffer is these bytes at this offset, by all that it tells.
 fn holds(alloc: Global, buffer: &Buffer, offset: u64, bytes: &[u8]) -> Result<bool, Error> {
     if buffer.len() < buffer.page_size() && buffer.partial() != bytes {
         return Ok(false);

@@ -7,13 +7,14 @@ use Rattle.disk.specs.Disk.{Life}
 use Rattle.disk.specs.declared.error.Error.{Error}
 use Rattle.disk.specs.declared.error.Error.TheVariants.{ReadFailed, WriteFailed, ResizeFailed, SyncFailed, InvalidChecksum, BlobInsufficientLength, OffsetOverflow, OutOfMemory, IdsExhausted}
 use Rattle.disk.proofs.Logs.{grows_same}
-use Rattle.crash.specs.WriterState.{WriterState, SyncState}
-use Rattle.crash.specs.Sound.{IsSound, content}
+use Rattle.writer_state.specs.WriterState.{WriterState}
+use Rattle.writer_state.specs.declared.sync_state.SyncState.{SyncState}
+use Rattle.writer_state.specs.Sound.{IsSound, content}
 use Rattle.crash.specs.Stays.{StaysThrough}
-use Rattle.crash.proofs.FlushLaws.{longer_content}
+use Rattle.writer_state.proofs.FlushLaws.{longer_content}
 use Rattle.crash.proofs.Moments.{stays_through_start, stays_through_longer}
 use Rattle.paged.proofs.Flushes.{begins, size_is_length, goes_on_same}
-use Rattle.crash.proofs.Soundness.{longer_sound}
+use Rattle.writer_state.proofs.Soundness.{longer_sound}
 use Rattle.page.specs.Tip.{Tip, TryAppendGoes}
 use Rattle.page.specs.declared.slot.ActiveChecksum.{ActiveChecksum}
 use Rattle.paged.specs.Writer.{FitsBlob, IsWriter}

@@ -2,19 +2,19 @@
 use Rattle.std.proofs.Common.{◌≡◌, ℕ, List, arith, subst, Bool, Result}
 use Rattle.disk.specs.Disk.{Life, WriteGoes}
 use Rattle.disk.specs.declared.error.Error.{Error}
-use Rattle.crash.specs.WriterState.{WriterState}
-use Rattle.crash.specs.Sound.{IsSound}
+use Rattle.writer_state.specs.WriterState.{WriterState}
+use Rattle.writer_state.specs.Sound.{IsSound}
 use Rattle.crash.specs.Below.{PagesStay}
-use Rattle.crash.proofs.FlushLaws.{tip_reach}
+use Rattle.writer_state.proofs.FlushLaws.{tip_reach}
 use Rattle.crash.proofs.BelowLaws.{write_pages_stay}
-use Rattle.paged.specs.Flush.{place_of}
+use Rattle.paged.specs.Flush.{offset_of}
 
 -- whatever the device answers
-pub flush_pages : (sum : List ℕ → ℕ) (w : WriterState) (place : ℕ) (bytes : List ℕ) (sync : Bool) (old new : Life) (answer : Result (Unit {0}) Error) → IsSound sum w old.present → place ≡ place_of w
-    → WriteGoes place bytes sync old new answer → PagesStay w.page_size w.full_pages old new
+pub flush_pages : (sum : List ℕ → ℕ) (w : WriterState) (offset : ℕ) (bytes : List ℕ) (sync : Bool) (old new : Life) (answer : Result (Unit {0}) Error) → IsSound sum w old.present → offset ≡ offset_of w
+    → WriteGoes offset bytes sync old new answer → PagesStay w.page_size w.full_pages old new
 unfolding IsSound
-flush_pages sum w place bytes sync old new answer sound is goes =
-    write_pages_stay w.page_size w.full_pages old place bytes sync new answer (omega (arith, is))
+flush_pages sum w offset bytes sync old new answer sound is goes =
+    write_pages_stay w.page_size w.full_pages old offset bytes sync new answer (omega (arith, is))
     (omega (arith, is, (tip_reach sum w.page_size w.full_pages w.tip old.present.readable w.flushed sound.stands.tip_page).0)) goes
 
 -- the same for a writer with a longer tip

@@ -9,9 +9,10 @@ use Rattle.std.proofs.lemmas.List.{take_at, drop_at, drop-drop, take-append-drop
 use Rattle.disk.specs.declared.error.Error.{Error}
 use Rattle.page.specs.Tip.{Tip, ArePages, full_len, joined, drained}
 use Rattle.page.specs.declared.slot.ActiveChecksum.{ActiveChecksum}
-use Rattle.crash.specs.WriterState.{WriterState, SyncState}
+use Rattle.writer_state.specs.WriterState.{WriterState}
+use Rattle.writer_state.specs.declared.sync_state.SyncState.{SyncState}
 use Rattle.crash.specs.Built.{built, durable_after}
-use Rattle.crash.specs.Sound.{CanWrite}
+use Rattle.writer_state.specs.Sound.{CanWrite}
 use Rattle.paged.specs.Writer.{FitsBlob, IsWriter}
 use Rattle.paged.specs.Direct.{buffering, fill_of, is_too_big, IsDirect}
 use Rattle.paged.specs.Calls.{waited}
@@ -20,7 +21,7 @@ use Rattle.paged.proofs.Building.{built-take}
 use Rattle.paged.proofs.Drains.{is_writer_drained, drained_state}
 use Rattle.paged.proofs.Footers.{length-pages, with_footers-built}
 
--- ---- whole pages, and less than a page behind them
+-- ---- whole pages, and less than a page after them
 
 module _ (P : ℕ) (whole rest bytes : List ℕ) (pages : length whole % P ≡ 0) (short : length rest < P) (is : bytes ≡ whole ++ rest) where
   pub length-whole : length whole ≡ length whole / P * P
@@ -82,12 +83,12 @@ module _ (w : WriterState) (whole rest : List ℕ) (direct : IsDirect w whole re
       ∙ ap (λ l. built sum w.page_size w.durable k l) (sym (whole_taken w.page_size whole rest (w.tip ++ (whole ++ rest)) direct.pages direct.short tip_is))
       ∙ built-take sum w.page_size w.durable k (w.tip ++ (whole ++ rest))
 
-  -- its places are numbers of 64 bits
+  -- its offsets are numbers of 64 bits
   pub direct_fits : FitsBlob w.page_size w.full_pages (length (w.tip ++ (whole ++ rest)))
   direct_fits = subst (λ n. FitsBlob w.page_size w.full_pages n) (sym (ap length tip_is ∙ length-append whole rest)) direct.fits
 
-  pub direct_places : FitsBlob w.page_size w.full_pages (length w.tip + length (whole ++ rest))
-  direct_places = subst (λ n. FitsBlob w.page_size w.full_pages n) (omega (arith, ap length direct.empty, length-append whole rest)) direct.fits
+  pub direct_offsets : FitsBlob w.page_size w.full_pages (length w.tip + length (whole ++ rest))
+  direct_offsets = subst (λ n. FitsBlob w.page_size w.full_pages n) (omega (arith, ap length direct.empty, length-append whole rest)) direct.fits
 
   -- after it the rest is in its tip
   pub direct_left : (sum : List ℕ → ℕ) (now : WriterState) (result : Result (Unit {0}) Error) → OnOk result (now ≡ written sum (buffering w (whole ++ rest)) false false) → OnOk result (now.tip ≡ rest)
@@ -105,15 +106,15 @@ direct_waited w v whole rest is direct =
 
 -- ---- its buffer
 
--- a tip that was put behind them is as one that had them and was drained
-pub put_behind : (P : ℕ) (old new : Tip) (place : ℕ) (whole rest : List ℕ) → old.page_size ≡ P → old.bytes ≡ [] → length whole % P ≡ 0 → length rest < P → place ≡ old.offset + length whole
-    → new ≡ record old { offset = place; bytes = rest } → new ≡ drained (joined old (whole ++ rest))
-put_behind P old new place whole rest size empty pages short at is =
+-- a tip that was put after them is as one that had them and was drained
+pub put_after : (P : ℕ) (old new : Tip) (start : ℕ) (whole rest : List ℕ) → old.page_size ≡ P → old.bytes ≡ [] → length whole % P ≡ 0 → length rest < P → start ≡ old.offset + length whole
+    → new ≡ record old { offset = start; bytes = rest } → new ≡ drained (joined old (whole ++ rest))
+put_after P old new start whole rest size empty pages short at is =
     let bytes = old.bytes ++ (whole ++ rest) in
     let tip : bytes ≡ whole ++ rest = ap (λ tip. tip ++ (whole ++ rest)) empty in
     let len : full_len (joined old (whole ++ rest)) ≡ length bytes / P * P = ap (λ p. length bytes / p * p) size in
     let whole_len : length bytes / P * P ≡ length whole = ap (λ n. n * P) (pages_of_whole P whole rest bytes pages short tip) ∙ sym (length-whole P whole rest bytes pages short tip) in
-    let offset : place ≡ old.offset + full_len (joined old (whole ++ rest)) = at ∙ ap (λ n. old.offset + n) (sym (len ∙ whole_len)) in
+    let offset : start ≡ old.offset + full_len (joined old (whole ++ rest)) = at ∙ ap (λ n. old.offset + n) (sym (len ∙ whole_len)) in
     let left : rest ≡ drop (full_len (joined old (whole ++ rest))) bytes = sym (ap (λ n. drop n bytes) len ∙ rest_left P whole rest bytes pages short tip) in
     is ∙ (λ i. record old { offset = offset i; bytes = left i })
 
@@ -123,9 +124,9 @@ durable_gone durable zero some = absurd (omega (arith, some))
 durable_gone durable (suc k) some = refl
 
 -- the writer then
-module _ (P id place : ℕ) (old new : Tip) (flushed durable : Option ActiveChecksum) (sync : SyncState) (w : WriterState) (whole rest : List ℕ) (some : 0 < P) (is : IsWriter P old)
+module _ (P id start : ℕ) (old new : Tip) (flushed durable : Option ActiveChecksum) (sync : SyncState) (w : WriterState) (whole rest : List ℕ) (some : 0 < P) (is : IsWriter P old)
     (view : record { page_size = P; id = id; capacity = old.capacity; full_pages = old.offset / P; tip = old.bytes; flushed = flushed; durable = durable; sync = sync } ≡ w) (direct : IsDirect w whole rest)
-    (at : place ≡ old.offset + length whole) (goes : new ≡ record old { offset = place; bytes = rest }) where
+    (at : start ≡ old.offset + length whole) (goes : new ≡ record old { offset = start; bytes = rest }) where
   here : IsDirect (record { page_size = P; id = id; capacity = old.capacity; full_pages = old.offset / P; tip = old.bytes; flushed = flushed; durable = durable; sync = sync }) whole rest
   here = subst (λ (v : WriterState). IsDirect v whole rest) (sym view) direct
 
@@ -133,7 +134,7 @@ module _ (P id place : ℕ) (old new : Tip) (flushed durable : Option ActiveChec
   is_joined = record { page_size = is.page_size; whole = is.whole; room = is.room; fits = direct_fits (record { page_size = P; id = id; capacity = old.capacity; full_pages = old.offset / P; tip = old.bytes; flushed = flushed; durable = durable; sync = sync }) whole rest here }
 
   drains : new ≡ drained (joined old (whole ++ rest))
-  drains = put_behind P old new place whole rest is.page_size here.empty here.pages here.short at goes
+  drains = put_after P old new start whole rest is.page_size here.empty here.pages here.short at goes
 
   pub passed_writer : IsWriter P new
   passed_writer = is_writer_drained P (joined old (whole ++ rest)) new some is_joined drains
@@ -145,7 +146,7 @@ module _ (P id place : ℕ) (old new : Tip) (flushed durable : Option ActiveChec
       (ap (λ (v : WriterState). record (buffering v (whole ++ rest)) { flushed = None }) view)
       (durable_gone durable (length (old.bytes ++ (whole ++ rest)) / P) pages)
 
--- ---- what fills the tip, the whole pages behind, and the rest
+-- ---- what fills the tip, the whole pages after, and the rest
 
 pub record IsCut (P fill : ℕ) (bytes first whole rest : List ℕ) : Type 0 where
   pub joined : first ++ (whole ++ rest) ≡ bytes
@@ -186,6 +187,6 @@ pub cut_same : (P fill : ℕ) (bytes first whole rest as_first as_whole as_rest 
 cut_same P fill bytes first whole rest as_first as_whole as_rest one two three cut =
     subst (λ l. IsCut P fill bytes l as_whole as_rest) (sym one) (subst (λ l. IsCut P fill bytes first l as_rest) (sym two) (subst (λ l. IsCut P fill bytes first whole l) (sym three) cut))
 
--- what is too big has a page behind what fills the tip
+-- what is too big has a page after what fills the tip
 pub big_enough : (w : WriterState) (more : ℕ) → is_too_big w more ≡ true → fill_of w + w.page_size ≤ more
 big_enough w more big = grind (arith, nat_tests, big)

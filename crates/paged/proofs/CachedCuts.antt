@@ -1,7 +1,5 @@
 -- What a cut leaves of what the cache holds.
-use Rattle.std.proofs.Common.{◌≡◌, ◌∙◌, ◌⊎◌, ℕ, ◌+◌, ◌*◌, ◌/◌, ◌<◌, ◌≤◌, List, [], ◌++◌, length, drop}
-use Rattle.std.proofs.Common.{refl, sym, ap, subst, arith, Bool, true, false, append_assoc, append-nil}
-use Rattle.std.proofs.Common.{length-take, take-append-drop, replicate}
+use Rattle.std.proofs.Common.{◌≡◌, ◌∙◌, ◌⊎◌, ℕ, ◌+◌, ◌*◌, ◌/◌, ◌<◌, ◌≤◌, List, [], ◌++◌, length, drop, refl, sym, ap, subst, arith, Bool, true, false, append_assoc, append-nil, length-take, take-append-drop, replicate}
 use Rattle.std.proofs.lemmas.List.{length-replicate}
 use Rattle.std.proofs.Math.Nat.{mul-le-mul_right, div-lt_iff_lt-mul}
 use Rattle.std.specs.Prelude.{Ok}
@@ -9,8 +7,9 @@ use Rattle.disk.specs.Disk.{Disk, Life}
 use Rattle.cache.specs.CacheState.{CacheState}
 use Rattle.cache.specs.Pages.{IsTrueFor, IsFresh, page_of_content}
 use Rattle.cache.proofs.CacheLaws.{longer_true}
-use Rattle.crash.specs.WriterState.{WriterState}
-use Rattle.crash.specs.Sound.{IsSound, stored}
+use Rattle.writer_state.specs.WriterState.{WriterState}
+use Rattle.writer_state.specs.Sound.{IsSound}
+use Rattle.crash.specs.Contents.{stored}
 use Rattle.crash.specs.Below.{SamePages, PagesStay}
 use Rattle.crash.proofs.Pages.{length-stored, take-stored, stored_same}
 use Rattle.paged.specs.Flush.{has_work, synced}
@@ -20,35 +19,35 @@ use Rattle.paged.specs.Caches.{PutsUpTo, ReadsOn, tail_of}
 use Rattle.paged_read.specs.Snapshots.{LeavesOthers}
 use Rattle.paged_read.specs.Tail.{CanRead}
 use Rattle.paged_read.proofs.Outliving.{others_stay}
-use Rattle.paged.proofs.Caching.{puts_only, fresh_law, reads_behind, page_of_front}
+use Rattle.paged.proofs.Caching.{puts_only, fresh_law, reads_after, page_of_front}
 use Rattle.crash.specs.Moments.{through_end}
 use Rattle.paged.proofs.Shortened.{sound_working}
 use Rattle.paged.proofs.Truncating.{SyncsWritten}
 
 -- ids that are still to be given hold nothing, whatever the content
-pub fresh_of_puts : (id from P to : ℕ) (bytes : List ℕ) (cache behind : CacheState)
-    → cache.page_size ≡ P → PutsUpTo id from P bytes to cache behind → id < cache.ids_given
-    → IsFresh cache → IsFresh behind
-fresh_of_puts id from P to bytes cache behind same puts given fresh =
+pub fresh_of_puts : (id from P to : ℕ) (bytes : List ℕ) (cache after : CacheState)
+    → cache.page_size ≡ P → PutsUpTo id from P bytes to cache after → id < cache.ids_given
+    → IsFresh cache → IsFresh after
+fresh_of_puts id from P to bytes cache after same puts given fresh =
     let front : List ℕ = replicate (from * P) 0 in
-    fresh_law id from (front ++ bytes) cache behind
-    (puts_only id from P to front bytes (front ++ bytes) cache behind (length-replicate (from * P) 0) refl same puts)
+    fresh_law id from (front ++ bytes) cache after
+    (puts_only id from P to front bytes (front ++ bytes) cache after (length-replicate (from * P) 0) refl same puts)
     given fresh
 
 -- and what reads of another blob stand on is left
-pub others_of_puts : (id from P to : ℕ) (bytes : List ℕ) (cache behind : CacheState)
-    → cache.page_size ≡ P → PutsUpTo id from P bytes to cache behind → LeavesOthers id cache behind
-others_of_puts id from P to bytes cache behind same puts =
+pub others_of_puts : (id from P to : ℕ) (bytes : List ℕ) (cache after : CacheState)
+    → cache.page_size ≡ P → PutsUpTo id from P bytes to cache after → LeavesOthers id cache after
+others_of_puts id from P to bytes cache after same puts =
     let front : List ℕ = replicate (from * P) 0 in
-    others_stay id from (front ++ bytes) cache behind
-    (puts_only id from P to front bytes (front ++ bytes) cache behind (length-replicate (from * P) 0) refl same puts)
+    others_stay id from (front ++ bytes) cache after
+    (puts_only id from P to front bytes (front ++ bytes) cache after (length-replicate (from * P) 0) refl same puts)
 
--- where the first pages stay, those of them that are held stay true, whatever stands behind them
-pub pages_read : (P id full k : ℕ) (tip behind : List ℕ) (cache : CacheState) (old new : Disk)
+-- where the first pages stay, those of them that are held stay true, whatever stands after them
+pub pages_read : (P id full k : ℕ) (tip after : List ℕ) (cache : CacheState) (old new : Disk)
     → k ≤ full → SamePages P k old new
     → CanRead (record { page_size = P; id = id; full_pages = full; bytes = tip }) cache old
-    → CanRead (record { page_size = P; id = id; full_pages = k; bytes = behind }) cache new
-pages_read P id full k tip behind cache old new fewer same can =
+    → CanRead (record { page_size = P; id = id; full_pages = k; bytes = after }) cache new
+pages_read P id full k tip after cache old new fewer same can =
     let few : k * (P + 12) ≤ full * (P + 12) = mul-le-mul_right (P + 12) fewer in
     let enough : k * (P + 12) ≤ length old.readable = omega (arith, few, can.there) in
     let kept : List ℕ = stored P k new.readable in
@@ -69,12 +68,12 @@ pages_read P id full k tip behind cache old new fewer same can =
     ap (λ l. l ++ tip) (sym (take-append-drop (k * P) whole)
     ∙ ap (λ l. l ++ drop (k * P) whole) (take-stored P k full old.readable fewer can.there ∙ still))
     ∙ append_assoc kept (drop (k * P) whole) tip in
-    let alike : (page : ℕ) → page < k → page_of_content cache.page_size (kept ++ behind) page
+    let alike : (page : ℕ) → page < k → page_of_content cache.page_size (kept ++ after) page
     ≡ page_of_content cache.page_size (whole ++ tip) page =
     λ page below.
     let low : (page + 1) * P ≤ k * P = mul-le-mul_right P (omega (arith, below)) in
-    ap (λ (Q : ℕ). page_of_content Q (kept ++ behind) page) can.page_size
-    ∙ page_of_front P page kept behind (omega (arith, low, size))
+    ap (λ (Q : ℕ). page_of_content Q (kept ++ after) page) can.page_size
+    ∙ page_of_front P page kept after (omega (arith, low, size))
     ∙ sym (ap (λ (Q : ℕ). page_of_content Q (whole ++ tip) page) can.page_size
     ∙ ap (λ l. page_of_content P l page) begins
     ∙ page_of_front P page kept rest (omega (arith, low, size))) in
@@ -84,22 +83,22 @@ pages_read P id full k tip behind cache old new fewer same can =
       there = here;
       page_size = can.page_size;
       given = can.given;
-      cached = longer_true id (whole ++ tip) (kept ++ behind) k cache alike fewer_true;
+      cached = longer_true id (whole ++ tip) (kept ++ after) k cache alike fewer_true;
     }
 
 -- once all that was appended is durable, reads go on
 pub written_reads : (sum : List ℕ → ℕ) (w m : WriterState) (old mid : Life)
-    (cache behind : CacheState) → IsSound sum w old.present ⊎ IsAsOpened sum w old.present
+    (cache after : CacheState) → IsSound sum w old.present ⊎ IsAsOpened sum w old.present
     → SyncsWritten sum w m old mid (Ok tt) → cache.page_size ≡ w.page_size
-    → (has_work w true ≡ false → behind ≡ cache)
-    → PutsUpTo w.id w.full_pages w.page_size w.tip m.full_pages cache behind
-    → ReadsOn w m cache behind old mid
-written_reads sum w m old mid cache behind stands written same idle puts = by_work (has_work w true) refl
+    → (has_work w true ≡ false → after ≡ cache)
+    → PutsUpTo w.id w.full_pages w.page_size w.tip m.full_pages cache after
+    → ReadsOn w m cache after old mid
+written_reads sum w m old mid cache after stands written same idle puts = by_work (has_work w true) refl
   where
-    by_work : (b : Bool) → has_work w true ≡ b → ReadsOn w m cache behind old mid
+    by_work : (b : Bool) → has_work w true ≡ b → ReadsOn w m cache after old mid
     by_work true work =
         let sound = sound_working sum w old.present stands work in
-        reads_behind {A = WriterState} sum (λ v. v) w [] w.tip old mid cache behind m same
+        reads_after {A = WriterState} sum (λ v. v) w [] w.tip old mid cache after m same
         (sym (append-nil w.tip)) (written.syncs sound).0 puts
     by_work false none = λ can.
         let is : m ≡ synced w = written.state none in

@@ -1,40 +1,30 @@
 -- What calls of a writer put in the cache, and that reads go on.
-use Rattle.std.proofs.Common.{◌≡◌, ◌∙◌, ℕ, zero, suc, ◌+◌, ◌*◌, ◌<◌, ◌≤◌, List, [], ◌∷◌, ◌++◌}
-use Rattle.std.proofs.Common.{length, take, drop, refl, sym, ap, subst, arith, slice_index_or}
-use Rattle.std.proofs.Common.{length-append, length-take, length-drop, drop-drop, append_assoc}
-use Rattle.std.proofs.Common.{append-nil, take-append-drop}
-use Rattle.std.proofs.Math.Nat.{mul-le-mul_right, eq_of_mul-eq-mul_right}
-use Rattle.std.proofs.Math.Nat.{le-mul_of_pos_right, div-mul-le_self}
+use Rattle.std.proofs.Common.{◌≡◌, ◌∙◌, ℕ, zero, suc, ◌+◌, ◌*◌, ◌<◌, ◌≤◌, List, [], ◌∷◌, ◌++◌, length, take, drop, refl, sym, ap, subst, arith, slice_index_or, length-append, length-take, length-drop, drop-drop, append_assoc, append-nil, take-append-drop}
+use Rattle.std.proofs.Math.Nat.{mul-le-mul_right, eq_of_mul-eq-mul_right, le-mul_of_pos_right, div-mul-le_self}
 use Rattle.std.specs.Int.{div_ceil}
-use Rattle.std.specs.Prelude.{◌/◌, ◌^◌}
-use Rattle.cache.specs.CacheState.{put_count}
+use Rattle.std.specs.Prelude.{◌/◌, ◌^◌, Result, Ok, Err, Option, Some, None, OnOk, IfOk}
+use Rattle.cache.specs.CacheState.{put_count, CacheState, PutsAll, Puts}
 use Rattle.std.proofs.Math.Seq.{drop-append_seam, take-append_seam}
 use Rattle.std.proofs.lemmas.List.{take-append-le, drop-append-le}
-use Rattle.std.specs.Prelude.{Result, Ok, Err, Option, Some, None}
 use Rattle.std.specs.Result.{IsErrAnd}
 use Rattle.std.specs.List.{concat}
 use Rattle.std.proofs.lemmas.Result.{err_from_is_err_and}
 use Rattle.disk.specs.Disk.{Life}
 use Rattle.disk.specs.declared.error.Error.{Error}
 use Rattle.page.specs.Tip.{ArePages}
-use Rattle.cache.specs.CacheState.{CacheState, PutsAll, Puts}
 use Rattle.cache.specs.Pages.{CachesOnly, IsTrueFor, IsFresh, page_of_content}
-use Rattle.cache.proofs.CacheLaws.{put_weakly, put_all_settings, puts_one_more, puts_all_true}
-use Rattle.cache.proofs.CacheLaws.{puts_all_caches, fresh_stays, longer_true}
-use Rattle.crash.specs.WriterState.{WriterState, SyncState}
-use Rattle.crash.specs.Sound.{content, stored, IsSound}
+use Rattle.cache.proofs.CacheLaws.{put_weakly, put_all_settings, puts_one_more, puts_all_true, puts_all_caches, fresh_stays, longer_true}
+use Rattle.writer_state.specs.WriterState.{WriterState}
+use Rattle.writer_state.specs.declared.sync_state.SyncState.{SyncState}
+use Rattle.writer_state.specs.Sound.{content, IsSound}
+use Rattle.crash.specs.Contents.{stored}
 use Rattle.crash.proofs.Pages.{length-stored}
 use Rattle.paged.proofs.Footers.{length-pages}
 use Rattle.paged.proofs.Bypass.{direct_pages, length-whole, pages_of_whole}
 use Rattle.paged.proofs.There.{sound_has_pages}
-use Rattle.std.specs.Prelude.{OnOk, IfOk}
 use Rattle.paged.specs.Calls.{GoesOn, Settles, waited, TryAppends}
-use Rattle.disk.specs.declared.error.Error.TheVariants.{OffsetOverflow, OutOfMemory}
-use Rattle.disk.specs.declared.error.Error.TheVariants.{ReadFailed, WriteFailed, ResizeFailed}
-use Rattle.disk.specs.declared.error.Error.TheVariants.{SyncFailed, InvalidChecksum}
-use Rattle.disk.specs.declared.error.Error.TheVariants.{BlobInsufficientLength, IdsExhausted}
-use Rattle.paged.specs.Flush.{carried, synced, answered}
-use Rattle.paged.specs.Flush.{full_in}
+use Rattle.disk.specs.declared.error.Error.TheVariants.{OffsetOverflow, OutOfMemory, ReadFailed, WriteFailed, ResizeFailed, SyncFailed, InvalidChecksum, BlobInsufficientLength, IdsExhausted}
+use Rattle.paged.specs.Flush.{carried, synced, answered, full_in}
 use Rattle.paged.specs.Direct.{IsDirect, buffering}
 use Rattle.paged.specs.Caches.{PutsUpTo, CachesTo, Caches, ReadsOn, KeepsReads, tail_of}
 use Rattle.paged_read.specs.Tail.{CanRead}
@@ -60,28 +50,28 @@ refused_before {A} Q w now bytes cache result is =
 
 -- what was put before a refusal
 pub refused_after : {A : Type 0} (Q : Error → Type 0) (w now : WriterState) (bytes : List ℕ)
-    (cache behind : CacheState) (to : ℕ) (result : Result A Error) → IsErrAnd result Q
-    → PutsUpTo w.id w.full_pages w.page_size bytes to cache behind
-    → CachesTo w now bytes cache behind result
-refused_after {A} Q w now bytes cache behind to result is puts =
+    (cache after : CacheState) (to : ℕ) (result : Result A Error) → IsErrAnd result Q
+    → PutsUpTo w.id w.full_pages w.page_size bytes to cache after
+    → CachesTo w now bytes cache after result
+refused_after {A} Q w now bytes cache after to result is puts =
     let p = err_from_is_err_and {Q = Q} result is in
-    subst (λ (r : Result A Error). CachesTo w now bytes cache behind r) (sym p.1) (to, puts)
+    subst (λ (r : Result A Error). CachesTo w now bytes cache after r) (sym p.1) (to, puts)
 
 -- an answer's kind alone decides
 pub same_answer : {A B : Type 0} (w now later : WriterState) (bytes : List ℕ)
-    (cache behind : CacheState) (a : A) (b : B) → now.full_pages ≡ later.full_pages
-    → CachesTo w now bytes cache behind (Ok a) → CachesTo w later bytes cache behind (Ok b)
-same_answer w now later bytes cache behind a b same puts =
-    subst (λ (to : ℕ). PutsUpTo w.id w.full_pages w.page_size bytes to cache behind) same puts
+    (cache after : CacheState) (a : A) (b : B) → now.full_pages ≡ later.full_pages
+    → CachesTo w now bytes cache after (Ok a) → CachesTo w later bytes cache after (Ok b)
+same_answer w now later bytes cache after a b same puts =
+    subst (λ (to : ℕ). PutsUpTo w.id w.full_pages w.page_size bytes to cache after) same puts
 
 -- whether the call is refused afterwards or not
-pub put_either : {A : Type 0} (w now : WriterState) (bytes : List ℕ) (cache behind : CacheState)
+pub put_either : {A : Type 0} (w now : WriterState) (bytes : List ℕ) (cache after : CacheState)
     (to : ℕ) (result : Result A Error) → now.full_pages ≡ to
-    → PutsUpTo w.id w.full_pages w.page_size bytes to cache behind
-    → CachesTo w now bytes cache behind result
-put_either w now bytes cache behind to (Ok a) is puts =
-    subst (λ (n : ℕ). PutsUpTo w.id w.full_pages w.page_size bytes n cache behind) (sym is) puts
-put_either w now bytes cache behind to (Err e) is puts = (to, puts)
+    → PutsUpTo w.id w.full_pages w.page_size bytes to cache after
+    → CachesTo w now bytes cache after result
+put_either w now bytes cache after to (Ok a) is puts =
+    subst (λ (n : ℕ). PutsUpTo w.id w.full_pages w.page_size bytes n cache after) (sym is) puts
+put_either w now bytes cache after to (Err e) is puts = (to, puts)
 
 -- ---- pages handed out
 
@@ -96,9 +86,9 @@ page_among P (page ∷ pages) zero d are below =
     ∙ take-append_seam page (concat pages))
 page_among P (page ∷ pages) (suc i) d are below =
     let first : length page ≡ P = are 0 [] (omega arith) in
-    let place : suc i * P ≡ length page + i * P = omega (arith, first) in
+    let offset : suc i * P ≡ length page + i * P = omega (arith, first) in
     page_among P pages i d (λ k e less. are (suc k) e (omega (arith, less))) (omega (arith, below))
-    ∙ sym (ap (λ n. take P (drop n (page ++ concat pages))) place
+    ∙ sym (ap (λ n. take P (drop n (page ++ concat pages))) offset
     ∙ ap (take P) (sym (drop-drop (i * P) (length page) (page ++ concat pages))
     ∙ ap (drop (i * P)) (drop-append_seam page (concat pages))))
 
@@ -114,7 +104,7 @@ page_put id first i pages d old mid new are below so_far last =
     (subst (λ (b : List ℕ). Puts (id, first + i) b mid new)
     (page_among old.page_size pages i d are below) last))
 
--- more bytes behind those of the pages
+-- more bytes after those of the pages
 pub puts_longer : (id page count : ℕ) (bytes more : List ℕ) (old new : CacheState)
     → count * old.page_size ≤ length bytes → PutsAll id page count bytes old new
     → PutsAll id page count (bytes ++ more) old new
@@ -123,14 +113,14 @@ puts_longer id page (suc count) bytes more old new fits (mid, first, rest) =
     let P : ℕ = old.page_size in
     let one : P ≤ length bytes = omega (arith, fits) in
     let here : take P bytes ≡ take P (bytes ++ more) = sym (take-append-le P bytes more one) in
-    let behind : drop P (bytes ++ more) ≡ drop P bytes ++ more = drop-append-le P bytes more one in
+    let after : drop P (bytes ++ more) ≡ drop P bytes ++ more = drop-append-le P bytes more one in
     let weak = put_weakly (id, page) (take P bytes) old mid first in
     let left : count * mid.page_size ≤ length (drop P bytes) =
     subst (λ (Q : ℕ). count * Q ≤ length (drop P bytes)) (sym weak.settings.page_size)
     (omega (arith, fits, length-drop P bytes)) in (
       mid,
       subst (λ (b : List ℕ). Puts (id, page) b old mid) here first,
-      subst (λ (b : List ℕ). PutsAll id (page + 1) count b mid new) (sym behind)
+      subst (λ (b : List ℕ). PutsAll id (page + 1) count b mid new) (sym after)
           (puts_longer id (page + 1) count (drop P bytes) more mid new left rest),
     )
 
@@ -183,8 +173,8 @@ direct_put w whole rest shown id first old new direct is_id is_first is_shown so
     let as_many : (length whole + length rest) / P ≡ many =
     ap (λ n. n / P) (sym (length-append whole rest))
     ∙ pages_of_whole P whole rest (whole ++ rest) direct.pages direct.short refl in
-    let places = le-mul_of_pos_right {m = P + 12} (w.full_pages + div_ceil (length whole + length rest) P) (omega arith) in
-    let few : w.full_pages + many < 2 ^ 64 = omega (arith, places, direct.fits, as_many) in
+    let offsets = le-mul_of_pos_right {m = P + 12} (w.full_pages + div_ceil (length whole + length rest) P) (omega arith) in
+    let few : w.full_pages + many < 2 ^ 64 = omega (arith, offsets, direct.fits, as_many) in
     let count : put_count P w.full_pages (length whole) ≡ many = omega (arith, few) in
     let mine : PutsAll w.id w.full_pages (put_count P w.full_pages (length whole)) whole old new =
     subst (λ (Q : ℕ). PutsAll w.id w.full_pages (put_count Q w.full_pages (length whole)) whole old new) same
@@ -220,9 +210,9 @@ puts_joined id page (suc n) m bytes old mid new (c, first, more) rest =
     let P : ℕ = old.page_size in
     let weak = put_weakly (id, page) (take P bytes) old c first in
     let e : page + suc n ≡ page + 1 + n = omega arith in
-    let place : suc n * P ≡ P + n * P = omega arith in
+    let offset : suc n * P ≡ P + n * P = omega arith in
     let moved : drop (suc n * P) bytes ≡ drop (n * c.page_size) (drop P bytes) =
-    ap (λ k. drop k bytes) place ∙ sym (drop-drop (n * P) P bytes)
+    ap (λ k. drop k bytes) offset ∙ sym (drop-drop (n * P) P bytes)
     ∙ ap (λ Q. drop (n * Q) (drop P bytes)) (sym weak.settings.page_size) in
     let g : suc (n + m) ≡ suc n + m = omega arith in
     subst (λ (k : ℕ). PutsAll id page k bytes old new) g (
@@ -234,24 +224,24 @@ puts_joined id page (suc n) m bytes old mid new (c, first, more) rest =
     )
 
 -- first the pages of some bytes, which all of them fill, and then of more
-pub puts_then : (id from P : ℕ) (front behind : List ℕ) (between to : ℕ) (old mid new : CacheState)
+pub puts_then : (id from P : ℕ) (front after : List ℕ) (between to : ℕ) (old mid new : CacheState)
     → old.page_size ≡ P → between * P ≡ from * P + length front
-    → PutsUpTo id from P front between old mid → PutsUpTo id between P behind to mid new
-    → PutsUpTo id from P (front ++ behind) to old new
-puts_then id from P front behind between to old mid new same filled first second =
+    → PutsUpTo id from P front between old mid → PutsUpTo id between P after to mid new
+    → PutsUpTo id from P (front ++ after) to old new
+puts_then id from P front after between to old mid new same filled first second =
     let all : first.count * P ≡ length front = omega (arith, filled, ap (λ (n : ℕ). n * P) first.reaches) in
     let fits : first.count * old.page_size ≤ length front =
     subst (λ (Q : ℕ). first.count * Q ≤ length front) (sym same) first.within in
-    let rest : drop (first.count * old.page_size) (front ++ behind) ≡ behind =
-    ap (λ (Q : ℕ). drop (first.count * Q) (front ++ behind)) same
-    ∙ ap (λ (n : ℕ). drop n (front ++ behind)) all ∙ drop-append_seam front behind in
+    let rest : drop (first.count * old.page_size) (front ++ after) ≡ after =
+    ap (λ (Q : ℕ). drop (first.count * Q) (front ++ after)) same
+    ∙ ap (λ (n : ℕ). drop n (front ++ after)) all ∙ drop-append_seam front after in
     record {
       count = first.count + second.count;
       reaches = omega (arith, first.reaches, second.reaches);
-      within = omega (arith, all, second.within, length-append front behind);
-      puts = puts_joined id from first.count second.count (front ++ behind) old mid new
-          (puts_longer id from first.count front behind old mid fits first.puts)
-          (subst (λ (p : ℕ). PutsAll id p second.count (drop (first.count * old.page_size) (front ++ behind)) mid new)
+      within = omega (arith, all, second.within, length-append front after);
+      puts = puts_joined id from first.count second.count (front ++ after) old mid new
+          (puts_longer id from first.count front after old mid fits first.puts)
+          (subst (λ (p : ℕ). PutsAll id p second.count (drop (first.count * old.page_size) (front ++ after)) mid new)
           first.reaches (subst (λ (b : List ℕ). PutsAll id between second.count b mid new) (sym rest) second.puts));
     }
 
@@ -288,10 +278,10 @@ pub puts_only : (id from P to : ℕ) (front bytes all : List ℕ) (old new : Cac
     → length front ≡ from * P → all ≡ front ++ bytes → old.page_size ≡ P
     → PutsUpTo id from P bytes to old new → CachesOnly id from all old new
 puts_only id from P to front bytes all old new size is same p =
-    let place : from * old.page_size ≡ length front =
+    let offset : from * old.page_size ≡ length front =
     ap (λ (Q : ℕ). from * Q) same ∙ sym size in
     let there : drop (from * old.page_size) all ≡ bytes =
-    ap (λ (n : ℕ). drop n all) place ∙ ap (drop (length front)) is
+    ap (λ (n : ℕ). drop n all) offset ∙ ap (drop (length front)) is
     ∙ drop-append_seam front bytes in
     puts_all_caches id from from p.count all old new (omega arith)
     (subst (λ (Q : ℕ). (from + p.count) * Q ≤ length all) (sym same)
@@ -304,10 +294,10 @@ pub puts_true : (id from P to : ℕ) (front bytes all held : List ℕ) (old new 
     → old.page_size ≡ P → PutsUpTo id from P bytes to old new
     → IsTrueFor id held from old → IsTrueFor id all to new
 puts_true id from P to front bytes all held old new size is begins same p true_old =
-    let place : from * old.page_size ≡ length front =
+    let offset : from * old.page_size ≡ length front =
     ap (λ (Q : ℕ). from * Q) same ∙ sym size in
     let there : drop (from * old.page_size) all ≡ bytes =
-    ap (λ (n : ℕ). drop n all) place ∙ ap (drop (length front)) is
+    ap (λ (n : ℕ). drop n all) offset ∙ ap (drop (length front)) is
     ∙ drop-append_seam front bytes in
     let alike : (page : ℕ) → page < from → page_of_content old.page_size all page
     ≡ page_of_content old.page_size held page =
@@ -326,15 +316,15 @@ puts_true id from P to front bytes all held old new size is begins same p true_o
 
 -- reads go on where a writer does
 pub reads_on : (sum : List ℕ → ℕ) (w now : WriterState) (more : List ℕ) (old new : Life)
-    (cache behind : CacheState) → cache.page_size ≡ w.page_size → GoesOn sum w old more now new
+    (cache after : CacheState) → cache.page_size ≡ w.page_size → GoesOn sum w old more now new
     → now.full_pages * (now.page_size + 12) ≤ length new.present.readable
-    → PutsUpTo w.id w.full_pages w.page_size (w.tip ++ more) now.full_pages cache behind
-    → ReadsOn w now cache behind old new
-reads_on sum w now more old new cache behind same goes there puts can =
+    → PutsUpTo w.id w.full_pages w.page_size (w.tip ++ more) now.full_pages cache after
+    → ReadsOn w now cache after old new
+reads_on sum w now more old new cache after same goes there puts can =
     let P : ℕ = w.page_size in
     let front : List ℕ = stored P w.full_pages old.present.readable in
     let size : length front ≡ w.full_pages * P = length-stored P w.full_pages old.present.readable can.there in
-    let settings = put_all_settings w.id w.full_pages puts.count (w.tip ++ more) cache behind puts.puts in
+    let settings = put_all_settings w.id w.full_pages puts.count (w.tip ++ more) cache after puts.puts in
     let is : content now new.present.readable ≡ front ++ (w.tip ++ more) =
     goes.content ∙ append_assoc front w.tip more in
     let held : List ℕ = content w old.present.readable in
@@ -344,54 +334,54 @@ reads_on sum w now more old new cache behind same goes there puts can =
       there = there;
       page_size = settings.page_size ∙ same ∙ sym goes.same.page_size;
       given = omega (arith, can.given, settings.ids_given, goes.same.id);
-      cached = subst (λ (id : ℕ). IsTrueFor id (content now new.present.readable) now.full_pages behind) (sym goes.same.id)
-          (puts_true w.id w.full_pages P now.full_pages front (w.tip ++ more) (content now new.present.readable) held cache behind
+      cached = subst (λ (id : ℕ). IsTrueFor id (content now new.present.readable) now.full_pages after) (sym goes.same.id)
+          (puts_true w.id w.full_pages P now.full_pages front (w.tip ++ more) (content now new.present.readable) held cache after
           size is begins same puts can.cached);
     }
 
 -- ---- states of a writer in which it puts the same
 
--- behind a wait, or with its durable slot brought up to date
-pub puts_waited : {A : Type 0} (w m now : WriterState) (bytes : List ℕ) (cache behind : CacheState)
-    (result : Result A Error) → m ≡ waited w → CachesTo m now bytes cache behind result
-    → CachesTo w now bytes cache behind result
-puts_waited {A} w m now bytes cache behind (Ok a) is puts =
-    subst (λ (v : WriterState). CachesTo {A = A} v now bytes cache behind (Ok a)) is puts
-puts_waited {A} w m now bytes cache behind (Err e) is puts =
-    subst (λ (v : WriterState). CachesTo {A = A} v now bytes cache behind (Err e)) is puts
+-- after a wait, or with its durable slot brought up to date
+pub puts_waited : {A : Type 0} (w m now : WriterState) (bytes : List ℕ) (cache after : CacheState)
+    (result : Result A Error) → m ≡ waited w → CachesTo m now bytes cache after result
+    → CachesTo w now bytes cache after result
+puts_waited {A} w m now bytes cache after (Ok a) is puts =
+    subst (λ (v : WriterState). CachesTo {A = A} v now bytes cache after (Ok a)) is puts
+puts_waited {A} w m now bytes cache after (Err e) is puts =
+    subst (λ (v : WriterState). CachesTo {A = A} v now bytes cache after (Err e)) is puts
 
-pub puts_carried : {A : Type 0} (w v now : WriterState) (bytes : List ℕ) (cache behind : CacheState)
-    (result : Result A Error) → v ≡ carried w → CachesTo v now bytes cache behind result
-    → CachesTo w now bytes cache behind result
-puts_carried {A} w v now bytes cache behind (Ok a) is puts =
-    subst (λ (u : WriterState). CachesTo {A = A} u now bytes cache behind (Ok a)) is puts
-puts_carried {A} w v now bytes cache behind (Err e) is puts =
-    subst (λ (u : WriterState). CachesTo {A = A} u now bytes cache behind (Err e)) is puts
+pub puts_carried : {A : Type 0} (w v now : WriterState) (bytes : List ℕ) (cache after : CacheState)
+    (result : Result A Error) → v ≡ carried w → CachesTo v now bytes cache after result
+    → CachesTo w now bytes cache after result
+puts_carried {A} w v now bytes cache after (Ok a) is puts =
+    subst (λ (u : WriterState). CachesTo {A = A} u now bytes cache after (Ok a)) is puts
+puts_carried {A} w v now bytes cache after (Err e) is puts =
+    subst (λ (u : WriterState). CachesTo {A = A} u now bytes cache after (Err e)) is puts
 
 -- with more bytes in its tip
 pub puts_buffered : {A : Type 0} (w v now : WriterState) (more bytes : List ℕ)
-    (cache behind : CacheState) (result : Result A Error) → v ≡ buffering w more
-    → CachesTo v now bytes cache behind result → CachesTo w now bytes cache behind result
-puts_buffered {A} w v now more bytes cache behind (Ok a) is puts =
-    subst (λ (u : WriterState). CachesTo {A = A} u now bytes cache behind (Ok a)) is puts
-puts_buffered {A} w v now more bytes cache behind (Err e) is puts =
-    subst (λ (u : WriterState). CachesTo {A = A} u now bytes cache behind (Err e)) is puts
+    (cache after : CacheState) (result : Result A Error) → v ≡ buffering w more
+    → CachesTo v now bytes cache after result → CachesTo w now bytes cache after result
+puts_buffered {A} w v now more bytes cache after (Ok a) is puts =
+    subst (λ (u : WriterState). CachesTo {A = A} u now bytes cache after (Ok a)) is puts
+puts_buffered {A} w v now more bytes cache after (Err e) is puts =
+    subst (λ (u : WriterState). CachesTo {A = A} u now bytes cache after (Err e)) is puts
 
 -- of the same bytes
-pub puts_alike : {A : Type 0} (w now : WriterState) (bytes same : List ℕ) (cache behind : CacheState)
-    (result : Result A Error) → bytes ≡ same → CachesTo w now bytes cache behind result
-    → CachesTo w now same cache behind result
-puts_alike w now bytes same cache behind result is puts =
-    subst (λ (b : List ℕ). CachesTo w now b cache behind result) is puts
+pub puts_alike : {A : Type 0} (w now : WriterState) (bytes same : List ℕ) (cache after : CacheState)
+    (result : Result A Error) → bytes ≡ same → CachesTo w now bytes cache after result
+    → CachesTo w now same cache after result
+puts_alike w now bytes same cache after result is puts =
+    subst (λ (b : List ℕ). CachesTo w now b cache after result) is puts
 
--- what was put stays where what is written is made durable behind it
-pub puts_before : {A : Type 0} (w m now : WriterState) (bytes : List ℕ) (cache behind : CacheState)
+-- what was put stays where what is written is made durable after it
+pub puts_before : {A : Type 0} (w m now : WriterState) (bytes : List ℕ) (cache after : CacheState)
     (result : Result A Error) → OnOk result (now.full_pages ≡ m.full_pages)
-    → PutsUpTo w.id w.full_pages w.page_size bytes m.full_pages cache behind
-    → CachesTo w now bytes cache behind result
-puts_before w m now bytes cache behind (Ok a) same puts =
-    subst (λ (n : ℕ). PutsUpTo w.id w.full_pages w.page_size bytes n cache behind) (sym same) puts
-puts_before w m now bytes cache behind (Err e) same puts = (m.full_pages, puts)
+    → PutsUpTo w.id w.full_pages w.page_size bytes m.full_pages cache after
+    → CachesTo w now bytes cache after result
+puts_before w m now bytes cache after (Ok a) same puts =
+    subst (λ (n : ℕ). PutsUpTo w.id w.full_pages w.page_size bytes n cache after) (sym same) puts
+puts_before w m now bytes cache after (Err e) same puts = (m.full_pages, puts)
 
 pub synced_pages : {A : Type 0} (m now : WriterState) (result : Result A Error)
     → OnOk result (now ≡ synced m) → OnOk result (now.full_pages ≡ m.full_pages)
@@ -413,7 +403,7 @@ settled_nothing sum w now bytes cache old new (Ok a) (goes, is) =
     (puts_nothing w.id w.full_pages w.page_size bytes cache)
 settled_nothing sum w now bytes cache old new (Err e) refused = refused_nothing (Unit {0}) w now bytes cache e
 
--- the bytes that are put behind a tip that was filled
+-- the bytes that are put after a tip that was filled
 pub filled_pages : (sum : List ℕ → ℕ) (w m : WriterState) (first : List ℕ) (old mid : Life)
     → IsSound sum w old.present → GoesOn sum w old first m mid → m.tip ≡ []
     → m.full_pages * w.page_size ≡ w.full_pages * w.page_size + length (w.tip ++ first)
@@ -437,94 +427,94 @@ filled_pages sum w m first old mid sound goes empty =
 -- ---- what a public call owes
 
 pub only_law : (sum : List ℕ → ℕ) (w : WriterState) (more bytes : List ℕ) (old : Life)
-    (cache behind : CacheState) (to : ℕ) → IsSound sum w old.present
+    (cache after : CacheState) (to : ℕ) → IsSound sum w old.present
     → cache.page_size ≡ w.page_size → bytes ≡ w.tip ++ more
-    → PutsUpTo w.id w.full_pages w.page_size bytes to cache behind
-    → CachesOnly w.id w.full_pages (content w old.present.readable ++ more) cache behind
-only_law sum w more bytes old cache behind to sound same is puts =
+    → PutsUpTo w.id w.full_pages w.page_size bytes to cache after
+    → CachesOnly w.id w.full_pages (content w old.present.readable ++ more) cache after
+only_law sum w more bytes old cache after to sound same is puts =
     let P : ℕ = w.page_size in
     let front : List ℕ = stored P w.full_pages old.present.readable in
     let there = sound_has_pages sum w old sound in
-    puts_only w.id w.full_pages P to front bytes (content w old.present.readable ++ more) cache behind
+    puts_only w.id w.full_pages P to front bytes (content w old.present.readable ++ more) cache after
     (length-stored P w.full_pages old.present.readable there)
     (append_assoc front w.tip more ∙ ap (λ l. front ++ l) (sym is)) same puts
 
 -- whatever it answers, it puts pages of the content alone
 pub caches_law : {A : Type 0} (sum : List ℕ → ℕ) (writer : A → WriterState) (w : WriterState)
-    (more bytes : List ℕ) (old : Life) (cache behind : CacheState) (result : Result A Error)
+    (more bytes : List ℕ) (old : Life) (cache after : CacheState) (result : Result A Error)
     → IsSound sum w old.present → cache.page_size ≡ w.page_size → bytes ≡ w.tip ++ more
-    → Caches writer w bytes cache behind result
-    → CachesOnly w.id w.full_pages (content w old.present.readable ++ more) cache behind
-caches_law sum writer w more bytes old cache behind (Ok a) sound same is puts =
-    only_law sum w more bytes old cache behind (writer a).full_pages sound same is puts
-caches_law sum writer w more bytes old cache behind (Err e) sound same is (to, puts) =
-    only_law sum w more bytes old cache behind to sound same is puts
+    → Caches writer w bytes cache after result
+    → CachesOnly w.id w.full_pages (content w old.present.readable ++ more) cache after
+caches_law sum writer w more bytes old cache after (Ok a) sound same is puts =
+    only_law sum w more bytes old cache after (writer a).full_pages sound same is puts
+caches_law sum writer w more bytes old cache after (Err e) sound same is (to, puts) =
+    only_law sum w more bytes old cache after to sound same is puts
 
 -- the same, of a call that appends nothing
 pub caches_law_same : {A : Type 0} (sum : List ℕ → ℕ) (writer : A → WriterState) (w : WriterState)
-    (old : Life) (cache behind : CacheState) (result : Result A Error) → IsSound sum w old.present
-    → cache.page_size ≡ w.page_size → Caches writer w w.tip cache behind result
-    → CachesOnly w.id w.full_pages (content w old.present.readable) cache behind
-caches_law_same sum writer w old cache behind result sound same puts =
-    subst (λ (l : List ℕ). CachesOnly w.id w.full_pages l cache behind)
+    (old : Life) (cache after : CacheState) (result : Result A Error) → IsSound sum w old.present
+    → cache.page_size ≡ w.page_size → Caches writer w w.tip cache after result
+    → CachesOnly w.id w.full_pages (content w old.present.readable) cache after
+caches_law_same sum writer w old cache after result sound same puts =
+    subst (λ (l : List ℕ). CachesOnly w.id w.full_pages l cache after)
     (append-nil (content w old.present.readable))
-    (caches_law sum writer w [] w.tip old cache behind result sound same (sym (append-nil w.tip)) puts)
+    (caches_law sum writer w [] w.tip old cache after result sound same (sym (append-nil w.tip)) puts)
 
 -- ids that are still to be given hold nothing
-pub fresh_law : (id from : ℕ) (all : List ℕ) (cache behind : CacheState)
-    → CachesOnly id from all cache behind → id < cache.ids_given → IsFresh cache → IsFresh behind
-fresh_law id from all cache behind only given fresh =
-    fresh_stays id from all cache behind given only fresh
+pub fresh_law : (id from : ℕ) (all : List ℕ) (cache after : CacheState)
+    → CachesOnly id from all cache after → id < cache.ids_given → IsFresh cache → IsFresh after
+fresh_law id from all cache after only given fresh =
+    fresh_stays id from all cache after given only fresh
 
--- reads go on behind each call that appends, or nothing
-pub reads_behind : {A : Type 0} (sum : List ℕ → ℕ) (writer : A → WriterState) (w : WriterState)
-    (more bytes : List ℕ) (old new : Life) (cache behind : CacheState) (a : A)
+-- reads go on after each call that appends, or nothing
+pub reads_after : {A : Type 0} (sum : List ℕ → ℕ) (writer : A → WriterState) (w : WriterState)
+    (more bytes : List ℕ) (old new : Life) (cache after : CacheState) (a : A)
     → cache.page_size ≡ w.page_size → bytes ≡ w.tip ++ more
-    → GoesOn sum w old more (writer a) new → Caches {A = A} writer w bytes cache behind (Ok a)
-    → ReadsOn w (writer a) cache behind old new
-reads_behind sum writer w more bytes old new cache behind a same is goes puts =
-    reads_on sum w (writer a) more old new cache behind same goes
+    → GoesOn sum w old more (writer a) new → Caches {A = A} writer w bytes cache after (Ok a)
+    → ReadsOn w (writer a) cache after old new
+reads_after sum writer w more bytes old new cache after a same is goes puts =
+    reads_on sum w (writer a) more old new cache after same goes
     (sound_has_pages sum (writer a) new goes.sound)
-    (subst (λ (b : List ℕ). PutsUpTo w.id w.full_pages w.page_size b (writer a).full_pages cache behind)
+    (subst (λ (b : List ℕ). PutsUpTo w.id w.full_pages w.page_size b (writer a).full_pages cache after)
     is puts)
 
--- pages that go past the tip, behind those that filled it
+-- pages that go past the tip, after those that filled it
 pub direct_joined : {A : Type 0} (sum : List ℕ → ℕ) (w m now : WriterState) (first rest bytes : List ℕ)
-    (old mid : Life) (cache between behind : CacheState) (result : Result A Error)
+    (old mid : Life) (cache between after : CacheState) (result : Result A Error)
     → IsSound sum w old.present → GoesOn sum w old first m mid → m.tip ≡ []
     → cache.page_size ≡ w.page_size → first ++ rest ≡ bytes
     → PutsUpTo w.id w.full_pages w.page_size (w.tip ++ first) m.full_pages cache between
-    → CachesTo m now rest between behind result
-    → CachesTo w now (w.tip ++ bytes) cache behind result
-direct_joined {A} sum w m now first rest bytes old mid cache between behind result sound goes empty same joined puts more =
+    → CachesTo m now rest between after result
+    → CachesTo w now (w.tip ++ bytes) cache after result
+direct_joined {A} sum w m now first rest bytes old mid cache between after result sound goes empty same joined puts more =
     by_answer result more
   where
-    both : (to : ℕ) → PutsUpTo m.id m.full_pages m.page_size rest to between behind
-        → PutsUpTo w.id w.full_pages w.page_size (w.tip ++ bytes) to cache behind
+    both : (to : ℕ) → PutsUpTo m.id m.full_pages m.page_size rest to between after
+        → PutsUpTo w.id w.full_pages w.page_size (w.tip ++ bytes) to cache after
     both to second =
-        subst (λ (b : List ℕ). PutsUpTo w.id w.full_pages w.page_size b to cache behind)
+        subst (λ (b : List ℕ). PutsUpTo w.id w.full_pages w.page_size b to cache after)
         (append_assoc w.tip first rest ∙ ap (λ l. w.tip ++ l) joined)
-        (puts_then w.id w.full_pages w.page_size (w.tip ++ first) rest m.full_pages to cache between behind
+        (puts_then w.id w.full_pages w.page_size (w.tip ++ first) rest m.full_pages to cache between after
         same (filled_pages sum w m first old mid sound goes empty) puts
-        (subst (λ (P : ℕ). PutsUpTo w.id m.full_pages P rest to between behind) goes.same.page_size
-        (subst (λ (id : ℕ). PutsUpTo id m.full_pages m.page_size rest to between behind) goes.same.id second)))
+        (subst (λ (P : ℕ). PutsUpTo w.id m.full_pages P rest to between after) goes.same.page_size
+        (subst (λ (id : ℕ). PutsUpTo id m.full_pages m.page_size rest to between after) goes.same.id second)))
 
-    by_answer : (r : Result A Error) → CachesTo m now rest between behind r
-        → CachesTo w now (w.tip ++ bytes) cache behind r
+    by_answer : (r : Result A Error) → CachesTo m now rest between after r
+        → CachesTo w now (w.tip ++ bytes) cache after r
     by_answer (Ok a) second = both now.full_pages second
     by_answer (Err e) (to, second) = (to, both to second)
 
 -- what was put of the first of some bytes
 pub longer_refused : {A : Type 0} (Q : Error → Type 0) (w now : WriterState)
-    (front rest bytes : List ℕ) (cache behind : CacheState) (to : ℕ) (result : Result A Error)
+    (front rest bytes : List ℕ) (cache after : CacheState) (to : ℕ) (result : Result A Error)
     → IsErrAnd result Q → cache.page_size ≡ w.page_size → front ++ rest ≡ bytes
-    → PutsUpTo w.id w.full_pages w.page_size (w.tip ++ front) to cache behind
-    → CachesTo w now (w.tip ++ bytes) cache behind result
-longer_refused Q w now front rest bytes cache behind to result refused same joined puts =
-    refused_after Q w now (w.tip ++ bytes) cache behind to result refused
-    (subst (λ (b : List ℕ). PutsUpTo w.id w.full_pages w.page_size b to cache behind)
+    → PutsUpTo w.id w.full_pages w.page_size (w.tip ++ front) to cache after
+    → CachesTo w now (w.tip ++ bytes) cache after result
+longer_refused Q w now front rest bytes cache after to result refused same joined puts =
+    refused_after Q w now (w.tip ++ bytes) cache after to result refused
+    (subst (λ (b : List ℕ). PutsUpTo w.id w.full_pages w.page_size b to cache after)
     (append_assoc w.tip front rest ∙ ap (λ l. w.tip ++ l) joined)
-    (puts_of_longer w.id w.full_pages w.page_size to (w.tip ++ front) rest cache behind same puts))
+    (puts_of_longer w.id w.full_pages w.page_size to (w.tip ++ front) rest cache after same puts))
 
 -- ---- calls that ask no device
 
@@ -550,7 +540,7 @@ same_reads w now is = subst (λ (v : WriterState). KeepsReads w v) (sym is) (λ 
 
 pub tried_reads : (w now : WriterState) (bytes : List ℕ) (result : Result (Option ℕ) Error)
     → TryAppends w bytes now result → KeepsReads w now
-tried_reads w now bytes (Ok (Some at)) (fits, room, place, is) = longer_reads w now bytes is
+tried_reads w now bytes (Ok (Some at)) (fits, room, offset, is) = longer_reads w now bytes is
 tried_reads w now bytes (Ok None) (fits, room, is) = same_reads w now is
 tried_reads w now bytes (Err OffsetOverflow) (far, is) = same_reads w now is
 tried_reads w now bytes (Err OutOfMemory) (fits, room, is) = same_reads w now is

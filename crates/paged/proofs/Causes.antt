@@ -1,40 +1,40 @@
 -- Why a call of the device answers an error.
 use Rattle.std.proofs.Common.{◌≡◌, ℕ, ◌+◌, ◌^◌, ◌<◌, ◌≤◌, List, [], ◌∷◌, ◌++◌, inl, inr, length, ap, ◌∙◌, refl, sym, subst, arith, Bool, true, false, Result, Ok, Err}
-use Rattle.crash.proofs.StartedLaws.{settles_same}
+use Rattle.writer_state.proofs.StartedLaws.{settles_same}
 use Rattle.std.specs.Prelude.{OnOk}
 use Rattle.disk.specs.declared.started_sync.StartedSync.{StartedSync}
 use Rattle.disk.specs.declared.started_sync.StartedSync.TheVariants.{Done, Named}
-use Rattle.disk.specs.Disk.{Life, Disk, Entry, logged, settle_to, WriteAt, SyncAll, WaitSync, LogGrows, WriteGoes, SyncGoes, WaitGoes, StartGoes}
+use Rattle.disk.specs.Disk.{Life, Disk, Entry, logged, disk_settled_to, WriteAt, SyncAll, WaitSync, LogGrows, WriteGoes, SyncGoes, WaitGoes, StartGoes}
 use Rattle.disk.proofs.Logs.{failed_once, failed_later, failed_sooner, one_more, grows_same}
 use Rattle.disk.specs.declared.error.Error.{Error}
 use Rattle.disk.specs.declared.error.Error.TheVariants.{ReadFailed, WriteFailed, ResizeFailed, SyncFailed, InvalidChecksum, BlobInsufficientLength, OffsetOverflow, OutOfMemory, IdsExhausted}
-use Rattle.crash.specs.WriterState.{SyncState}
-use Rattle.crash.specs.WriterState.SyncState.{Pending}
-use Rattle.paged.specs.Calls.{HasCause, HadFailed, AsksAtMost}
+use Rattle.writer_state.specs.declared.sync_state.SyncState.{SyncState}
+use Rattle.writer_state.specs.declared.sync_state.SyncState.TheVariants.{Pending}
+use Rattle.paged.specs.Calls.{CallCause, HadFailed, AsksAtMost}
 
 -- a write answers an error for a failed device or for no memory, where its range fits
-pub write_cause : (s : SyncState) (place : ℕ) (bytes : List ℕ) (sync : Bool) (old new : Life) (e : Error) → WriteGoes place bytes sync old new (Err e) → (e ≡ OffsetOverflow → ⊥) → HasCause s old new e
-write_cause s place bytes false old new ReadFailed goes fits = cc
-write_cause s place bytes false old new WriteFailed (is, (d, next, done)) fits = failed_once (WriteAt place (length bytes) false) old.present new.present (ap (λ l. l.present.log) next ∙ ap (λ e. e.log) done.rest)
-write_cause s place bytes false old new ResizeFailed goes fits = cc
-write_cause s place bytes false old new SyncFailed goes fits = cc
-write_cause s place bytes false old new InvalidChecksum goes fits = cc
-write_cause s place bytes false old new BlobInsufficientLength goes fits = cc
-write_cause s place bytes false old new OffsetOverflow goes fits = absurd (fits refl)
-write_cause s place bytes false old new OutOfMemory goes fits = tt
-write_cause s place bytes false old new IdsExhausted goes fits = cc
-write_cause s place bytes true old new ReadFailed goes fits = absurd goes
-write_cause s place bytes true old new WriteFailed (d, next, done) fits = failed_once (WriteAt place (length bytes) true) old.present new.present (ap (λ l. l.present.log) next ∙ ap (λ e. e.log) done.rest)
-write_cause s place bytes true old new ResizeFailed goes fits = absurd goes
-write_cause s place bytes true old new SyncFailed goes fits = absurd goes
-write_cause s place bytes true old new InvalidChecksum goes fits = absurd goes
-write_cause s place bytes true old new BlobInsufficientLength goes fits = absurd goes
-write_cause s place bytes true old new OffsetOverflow goes fits = absurd (fits refl)
-write_cause s place bytes true old new OutOfMemory goes fits = tt
-write_cause s place bytes true old new IdsExhausted goes fits = absurd goes
+pub write_cause : (s : SyncState) (offset : ℕ) (bytes : List ℕ) (sync : Bool) (old new : Life) (e : Error) → WriteGoes offset bytes sync old new (Err e) → (e ≡ OffsetOverflow → ⊥) → CallCause s old new e
+write_cause s offset bytes false old new ReadFailed goes fits = cc
+write_cause s offset bytes false old new WriteFailed (is, (d, next, done)) fits = failed_once (WriteAt offset (length bytes) false) old.present new.present (ap (λ l. l.present.log) next ∙ ap (λ e. e.log) done.rest)
+write_cause s offset bytes false old new ResizeFailed goes fits = cc
+write_cause s offset bytes false old new SyncFailed goes fits = cc
+write_cause s offset bytes false old new InvalidChecksum goes fits = cc
+write_cause s offset bytes false old new BlobInsufficientLength goes fits = cc
+write_cause s offset bytes false old new OffsetOverflow goes fits = absurd (fits refl)
+write_cause s offset bytes false old new OutOfMemory goes fits = tt
+write_cause s offset bytes false old new IdsExhausted goes fits = cc
+write_cause s offset bytes true old new ReadFailed goes fits = absurd goes
+write_cause s offset bytes true old new WriteFailed (d, next, done) fits = failed_once (WriteAt offset (length bytes) true) old.present new.present (ap (λ l. l.present.log) next ∙ ap (λ e. e.log) done.rest)
+write_cause s offset bytes true old new ResizeFailed goes fits = absurd goes
+write_cause s offset bytes true old new SyncFailed goes fits = absurd goes
+write_cause s offset bytes true old new InvalidChecksum goes fits = absurd goes
+write_cause s offset bytes true old new BlobInsufficientLength goes fits = absurd goes
+write_cause s offset bytes true old new OffsetOverflow goes fits = absurd (fits refl)
+write_cause s offset bytes true old new OutOfMemory goes fits = tt
+write_cause s offset bytes true old new IdsExhausted goes fits = absurd goes
 
 -- a sync answers an error for a failed device or for no memory
-pub sync_cause : (s : SyncState) (old new : Life) (e : Error) → SyncGoes old new (Err e) → HasCause s old new e
+pub sync_cause : (s : SyncState) (old new : Life) (e : Error) → SyncGoes old new (Err e) → CallCause s old new e
 sync_cause s old new ReadFailed goes = absurd goes
 sync_cause s old new WriteFailed goes = absurd goes
 sync_cause s old new ResizeFailed goes = absurd goes
@@ -46,7 +46,7 @@ sync_cause s old new OutOfMemory goes = tt
 sync_cause s old new IdsExhausted goes = absurd goes
 
 -- so does a wait, and also where the sync had failed
-pub wait_cause : (name : ℕ) (old new : Life) (e : Error) → WaitGoes name old new (Err e) → HasCause (Pending name) old new e
+pub wait_cause : (name : ℕ) (old new : Life) (e : Error) → WaitGoes name old new (Err e) → CallCause (Pending name) old new e
 wait_cause name old new ReadFailed goes = absurd goes
 wait_cause name old new WriteFailed goes = absurd goes
 wait_cause name old new ResizeFailed goes = absurd goes
@@ -61,7 +61,7 @@ wait_cause name old new OutOfMemory goes = tt
 wait_cause name old new IdsExhausted goes = absurd goes
 
 -- what a later part of a call answers has a cause in the whole call, where a sync that it waits for has failed in this call or had before
-pub cause_later : (s t : SyncState) (old mid new : Life) (e : Error) → LogGrows old.present mid.present → LogGrows mid.present new.present → (HadFailed t mid.present → HasCause s old mid SyncFailed) → HasCause t mid new e → HasCause s old new e
+pub cause_later : (s t : SyncState) (old mid new : Life) (e : Error) → LogGrows old.present mid.present → LogGrows mid.present new.present → (HadFailed t mid.present → CallCause s old mid SyncFailed) → CallCause t mid new e → CallCause s old new e
 cause_later s t old mid new ReadFailed grows more waits cause = cause
 cause_later s t old mid new WriteFailed grows more waits cause = failed_later WriteFailed old.present mid.present new.present grows cause
 cause_later s t old mid new ResizeFailed grows more waits cause = cause
@@ -70,7 +70,7 @@ cause_later s t old mid new SyncFailed grows more waits cause = elim cause [
   | inr had ↦ still (waits had)
 ]
   where
-    still : HasCause s old mid SyncFailed → HasCause s old new SyncFailed
+    still : CallCause s old mid SyncFailed → CallCause s old new SyncFailed
     still (inl failed) = inl (failed_sooner SyncFailed old.present mid.present new.present failed more)
     still (inr had) = inr had
 cause_later s t old mid new InvalidChecksum grows more waits cause = cause
@@ -79,22 +79,22 @@ cause_later s t old mid new OffsetOverflow grows more waits cause = cause
 cause_later s t old mid new OutOfMemory grows more waits cause = tt
 cause_later s t old mid new IdsExhausted grows more waits cause = cause
 
--- a write whose range fits doesn't answer that it passes the greatest place
-pub no_overflow : (place : ℕ) (bytes : List ℕ) (sync : Bool) (old new : Life) (e : Error) → WriteGoes place bytes sync old new (Err e) → place + length bytes < 2 ^ 64 → e ≡ OffsetOverflow → ⊥
-no_overflow place bytes false old new e goes fits is =
-    let h : (new ≡ old) × (2 ^ 64 ≤ place + length bytes) = subst (λ e. WriteGoes place bytes false old new (Err e)) is goes in
+-- a write whose range fits doesn't answer that it passes the greatest offset
+pub no_overflow : (offset : ℕ) (bytes : List ℕ) (sync : Bool) (old new : Life) (e : Error) → WriteGoes offset bytes sync old new (Err e) → offset + length bytes < 2 ^ 64 → e ≡ OffsetOverflow → ⊥
+no_overflow offset bytes false old new e goes fits is =
+    let h : (new ≡ old) × (2 ^ 64 ≤ offset + length bytes) = subst (λ e. WriteGoes offset bytes false old new (Err e)) is goes in
     omega (arith, h.1)
-no_overflow place bytes true old new e goes fits is =
-    let h : (new ≡ old) × (2 ^ 64 ≤ place + length bytes) = subst (λ e. WriteGoes place bytes true old new (Err e)) is goes in
+no_overflow offset bytes true old new e goes fits is =
+    let h : (new ≡ old) × (2 ^ 64 ≤ offset + length bytes) = subst (λ e. WriteGoes offset bytes true old new (Err e)) is goes in
     omega (arith, h.1)
 
 -- no memory for a write whose range fits
-pub write_unasked : (place : ℕ) (bytes : List ℕ) (sync : Bool) (life : Life) (e : Error) → e ≡ OutOfMemory → place + length bytes < 2 ^ 64 → WriteGoes place bytes sync life life (Err e)
-write_unasked place bytes true life e is fits = subst (λ e. WriteGoes place bytes true life life (Err e)) (sym is) (refl, fits)
-write_unasked place bytes false life e is fits = subst (λ e. WriteGoes place bytes false life life (Err e)) (sym is) (refl, fits)
+pub write_unasked : (offset : ℕ) (bytes : List ℕ) (sync : Bool) (life : Life) (e : Error) → e ≡ OutOfMemory → offset + length bytes < 2 ^ 64 → WriteGoes offset bytes sync life life (Err e)
+write_unasked offset bytes true life e is fits = subst (λ e. WriteGoes offset bytes true life life (Err e)) (sym is) (refl, fits)
+write_unasked offset bytes false life e is fits = subst (λ e. WriteGoes offset bytes false life life (Err e)) (sym is) (refl, fits)
 
 -- a wait that was answered stands in the log
-pub waited_log : (name : ℕ) (c : ℕ × List ℕ) (d : Disk) → (logged (WaitSync name) false (settle_to c d)).log ≡ d.log ++ record { request = WaitSync name; failed = false } ∷ []
+pub waited_log : (name : ℕ) (c : ℕ × List ℕ) (d : Disk) → (logged (WaitSync name) false (disk_settled_to c d)).log ≡ d.log ++ record { request = WaitSync name; failed = false } ∷ []
 waited_log name c d = ap (λ (log : List Entry). log ++ record { request = WaitSync name; failed = false } ∷ []) (settles_same c d).1
 
 -- nothing was asked
@@ -102,27 +102,27 @@ none_asked : (old new : Life) → new ≡ old → AsksAtMost 1 old new
 none_asked old new is = omega (arith, ap (λ (l : Life). length l.present.log) is)
 
 -- a write is one device call at most
-pub write_asks : (place : ℕ) (bytes : List ℕ) (sync : Bool) (old new : Life) (result : Result (Unit {0}) Error) → WriteGoes place bytes sync old new result → AsksAtMost 1 old new
-write_asks place bytes false old new (Ok done) (d, next, did) = one_more old.present.log new.present.log _ (ap (λ l. l.present.log) next ∙ ap (λ e. e.log) did.rest)
-write_asks place bytes false old new (Err ReadFailed) (is, (d, next, did)) = one_more old.present.log new.present.log _ (ap (λ l. l.present.log) next ∙ ap (λ e. e.log) did.rest)
-write_asks place bytes false old new (Err WriteFailed) (is, (d, next, did)) = one_more old.present.log new.present.log _ (ap (λ l. l.present.log) next ∙ ap (λ e. e.log) did.rest)
-write_asks place bytes false old new (Err ResizeFailed) (is, (d, next, did)) = one_more old.present.log new.present.log _ (ap (λ l. l.present.log) next ∙ ap (λ e. e.log) did.rest)
-write_asks place bytes false old new (Err SyncFailed) (is, (d, next, did)) = one_more old.present.log new.present.log _ (ap (λ l. l.present.log) next ∙ ap (λ e. e.log) did.rest)
-write_asks place bytes false old new (Err InvalidChecksum) (is, (d, next, did)) = one_more old.present.log new.present.log _ (ap (λ l. l.present.log) next ∙ ap (λ e. e.log) did.rest)
-write_asks place bytes false old new (Err BlobInsufficientLength) (is, (d, next, did)) = one_more old.present.log new.present.log _ (ap (λ l. l.present.log) next ∙ ap (λ e. e.log) did.rest)
-write_asks place bytes false old new (Err OffsetOverflow) (is, passes) = none_asked old new is
-write_asks place bytes false old new (Err OutOfMemory) (is, has) = none_asked old new is
-write_asks place bytes false old new (Err IdsExhausted) (is, (d, next, did)) = one_more old.present.log new.present.log _ (ap (λ l. l.present.log) next ∙ ap (λ e. e.log) did.rest)
-write_asks place bytes true old new (Ok done) (d, next, did) = one_more old.present.log new.present.log _ (ap (λ l. l.present.log) next ∙ ap (λ e. e.log) did.rest)
-write_asks place bytes true old new (Err ReadFailed) goes = absurd goes
-write_asks place bytes true old new (Err WriteFailed) (d, next, did) = one_more old.present.log new.present.log _ (ap (λ l. l.present.log) next ∙ ap (λ e. e.log) did.rest)
-write_asks place bytes true old new (Err ResizeFailed) goes = absurd goes
-write_asks place bytes true old new (Err SyncFailed) goes = absurd goes
-write_asks place bytes true old new (Err InvalidChecksum) goes = absurd goes
-write_asks place bytes true old new (Err BlobInsufficientLength) goes = absurd goes
-write_asks place bytes true old new (Err OffsetOverflow) (is, passes) = none_asked old new is
-write_asks place bytes true old new (Err OutOfMemory) (is, has) = none_asked old new is
-write_asks place bytes true old new (Err IdsExhausted) goes = absurd goes
+pub write_asks : (offset : ℕ) (bytes : List ℕ) (sync : Bool) (old new : Life) (result : Result (Unit {0}) Error) → WriteGoes offset bytes sync old new result → AsksAtMost 1 old new
+write_asks offset bytes false old new (Ok done) (d, next, did) = one_more old.present.log new.present.log _ (ap (λ l. l.present.log) next ∙ ap (λ e. e.log) did.rest)
+write_asks offset bytes false old new (Err ReadFailed) (is, (d, next, did)) = one_more old.present.log new.present.log _ (ap (λ l. l.present.log) next ∙ ap (λ e. e.log) did.rest)
+write_asks offset bytes false old new (Err WriteFailed) (is, (d, next, did)) = one_more old.present.log new.present.log _ (ap (λ l. l.present.log) next ∙ ap (λ e. e.log) did.rest)
+write_asks offset bytes false old new (Err ResizeFailed) (is, (d, next, did)) = one_more old.present.log new.present.log _ (ap (λ l. l.present.log) next ∙ ap (λ e. e.log) did.rest)
+write_asks offset bytes false old new (Err SyncFailed) (is, (d, next, did)) = one_more old.present.log new.present.log _ (ap (λ l. l.present.log) next ∙ ap (λ e. e.log) did.rest)
+write_asks offset bytes false old new (Err InvalidChecksum) (is, (d, next, did)) = one_more old.present.log new.present.log _ (ap (λ l. l.present.log) next ∙ ap (λ e. e.log) did.rest)
+write_asks offset bytes false old new (Err BlobInsufficientLength) (is, (d, next, did)) = one_more old.present.log new.present.log _ (ap (λ l. l.present.log) next ∙ ap (λ e. e.log) did.rest)
+write_asks offset bytes false old new (Err OffsetOverflow) (is, passes) = none_asked old new is
+write_asks offset bytes false old new (Err OutOfMemory) (is, has) = none_asked old new is
+write_asks offset bytes false old new (Err IdsExhausted) (is, (d, next, did)) = one_more old.present.log new.present.log _ (ap (λ l. l.present.log) next ∙ ap (λ e. e.log) did.rest)
+write_asks offset bytes true old new (Ok done) (d, next, did) = one_more old.present.log new.present.log _ (ap (λ l. l.present.log) next ∙ ap (λ e. e.log) did.rest)
+write_asks offset bytes true old new (Err ReadFailed) goes = absurd goes
+write_asks offset bytes true old new (Err WriteFailed) (d, next, did) = one_more old.present.log new.present.log _ (ap (λ l. l.present.log) next ∙ ap (λ e. e.log) did.rest)
+write_asks offset bytes true old new (Err ResizeFailed) goes = absurd goes
+write_asks offset bytes true old new (Err SyncFailed) goes = absurd goes
+write_asks offset bytes true old new (Err InvalidChecksum) goes = absurd goes
+write_asks offset bytes true old new (Err BlobInsufficientLength) goes = absurd goes
+write_asks offset bytes true old new (Err OffsetOverflow) (is, passes) = none_asked old new is
+write_asks offset bytes true old new (Err OutOfMemory) (is, has) = none_asked old new is
+write_asks offset bytes true old new (Err IdsExhausted) goes = absurd goes
 
 -- and so is a sync
 pub sync_asks : (old new : Life) (result : Result (Unit {0}) Error) → SyncGoes old new result → AsksAtMost 1 old new
@@ -165,7 +165,7 @@ start_asks old new (Err OutOfMemory) is = none_asked old new is
 start_asks old new (Err IdsExhausted) goes = absurd goes
 
 -- a start answers an error for no memory alone
-pub start_cause : (s : SyncState) (old new : Life) (e : Error) → StartGoes old new (Err e) → HasCause s old new e
+pub start_cause : (s : SyncState) (old new : Life) (e : Error) → StartGoes old new (Err e) → CallCause s old new e
 start_cause s old new ReadFailed goes = absurd goes
 start_cause s old new WriteFailed goes = absurd goes
 start_cause s old new ResizeFailed goes = absurd goes
@@ -177,27 +177,27 @@ start_cause s old new OutOfMemory goes = tt
 start_cause s old new IdsExhausted goes = absurd goes
 
 -- the log goes on over a write
-pub write_grows : (place : ℕ) (bytes : List ℕ) (sync : Bool) (old new : Life) (result : Result (Unit {0}) Error) → WriteGoes place bytes sync old new result → LogGrows old.present new.present
-write_grows place bytes false old new (Ok done) (d, next, did) = (_ ∷ [], ap (λ l. l.present.log) next ∙ ap (λ e. e.log) did.rest)
-write_grows place bytes false old new (Err ReadFailed) (is, (d, next, did)) = (_ ∷ [], ap (λ l. l.present.log) next ∙ ap (λ e. e.log) did.rest)
-write_grows place bytes false old new (Err WriteFailed) (is, (d, next, did)) = (_ ∷ [], ap (λ l. l.present.log) next ∙ ap (λ e. e.log) did.rest)
-write_grows place bytes false old new (Err ResizeFailed) (is, (d, next, did)) = (_ ∷ [], ap (λ l. l.present.log) next ∙ ap (λ e. e.log) did.rest)
-write_grows place bytes false old new (Err SyncFailed) (is, (d, next, did)) = (_ ∷ [], ap (λ l. l.present.log) next ∙ ap (λ e. e.log) did.rest)
-write_grows place bytes false old new (Err InvalidChecksum) (is, (d, next, did)) = (_ ∷ [], ap (λ l. l.present.log) next ∙ ap (λ e. e.log) did.rest)
-write_grows place bytes false old new (Err BlobInsufficientLength) (is, (d, next, did)) = (_ ∷ [], ap (λ l. l.present.log) next ∙ ap (λ e. e.log) did.rest)
-write_grows place bytes false old new (Err OffsetOverflow) (is, passes) = grows_same old.present new.present (ap (λ (l : Life). l.present.log) is)
-write_grows place bytes false old new (Err OutOfMemory) (is, has) = grows_same old.present new.present (ap (λ (l : Life). l.present.log) is)
-write_grows place bytes false old new (Err IdsExhausted) (is, (d, next, did)) = (_ ∷ [], ap (λ l. l.present.log) next ∙ ap (λ e. e.log) did.rest)
-write_grows place bytes true old new (Ok done) (d, next, did) = (_ ∷ [], ap (λ l. l.present.log) next ∙ ap (λ e. e.log) did.rest)
-write_grows place bytes true old new (Err ReadFailed) goes = absurd goes
-write_grows place bytes true old new (Err WriteFailed) (d, next, did) = (_ ∷ [], ap (λ l. l.present.log) next ∙ ap (λ e. e.log) did.rest)
-write_grows place bytes true old new (Err ResizeFailed) goes = absurd goes
-write_grows place bytes true old new (Err SyncFailed) goes = absurd goes
-write_grows place bytes true old new (Err InvalidChecksum) goes = absurd goes
-write_grows place bytes true old new (Err BlobInsufficientLength) goes = absurd goes
-write_grows place bytes true old new (Err OffsetOverflow) (is, passes) = grows_same old.present new.present (ap (λ (l : Life). l.present.log) is)
-write_grows place bytes true old new (Err OutOfMemory) (is, has) = grows_same old.present new.present (ap (λ (l : Life). l.present.log) is)
-write_grows place bytes true old new (Err IdsExhausted) goes = absurd goes
+pub write_grows : (offset : ℕ) (bytes : List ℕ) (sync : Bool) (old new : Life) (result : Result (Unit {0}) Error) → WriteGoes offset bytes sync old new result → LogGrows old.present new.present
+write_grows offset bytes false old new (Ok done) (d, next, did) = (_ ∷ [], ap (λ l. l.present.log) next ∙ ap (λ e. e.log) did.rest)
+write_grows offset bytes false old new (Err ReadFailed) (is, (d, next, did)) = (_ ∷ [], ap (λ l. l.present.log) next ∙ ap (λ e. e.log) did.rest)
+write_grows offset bytes false old new (Err WriteFailed) (is, (d, next, did)) = (_ ∷ [], ap (λ l. l.present.log) next ∙ ap (λ e. e.log) did.rest)
+write_grows offset bytes false old new (Err ResizeFailed) (is, (d, next, did)) = (_ ∷ [], ap (λ l. l.present.log) next ∙ ap (λ e. e.log) did.rest)
+write_grows offset bytes false old new (Err SyncFailed) (is, (d, next, did)) = (_ ∷ [], ap (λ l. l.present.log) next ∙ ap (λ e. e.log) did.rest)
+write_grows offset bytes false old new (Err InvalidChecksum) (is, (d, next, did)) = (_ ∷ [], ap (λ l. l.present.log) next ∙ ap (λ e. e.log) did.rest)
+write_grows offset bytes false old new (Err BlobInsufficientLength) (is, (d, next, did)) = (_ ∷ [], ap (λ l. l.present.log) next ∙ ap (λ e. e.log) did.rest)
+write_grows offset bytes false old new (Err OffsetOverflow) (is, passes) = grows_same old.present new.present (ap (λ (l : Life). l.present.log) is)
+write_grows offset bytes false old new (Err OutOfMemory) (is, has) = grows_same old.present new.present (ap (λ (l : Life). l.present.log) is)
+write_grows offset bytes false old new (Err IdsExhausted) (is, (d, next, did)) = (_ ∷ [], ap (λ l. l.present.log) next ∙ ap (λ e. e.log) did.rest)
+write_grows offset bytes true old new (Ok done) (d, next, did) = (_ ∷ [], ap (λ l. l.present.log) next ∙ ap (λ e. e.log) did.rest)
+write_grows offset bytes true old new (Err ReadFailed) goes = absurd goes
+write_grows offset bytes true old new (Err WriteFailed) (d, next, did) = (_ ∷ [], ap (λ l. l.present.log) next ∙ ap (λ e. e.log) did.rest)
+write_grows offset bytes true old new (Err ResizeFailed) goes = absurd goes
+write_grows offset bytes true old new (Err SyncFailed) goes = absurd goes
+write_grows offset bytes true old new (Err InvalidChecksum) goes = absurd goes
+write_grows offset bytes true old new (Err BlobInsufficientLength) goes = absurd goes
+write_grows offset bytes true old new (Err OffsetOverflow) (is, passes) = grows_same old.present new.present (ap (λ (l : Life). l.present.log) is)
+write_grows offset bytes true old new (Err OutOfMemory) (is, has) = grows_same old.present new.present (ap (λ (l : Life). l.present.log) is)
+write_grows offset bytes true old new (Err IdsExhausted) goes = absurd goes
 
 -- a sync
 pub sync_grows : (old new : Life) (result : Result (Unit {0}) Error) → SyncGoes old new result → LogGrows old.present new.present
@@ -240,7 +240,7 @@ start_grows old new (Err OutOfMemory) is = grows_same old.present new.present (a
 start_grows old new (Err IdsExhausted) goes = absurd goes
 
 -- a write that is answered leaves the list of started syncs
-pub write_names : (place : ℕ) (bytes : List ℕ) (sync : Bool) (old new : Life) (result : Result (Unit {0}) Error) → WriteGoes place bytes sync old new result → OnOk result (new.present.started ≡ old.present.started)
-write_names place bytes false old new (Ok done) (d, next, did) = ap (λ l. l.present.started) next ∙ ap (λ e. e.started) did.rest
-write_names place bytes true old new (Ok done) (d, next, did) = ap (λ l. l.present.started) next ∙ ap (λ e. e.started) did.rest
-write_names place bytes sync old new (Err e) goes = tt
+pub write_names : (offset : ℕ) (bytes : List ℕ) (sync : Bool) (old new : Life) (result : Result (Unit {0}) Error) → WriteGoes offset bytes sync old new result → OnOk result (new.present.started ≡ old.present.started)
+write_names offset bytes false old new (Ok done) (d, next, did) = ap (λ l. l.present.started) next ∙ ap (λ e. e.started) did.rest
+write_names offset bytes true old new (Ok done) (d, next, did) = ap (λ l. l.present.started) next ∙ ap (λ e. e.started) did.rest
+write_names offset bytes sync old new (Err e) goes = tt

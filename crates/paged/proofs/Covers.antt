@@ -2,36 +2,37 @@
 use Rattle.std.proofs.Common.{◌≡◌, ℕ, inl, inr, List, [], ◌++◌, sym, ◌∙◌, refl, subst, append-nil, Bool, Result}
 use Rattle.disk.specs.Disk.{Disk, Life, WriteGoes, SyncGoes}
 use Rattle.disk.specs.declared.error.Error.{Error}
-use Rattle.crash.specs.WriterState.{WriterState, SyncState}
-use Rattle.crash.specs.WriterState.SyncState.{Clean, Dirty, Pending}
+use Rattle.writer_state.specs.WriterState.{WriterState}
+use Rattle.writer_state.specs.declared.sync_state.SyncState.{SyncState}
+use Rattle.writer_state.specs.declared.sync_state.SyncState.TheVariants.{Clean, Dirty, Pending}
 use Rattle.crash.specs.Kept.{AllKeep}
 use Rattle.crash.specs.Moments.{through_end}
-use Rattle.crash.proofs.StartedLaws.{which, settled_already}
-use Rattle.crash.specs.Sound.{IsSound, CanWrite, MayFlush, guard_slot, content}
+use Rattle.writer_state.proofs.StartedLaws.{which, settled_already}
+use Rattle.writer_state.specs.Sound.{IsSound, CanWrite, MayFlush, guard_slot, content}
 use Rattle.crash.specs.Started.{CoversStay, CoversThrough, WouldKeep}
 use Rattle.crash.proofs.BuiltLaws.{IsSmall}
-use Rattle.crash.proofs.FlushLaws.{longer_content}
-use Rattle.crash.proofs.Soundness.{carry_sound}
-use Rattle.crash.proofs.CoverLaws.{write_covers_through, sync_covers, covers_through_join, covers_shorter}
-use Rattle.paged.specs.Flush.{full_in, carried, place_of, flush_bytes}
+use Rattle.writer_state.proofs.FlushLaws.{longer_content}
+use Rattle.writer_state.proofs.Soundness.{carry_sound}
+use Rattle.writer_state.proofs.CoverLaws.{write_covers_through, sync_covers, covers_through_join, covers_shorter}
+use Rattle.paged.specs.Flush.{full_in, carried, offset_of, flush_bytes}
 use Rattle.paged.specs.Calls.{GoesOn, Completed}
 use Rattle.paged.proofs.Flushes.{begins}
 
 -- a flush by a writer whose durable slot is up to date
 pub flush_covers : (sum : List ℕ → ℕ) (w : WriterState) (rest sync : Bool) (old new : Life) (answer : Result (Unit {0}) Error) → IsSmall sum → IsSound sum w old.present → MayFlush w.sync w.flushed w.durable → CanWrite w.page_size w.tip (full_in w) rest
-    → WriteGoes (place_of w) (flush_bytes sum w rest) sync old new answer → CoversThrough sum w.page_size (content w old.present.readable) old new
+    → WriteGoes (offset_of w) (flush_bytes sum w rest) sync old new answer → CoversThrough sum w.page_size (content w old.present.readable) old new
 unfolding IsSound
 flush_covers sum w rest sync old new answer small sound ready can goes = write_covers_through sum w old new (full_in w) rest (flush_bytes sum w rest) small sound ready can refl sync answer goes
 
 -- or was brought up to date
 pub carried_covers : (sum : List ℕ → ℕ) (w v : WriterState) (rest sync : Bool) (old new : Life) (answer : Result (Unit {0}) Error) → IsSmall sum → IsSound sum w old.present → MayFlush w.sync w.flushed (guard_slot w.sync w.flushed w.durable) → v ≡ carried w
-    → CanWrite v.page_size v.tip (full_in v) rest → WriteGoes (place_of v) (flush_bytes sum v rest) sync old new answer → CoversThrough sum w.page_size (content w old.present.readable) old new
+    → CanWrite v.page_size v.tip (full_in v) rest → WriteGoes (offset_of v) (flush_bytes sum v rest) sync old new answer → CoversThrough sum w.page_size (content w old.present.readable) old new
 unfolding IsSound
 carried_covers sum w v rest sync old new answer small sound ready is =
-    subst (λ (v : WriterState). CanWrite v.page_size v.tip (full_in v) rest → WriteGoes (place_of v) (flush_bytes sum v rest) sync old new answer → CoversThrough sum w.page_size (content w old.present.readable) old new) (sym is)
+    subst (λ (v : WriterState). CanWrite v.page_size v.tip (full_in v) rest → WriteGoes (offset_of v) (flush_bytes sum v rest) sync old new answer → CoversThrough sum w.page_size (content w old.present.readable) old new) (sym is)
     (λ can goes. flush_covers sum (carried w) rest sync old new answer small (carry_sound sum w old.present sound) ready can goes)
 
--- a sync behind it
+-- a sync after it
 pub second_covers : (sum : List ℕ → ℕ) (w now : WriterState) (old mid new : Life) (answer : Result (Unit {0}) Error) → CoversThrough sum w.page_size (content w old.present.readable) old mid → GoesOn sum w old [] now mid → SyncGoes mid new answer
     → CoversThrough sum w.page_size (content w old.present.readable) old new
 unfolding IsSound

@@ -7,9 +7,10 @@ use Rattle.std.proofs.lemmas.Bool.Decides.{nat_tests}
 use Rattle.std.proofs.lemmas.List.{length-take-le}
 use Rattle.page.specs.Tip.{Tip, ArePages, full_len, drained}
 use Rattle.page.specs.declared.slot.ActiveChecksum.{ActiveChecksum}
-use Rattle.crash.specs.WriterState.{WriterState, SyncState}
+use Rattle.writer_state.specs.WriterState.{WriterState}
+use Rattle.writer_state.specs.declared.sync_state.SyncState.{SyncState}
 use Rattle.crash.specs.Built.{durable_after}
-use Rattle.paged.specs.Writer.{physical_size, IsWriter}
+use Rattle.paged.specs.Writer.{physical_blob_size, IsWriter}
 use Rattle.paged.specs.Flush.{advanced}
 use Rattle.paged.proofs.Flushing.{fits-rest}
 use Rattle.paged.proofs.Footers.{length-pages}
@@ -24,7 +25,7 @@ offset-drained P old is = omega (arith, is.whole, length-full P old is.page_size
 
 -- the full pages before it
 full_pages-drained : (P : ℕ) (old : Tip) → 0 < P → IsWriter P old → (drained old).offset / P ≡ old.offset / P + length old.bytes / P
-full_pages-drained P old some is = ap (λ place. place / P) (offset-drained P old is) ∙ mul-div_cancel (old.offset / P + length old.bytes / P) some
+full_pages-drained P old some is = ap (λ offset. offset / P) (offset-drained P old is) ∙ mul-div_cancel (old.offset / P + length old.bytes / P) some
 
 -- what is left of its bytes
 rest-drained : (P : ℕ) (old : Tip) → old.page_size ≡ P → (drained old).bytes ≡ drop (length old.bytes / P * P) old.bytes
@@ -35,7 +36,7 @@ pub is_writer_drained : (P : ℕ) (old new : Tip) → 0 < P → IsWriter P old �
 is_writer_drained P old new some is goes =
     let full = full_pages-drained P old some is in
     let rest : length (drained old).bytes ≡ length old.bytes - length old.bytes / P * P = ap length (rest-drained P old is.page_size) ∙ length-drop (length old.bytes / P * P) old.bytes in
-    let same : physical_size P ((drained old).offset / P) (length (drained old).bytes) ≡ physical_size P (old.offset / P) (length old.bytes) = ap (λ n. physical_size P n (length (drained old).bytes)) full
+    let same : physical_blob_size P ((drained old).offset / P) (length (drained old).bytes) ≡ physical_blob_size P (old.offset / P) (length old.bytes) = ap (λ n. physical_blob_size P n (length (drained old).bytes)) full
     ∙ fits-rest P (old.offset / P) (length old.bytes) (length (drained old).bytes) some rest in
     subst (λ (t : Tip). IsWriter P t) (sym goes) (record {
       page_size = is.page_size;

@@ -8,24 +8,24 @@ use Rattle.page.specs.declared.slot.Slot.TheVariants.{First}
 use Rattle.disk.specs.declared.error.Error.TheVariants.{ReadFailed, SyncFailed}
 use Rattle.page.specs.Sums.{add_sum}
 use Rattle.page.proofs.Examples.{abcd_page, ef_page, efg_page}
-use Rattle.crash.specs.WriterState.{WriterState}
+use Rattle.writer_state.specs.WriterState.{WriterState}
 use Rattle.crash.specs.Built.{built}
-use Rattle.crash.specs.WriterState.SyncState.{Clean, Dirty, Pending}
-use Rattle.crash.proofs.StartedLaws.{ab_page, ab_started}
-use Rattle.crash.proofs.Examples.{at_rest, with_g}
-use Rattle.paged.specs.Writer.{physical_size, FitsBlob}
-use Rattle.paged.specs.Flush.{full_in, rest_of, has_work, carried, advanced, synced, place_of, flush_bytes, rest_bytes, footers_of, with_footers}
+use Rattle.writer_state.specs.declared.sync_state.SyncState.TheVariants.{Clean, Dirty, Pending}
+use Rattle.writer_state.proofs.StartedLaws.{ab_page, ab_started}
+use Rattle.writer_state.proofs.Examples.{at_rest, with_g}
+use Rattle.paged.specs.Writer.{physical_blob_size, FitsBlob}
+use Rattle.paged.specs.Flush.{full_in, rest_of, has_work, carried, advanced, synced, offset_of, flush_bytes, rest_bytes, footers_of, with_footers}
 use Rattle.paged.specs.Recovery.{RecoveryCause}
-use Rattle.paged.specs.Calls.{IsSettled, TryAppends, HasCause, SettlesBy, sync_calls, start_calls, started_already, waited}
+use Rattle.paged.specs.Calls.{IsSettled, TryAppends, CallCause, SettlesBy, sync_calls, start_calls, started_already, waited}
 use Rattle.paged.specs.Direct.{fill_of, is_too_big, IsDirect}
 use Rattle.paged_read.specs.Ranges.{page_at}
 use Rattle.paged.specs.Reads.{HasPages, size_of}
 
 -- one full page and five bytes more take three pages of 16 bytes
-pub a_physical_size : physical_size 4 1 5 ≡ 48
+pub a_physical_size : physical_blob_size 4 1 5 ≡ 48
 a_physical_size = refl
 
--- that is a place of 64 bits
+-- that is an offset of 64 bits
 pub it_fits : FitsBlob 4 1 5
 it_fits = omega arith
 
@@ -41,7 +41,7 @@ with_j = record with_g { tip = 101 ∷ 102 ∷ 103 ∷ 104 ∷ 105 ∷ 106 ∷ [
 pub full_pages_of_a_tip : full_in with_j ≡ 1
 full_pages_of_a_tip = refl
 
--- and "ij" behind it
+-- and "ij" after it
 pub the_rest : rest_of with_j ≡ 105 ∷ 106 ∷ []
 the_rest = refl
 
@@ -61,9 +61,9 @@ work_for_a_rest = refl
 pub a_written_rest : has_work (record with_g { tip = 101 ∷ 102 ∷ [] }) true ≡ false
 a_written_rest = refl
 
--- it writes behind the full page
-pub the_place : place_of with_g ≡ 16
-the_place = refl
+-- it writes after the full page
+pub the_offset : offset_of with_g ≡ 16
+the_offset = refl
 
 -- the page of "efg", with the slot of "ef" as it was
 pub the_flush : flush_bytes add_sum with_g true ≡ efg_page
@@ -130,7 +130,7 @@ second_page = refl
 pub has_pages : HasPages with_g old
 has_pages = omega arith
 
--- "h" fits behind "efg" in a buffer of eight bytes, and stands at place 7
+-- "h" fits after "efg" in a buffer of eight bytes, and stands at offset 7
 pub a_buffered_try : TryAppends with_g (104 ∷ []) (record with_g { tip = 101 ∷ 102 ∷ 103 ∷ 104 ∷ [] }) (Ok (Some 7))
 a_buffered_try = (omega arith, omega arith, refl, refl)
 
@@ -138,7 +138,7 @@ a_buffered_try = (omega arith, omega arith, refl, refl)
 pub a_try_that_does_not_fit : TryAppends with_g (104 ∷ 105 ∷ 106 ∷ 107 ∷ 108 ∷ 109 ∷ []) with_g (Ok None)
 a_try_that_does_not_fit = (omega arith, omega arith, refl)
 
--- a footer behind each of two pages of one byte
+-- a footer after each of two pages of one byte
 pub footers_of_two : with_footers ((97 ∷ []) ∷ (98 ∷ []) ∷ []) (footers_of add_sum None ((97 ∷ []) ∷ (98 ∷ []) ∷ [])) ≡ built add_sum 1 None 2 (97 ∷ 98 ∷ [])
 footers_of_two = refl
 
@@ -148,7 +148,7 @@ footers_of_two = refl
 abbrev pub ab_waits : WriterState
 ab_waits = record { page_size = 4; id = 0; capacity = 8; full_pages = 0; tip = 97 ∷ 98 ∷ []; flushed = Some (record { slot = First; len = 2; crc = 195 }); durable = None; sync = Pending 0 }
 
--- the same with "c" behind it
+-- the same with "c" after it
 abbrev pub abc_waits : WriterState
 abc_waits = record ab_waits { tip = 97 ∷ 98 ∷ 99 ∷ [] }
 
@@ -176,7 +176,7 @@ abbrev pub failed : Life
 failed = record { present = record ab_started { started = failed_at 0 ab_started.started }; past = [] }
 
 -- then the next call that waits may answer SyncFailed, though nothing fails in it
-pub it_had_failed : HasCause (Pending 0) failed failed SyncFailed
+pub it_had_failed : CallCause (Pending 0) failed failed SyncFailed
 it_had_failed = inr refl
 
 -- but not where nothing had failed
@@ -187,12 +187,12 @@ no_failure life (entries, is, some) = some_none entries (let none : length entri
     some_none [] none some = some
     some_none (e ∷ es) none some = omega (arith, none)
 
-pub it_had_not_failed : HasCause (Pending 0) started started SyncFailed → ⊥
+pub it_had_not_failed : CallCause (Pending 0) started started SyncFailed → ⊥
 it_had_not_failed (inl fails) = no_failure started fails
 it_had_not_failed (inr had) = absurd (cc had)
 
 -- nor by a writer that waits for nothing
-pub nothing_was_awaited : HasCause Dirty failed failed SyncFailed → ⊥
+pub nothing_was_awaited : CallCause Dirty failed failed SyncFailed → ⊥
 nothing_was_awaited (inl fails) = no_failure failed fails
 nothing_was_awaited (inr had) = had
 
@@ -206,7 +206,7 @@ a_wait_settles_it = (record { covers = 1; bytes = ab_page; failed = false }, ref
 pub a_fill : fill_of with_g ≡ 1
 a_fill = refl
 
--- six bytes more pass the buffer of eight, and leave a page behind that byte
+-- six bytes more pass the buffer of eight, and leave a page after that byte
 pub six_are_too_big : is_too_big with_g 6 ≡ true
 six_are_too_big = refl
 
@@ -214,6 +214,6 @@ six_are_too_big = refl
 pub five_are_not : is_too_big with_g 5 ≡ false
 five_are_not = refl
 
--- "efgh" and "i" behind two full pages
+-- "efgh" and "i" after two full pages
 pub a_direct_append : IsDirect (record with_g { full_pages = 2; tip = []; flushed = None; durable = None }) (101 ∷ 102 ∷ 103 ∷ 104 ∷ []) (105 ∷ [])
 a_direct_append = record { empty = refl; some = omega arith; pages = refl; short = omega arith; fits = omega arith }

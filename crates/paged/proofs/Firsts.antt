@@ -14,25 +14,25 @@ use Rattle.crash.proofs.Pages.{length-pages, pages_at, pages_fit, pages_reach, t
 use Rattle.crash.proofs.Texts.{active_is, active_none, text_full, text_part, value_len_le}
 use Rattle.paged_read.specs.declared.prefix.Prefix.{Prefix}
 use Rattle.paged_read.specs.Ranges.{page_at}
-use Rattle.paged_read.specs.Prefix.{behind, value_and_slot, prefix_of, prefix_pages, prefix_size, partial_pages, tip_of}
+use Rattle.paged_read.specs.Prefix.{after, value_and_slot, prefix_of, prefix_pages, prefix_size, partial_pages, tip_of}
 use Rattle.paged.specs.Recovery.{opened_prefix, opened_size, slot_of_tip}
 use Rattle.paged_read.proofs.Prefixes.{partial_pages_le, active_zero, one_page, prefix_full, prefix_part, tip_short, last_is}
 
 module _ (sum : List ℕ → ℕ) (P : ℕ) where
-  -- what stands behind the full pages: nothing that has a value, or the page whose value this is
-  abbrev pub Behind : List (List ℕ) → ℕ → Option (List ℕ × ActiveChecksum) → Type 0
-  Behind some full None = (page : List ℕ) → slice_get some full ≡ Some page → value_len sum P page ≡ 0
-  Behind some full (Some v) = (page : List ℕ) × (slice_get some full ≡ Some page) × (active sum P page ≡ Some v.1) × (v.0 ≡ take v.1.len page) × (value_len sum P page ≢ P)
+  -- what stands after the full pages: nothing that has a value, or the page whose value this is
+  abbrev pub After : List (List ℕ) → ℕ → Option (List ℕ × ActiveChecksum) → Type 0
+  After some full None = (page : List ℕ) → slice_get some full ≡ Some page → value_len sum P page ≡ 0
+  After some full (Some v) = (page : List ℕ) × (slice_get some full ≡ Some page) × (active sum P page ≡ Some v.1) × (v.0 ≡ take v.1.len page) × (value_len sum P page ≢ P)
 
-  -- the full pages at the front, and what is behind them
+  -- the full pages at the front, and what is after them
   pub record IsFirst (some : List (List ℕ)) (p : Prefix) : Type 0 where
     pub within : prefix_pages p ≤ length some
     pub tip : 0 < P → length (tip_of p.partial) < P
     pub full : AreFull sum P (take p.full_pages some)
-    pub behind : Behind some p.full_pages p.partial
+    pub after : After some p.full_pages p.partial
 
   -- a page's value is as long as its slot says
-  pub told_len : (some : List (List ℕ)) (full : ℕ) (found : Option (List ℕ × ActiveChecksum)) → ((page : List ℕ) → slice_get some full ≡ Some page → P ≤ length page) → Behind some full found
+  pub told_len : (some : List (List ℕ)) (full : ℕ) (found : Option (List ℕ × ActiveChecksum)) → ((page : List ℕ) → slice_get some full ≡ Some page → P ≤ length page) → After some full found
       → kept_len (slot_of_tip found) ≡ length (tip_of found)
   told_len some full None long is = refl
   told_len some full (Some v) long is =
@@ -40,17 +40,17 @@ module _ (sum : List ℕ → ℕ) (P : ℕ) where
       sym (ap length is.3 ∙ length-take-le v.1.len is.0 (omega (arith, told.fits, long is.0 is.1)))
 
   -- the first page isn't full
-  behind_first : (page : List ℕ) (rest : List (List ℕ)) (slot : Option ActiveChecksum) → value_len sum P page ≢ P → active sum P page ≡ slot → Behind (page ∷ rest) 0 (value_and_slot slot page)
-  behind_first page rest None part told = λ other is. ap (λ (l : List ℕ). value_len sum P l) (sym (same_Some page other is)) ∙ active_none sum P page told
-  behind_first page rest (Some s) part told = (page, refl, told, refl, part)
+  after_first : (page : List ℕ) (rest : List (List ℕ)) (slot : Option ActiveChecksum) → value_len sum P page ≢ P → active sum P page ≡ slot → After (page ∷ rest) 0 (value_and_slot slot page)
+  after_first page rest None part told = λ other is. ap (λ (l : List ℕ). value_len sum P l) (sym (same_Some page other is)) ∙ active_none sum P page told
+  after_first page rest (Some s) part told = (page, refl, told, refl, part)
 
   -- a page more in front
-  behind_suc : (page : List ℕ) (rest : List (List ℕ)) (full : ℕ) (found : Option (List ℕ × ActiveChecksum)) → Behind rest full found → Behind (page ∷ rest) (suc full) found
-  behind_suc page rest full None is = is
-  behind_suc page rest full (Some v) is = is
+  after_suc : (page : List ℕ) (rest : List (List ℕ)) (full : ℕ) (found : Option (List ℕ × ActiveChecksum)) → After rest full found → After (page ∷ rest) (suc full) found
+  after_suc page rest full None is = is
+  after_suc page rest full (Some v) is = is
 
-  behind_more : (page : List ℕ) (rest : List (List ℕ)) (full : ℕ) (found : Option (List ℕ × ActiveChecksum)) → Behind rest full found → Behind (page ∷ rest) (1 + full) found
-  behind_more page rest full found is = subst (λ (n : ℕ). Behind (page ∷ rest) n found) (let e : suc full ≡ 1 + full = omega arith in e) (behind_suc page rest full found is)
+  after_more : (page : List ℕ) (rest : List (List ℕ)) (full : ℕ) (found : Option (List ℕ × ActiveChecksum)) → After rest full found → After (page ∷ rest) (1 + full) found
+  after_more page rest full found is = subst (λ (n : ℕ). After (page ∷ rest) n found) (let e : suc full ≡ 1 + full = omega arith in e) (after_suc page rest full found is)
 
   -- a value is as long as its page says
   tip_length : (page : List ℕ) (slot : Option ActiveChecksum) → active sum P page ≡ slot → P ≤ length page → length (tip_of (value_and_slot slot page)) ≡ value_len sum P page
@@ -60,7 +60,7 @@ module _ (sum : List ℕ → ℕ) (P : ℕ) where
       length-take-le s.len page (omega (arith, told.fits, long)) ∙ told.len
 
   pub prefix_is : (some : List (List ℕ)) → IsFirst some (prefix_of sum P some)
-  prefix_is [] = record { within = omega arith; tip = λ positive. positive; full = tt; behind = λ page is. absurd (cc) }
+  prefix_is [] = record { within = omega arith; tip = λ positive. positive; full = tt; after = λ page is. absurd (cc) }
   prefix_is (page ∷ rest) = elim (cases_eq (value_len sum P page) P) [
     | inl full ↦
         let before = prefix_is rest in
@@ -69,13 +69,13 @@ module _ (sum : List ℕ → ℕ) (P : ℕ) where
           within = omega (arith, before.within);
           tip = before.tip;
           full = subst (λ (n : ℕ). AreFull sum P (take n (page ∷ rest))) (let e : suc p.full_pages ≡ 1 + p.full_pages = omega arith in e) (full, before.full);
-          behind = behind_more page rest p.full_pages p.partial before.behind;
+          after = after_more page rest p.full_pages p.partial before.after;
         })
     | inr part ↦ subst (λ (q : Prefix). IsFirst (page ∷ rest) q) (sym (prefix_part sum P page rest part)) (record {
       within = omega (arith, partial_pages_le (value_and_slot (active sum P page) page));
       tip = λ positive. tip_short sum P page part;
       full = tt;
-      behind = behind_first page rest (active sum P page) part refl;
+      after = after_first page rest (active sum P page) part refl;
     })
   ]
 
@@ -105,7 +105,7 @@ module _ (sum : List ℕ → ℕ) (P : ℕ) where
   prefix_take (page ∷ rest) (suc j) positive le = elim (cases_eq (value_len sum P page) P) [
     | inl full ↦
         prefix_full sum P page (take j rest) full
-        ∙ ap (λ (q : Prefix). behind 1 q) (prefix_take rest j positive (omega (arith, le, ap (λ (q : Prefix). prefix_pages q) (prefix_full sum P page rest full))))
+        ∙ ap (λ (q : Prefix). after 1 q) (prefix_take rest j positive (omega (arith, le, ap (λ (q : Prefix). prefix_pages q) (prefix_full sum P page rest full))))
         ∙ sym (prefix_full sum P page rest full)
     | inr part ↦ prefix_part sum P page (take j rest) part ∙ sym (prefix_part sum P page rest part)
   ]
@@ -161,7 +161,7 @@ module _ (sum : List ℕ → ℕ) (P : ℕ) where
         )
   ]
 
-  -- it begins what all pages in front would say, were they full, with the text of those behind
+  -- it begins what all pages in front would say, were they full, with the text of those after
   pub text_begins : (front back : List (List ℕ)) → (rest : List ℕ) × (flat_map (take P) front ++ text_of_pages sum P back ≡ text_of_pages sum P (front ++ back) ++ rest)
   text_begins [] back = ([], sym (append-nil (text_of_pages sum P back)))
   text_begins (page ∷ front) back =
@@ -197,7 +197,7 @@ module _ (sum : List ℕ → ℕ) (P : ℕ) where
       ∙ pieces_of_take n (P + 12) m bytes reach
       ∙ sym (take-pieces n (length bytes / (P + 12)) (P + 12) bytes (pages_fit P n bytes (omega (arith, reach))))
 
-  -- bytes that were cut behind the prefix have it, and say the same
+  -- bytes that were cut after the prefix have it, and say the same
   module _ (m : ℕ) (bytes : List ℕ) (positive : 0 < P) (le : m ≤ length bytes) (kept : prefix_pages (prefix_of sum P (pages P bytes)) * (P + 12) ≤ m) where
     enough : prefix_pages (prefix_of sum P (pages P bytes)) ≤ m / (P + 12)
     enough = omega (arith, pages_fit P (prefix_pages (prefix_of sum P (pages P bytes))) (take m bytes) (omega (arith, kept, length-take-le m bytes le)), ap (λ (k : ℕ). k / (P + 12)) (length-take-le m bytes le))

@@ -7,24 +7,22 @@ use Rattle.std.proofs.Math.Nat.{mod-lt, mod-eq_of_lt}
 use Rattle.disk.specs.Disk.{Disk, Life, WriteAt, SyncAll, WriteGoes, SyncGoes}
 use Rattle.disk.specs.declared.error.Error.{Error}
 use Rattle.disk.specs.declared.error.Error.TheVariants.{OffsetOverflow, SyncFailed}
-use Rattle.crash.specs.WriterState.{WriterState, SyncState}
-use Rattle.crash.specs.WriterState.SyncState.{Clean, Dirty, Pending}
-use Rattle.crash.specs.Built.{after_write}
-use Rattle.crash.specs.Sound.{IsSound, CanWrite, content, guard_slot, AllSettled, MayFlush}
-use Rattle.paged.specs.Writer.{state_of}
-use Rattle.paged.specs.declared.writer.SyncState.{SyncState as State}
-use Rattle.paged.specs.declared.writer.SyncState.TheVariants.{Dirty as IsDirty, Pending as IsPending}
+use Rattle.writer_state.specs.WriterState.{WriterState, after_write}
+use Rattle.writer_state.specs.declared.sync_state.SyncState.{SyncState}
+use Rattle.writer_state.specs.declared.sync_state.SyncState.TheVariants.{Clean, Dirty, Pending}
+use Rattle.writer_state.specs.Sound.{IsSound, CanWrite, content, guard_slot, MayFlush}
+use Rattle.crash.specs.Started.{AllSettled}
 use Rattle.crash.specs.Stays.{StaysThrough}
 use Rattle.crash.proofs.BuiltLaws.{IsSmall}
-use Rattle.crash.proofs.FlushLaws.{flushed_fits, flush_settled, tip_reach, length-content}
+use Rattle.writer_state.proofs.FlushLaws.{flushed_fits, flush_settled, tip_reach, length-content}
 use Rattle.crash.proofs.Moments.{stays_through_start, stays_through_joins}
-use Rattle.crash.proofs.Soundness.{carry_sound, sound_leaves}
-use Rattle.crash.proofs.CallLaws.{sync_stays, sync_sound, sync_content, write_stays, write_sound, durable_write_sound, write_content}
+use Rattle.writer_state.proofs.Soundness.{carry_sound, sound_leaves}
+use Rattle.writer_state.proofs.CallLaws.{sync_stays, sync_sound, sync_content, write_stays, write_sound, durable_write_sound, write_content}
 use Rattle.disk.proofs.Logs.{grows_same, grows_once, grows_joins}
 use Rattle.paged.proofs.Flushing.{length-rest}
 use Rattle.paged.proofs.Causes.{write_cause, sync_cause, cause_later, sync_asks, write_grows, sync_grows}
-use Rattle.paged.specs.Flush.{full_in, rest_of, has_work, carried, synced, written, place_of, flush_bytes, answered}
-use Rattle.paged.specs.Calls.{AsksAtMost, settle_calls, sync_calls, HoldsWithin, HadFailed, HasCause, IsSameWriter, GoesOn, Refuses, Flushes, Syncs, Settles, IsSettled, IsWritten, WaitsForNone}
+use Rattle.paged.specs.Flush.{full_in, rest_of, has_work, carried, synced, written, offset_of, flush_bytes, answered}
+use Rattle.paged.specs.Calls.{AsksAtMost, settle_calls, sync_calls, HoldsWithin, HadFailed, CallCause, IsSameWriter, GoesOn, Refuses, Flushes, Syncs, Settles, IsSettled, IsWritten, WaitsForNone}
 
 -- a content is the beginning of a longer one
 pub begins : (xs ys : List ℕ) → xs ≡ take (length xs) (xs ++ ys)
@@ -41,7 +39,7 @@ stays_nil sum P content old new stays = subst (λ c. StaysThrough sum P c old ne
 
 -- a flush of the full pages, and of the rest where asked, by a writer whose durable slot is up to date
 pub flush_goes : (sum : List ℕ → ℕ) (w now : WriterState) (rest : Bool) (old new : Life) (result : Result (Unit {0}) Error) → IsSmall sum → IsSound sum w old.present
-    → MayFlush w.sync w.flushed w.durable → CanWrite w.page_size w.tip (full_in w) rest → WriteGoes (place_of w) (flush_bytes sum w rest) false old new result
+    → MayFlush w.sync w.flushed w.durable → CanWrite w.page_size w.tip (full_in w) rest → WriteGoes (offset_of w) (flush_bytes sum w rest) false old new result
     → OnOk result (now ≡ after_write sum w (full_in w) rest) → (IsErrOf result OffsetOverflow → ⊥) → Flushes sum w old new (answered now result)
 unfolding IsSound
 flush_goes sum w now rest old new (Ok done) small sound is can goes state fits = record {
@@ -50,14 +48,14 @@ flush_goes sum w now rest old new (Ok done) small sound is can goes state fits =
   only = sound_leaves sum now new.present (subst (λ n. IsSound sum n new.present) (sym state) (write_sound sum w old new (full_in w) rest (flush_bytes sum w rest) small sound is can refl tt goes));
   content = ap (λ n. content n new.present.readable) state ∙ write_content sum w old new (full_in w) rest (flush_bytes sum w rest) small sound is can refl false tt goes ∙ sym (append-nil (content w old.present.readable));
   same = subst (λ n. IsSameWriter w n) (sym state) (record { page_size = refl; id = refl; capacity = refl; full_pages = omega arith });
-  log = grows_once (WriteAt (place_of w) (length (flush_bytes sum w rest)) false) false old.present new.present (ap (λ l. l.present.log) goes.1 ∙ ap (λ e. e.log) goes.2.rest);
+  log = grows_once (WriteAt (offset_of w) (length (flush_bytes sum w rest)) false) false old.present new.present (ap (λ l. l.present.log) goes.1 ∙ ap (λ e. e.log) goes.2.rest);
   stays = stays_nil sum w.page_size (content w old.present.readable) old new (write_stays sum w old new (full_in w) rest (flush_bytes sum w rest) small sound is can refl false (Ok tt) goes);
   waits = λ had. absurd (subst (λ (n : WriterState). HadFailed n.sync new.present) state had);
 }
 flush_goes sum w now rest old new (Err e) small sound is can goes state fits = record {
-  cause = write_cause w.sync (place_of w) (flush_bytes sum w rest) false old new e goes (λ h. fits (ap Err h));
+  cause = write_cause w.sync (offset_of w) (flush_bytes sum w rest) false old new e goes (λ h. fits (ap Err h));
   stays = write_stays sum w old new (full_in w) rest (flush_bytes sum w rest) small sound is can refl false (Err e) goes;
-  log = write_grows (place_of w) (flush_bytes sum w rest) false old new (Err e) goes;
+  log = write_grows (offset_of w) (flush_bytes sum w rest) false old new (Err e) goes;
 }
 
 -- going on from a writer whose durable slot was brought up to date is going on from the writer
@@ -70,11 +68,11 @@ flushes_carried sum w old new (Err e) h = record { cause = h.cause; stays = h.st
 
 -- a flush by a writer whose durable slot was brought up to date
 pub flush_call : (sum : List ℕ → ℕ) (w v now : WriterState) (rest : Bool) (old new : Life) (result : Result (Unit {0}) Error) → IsSmall sum → IsSound sum w old.present → MayFlush w.sync w.flushed (guard_slot w.sync w.flushed w.durable) → v ≡ carried w
-    → CanWrite v.page_size v.tip (full_in v) rest → WriteGoes (place_of v) (flush_bytes sum v rest) false old new result
+    → CanWrite v.page_size v.tip (full_in v) rest → WriteGoes (offset_of v) (flush_bytes sum v rest) false old new result
     → OnOk result (now ≡ after_write sum v (full_in v) rest) → (IsErrOf result OffsetOverflow → ⊥) → Flushes sum w old new (answered now result)
 unfolding IsSound
 flush_call sum w v now rest old new result small sound ready is =
-    subst (λ v. CanWrite v.page_size v.tip (full_in v) rest → WriteGoes (place_of v) (flush_bytes sum v rest) false old new result
+    subst (λ v. CanWrite v.page_size v.tip (full_in v) rest → WriteGoes (offset_of v) (flush_bytes sum v rest) false old new result
     → OnOk result (now ≡ after_write sum v (full_in v) rest) → (IsErrOf result OffsetOverflow → ⊥) → Flushes sum w old new (answered now result)) (sym is)
     (λ can goes state fits. flushes_carried sum w old new (answered now result) (flush_goes sum (carried w) now rest old new result small (carry_sound sum w old.present sound) ready can goes state fits))
 
@@ -105,7 +103,7 @@ refuses_more sum w m old mid new e first second = record {
 }
 
 -- a sync that had failed before
-pub has_waited : (s : SyncState) (life : Life) → HadFailed s life.present → HasCause s life life SyncFailed
+pub has_waited : (s : SyncState) (life : Life) → HadFailed s life.present → CallCause s life life SyncFailed
 has_waited s life had = inr had
 
 -- no call at all
@@ -146,7 +144,7 @@ settle_goes sum w now old new (Err e) small sound goes state = record { cause = 
 pub settled_already : (sum : List ℕ → ℕ) (w : WriterState) (life : Life) → IsSound sum w life.present → w.sync ≡ Clean → Settles sum w life life (Ok w)
 settled_already sum w life sound clean = (goes_on_same sum w life sound, ap (λ s. record w { sync = s }) clean)
 
--- what is left behind the full pages is written as it is, or there is nothing left
+-- what is left after the full pages is written as it is, or there is nothing left
 pub settled_after : (sum : List ℕ → ℕ) (w : WriterState) (rest : Bool) → 0 < w.page_size → rest ≡ not (length w.tip % w.page_size == 0) → IsSettled (synced (after_write sum w (full_in w) rest))
 settled_after sum w false some is = record {
   clean = refl;
@@ -162,7 +160,7 @@ settled_after sum w true some is = record {
 -- a write that is durable at once
 sync_durably : (sum : List ℕ → ℕ) (w now : WriterState) (rest : Bool) (old new : Life) (result : Result (Unit {0}) Error) → IsSmall sum → IsSound sum w old.present
     → MayFlush w.sync w.flushed w.durable → rest ≡ not (length w.tip % w.page_size == 0) → CanWrite w.page_size w.tip (full_in w) rest
-    → WriteGoes (place_of w) (flush_bytes sum w rest) true old new result
+    → WriteGoes (offset_of w) (flush_bytes sum w rest) true old new result
     → OnOk result (now ≡ synced (after_write sum w (full_in w) rest)) → (IsErrOf result OffsetOverflow → ⊥) → Syncs sum w old new (answered now result)
 unfolding IsSound
 sync_durably sum w now rest old new (Ok done) small sound is rests can goes state fits = (
@@ -172,16 +170,16 @@ sync_durably sum w now rest old new (Ok done) small sound is rests can goes stat
     only = sound_leaves sum now new.present (subst (λ n. IsSound sum n new.present) (sym state) (durable_write_sound sum w old new (full_in w) rest (flush_bytes sum w rest) small sound is can refl tt goes));
     content = ap (λ n. content n new.present.readable) state ∙ write_content sum w old new (full_in w) rest (flush_bytes sum w rest) small sound is can refl true tt goes ∙ sym (append-nil (content w old.present.readable));
     same = subst (λ n. IsSameWriter w n) (sym state) (record { page_size = refl; id = refl; capacity = refl; full_pages = omega arith });
-    log = grows_once (WriteAt (place_of w) (length (flush_bytes sum w rest)) true) false old.present new.present (ap (λ l. l.present.log) goes.1 ∙ ap (λ e. e.log) goes.2.rest);
+    log = grows_once (WriteAt (offset_of w) (length (flush_bytes sum w rest)) true) false old.present new.present (ap (λ l. l.present.log) goes.1 ∙ ap (λ e. e.log) goes.2.rest);
     stays = stays_nil sum w.page_size (content w old.present.readable) old new (write_stays sum w old new (full_in w) rest (flush_bytes sum w rest) small sound is can refl true (Ok tt) goes);
     waits = λ had. absurd (subst (λ (n : WriterState). HadFailed n.sync new.present) state had);
   },
   subst IsSettled (sym state) (settled_after sum w rest sound.stands.some rests),
 )
 sync_durably sum w now rest old new (Err e) small sound is rests can goes state fits = record {
-  cause = write_cause w.sync (place_of w) (flush_bytes sum w rest) true old new e goes (λ h. fits (ap Err h));
+  cause = write_cause w.sync (offset_of w) (flush_bytes sum w rest) true old new e goes (λ h. fits (ap Err h));
   stays = write_stays sum w old new (full_in w) rest (flush_bytes sum w rest) small sound is can refl true (Err e) goes;
-  log = write_grows (place_of w) (flush_bytes sum w rest) true old new (Err e) goes;
+  log = write_grows (offset_of w) (flush_bytes sum w rest) true old new (Err e) goes;
 }
 
 syncs_carried : (sum : List ℕ → ℕ) (w : WriterState) (old new : Life) (result : Result WriterState Error) → Syncs sum (carried w) old new result → Syncs sum w old new result
@@ -190,11 +188,11 @@ syncs_carried sum w old new (Err e) h = record { cause = h.cause; stays = h.stay
 
 -- the same by a writer whose durable slot was brought up to date
 pub sync_write : (sum : List ℕ → ℕ) (w v now : WriterState) (rest : Bool) (old new : Life) (result : Result (Unit {0}) Error) → IsSmall sum → IsSound sum w old.present → MayFlush w.sync w.flushed (guard_slot w.sync w.flushed w.durable) → v ≡ carried w
-    → rest ≡ not (length w.tip % w.page_size == 0) → CanWrite v.page_size v.tip (full_in v) rest → WriteGoes (place_of v) (flush_bytes sum v rest) true old new result
+    → rest ≡ not (length w.tip % w.page_size == 0) → CanWrite v.page_size v.tip (full_in v) rest → WriteGoes (offset_of v) (flush_bytes sum v rest) true old new result
     → OnOk result (now ≡ synced (after_write sum v (full_in v) rest)) → (IsErrOf result OffsetOverflow → ⊥) → Syncs sum w old new (answered now result)
 unfolding IsSound
 sync_write sum w v now rest old new result small sound ready is rests =
-    subst (λ v. CanWrite v.page_size v.tip (full_in v) rest → WriteGoes (place_of v) (flush_bytes sum v rest) true old new result
+    subst (λ v. CanWrite v.page_size v.tip (full_in v) rest → WriteGoes (offset_of v) (flush_bytes sum v rest) true old new result
     → OnOk result (now ≡ synced (after_write sum v (full_in v) rest)) → (IsErrOf result OffsetOverflow → ⊥) → Syncs sum w old new (answered now result)) (sym is)
     (λ can goes state fits. syncs_carried sum w old new (answered now result) (sync_durably sum (carried w) now rest old new result small (carry_sound sum w old.present sound) ready rests can goes state fits))
 
@@ -214,9 +212,9 @@ may_flush_carried w Dirty is none = subst (λ (s : SyncState). MayFlush s w.flus
 may_flush_carried w (Pending name) is none = absurd none
 
 -- a writer that waits for none and isn't clean is dirty
-pub dirty_state : (w : WriterState) (s : State) → state_of s ≡ w.sync → WaitsForNone w.sync → (s ≡ IsDirty) ⊎ ((name : ℕ) × (s ≡ IsPending name)) → w.sync ≡ Dirty
-dirty_state w s is none (inl dirty) = sym is ∙ ap state_of dirty
-dirty_state w s is none (inr (name, pending)) = absurd (subst (λ (t : SyncState). WaitsForNone t) (sym is ∙ ap state_of pending) none)
+pub dirty_state : (w : WriterState) (s : SyncState) → s ≡ w.sync → WaitsForNone w.sync → (s ≡ Dirty) ⊎ ((name : ℕ) × (s ≡ Pending name)) → w.sync ≡ Dirty
+dirty_state w s is none (inl dirty) = sym is ∙ dirty
+dirty_state w s is none (inr (name, pending)) = absurd (subst (λ (t : SyncState). WaitsForNone t) (sym is ∙ pending) none)
 
 -- so all that was started is settled
 pub dirty_settled : (sum : List ℕ → ℕ) (w : WriterState) (d : Disk) → IsSound sum w d → w.sync ≡ Dirty → AllSettled d
@@ -225,7 +223,7 @@ dirty_settled sum w d sound dirty = flush_settled d w.sync w.flushed w.durable (
 
 -- a write, and a sync of the blob
 pub sync_second : (sum : List ℕ → ℕ) (w now n : WriterState) (rest : Bool) (old mid new : Life) (result : Result (Unit {0}) Error) → IsSmall sum → IsSound sum w old.present → w.sync ≡ Dirty
-    → rest ≡ not (length w.tip % w.page_size == 0) → CanWrite w.page_size w.tip (full_in w) rest → WriteGoes (place_of w) (flush_bytes sum w rest) false old mid (Ok tt)
+    → rest ≡ not (length w.tip % w.page_size == 0) → CanWrite w.page_size w.tip (full_in w) rest → WriteGoes (offset_of w) (flush_bytes sum w rest) false old mid (Ok tt)
     → now ≡ after_write sum w (full_in w) rest → SyncGoes mid new result → OnOk result (n ≡ synced now) → Syncs sum w old new (answered n result)
 unfolding IsSound
 sync_second sum w now n rest old mid new (Ok done) small sound dirty rests can goes state synced_blob last =

@@ -1,4 +1,4 @@
--- What a flush writes, and that places still fit.
+-- What a flush writes, and that offsets still fit.
 use Rattle.std.proofs.Common.{◌≡◌, ℕ, ◌+◌, ◌*◌, ◌-◌, ◌/◌, ◌%◌, ◌<◌, ◌≤◌, ◌^◌, List, ◌++◌, length, take, drop, refl, sym, ap, ◌∙◌, subst, arith, append-nil, length-drop, inl, inr, Bool, true, false, min}
 use Rattle.std.proofs.Math.Nat.{mod-lt, div-zero, div-add-mod', mod-eq_of_lt, div-eq_of_lt, mul-div_cancel, mul-le-mul_right, add-mul, zero-mul}
 use Rattle.std.proofs.lemmas.List.{take_all, length-take-le}
@@ -7,19 +7,19 @@ use Rattle.std.specs.Int.{div_ceil}
 use Rattle.std.specs.List.{concat}
 use Rattle.page.specs.Tip.{ArePages}
 use Rattle.page.specs.declared.slot.ActiveChecksum.{ActiveChecksum}
-use Rattle.crash.specs.WriterState.{WriterState}
+use Rattle.writer_state.specs.WriterState.{WriterState}
 use Rattle.crash.specs.Built.{built, page_of, durable_after, written_pages}
-use Rattle.paged.specs.Writer.{physical_size, FitsBlob}
-use Rattle.crash.specs.Sound.{CanWrite}
+use Rattle.paged.specs.Writer.{physical_blob_size, FitsBlob}
+use Rattle.writer_state.specs.Sound.{CanWrite}
 use Rattle.crash.proofs.BuiltLaws.{length-built}
-use Rattle.paged.specs.Flush.{full_in, rest_of, rest_bytes, has_work, advanced, flush_bytes, footers_of, with_footers, place_of}
+use Rattle.paged.specs.Flush.{full_in, rest_of, rest_bytes, has_work, advanced, flush_bytes, footers_of, with_footers, offset_of}
 use Rattle.std.proofs.lemmas.Bool.Decides.{nat_tests}
 use Rattle.std.proofs.lemmas.Nat.{le-div}
 use Rattle.std.proofs.lemmas.Bool.{cases_lt}
 use Rattle.paged.proofs.Building.{built-take, built-suc}
 use Rattle.paged.proofs.Footers.{length-pages, with_footers-built}
 
--- what is left of a tip behind its full pages is less than a page
+-- what is left of a tip after its full pages is less than a page
 pub length-rest : (w : WriterState) → length (rest_of w) ≡ length w.tip % w.page_size
 length-rest w = rw length-drop (omega (arith, div-add-mod' (length w.tip) w.page_size))
 
@@ -68,8 +68,8 @@ div_ceil-rest n r P some is =
     let same : r ≡ n % P = omega (arith, div-add-mod' n P) in
     omega (arith, div-eq_of_lt small, mod-eq_of_lt small, ap (λ x. min 1 x) same)
 
--- the same as places
-pub fits-rest : (P full n r : ℕ) → 0 < P → r ≡ n - n / P * P → physical_size P (full + n / P) r ≡ physical_size P full n
+-- the same as offsets
+pub fits-rest : (P full n r : ℕ) → 0 < P → r ≡ n - n / P * P → physical_blob_size P (full + n / P) r ≡ physical_blob_size P full n
 fits-rest P full n r some is = ap (λ pages. pages * (P + 12)) (omega (arith, div_ceil-rest n r P some is))
 
 -- a flush writes no more pages than the tip has
@@ -85,13 +85,13 @@ can_some w rest can = elim (cases_lt 0 w.page_size) [ inl some ↦ some | inr no
     nothing w false none can = omega (arith, can.0, ap (λ n. length w.tip / n) none, div-zero (length w.tip))
     nothing w true none can = omega (arith, can.1, ap (λ n. (full_in w + 1) * n) none)
 
--- the places of a flush are numbers of 64 bits
+-- the offsets of a flush are numbers of 64 bits
 pub flush_fits : (sum : List ℕ → ℕ) (w : WriterState) (rest : Bool) → 0 < w.page_size → CanWrite w.page_size w.tip (full_in w) rest → FitsBlob w.page_size w.full_pages (length w.tip)
-    → place_of w + length (flush_bytes sum w rest) < 2 ^ 64
+    → offset_of w + length (flush_bytes sum w rest) < 2 ^ 64
 flush_fits sum w rest some can fits =
     let n = written_pages (full_in w) rest in
     let pages : w.full_pages + n ≤ w.full_pages + div_ceil (length w.tip) w.page_size = omega (arith, pages_at_most w rest some can) in
-    let bytes : (w.full_pages + n) * (w.page_size + 12) ≤ physical_size w.page_size w.full_pages (length w.tip) = mul-le-mul_right (w.page_size + 12) pages in
+    let bytes : (w.full_pages + n) * (w.page_size + 12) ≤ physical_blob_size w.page_size w.full_pages (length w.tip) = mul-le-mul_right (w.page_size + 12) pages in
     omega (arith, length-built sum w.page_size w.durable n w.tip, add-mul w.full_pages n (w.page_size + 12), bytes, fits)
 
 -- a full page can be written
@@ -112,6 +112,6 @@ can_sync w true some work is =
     (omega (arith, div-add-mod' (length w.tip) w.page_size), omega (arith, div-add-mod' (length w.tip) w.page_size, mod-lt (length w.tip) some))
 
 -- the same where the rest is written if it is asked for and there is some
-pub can_flush_rest : (w : WriterState) (rest behind : Bool) → 0 < w.page_size → has_work w rest ≡ true → behind ≡ (rest && not (length w.tip % w.page_size == 0)) → CanWrite w.page_size w.tip (full_in w) behind
-can_flush_rest w false behind some work is = subst (λ (b : Bool). CanWrite w.page_size w.tip (full_in w) b) (sym is) (can_flush w some work)
-can_flush_rest w true behind some work is = can_sync w behind some work is
+pub can_flush_rest : (w : WriterState) (rest after : Bool) → 0 < w.page_size → has_work w rest ≡ true → after ≡ (rest && not (length w.tip % w.page_size == 0)) → CanWrite w.page_size w.tip (full_in w) after
+can_flush_rest w false after some work is = subst (λ (b : Bool). CanWrite w.page_size w.tip (full_in w) b) (sym is) (can_flush w some work)
+can_flush_rest w true after some work is = can_sync w after some work is

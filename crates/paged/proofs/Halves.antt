@@ -4,12 +4,12 @@ use Rattle.std.specs.Prelude.{OnOk, IfOk}
 use Rattle.disk.specs.Disk.{Life}
 use Rattle.disk.specs.declared.error.Error.{Error}
 use Rattle.disk.specs.declared.error.Error.TheVariants.{ReadFailed, WriteFailed, ResizeFailed, SyncFailed, InvalidChecksum, BlobInsufficientLength, OffsetOverflow, OutOfMemory, IdsExhausted}
-use Rattle.crash.specs.WriterState.{WriterState}
-use Rattle.crash.specs.Sound.{IsSound, Soundness, content}
+use Rattle.writer_state.specs.WriterState.{WriterState}
+use Rattle.writer_state.specs.Sound.{IsSound, Soundness, content}
 use Rattle.crash.specs.Stays.{StaysThrough, KeepsAll, KeepsFloors, LeavesOnly, KeepsAllFloors}
-use Rattle.crash.proofs.FloorLaws.{floors_of_sound}
-use Rattle.crash.proofs.Moments.{kept_through, only_through, only_behind, kept_through_longer}
-use Rattle.crash.proofs.Soundness.{settle_keeps}
+use Rattle.writer_state.proofs.FloorLaws.{floors_of_sound}
+use Rattle.crash.proofs.Moments.{kept_through, only_through, only_after, kept_through_longer}
+use Rattle.writer_state.proofs.Soundness.{settle_keeps}
 use Rattle.disk.specs.declared.started_sync.StartedSync.{StartedSync}
 use Rattle.paged.specs.Calls.{GoesOn, Syncs, Appends, StartsSync, WaitsForSync, HoldsWithin}
 use Rattle.paged.proofs.Flushes.{begins}
@@ -56,8 +56,8 @@ leaves_only sum P content old new stays = only_through sum P content content old
 pub keeps_floors_before : (sum : List ℕ → ℕ) (P : ℕ) (content bytes : List ℕ) (old new : Life) → StaysThrough sum P (content ++ bytes) old new → KeepsFloors sum P content old new
 keeps_floors_before sum P content bytes old new stays = λ floor enough kept. kept_through_longer sum P content (content ++ bytes) old new (begins content bytes) stays floor enough kept
 
-pub leaves_only_behind : (sum : List ℕ → ℕ) (P : ℕ) (content bytes : List ℕ) (old new : Life) → StaysThrough sum P (content ++ bytes) old new → LeavesOnly sum P content (content ++ bytes) old new
-leaves_only_behind sum P content bytes old new stays = only_behind sum P content (content ++ bytes) old new stays
+pub leaves_only_after : (sum : List ℕ → ℕ) (P : ℕ) (content bytes : List ℕ) (old new : Life) → StaysThrough sum P (content ++ bytes) old new → LeavesOnly sum P content (content ++ bytes) old new
+leaves_only_after sum P content bytes old new stays = only_after sum P content (content ++ bytes) old new stays
 
 -- so an append keeps floors, whatever it answers, and leaves only content
 pub append_keeps : (sum : List ℕ → ℕ) (w : WriterState) (bytes : List ℕ) (old new : Life) (result : Result (WriterState × ℕ) Error) → IsSound sum w old.present → Appends sum w bytes old new result
@@ -68,7 +68,7 @@ append_keeps sum w bytes old new result sound appends = floors_of_sound sum w ol
 pub append_leaves : (sum : List ℕ → ℕ) (w : WriterState) (bytes : List ℕ) (old new : Life) (result : Result (WriterState × ℕ) Error) → IsSound sum w old.present → Appends sum w bytes old new result
     → LeavesOnly sum w.page_size (content w old.present.readable) (content w old.present.readable ++ bytes) old new
 unfolding IsSound
-append_leaves sum w bytes old new result sound appends = leaves_only_behind sum w.page_size (content w old.present.readable) bytes old new (appends_stay sum w bytes old new result sound appends)
+append_leaves sum w bytes old new result sound appends = leaves_only_after sum w.page_size (content w old.present.readable) bytes old new (appends_stay sum w bytes old new result sound appends)
 
 -- and a sync does
 pub sync_keeps : (sum : List ℕ → ℕ) (w : WriterState) (old new : Life) (result : Result WriterState Error) → IsSound sum w old.present → Syncs sum w old new result → KeepsAllFloors sum w.page_size old new
@@ -103,7 +103,7 @@ module _ (sum : List ℕ → ℕ) (w : WriterState) (old new : Life) (sound : Is
   pub wait_leaves : (result : Result WriterState Error) → WaitsForSync sum w old new result → LeavesOnly sum w.page_size (content w old.present.readable) (content w old.present.readable) old new
   wait_leaves result waits = leaves_only sum w.page_size (content w old.present.readable) old new (waits_stay sum w old new result waits)
 
--- less than a page is buffered behind a start
+-- less than a page is buffered after a start
 pub start_within : (sum : List ℕ → ℕ) (w : WriterState) (old new : Life) (result : Result (WriterState × StartedSync) Error) → w.page_size ≤ w.capacity → StartsSync sum w old new result → IfOk result (λ r. HoldsWithin r.0)
 start_within sum w old new (Ok r) room (goes, written, state, covered) = omega (arith, written.short, goes.same.page_size, goes.same.capacity, room)
 start_within sum w old new (Err e) room refused = tt

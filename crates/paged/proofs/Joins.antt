@@ -1,4 +1,4 @@
--- One part of an append behind another.
+-- One part of an append after another.
 use Rattle.std.proofs.Common.{◌≡◌, ℕ, ◌+◌, ◌-◌, ◌*◌, ◌/◌, ◌%◌, ◌<◌, ◌≤◌, inl, inr, List, [], ◌∷◌, ◌++◌, length, take, refl, sym, ap, ◌∙◌, subst, arith, append_assoc, length-append, Result, Ok, Err}
 use Rattle.std.proofs.Math.Nat.{div-add-mod', mod-lt, mod-eq_of_lt, mod_self, mul-mod_left, add-mul}
 use Rattle.std.proofs.lemmas.Bool.{cases_lt}
@@ -8,12 +8,12 @@ use Rattle.disk.specs.Disk.{Life}
 use Rattle.disk.specs.declared.error.Error.{Error}
 use Rattle.disk.specs.declared.error.Error.TheVariants.{ReadFailed, WriteFailed, ResizeFailed, SyncFailed, InvalidChecksum, BlobInsufficientLength, OffsetOverflow, OutOfMemory, IdsExhausted}
 use Rattle.disk.proofs.Logs.{grows_joins}
-use Rattle.crash.specs.WriterState.{WriterState}
-use Rattle.crash.specs.Sound.{IsSound, Soundness, content}
+use Rattle.writer_state.specs.WriterState.{WriterState}
+use Rattle.writer_state.specs.Sound.{IsSound, Soundness, content}
 use Rattle.crash.specs.Stays.{StaysThrough}
 use Rattle.crash.specs.Started.{CoversThrough}
-use Rattle.crash.proofs.CoverLaws.{covers_through_join, covers_shorter}
-use Rattle.crash.proofs.FlushLaws.{length-content, tip_reach}
+use Rattle.writer_state.proofs.CoverLaws.{covers_through_join, covers_shorter}
+use Rattle.writer_state.proofs.FlushLaws.{length-content, tip_reach}
 use Rattle.crash.proofs.Moments.{stays_through_joins, stays_through_longer}
 use Rattle.paged.specs.Writer.{FitsBlob}
 use Rattle.paged.specs.Calls.{GoesOn, Refuses, Appends}
@@ -26,13 +26,13 @@ use Rattle.paged.proofs.Causes.{cause_later}
 use Rattle.paged.proofs.Flushes.{begins, size_is_length}
 use Rattle.paged.proofs.Sizes.{fits_by_size}
 
--- fewer bytes need no more places
+-- fewer bytes need no more offsets
 pub fits_fewer : (P full n m : ℕ) → 0 < P → n ≤ m → FitsBlob P full m → FitsBlob P full n
 fits_fewer P full n m some less fits = (fits_by_size P full n some).1 (omega (arith, (fits_by_size P full m some).0 fits, less))
 
--- nor do the same behind more pages
-pub fits_behind : (P full n ahead m : ℕ) → 0 < P → ahead * P + m ≡ full * P + n → FitsBlob P full n → FitsBlob P ahead m
-fits_behind P full n ahead m some same fits = (fits_by_size P ahead m some).1 (omega (arith, (fits_by_size P full n some).0 fits, same))
+-- nor do the same after more pages
+pub fits_after : (P full n ahead m : ℕ) → 0 < P → ahead * P + m ≡ full * P + n → FitsBlob P full n → FitsBlob P ahead m
+fits_after P full n ahead m some same fits = (fits_by_size P ahead m some).1 (omega (arith, (fits_by_size P full n some).0 fits, same))
 
 -- what is refused over a content is refused over a longer one
 pub refuses_longer : (sum : List ℕ → ℕ) (w : WriterState) (held more : List ℕ) (old new : Life) (e : Error) → Refuses sum w held old new e → Refuses sum w (held ++ more) old new e
@@ -148,7 +148,7 @@ filled_whole P n some = elim (cases_lt 0 (n % P)) [
       (n / P, omega (arith, left, none, div-add-mod' n P))
 ]
 
--- so behind a flush nothing is left in it
+-- so after a flush nothing is left in it
 module _ (sum : List ℕ → ℕ) (w m : WriterState) (old mid : Life) (xs : List ℕ) (sound : Soundness sum w old.present) (first : GoesOn sum w old xs m mid) where
   pub filled_size : m.full_pages * w.page_size + length m.tip ≡ w.full_pages * w.page_size + (length w.tip + length xs)
   filled_size =
@@ -173,17 +173,17 @@ module _ (sum : List ℕ → ℕ) (w v now : WriterState) (old new : Life) (xs :
   filled_ok (Ok done) sound fill is appends short = filled_empty sum w now old new xs sound appends.1 fill (subst (λ (u : WriterState). length now.tip < u.page_size) is short)
   filled_ok (Err e) sound fill is refused short = tt
 
--- ---- whole pages behind it
+-- ---- whole pages after it
 
 module _ (sum : List ℕ → ℕ) (w m : WriterState) (old mid : Life) (bytes first whole rest : List ℕ) (sound : IsSound sum w old.present) (fits : FitsBlob w.page_size w.full_pages (length w.tip + length bytes)) (goes : GoesOn sum w old first m mid) where
-  pub direct_behind : m.tip ≡ [] → IsCut w.page_size (fill_of w) bytes first whole rest → IsDirect m whole rest
+  pub direct_after : m.tip ≡ [] → IsCut w.page_size (fill_of w) bytes first whole rest → IsDirect m whole rest
   unfolding IsSound
-  direct_behind empty cut = record {
+  direct_after empty cut = record {
     empty = empty;
     some = cut.some;
     pages = subst (λ P. length whole % P ≡ 0) (sym goes.same.page_size) cut.pages;
     short = omega (arith, cut.short, goes.same.page_size);
     fits = subst (λ P. FitsBlob P m.full_pages (length whole + length rest)) (sym goes.same.page_size)
-        (fits_behind w.page_size w.full_pages (length w.tip + length bytes) m.full_pages (length whole + length rest) sound.stands.some
+        (fits_after w.page_size w.full_pages (length w.tip + length bytes) m.full_pages (length whole + length rest) sound.stands.some
         (omega (arith, filled_size sum w m old mid first sound goes, ap length empty, ap length cut.joined, length-append first (whole ++ rest), length-append whole rest)) fits);
   }

@@ -1,4 +1,4 @@
--- A snapshot that told a content tells it behind whatever calls come later, and two blobs on one
+-- A snapshot that told a content tells it after whatever calls come later, and two blobs on one
 -- cache are read as if each had it for itself.
 use Rattle.std.proofs.Common.{◌≡◌, ◌≢◌, ◌⊎◌, inl, inr, ℕ, ◌+◌, ◌*◌, ◌<◌, ◌≤◌, List, [], ◌∷◌, length, take, refl, sym, ap, ◌∙◌, subst, arith}
 use Rattle.std.specs.Prelude.{Some, Result, Ok, Err}
@@ -14,26 +14,24 @@ use Rattle.cache.specs.CacheState.{CacheState, held}
 use Rattle.cache.specs.Pages.{CachesOnly, IsTrueFor, page_of_content}
 use Rattle.crash.specs.Below.{SamePages, PagesStay}
 use Rattle.crash.specs.Looks.{SameButLog, Looked}
-use Rattle.crash.specs.WriterState.{WriterState}
+use Rattle.writer_state.specs.WriterState.{WriterState}
 use Rattle.crash.specs.Moments.{through_end, through_then}
 use Rattle.crash.proofs.BelowLaws.{fewer_stay, pages_none, pages_one}
-use Rattle.crash.proofs.StartedLaws.{settles_same}
+use Rattle.writer_state.proofs.StartedLaws.{settles_same}
 use Rattle.paged_read.specs.Tail.{Tail, told, size_of, HasPages, CanRead}
 use Rattle.paged_read.specs.Ranges.{LeavesAll, page_at}
 use Rattle.paged_read.specs.Snapshots.{StandsOn}
 use Rattle.paged_read.proofs.Leaving.{length-told, payload_told}
 use Rattle.paged_read.proofs.Outliving.{others_stay, reads_stay, tail_stays}
 use Rattle.paged.specs.Caches.{ReadsOn, tail_of}
-use Rattle.paged.specs.LaterCalls.{Moment, IsLaterCall, AreLaterCalls, last_of}
-use Rattle.paged.specs.LaterCalls.{TwoBlobs, CanReadBoth, IsCallOf, IsCallOfFirst, IsCallOfSecond}
-use Rattle.paged.specs.LaterCalls.{AreCallsOfBoth, AreCallsOfFirst, both_behind}
+use Rattle.paged.specs.LaterCalls.{Moment, IsLaterCall, AreLaterCalls, last_of, TwoBlobs, CanReadBoth, IsCallOf, IsCallOfFirst, IsCallOfSecond, AreCallsOfBoth, AreCallsOfFirst, both_after}
 
 -- ---- the law of later calls
 
-later_true : (t : Tail) (before behind : Moment) → IsLaterCall t before behind
+later_true : (t : Tail) (before after : Moment) → IsLaterCall t before after
     → CanRead t before.cache before.life.present
-    → IsTrueFor t.id (told t before.life.present.readable) t.full_pages behind.cache
-later_true t before behind call can page bytes below there = elim (call.each page below) [
+    → IsTrueFor t.id (told t before.life.present.readable) t.full_pages after.cache
+later_true t before after call can page bytes below there = elim (call.each page below) [
   | inl stays ↦ can.cached page bytes below (sym stays ∙ there)
       ∙ ap (λ (P : ℕ). page_of_content P (told t before.life.present.readable) page)
       (sym call.page_size)
@@ -46,13 +44,13 @@ later_true t before behind call can page bytes below there = elim (call.each pag
 ]
 
 -- one call
-pub later_stands : (sum : List ℕ → ℕ) (t : Tail) (content : List ℕ) (before behind : Moment)
-    → IsLaterCall t before behind → StandsOn sum t content before.cache before.life.present
-    → StandsOn sum t content behind.cache behind.life.present
-later_stands sum t content before behind call stands =
+pub later_stands : (sum : List ℕ → ℕ) (t : Tail) (content : List ℕ) (before after : Moment)
+    → IsLaterCall t before after → StandsOn sum t content before.cache before.life.present
+    → StandsOn sum t content after.cache after.life.present
+later_stands sum t content before after call stands =
     let same = through_end (SamePages t.page_size t.full_pages before.life.present) before.life
-    behind.life call.pages in
-    let tail = tail_stays t t.full_pages before.life.present behind.life.present (omega arith) same sum
+    after.life call.pages in
+    let tail = tail_stays t t.full_pages before.life.present after.life.present (omega arith) same sum
     content stands.tail in
     record {
       tail = tail;
@@ -60,8 +58,8 @@ later_stands sum t content before behind call stands =
         there = tail.there;
         page_size = call.page_size ∙ stands.can.page_size;
         given = omega (arith, stands.can.given, call.ids);
-        cached = subst (λ (told_bytes : List ℕ). IsTrueFor t.id told_bytes t.full_pages behind.cache)
-            (stands.tail.is ∙ sym tail.is) (later_true t before behind call stands.can);
+        cached = subst (λ (told_bytes : List ℕ). IsTrueFor t.id told_bytes t.full_pages after.cache)
+            (stands.tail.is ∙ sym tail.is) (later_true t before after call stands.can);
       };
     }
 
@@ -79,12 +77,12 @@ later_calls_stand sum t content start (next ∷ rest) calls stands =
 
 -- a call of the blob's writer, which came to that many full pages or more: by its clauses `pages`
 -- and `caches`
-pub writer_call_is_later : (t : Tail) (k : ℕ) (content : List ℕ) (before behind : Moment)
-    → t.full_pages ≤ k → PagesStay t.page_size k before.life behind.life
-    → CachesOnly t.id k content before.cache behind.cache → IsLaterCall t before behind
-writer_call_is_later t k content before behind below stay caches = record {
+pub writer_call_is_later : (t : Tail) (k : ℕ) (content : List ℕ) (before after : Moment)
+    → t.full_pages ≤ k → PagesStay t.page_size k before.life after.life
+    → CachesOnly t.id k content before.cache after.cache → IsLaterCall t before after
+writer_call_is_later t k content before after below stay caches = record {
   pages = through_then (SamePages t.page_size k before.life.present)
-      (SamePages t.page_size t.full_pages before.life.present) before.life behind.life
+      (SamePages t.page_size t.full_pages before.life.present) before.life after.life
       (λ d same. fewer_stay t.page_size t.full_pages k before.life.present d below same) stay;
   page_size = caches.settings.page_size;
   ids = omega (arith, caches.settings.ids_given);
@@ -96,18 +94,18 @@ writer_call_is_later t k content before behind below stay caches = record {
 }
 
 -- a call that only looks at the blob, as a read does: it puts pages of what its own tail tells
-module _ (t : Tail) (before behind : Moment) where
-  pub looks_stay : Looked before.life behind.life
-      → PagesStay t.page_size t.full_pages before.life behind.life
+module _ (t : Tail) (before after : Moment) where
+  pub looks_stay : Looked before.life after.life
+      → PagesStay t.page_size t.full_pages before.life after.life
   looks_stay looked =
       through_then (SameButLog before.life.present)
-      (SamePages t.page_size t.full_pages before.life.present) before.life behind.life
+      (SamePages t.page_size t.full_pages before.life.present) before.life after.life
       (λ d same. ap (λ (x : Disk). take (t.full_pages * (t.page_size + 12)) x.readable) same)
       looked.through
 
   -- a call that leaves the cache
-  pub quiet_call_is_later : PagesStay t.page_size t.full_pages before.life behind.life
-      → behind.cache ≡ before.cache → IsLaterCall t before behind
+  pub quiet_call_is_later : PagesStay t.page_size t.full_pages before.life after.life
+      → after.cache ≡ before.cache → IsLaterCall t before after
   quiet_call_is_later stay same = record {
     pages = stay;
     page_size = ap (λ (c : CacheState). c.page_size) same;
@@ -117,10 +115,10 @@ module _ (t : Tail) (before behind : Moment) where
 
   -- a call of another blob, which has a life of its own
   pub other_call_is_later : (id from : ℕ) (content : List ℕ) → t.id ≢ id
-      → behind.life ≡ before.life → CachesOnly id from content before.cache behind.cache
-      → IsLaterCall t before behind
+      → after.life ≡ before.life → CachesOnly id from content before.cache after.cache
+      → IsLaterCall t before after
   other_call_is_later id from content apart same caches = record {
-    pages = pages_none t.page_size t.full_pages before.life behind.life same;
+    pages = pages_none t.page_size t.full_pages before.life after.life same;
     page_size = caches.settings.page_size;
     ids = omega (arith, caches.settings.ids_given);
     each = λ page under. elim (caches.each (t.id, page)) [
@@ -131,10 +129,10 @@ module _ (t : Tail) (before behind : Moment) where
   }
 
 -- a read by a tail of the blob, where the pages that it may put lie below it
-module _ (mine t : Tail) (before behind : Moment) (size : t.page_size ≡ mine.page_size)
+module _ (mine t : Tail) (before after : Moment) (size : t.page_size ≡ mine.page_size)
     (can : CanRead mine before.cache before.life.present)
     (there : HasPages t before.life.present)
-    (leaves : LeavesAll mine before.cache behind.cache before.life behind.life) where
+    (leaves : LeavesAll mine before.cache after.cache before.life after.life) where
   same_page : (page : ℕ) → page < t.full_pages → page < mine.full_pages
       → page_of_content before.cache.page_size (told mine before.life.present.readable) page
       ≡ page_of_content before.cache.page_size (told t before.life.present.readable) page
@@ -150,9 +148,9 @@ module _ (mine t : Tail) (before behind : Moment) (size : t.page_size ≡ mine.p
       payload P page = take P (page_at P page before.life.present.readable)
 
   read_is_later : ((page : ℕ) → page < t.full_pages → (page + 1) * mine.page_size ≤ size_of mine
-      → page < mine.full_pages) → IsLaterCall t before behind
+      → page < mine.full_pages) → IsLaterCall t before after
   read_is_later within = record {
-    pages = looks_stay t before behind leaves.looked;
+    pages = looks_stay t before after leaves.looked;
     page_size = leaves.cached.settings.page_size;
     ids = omega (arith, leaves.cached.settings.ids_given);
     each = λ page under. elim (leaves.cached.each (t.id, page)) [
@@ -168,7 +166,7 @@ module _ (mine t : Tail) (before behind : Moment) (size : t.page_size ≡ mine.p
   }
 
   -- a read of the writer, which has those pages or more
-  pub writer_read_is_later : t.full_pages ≤ mine.full_pages → IsLaterCall t before behind
+  pub writer_read_is_later : t.full_pages ≤ mine.full_pages → IsLaterCall t before after
   writer_read_is_later below = read_is_later (λ page under fits. omega (arith, under, below))
 
   -- a read of whatever snapshot
@@ -183,7 +181,7 @@ module _ (mine t : Tail) (before behind : Moment) (size : t.page_size ≡ mine.p
             absurd (omega (arith, up, fits, short, suc-mul mine.full_pages mine.page_size))
       ]
 
-  pub snapshot_read_is_later : length mine.bytes < mine.page_size → IsLaterCall t before behind
+  pub snapshot_read_is_later : length mine.bytes < mine.page_size → IsLaterCall t before after
   snapshot_read_is_later short = read_is_later (λ page under fits. short_within short page fits)
 
 -- a wait for a started sync, behind the writer's back or by it
@@ -202,23 +200,23 @@ waits_stay P k (Named name) old new answer goes = wait_stays P k name old new an
 waits_stay P k Done old new (Ok u) is = pages_none P k old new is
 waits_stay P k Done old new (Err e) goes = absurd goes
 
-pub wait_call_is_later : (t : Tail) (started : StartedSync) (before behind : Moment)
-    (answer : Result (Unit {0}) Error) → WaitsFor started before.life behind.life answer
-    → behind.cache ≡ before.cache → IsLaterCall t before behind
-wait_call_is_later t started before behind answer goes same =
-    quiet_call_is_later t before behind
-    (waits_stay t.page_size t.full_pages started before.life behind.life answer goes) same
+pub wait_call_is_later : (t : Tail) (started : StartedSync) (before after : Moment)
+    (answer : Result (Unit {0}) Error) → WaitsFor started before.life after.life answer
+    → after.cache ≡ before.cache → IsLaterCall t before after
+wait_call_is_later t started before after answer goes same =
+    quiet_call_is_later t before after
+    (waits_stay t.page_size t.full_pages started before.life after.life answer goes) same
 
 -- a recovery of another blob, for which the cache gives an id, or is refused
-pub other_recovery_is_later : (t : Tail) (before behind : Moment) → behind.life ≡ before.life
-    → (behind.cache ≡ before.cache)
-    ⊎ (behind.cache ≡ record before.cache { ids_given = before.cache.ids_given + 1 })
-    → IsLaterCall t before behind
-other_recovery_is_later t before behind same (inl none) =
-    quiet_call_is_later t before behind
-    (pages_none t.page_size t.full_pages before.life behind.life same) none
-other_recovery_is_later t before behind same (inr more) = record {
-  pages = pages_none t.page_size t.full_pages before.life behind.life same;
+pub other_recovery_is_later : (t : Tail) (before after : Moment) → after.life ≡ before.life
+    → (after.cache ≡ before.cache)
+    ⊎ (after.cache ≡ record before.cache { ids_given = before.cache.ids_given + 1 })
+    → IsLaterCall t before after
+other_recovery_is_later t before after same (inl none) =
+    quiet_call_is_later t before after
+    (pages_none t.page_size t.full_pages before.life after.life same) none
+other_recovery_is_later t before after same (inr more) = record {
+  pages = pages_none t.page_size t.full_pages before.life after.life same;
   page_size = ap (λ (c : CacheState). c.page_size) more;
   ids = omega (arith, ap (λ (c : CacheState). c.ids_given) more);
   each = λ page under. inl (ap (λ (c : CacheState). held c (t.id, page)) more);
@@ -226,46 +224,46 @@ other_recovery_is_later t before behind same (inr more) = record {
 
 -- so is a call of the writer that made the snapshot, as its clauses say it
 pub call_of_writer_is_later : (w : WriterState) (t : Tail) (content : List ℕ)
-    (before behind : Moment) → t.id ≡ w.id → t.page_size ≡ w.page_size
-    → t.full_pages ≤ w.full_pages → PagesStay w.page_size w.full_pages before.life behind.life
-    → CachesOnly w.id w.full_pages content before.cache behind.cache → IsLaterCall t before behind
-call_of_writer_is_later w t content before behind one_id one_size below stay caches =
-    writer_call_is_later t w.full_pages content before behind below
-    (subst (λ (P : ℕ). PagesStay P w.full_pages before.life behind.life) (sym one_size) stay)
-    (subst (λ (id : ℕ). CachesOnly id w.full_pages content before.cache behind.cache) (sym one_id)
+    (before after : Moment) → t.id ≡ w.id → t.page_size ≡ w.page_size
+    → t.full_pages ≤ w.full_pages → PagesStay w.page_size w.full_pages before.life after.life
+    → CachesOnly w.id w.full_pages content before.cache after.cache → IsLaterCall t before after
+call_of_writer_is_later w t content before after one_id one_size below stay caches =
+    writer_call_is_later t w.full_pages content before after below
+    (subst (λ (P : ℕ). PagesStay P w.full_pages before.life after.life) (sym one_size) stay)
+    (subst (λ (id : ℕ). CachesOnly id w.full_pages content before.cache after.cache) (sym one_id)
     caches)
 
 -- ---- the law of two blobs
 
 -- a writer's call that is answered is a call of its blob
-pub answered_call_is_one : (w now : WriterState) (content : List ℕ) (cache behind : CacheState)
-    (old new : Life) → now.id ≡ w.id → CachesOnly w.id w.full_pages content cache behind
-    → ReadsOn w now cache behind old new
-    → IsCallOf (tail_of w) (tail_of now) old new cache behind
-answered_call_is_one w now content cache behind old new one caches reads =
+pub answered_call_is_one : (w now : WriterState) (content : List ℕ) (cache after : CacheState)
+    (old new : Life) → now.id ≡ w.id → CachesOnly w.id w.full_pages content cache after
+    → ReadsOn w now cache after old new
+    → IsCallOf (tail_of w) (tail_of now) old new cache after
+answered_call_is_one w now content cache after old new one caches reads =
     record { id = one; from = w.full_pages; content = content; caches = caches; reads = reads }
 
 -- and so is one that is refused: what could be read of the writer before can be
-pub refused_call_is_one : (w : WriterState) (content : List ℕ) (cache behind : CacheState)
+pub refused_call_is_one : (w : WriterState) (content : List ℕ) (cache after : CacheState)
     (old new : Life) → PagesStay w.page_size w.full_pages old new
-    → CachesOnly w.id w.full_pages content cache behind
-    → IsCallOf (tail_of w) (tail_of w) old new cache behind
-refused_call_is_one w content cache behind old new stay caches = record {
+    → CachesOnly w.id w.full_pages content cache after
+    → IsCallOf (tail_of w) (tail_of w) old new cache after
+refused_call_is_one w content cache after old new stay caches = record {
   id = refl;
   from = w.full_pages;
   content = content;
   caches = caches;
   reads = reads_stay (tail_of w) w.full_pages old.present new.present (omega arith)
       (through_end (SamePages w.page_size w.full_pages old.present) old new stay) w.id content
-      cache behind caches;
+      cache after caches;
 }
 
 -- a call of one leaves what reads of the other stand on, whatever it answers
-pub call_leaves_other : (t now u : Tail) (old new life : Life) (cache behind : CacheState)
-    → t.id ≢ u.id → IsCallOf t now old new cache behind → CanRead u cache life.present
-    → CanRead u behind life.present
-call_leaves_other t now u old new life cache behind apart call can =
-    others_stay t.id call.from call.content cache behind call.caches u life.present
+pub call_leaves_other : (t now u : Tail) (old new life : Life) (cache after : CacheState)
+    → t.id ≢ u.id → IsCallOf t now old new cache after → CanRead u cache life.present
+    → CanRead u after life.present
+call_leaves_other t now u old new life cache after apart call can =
+    others_stay t.id call.from call.content cache after call.caches u life.present
     (λ same. apart (sym same)) can
 
 first_reads_both : (s n : TwoBlobs) → IsCallOfFirst s n → CanReadBoth s → CanReadBoth n
@@ -291,7 +289,7 @@ second_reads_both s n turn both = record {
 
 -- calls in any order: both are read on, each by what its own calls made of it
 pub calls_of_both : (s : TwoBlobs) (calls : List TwoBlobs) → AreCallsOfBoth s calls
-    → CanReadBoth s → CanReadBoth (both_behind s calls)
+    → CanReadBoth s → CanReadBoth (both_after s calls)
 calls_of_both s [] calls both = both
 calls_of_both s (n ∷ rest) calls both = elim calls.0 [
   | inl turn ↦ calls_of_both n rest calls.1 (first_reads_both s n turn both)
@@ -302,7 +300,7 @@ calls_of_both s (n ∷ rest) calls both = elim calls.0 [
 pub calls_of_first : (sum : List ℕ → ℕ) (content : List ℕ) (s : TwoBlobs) (calls : List TwoBlobs)
     → AreCallsOfFirst s calls → s.first.id ≢ s.second.id
     → StandsOn sum s.second content s.cache s.second_life.present
-    → StandsOn sum s.second content (both_behind s calls).cache s.second_life.present
+    → StandsOn sum s.second content (both_after s calls).cache s.second_life.present
 calls_of_first sum content s [] calls apart stands = stands
 calls_of_first sum content s (n ∷ rest) calls apart stands =
     let turn = calls.0 in
@@ -316,7 +314,7 @@ calls_of_first sum content s (n ∷ rest) calls apart stands =
     (subst (λ (t : Tail). StandsOn sum t content n.cache n.second_life.present) (sym turn.tail)
     (subst (λ (life : Life). StandsOn sum s.second content n.cache life.present) (sym turn.life)
     second_stands)) in
-    subst (λ (t : Tail). StandsOn sum t content (both_behind n rest).cache s.second_life.present)
+    subst (λ (t : Tail). StandsOn sum t content (both_after n rest).cache s.second_life.present)
     turn.tail
-    (subst (λ (life : Life). StandsOn sum n.second content (both_behind n rest).cache life.present)
+    (subst (λ (life : Life). StandsOn sum n.second content (both_after n rest).cache life.present)
     turn.life moved)

@@ -7,15 +7,14 @@ use Rattle.page.proofs.Examples.{abcd_page, ef_page, efg_page}
 use Rattle.cache.specs.CacheState.{CacheState, empty_cache}
 use Rattle.crash.specs.Below.{SamePages}
 use Rattle.crash.specs.Moments.{through_end}
-use Rattle.crash.proofs.Examples.{at_rest, six}
+use Rattle.writer_state.proofs.Examples.{at_rest, six}
 use Rattle.crash.proofs.BelowLaws.{pages_one}
 use Rattle.paged_read.specs.Tail.{Tail}
 use Rattle.paged_read.specs.Snapshots.{StandsOn}
-use Rattle.paged.specs.LaterCalls.{Moment, IsLaterCall}
-use Rattle.paged.specs.LaterCalls.{TwoBlobs, CanReadBoth, IsCallOfFirst, IsCallOfSecond}
+use Rattle.paged.specs.LaterCalls.{Moment, IsLaterCall, TwoBlobs, CanReadBoth, IsCallOfFirst, IsCallOfSecond}
 use Rattle.paged.proofs.LaterCalls.{quiet_call_is_later, later_calls_stand, calls_of_both}
 
--- a snapshot of a blob of the page "abcd", with the bytes "ef" behind it
+-- a snapshot of a blob of the page "abcd", with the bytes "ef" after it
 abbrev pub a_snapshot : Tail
 a_snapshot = record { page_size = 4; id = 0; full_pages = 1; bytes = 101 ∷ 102 ∷ [] }
 

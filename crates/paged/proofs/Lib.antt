@@ -13,7 +13,7 @@ pub mod Appends
 pub mod Halves
 pub mod Recoveries
 pub mod Firsts
-pub mod Places
+pub mod Offsets
 pub mod Standing
 pub mod QuietCuts
 pub mod Recovered
@@ -40,3 +40,4 @@ pub mod LaterCalls
 pub mod LaterExamples
 pub mod Scanned
 pub mod ScanExamples
+pub mod Foretelling

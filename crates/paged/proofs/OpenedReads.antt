@@ -7,8 +7,8 @@ use Rattle.cache.specs.CacheState.{CacheState}
 use Rattle.cache.specs.Pages.{IsTrueFor, IsFresh}
 use Rattle.cache.proofs.CacheLaws.{fresh_true}
 use Rattle.page.specs.Page.{text}
-use Rattle.crash.specs.WriterState.{WriterState}
-use Rattle.crash.specs.WriterState.SyncState.{Clean}
+use Rattle.writer_state.specs.WriterState.{WriterState}
+use Rattle.writer_state.specs.declared.sync_state.SyncState.TheVariants.{Clean}
 use Rattle.crash.specs.Looks.{Looked}
 use Rattle.paged.specs.Flush.{synced}
 use Rattle.paged.specs.Reads.{HasPages, size_of}
@@ -35,21 +35,21 @@ new_reads w cache d is_id same there fresh = record {
 }
 
 -- as a blob is opened
-pub opened_reads : (sum : List ℕ → ℕ) (cache behind : CacheState) (capacity : ℕ) (old new : Life)
+pub opened_reads : (sum : List ℕ → ℕ) (cache after : CacheState) (capacity : ℕ) (old new : Life)
     (result : Result WriterState Error) → Opens sum cache capacity old new result
-    → IfOk result (λ w. HasPages w new) → behind ≡ cache_after result cache → IsFresh cache
-    → IfOk result (λ w. CanRead (tail_of w) behind new.present)
-opened_reads sum cache behind capacity old new (Ok w) opens there is fresh =
+    → IfOk result (λ w. HasPages w new) → after ≡ cache_after result cache → IsFresh cache
+    → IfOk result (λ w. CanRead (tail_of w) after new.present)
+opened_reads sum cache after capacity old new (Ok w) opens there is fresh =
     subst (λ (c : CacheState). CanRead (tail_of w) c new.present) (sym is)
     (new_reads w cache new.present (ap (λ (v : WriterState). v.id) opens.state)
     (ap (λ (v : WriterState). v.page_size) opens.state) there fresh)
-opened_reads sum cache behind capacity old new (Err e) opens there is fresh = tt
+opened_reads sum cache after capacity old new (Err e) opens there is fresh = tt
 
 -- the cache of a writer that was opened has its page size, and gave its id
-pub opened_fits : (sum : List ℕ → ℕ) (cache behind : CacheState) (capacity : ℕ) (old new : Life)
-    (w : WriterState) → Opens sum cache capacity old new (Ok w) → behind ≡ cache_after (Ok w) cache
-    → (behind.page_size ≡ w.page_size) × (w.id < behind.ids_given)
-opened_fits sum cache behind capacity old new w opens is = (
+pub opened_fits : (sum : List ℕ → ℕ) (cache after : CacheState) (capacity : ℕ) (old new : Life)
+    (w : WriterState) → Opens sum cache capacity old new (Ok w) → after ≡ cache_after (Ok w) cache
+    → (after.page_size ≡ w.page_size) × (w.id < after.ids_given)
+opened_fits sum cache after capacity old new w opens is = (
   ap (λ (c : CacheState). c.page_size) is ∙ sym (ap (λ (v : WriterState). v.page_size) opens.state),
   omega (arith, ap (λ (c : CacheState). c.ids_given) is, ap (λ (v : WriterState). v.id) opens.state),
 )
@@ -66,29 +66,29 @@ looked_reads t cache old new looked can =
     })
 
 -- a writer that was opened, and cut
-pub cut_reads : (w : WriterState) (cache behind : CacheState) (old new : Life)
+pub cut_reads : (w : WriterState) (cache after : CacheState) (old new : Life)
     (result : Result WriterState Error) → CanRead (tail_of w) cache old.present
-    → IfOk result (λ now. ReadsOn w now cache behind old new)
-    → IfOk result (λ now. CanRead (tail_of now) behind new.present)
-cut_reads w cache behind old new (Ok now) can reads = reads can
-cut_reads w cache behind old new (Err e) can reads = tt
+    → IfOk result (λ now. ReadsOn w now cache after old new)
+    → IfOk result (λ now. CanRead (tail_of now) after new.present)
+cut_reads w cache after old new (Ok now) can reads = reads can
+cut_reads w cache after old new (Err e) can reads = tt
 
 -- an id was given, whatever came of it
-pub gives_id : (w : WriterState) (cache behind : CacheState) (result : Result WriterState Error)
-    → behind ≡ cache_after (Ok w) cache → GivesId result cache behind
-gives_id w cache behind (Ok now) is = is
-gives_id w cache behind (Err e) is = inr is
+pub gives_id : (w : WriterState) (cache after : CacheState) (result : Result WriterState Error)
+    → after ≡ cache_after (Ok w) cache → GivesId result cache after
+gives_id w cache after (Ok now) is = is
+gives_id w cache after (Err e) is = inr is
 
 -- what reads of other blobs stand on is left, as an id is given
-pub opened_others : (result : Result WriterState Error) (cache behind : CacheState)
-    → behind ≡ cache_after result cache → LeavesReads cache behind
-opened_others (Ok w) cache behind is = given_reads cache behind (inr is)
-opened_others (Err e) cache behind is = given_reads cache behind (inl is)
+pub opened_others : (result : Result WriterState Error) (cache after : CacheState)
+    → after ≡ cache_after result cache → LeavesReads cache after
+opened_others (Ok w) cache after is = given_reads cache after (inr is)
+opened_others (Err e) cache after is = given_reads cache after (inl is)
 
-pub gives_others : (result : Result WriterState Error) (cache behind : CacheState)
-    → GivesId result cache behind → LeavesReads cache behind
-gives_others (Ok w) cache behind gives = given_reads cache behind (inr gives)
-gives_others (Err e) cache behind gives = given_reads cache behind gives
+pub gives_others : (result : Result WriterState Error) (cache after : CacheState)
+    → GivesId result cache after → LeavesReads cache after
+gives_others (Ok w) cache after gives = given_reads cache after (inr gives)
+gives_others (Err e) cache after gives = given_reads cache after gives
 
 -- a cut keeps the id
 cut_id : (sum : List ℕ → ℕ) (w : WriterState) (n : ℕ) (bytes : List ℕ) (is_less : Bool)

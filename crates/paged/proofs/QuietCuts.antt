@@ -1,25 +1,26 @@
--- A cut reads nothing, so a search back and a cut behind it read as the search does.
+-- A cut reads nothing, so a search back and a cut after it read as the search does.
 use Rattle.std.proofs.Common.{◌≡◌, inl, inr, ℕ, List, [], ◌∷◌, ◌++◌, length, Bool, true, false, Result, Ok, Err, ap, ◌∙◌}
 use Rattle.disk.specs.Disk.{Request, Life, ReadAt, ReadMany, StartReadMany, ResizeTo, SyncAll, ResizeGoes, SyncGoes}
 use Rattle.disk.specs.declared.error.Error.{Error}
 use Rattle.disk.specs.declared.error.Error.TheVariants.{ReadFailed, WriteFailed, ResizeFailed, SyncFailed, InvalidChecksum, BlobInsufficientLength, OffsetOverflow, OutOfMemory, IdsExhausted}
-use Rattle.paged_read.specs.Searches.{Gained, FallFrom, ReadsBack}
+use Rattle.paged_read.specs.Searches.{Gained}
+use Rattle.paged_read.specs.Backward.{FallFrom, ReadsBack}
 use Rattle.paged_read.proofs.Searching.{gained_none, gained_once, gained_joins}
-use Rattle.paged.specs.declared.writer.SyncState.TheVariants.{Clean as IsClean, Dirty as IsDirty, Pending as IsPending}
-use Rattle.paged.specs.declared.writer.SyncState.{SyncState as State}
+use Rattle.writer_state.specs.declared.sync_state.SyncState.TheVariants.{Clean, Dirty, Pending}
+use Rattle.writer_state.specs.declared.sync_state.SyncState.{SyncState}
 use Rattle.paged.specs.Recovery.{Cuts, CutsBack}
 
 -- none of these reads
 abbrev AreQuiet : List Request → Type 0
 AreQuiet [] = Unit {0}
-AreQuiet (ReadAt place len ∷ rest) = ⊥
+AreQuiet (ReadAt offset len ∷ rest) = ⊥
 AreQuiet (ReadMany ranges ∷ rest) = ⊥
 AreQuiet (StartReadMany ranges ∷ rest) = ⊥
 AreQuiet (_ ∷ rest) = AreQuiet rest
 
 quiet_joins : (xs ys : List Request) → AreQuiet xs → AreQuiet ys → AreQuiet (xs ++ ys)
 quiet_joins [] ys first second = second
-quiet_joins (ReadAt place len ∷ xs) ys first second = absurd first
+quiet_joins (ReadAt offset len ∷ xs) ys first second = absurd first
 quiet_joins (ReadMany ranges ∷ xs) ys first second = absurd first
 quiet_joins (StartReadMany ranges ∷ xs) ys first second = absurd first
 quiet_joins (_ ∷ xs) ys first second = quiet_joins xs ys first second
@@ -27,11 +28,11 @@ quiet_joins (_ ∷ xs) ys first second = quiet_joins xs ys first second
 -- reads that fall, and then none
 fall_then_quiet : (size top : ℕ) (xs ys : List Request) → FallFrom size top xs → AreQuiet ys → FallFrom size top (xs ++ ys)
 fall_then_quiet size top [] [] fall quiet = tt
-fall_then_quiet size top [] (ReadAt place len ∷ ys) fall quiet = absurd quiet
+fall_then_quiet size top [] (ReadAt offset len ∷ ys) fall quiet = absurd quiet
 fall_then_quiet size top [] (ReadMany ranges ∷ ys) fall quiet = absurd quiet
 fall_then_quiet size top [] (StartReadMany ranges ∷ ys) fall quiet = absurd quiet
 fall_then_quiet size top [] (_ ∷ ys) fall quiet = fall_then_quiet size top [] ys fall quiet
-fall_then_quiet size top (ReadAt place len ∷ xs) ys fall quiet = (fall.0, fall.1, fall_then_quiet size place xs ys fall.2 quiet)
+fall_then_quiet size top (ReadAt offset len ∷ xs) ys fall quiet = (fall.0, fall.1, fall_then_quiet size offset xs ys fall.2 quiet)
 fall_then_quiet size top (ReadMany ranges ∷ xs) ys fall quiet = absurd fall
 fall_then_quiet size top (StartReadMany ranges ∷ xs) ys fall quiet = absurd fall
 fall_then_quiet size top (_ ∷ xs) ys fall quiet = fall_then_quiet size top xs ys fall quiet
@@ -76,14 +77,14 @@ cuts_quiet kept old new (Err e) cuts = elim cuts [
   | inr second ↦ quiet_both old second.0 new (resize_quiet kept old second.0 (Ok tt) second.1) (sync_quiet second.0 new (Err e) second.2)
 ]
 
-cuts_back_quiet : (kept : ℕ) (old new : Life) (answer : Result State Error) → CutsBack kept old new answer → Quiet old new
-cuts_back_quiet kept old new (Ok IsDirty) cuts = gained_none AreQuiet old new cuts.1 tt
-cuts_back_quiet kept old new (Ok IsClean) cuts = cuts_quiet kept old new (Ok tt) cuts.1
-cuts_back_quiet kept old new (Ok (IsPending name)) cuts = absurd cuts
+cuts_back_quiet : (kept : ℕ) (old new : Life) (answer : Result SyncState Error) → CutsBack kept old new answer → Quiet old new
+cuts_back_quiet kept old new (Ok Dirty) cuts = gained_none AreQuiet old new cuts.1 tt
+cuts_back_quiet kept old new (Ok Clean) cuts = cuts_quiet kept old new (Ok tt) cuts.1
+cuts_back_quiet kept old new (Ok (Pending name)) cuts = absurd cuts
 cuts_back_quiet kept old new (Err e) cuts = cuts_quiet kept old new (Err e) cuts
 
 -- opening: a search back, and then a cut
-pub opens_back : (size kept : ℕ) (old mid new : Life) (answer : Result State Error) → ReadsBack size old mid → CutsBack kept mid new answer → ReadsBack size old new
+pub opens_back : (size kept : ℕ) (old mid new : Life) (answer : Result SyncState Error) → ReadsBack size old mid → CutsBack kept mid new answer → ReadsBack size old new
 opens_back size kept old mid new answer back cuts =
     let top = length old.present.readable in
     gained_joins (FallFrom size top) AreQuiet (FallFrom size top) old mid new (fall_then_quiet size top) back (cuts_back_quiet kept mid new answer cuts)

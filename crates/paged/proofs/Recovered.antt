@@ -13,17 +13,19 @@ use Rattle.disk.specs.declared.error.Error.TheVariants.{ReadFailed, WriteFailed,
 use Rattle.page.specs.Page.{pages, pieces, value_len, text, text_of_pages}
 use Rattle.page.specs.declared.slot.ActiveChecksum.{ActiveChecksum}
 use Rattle.cache.specs.CacheState.{CacheState}
-use Rattle.crash.specs.WriterState.{WriterState, SyncState}
-use Rattle.crash.specs.WriterState.SyncState.{Clean, Dirty, Pending}
+use Rattle.writer_state.specs.WriterState.{WriterState}
+use Rattle.writer_state.specs.declared.sync_state.SyncState.{SyncState}
+use Rattle.writer_state.specs.declared.sync_state.SyncState.TheVariants.{Clean, Dirty, Pending}
 use Rattle.crash.specs.Built.{kept_len}
 use Rattle.crash.specs.Full.{AreFull}
 use Rattle.crash.specs.Looks.{Looked}
-use Rattle.crash.specs.Sound.{IsSound, TipPage, content, stored}
+use Rattle.writer_state.specs.Sound.{IsSound, TipPage, content}
+use Rattle.crash.specs.Contents.{stored}
 use Rattle.crash.specs.Stays.{KeepsAll}
-use Rattle.crash.proofs.Soundness.{sound_leaves}
+use Rattle.writer_state.proofs.Soundness.{sound_leaves}
 use Rattle.crash.proofs.Pages.{pages_whole, page_is, drop-pieces, length-page, length-pieces}
 use Rattle.crash.proofs.Texts.{active_is, text_part, value_at}
-use Rattle.crash.proofs.FlushLaws.{tip_reach, length-content}
+use Rattle.writer_state.proofs.FlushLaws.{tip_reach, length-content}
 use Rattle.paged_read.specs.declared.prefix.Prefix.{Prefix}
 use Rattle.paged.specs.Flush.{has_work, synced}
 use Rattle.page.specs.Geometry.{adjusted}
@@ -33,21 +35,21 @@ use Rattle.paged.specs.Reads.{size_of}
 use Rattle.paged.specs.Calls.{WaitsForNone, HadFailed}
 use Rattle.paged.specs.Truncate.{IsCut, IsTruncated, SoundAndKept, TruncateCause, Truncates, cut_writer, cut_bytes, shortened_writer}
 use Rattle.paged.specs.Recovers.{RecoverCause, IsRecovered, Recovers, opened_bytes}
-use Rattle.paged.specs.Recovery.{RecoveryCause, IsDurable, IsKept, IsOpened, IsAsOpened, slot_pages, opened_prefix, opened_size, opened_writer, slot_of_tip}
-use Rattle.paged.specs.Recovery.IsKept.{whole, cut}
+use Rattle.paged.specs.Recovery.{RecoveryCause, IsDurable, IsCutBack, IsOpened, IsAsOpened, slot_pages, opened_prefix, opened_size, opened_writer, slot_of_tip}
+use Rattle.paged.specs.Recovery.IsCutBack.{whole, cut}
 use Rattle.disk.proofs.Logs.{grows_joins, failed_later}
 use Rattle.crash.proofs.LookLaws.{looked_readable}
-use Rattle.paged.proofs.Firsts.{Behind, AreLong, prefix_is, prefix_size_is, text_begins, text_of_beginning, first_size_le}
+use Rattle.paged.proofs.Firsts.{After, AreLong, prefix_is, prefix_size_is, text_begins, text_of_beginning, first_size_le}
 use Rattle.paged.proofs.Flushes.{size_is_length}
 use Rattle.paged.proofs.Recoveries.{opened_size_le}
 
 -- what is kept is readable
-pub kept_readable : (old new : Life) (kept : ℕ) (s : SyncState) → IsKept old new kept s → new.present.readable ≡ take kept old.present.readable
+pub kept_readable : (old new : Life) (kept : ℕ) (s : SyncState) → IsCutBack old new kept s → new.present.readable ≡ take kept old.present.readable
 kept_readable old new kept s (whole all looked) = looked_readable old new looked ∙ sym (take_all kept old.present.readable (omega (arith, all)))
 kept_readable old new kept s (cut more readable durable) = readable
 
 -- a cut is durable
-pub kept_durable : (old new : Life) (kept : ℕ) (s : SyncState) → IsKept old new kept s → s ≡ Clean → IsDurable new.present
+pub kept_durable : (old new : Life) (kept : ℕ) (s : SyncState) → IsCutBack old new kept s → s ≡ Clean → IsDurable new.present
 kept_durable old new kept s (whole all looked) is = absurd (cc)
 kept_durable old new kept s (cut more readable durable) is = durable
 
@@ -59,7 +61,7 @@ looked_durable old new looked durable = record {
 }
 
 -- so it is durable, where all was before
-pub opened_stays_durable : (old new : Life) (kept : ℕ) (s : SyncState) → IsKept old new kept s → IsDurable old.present → IsDurable new.present
+pub opened_stays_durable : (old new : Life) (kept : ℕ) (s : SyncState) → IsCutBack old new kept s → IsDurable old.present → IsDurable new.present
 opened_stays_durable old new kept s (whole all looked) durable = looked_durable old new looked durable
 opened_stays_durable old new kept s (cut more readable is) durable = is
 
@@ -112,22 +114,22 @@ module _ (sum : List ℕ → ℕ) (cache : CacheState) (capacity : ℕ) (old mid
 pub found_within : (sum : List ℕ → ℕ) (P count : ℕ) (bytes : List ℕ) (p : Prefix) → p ≡ prefix_of sum P (pieces count (P + 12) bytes) → prefix_pages p ≤ count
 found_within sum P count bytes p is = omega (arith, (prefix_is sum P (pieces count (P + 12) bytes)).within, ap (λ (q : Prefix). prefix_pages q) is, length-pieces count (P + 12) bytes)
 
--- what is behind them is less than a page
+-- what is after them is less than a page
 pub found_short : (sum : List ℕ → ℕ) (P count : ℕ) (bytes : List ℕ) (p : Prefix) → 0 < P → p ≡ prefix_of sum P (pieces count (P + 12) bytes) → length (tip_of p.partial) < P
 found_short sum P count bytes p some is = omega (arith, (prefix_is sum P (pieces count (P + 12) bytes)).tip some, ap (λ (q : Prefix). length (tip_of q.partial)) is)
 
 -- ---- what a writer that was opened stands for, and the text
 
 -- each page of a blob has its payload
-long_pages : (sum : List ℕ → ℕ) (P : ℕ) (bytes : List ℕ) → AreLong sum P (pages P bytes)
+pub long_pages : (sum : List ℕ → ℕ) (P : ℕ) (bytes : List ℕ) → AreLong sum P (pages P bytes)
 long_pages sum P bytes = λ q page is. omega (arith, length-page P q bytes page is)
 
--- the page behind the first ones has no less a value than the prefix says
-told_enough : (sum : List ℕ → ℕ) (P full : ℕ) (bytes : List ℕ) (found : Option (List ℕ × ActiveChecksum)) → Behind sum P (pages P bytes) full found → length (tip_of found) ≤ value_len sum P (page_at P full bytes)
-told_enough sum P full bytes None behind = omega arith
-told_enough sum P full bytes (Some v) behind =
-    let told = active_is sum P behind.0 v.1 behind.2 in
-    omega (arith, ap length behind.3, length-take v.1.len behind.0, told.len, ap (λ (l : List ℕ). value_len sum P l) (page_is P full bytes behind.0 behind.1))
+-- the page after the first ones has no less a value than the prefix says
+told_enough : (sum : List ℕ → ℕ) (P full : ℕ) (bytes : List ℕ) (found : Option (List ℕ × ActiveChecksum)) → After sum P (pages P bytes) full found → length (tip_of found) ≤ value_len sum P (page_at P full bytes)
+told_enough sum P full bytes None after = omega arith
+told_enough sum P full bytes (Some v) after =
+    let told = active_is sum P after.0 v.1 after.2 in
+    omega (arith, ap length after.3, length-take v.1.len after.0, told.len, ap (λ (l : List ℕ). value_len sum P l) (page_is P full bytes after.0 after.1))
 
 -- the length of a text, with the numbers that a program has
 pub counted_text : (sum : List ℕ → ℕ) (P n page_size : ℕ) (bytes : List ℕ) (p : Prefix) → page_size ≡ P → p ≡ prefix_of sum P (pages P bytes) → n ≡ prefix_size page_size p → n ≡ length (text sum P bytes)
@@ -158,13 +160,13 @@ module _ (sum : List ℕ → ℕ) (P n : ℕ) (bytes : List ℕ) (some : 0 < P) 
 
   -- which tells no fewer bytes
   pub tells_enough : n % P ≤ value_len sum P (page_at P (n / P) bytes)
-  tells_enough = rw (ends_in, ends_at) (told_enough sum P first.full_pages bytes first.partial (prefix_is sum P (pages P bytes)).behind)
+  tells_enough = rw (ends_in, ends_at) (told_enough sum P first.full_pages bytes first.partial (prefix_is sum P (pages P bytes)).after)
 
   -- those before it are full
   pub full_before : AreFull sum P (take (n / P) (pages P bytes))
   full_before = rw ends_in (prefix_is sum P (pages P bytes)).full
 
--- the text of the page behind some others, where the blob ends with it
+-- the text of the page after some others, where the blob ends with it
 last_says : (sum : List ℕ → ℕ) (P full : ℕ) (tip readable : List ℕ) (flushed : Option ActiveChecksum) → kept_len flushed ≡ length tip → TipPage sum P full tip readable flushed → text_of_pages sum P (drop full (pages P readable)) ≡ tip
 last_says sum P full tip readable None written is =
     ap (λ (l : List (List ℕ)). text_of_pages sum P (drop full l)) (pages_whole P full readable is)
@@ -345,9 +347,9 @@ module _ (sum : List ℕ → ℕ) (cache : CacheState) (capacity n : ℕ) (old m
     below : now.full_pages ≡ n / w.page_size
     below =
         let less : length now.tip < w.page_size = omega (arith, is.settled.short, is.same.page_size) in
-        let place : now.full_pages * w.page_size + length now.tip ≡ n =
+        let offset : now.full_pages * w.page_size + length now.tip ≡ n =
         ap (λ (k : ℕ). now.full_pages * k + length now.tip) (sym is.same.page_size) ∙ is.size ∙ (let e : min n (size_of w) ≡ n = omega (arith, scanned_length, text_within sum w scanned.present scanned_as_opened) in e) in
-        sym (div-mul-add now.full_pages w.page_size (length now.tip) less) ∙ ap (λ (k : ℕ). k / w.page_size) place
+        sym (div-mul-add now.full_pages w.page_size (length now.tip) less) ∙ ap (λ (k : ℕ). k / w.page_size) offset
 
     -- so it is sound, and all of it kept
     cut_full : IsSound sum now new.present × KeepsAll sum w.page_size (take n (content w scanned.present.readable)) new

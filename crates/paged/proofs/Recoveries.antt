@@ -4,7 +4,7 @@ use Rattle.std.specs.Prelude.{Result, Ok, Err, Option, Some, None}
 use Rattle.std.specs.Int.{div_ceil}
 use Rattle.std.proofs.Math.Nat.{div-eq_of_lt, mod-eq_of_lt, mul-le-mul_left}
 use Rattle.page.specs.declared.slot.ActiveChecksum.{ActiveChecksum}
-use Rattle.disk.specs.Disk.{Disk, Life, LogGrows, logged, settle, ResizeGoes, SyncGoes}
+use Rattle.disk.specs.Disk.{Disk, Life, LogGrows, logged, settled_disk, ResizeGoes, SyncGoes}
 use Rattle.disk.specs.Disk.Request.{ResizeTo, SyncAll}
 use Rattle.disk.specs.declared.error.Error.{Error}
 use Rattle.disk.specs.declared.error.Error.TheVariants.{ReadFailed, WriteFailed, ResizeFailed, SyncFailed, InvalidChecksum, BlobInsufficientLength, OffsetOverflow, OutOfMemory, IdsExhausted}
@@ -12,13 +12,13 @@ use Rattle.cache.specs.CacheState.{CacheState}
 use Rattle.crash.specs.Looks.{Looked}
 use Rattle.crash.proofs.Pages.{cut_is, pages_reach}
 use Rattle.paged_read.specs.declared.prefix.Prefix.{Prefix}
-use Rattle.paged.specs.declared.writer.SyncState.TheVariants.{Clean as IsClean, Dirty as IsDirty, Pending as IsPending}
-use Rattle.paged.specs.declared.writer.SyncState.{SyncState as State}
-use Rattle.paged.specs.Writer.{state_of, FitsBlob}
+use Rattle.writer_state.specs.declared.sync_state.SyncState.TheVariants.{Clean, Dirty, Pending}
+use Rattle.writer_state.specs.declared.sync_state.SyncState.{SyncState}
+use Rattle.paged.specs.Writer.{FitsBlob}
 use Rattle.paged_read.specs.Prefix.{last_prefix, prefix_pages, partial_pages, tip_of}
-use Rattle.paged.specs.Recovery.{RecoveryCause, IsDurable, Cuts, CutsBack, IsKept, Opens, opened_prefix, opened_size}
+use Rattle.paged.specs.Recovery.{RecoveryCause, IsDurable, Cuts, CutsBack, IsCutBack, Opens, opened_prefix, opened_size}
 use Rattle.paged_read.specs.Searches.{Finds}
-use Rattle.paged.specs.Recovery.IsKept.{whole, cut}
+use Rattle.paged.specs.Recovery.IsCutBack.{whole, cut}
 use Rattle.paged_read.proofs.Prefixes.{IsLast, last_is}
 use Rattle.disk.proofs.Logs.{grows_once, grows_joins, failed_once, failed_later}
 use Rattle.crash.proofs.LookLaws.{looked_readable}
@@ -49,7 +49,7 @@ resize_cause kept old new IdsExhausted goes = absurd (cc (goes.0))
 -- a sync, done
 pub sync_done : (old new : Life) → SyncGoes old new (Ok tt) → (new.present.readable ≡ old.present.readable) × IsDurable new.present × LogGrows old.present new.present
 sync_done old new goes =
-    let now : new.present ≡ settle (logged SyncAll false old.present) = ap (λ (l : Life). l.present) goes in (
+    let now : new.present ≡ settled_disk (logged SyncAll false old.present) = ap (λ (l : Life). l.present) goes in (
       ap (λ (d : Disk). d.readable) now,
       record { since = ap (λ (d : Disk). d.since) now; base = ap (λ (d : Disk). d.base) now ∙ sym (ap (λ (d : Disk). d.readable) now) },
       grows_once SyncAll false old.present new.present (ap (λ (d : Disk). d.log) now),
@@ -112,7 +112,7 @@ tip_pages : (P : ℕ) (found : Option (List ℕ × ActiveChecksum)) → length (
 tip_pages P None short = omega (arith, div-eq_of_lt short, mod-eq_of_lt short)
 tip_pages P (Some v) short = omega (arith, div-eq_of_lt short)
 
--- a writer behind pages that fit fits too
+-- a writer after pages that fit fits too
 pub fits_prefix : (P size : ℕ) (p : Prefix) → length (tip_of p.partial) < P → prefix_pages p * (P + 12) ≤ size → size < 2 ^ 64 → FitsBlob P p.full_pages (length (tip_of p.partial))
 fits_prefix P size p tip reach small =
     let le : p.full_pages + div_ceil (length (tip_of p.partial)) P ≤ prefix_pages p = omega (arith, tip_pages P p.partial tip) in
@@ -156,21 +156,21 @@ abbrev pub TrimsTo : ℕ → Life → Life → Type 0
 TrimsTo kept old new = (mid : Life) × Looked old mid × ((new ≡ mid) ⊎ ((answer : Result (Unit {0}) Error) × Cuts kept mid new answer))
 
 -- a look, and then a cut where there is more
-pub trims_back : (kept : ℕ) (old mid new : Life) (answer : Result State Error) → Looked old mid → CutsBack kept mid new answer → TrimsTo kept old new
-trims_back kept old mid new (Ok IsDirty) looked cuts = (mid, looked, inl cuts.1)
-trims_back kept old mid new (Ok IsClean) looked cuts = (mid, looked, inr (Ok tt, cuts.1))
-trims_back kept old mid new (Ok (IsPending name)) looked cuts = absurd cuts
+pub trims_back : (kept : ℕ) (old mid new : Life) (answer : Result SyncState Error) → Looked old mid → CutsBack kept mid new answer → TrimsTo kept old new
+trims_back kept old mid new (Ok Dirty) looked cuts = (mid, looked, inl cuts.1)
+trims_back kept old mid new (Ok Clean) looked cuts = (mid, looked, inr (Ok tt, cuts.1))
+trims_back kept old mid new (Ok (Pending name)) looked cuts = absurd cuts
 trims_back kept old mid new (Err e) looked cuts = (mid, looked, inr (Err e, cuts))
 
 -- the same, done
-pub kept_back : (kept : ℕ) (old mid new : Life) (s : State) → Looked old mid → kept ≤ length old.present.readable → CutsBack kept mid new (Ok s) → IsKept old new kept (state_of s) × LogGrows old.present new.present
-kept_back kept old mid new IsDirty looked le cuts =
+pub kept_back : (kept : ℕ) (old mid new : Life) (s : SyncState) → Looked old mid → kept ≤ length old.present.readable → CutsBack kept mid new (Ok s) → IsCutBack old new kept s × LogGrows old.present new.present
+kept_back kept old mid new Dirty looked le cuts =
     (whole (cuts.0 ∙ ap length (looked_readable old mid looked)) (subst (λ (l : Life). Looked old l) (sym cuts.1) looked), subst (λ (l : Life). LogGrows old.present l.present) (sym cuts.1) looked.log)
-kept_back kept old mid new IsClean looked le cuts =
+kept_back kept old mid new Clean looked le cuts =
     let same = looked_readable old mid looked in
     let done = cut_done kept mid new (omega (arith, ap length same)) cuts.1 in
     (cut (λ is. cuts.0 (is ∙ sym (ap length same))) (done.0 ∙ ap (λ (l : List ℕ). take kept l) same) done.1, grows_joins old.present mid.present new.present looked.log done.2)
-kept_back kept old mid new (IsPending name) looked le cuts = absurd cuts
+kept_back kept old mid new (Pending name) looked le cuts = absurd cuts
 
 -- the same, not done
 pub back_cause : (kept : ℕ) (old mid new : Life) (e : Error) → Looked old mid → kept ≤ length old.present.readable → CutsBack kept mid new (Err e) → RecoveryCause old new e

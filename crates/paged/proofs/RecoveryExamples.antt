@@ -1,28 +1,29 @@
 -- What opening and recovering a blob keep, at a few bytes. Pages have 4 bytes, and the checksum is their sum.
 use Rattle.std.proofs.Common.{◌≡◌, inr, ℕ, List, [], ◌∷◌, ◌++◌, map, Ok, false, refl, sym, subst, lit<, arith, rules}
 use Rattle.std.specs.Prelude.{Some, None}
-use Rattle.disk.specs.Disk.{Life, Entry, ReadAt, ResizeTo, SyncAll, next, settle, logged}
+use Rattle.disk.specs.Disk.{Life, Entry, ReadAt, ResizeTo, SyncAll, next, settled_disk, logged}
 use Rattle.page.specs.Page.{pages, text}
 use Rattle.page.specs.Sums.{add_sum, small_add_sum}
 use Rattle.page.proofs.Examples.{abcd_page, ef_page}
 use Rattle.page.specs.declared.slot.Slot.TheVariants.{First, Second}
 use Rattle.page.specs.declared.slot.ActiveChecksum.{ActiveChecksum}
-use Rattle.crash.specs.WriterState.{WriterState}
-use Rattle.crash.specs.WriterState.SyncState.{Clean, Dirty}
+use Rattle.writer_state.specs.WriterState.{WriterState}
+use Rattle.writer_state.specs.declared.sync_state.SyncState.TheVariants.{Clean, Dirty}
 use Rattle.crash.specs.Stays.{KeepsFloors}
 use Rattle.crash.proofs.CutLaws.{rest_through_start}
 use Rattle.crash.proofs.Disks.{whole_is_image}
 use Rattle.crash.proofs.FloorLaws.{ReadsImage, floors_none, floors_sync}
 use Rattle.crash.specs.Looks.{looked_start}
 use Rattle.crash.proofs.Texts.{bytes_from_all}
-use Rattle.crash.proofs.Examples.{durable, rewritten, seven, before, behind}
+use Rattle.writer_state.proofs.Examples.{durable, rewritten, seven, before, after}
 use Rattle.paged_read.specs.Prefix.{prefix_of, last_prefix, prefix_pages}
 use Rattle.paged.specs.Calls.{AsksAtMost, IsSettled}
 use Rattle.paged.specs.Recovery.{IsDurable, IsAsOpened, KeepsText, LeavesText, SoundWhereFull, opened_prefix, opened_size, opened_writer, at_prefix}
 use Rattle.paged.specs.Recovers.{recovered_writer, recovered_bytes}
 use Rattle.cache.specs.CacheState.{CacheState, empty_cache}
-use Rattle.paged.specs.Recovery.IsKept.{whole}
-use Rattle.paged_read.specs.Searches.{AreWithin, FallFrom, ReadsWithin, ReadsBack, scan_bytes}
+use Rattle.paged.specs.Recovery.IsCutBack.{whole}
+use Rattle.paged_read.specs.Searches.{AreWithin, ReadsWithin, scan_bytes}
+use Rattle.paged_read.specs.Backward.{FallFrom, ReadsBack}
 use Rattle.paged.proofs.Opened.{opened_sound}
 use Rattle.paged.proofs.Trims.{keeps_text, leaves_text}
 
@@ -38,7 +39,7 @@ no_page = 0 ∷ 0 ∷ 0 ∷ 0 ∷ 0 ∷ 0 ∷ 0 ∷ 0 ∷ 0 ∷ 0 ∷ 0 ∷ 0 �
 abbrev a_cache : CacheState
 a_cache = empty_cache 4 10
 
--- forward: one full page, and "ef" behind it; the page behind that doesn't count
+-- forward: one full page, and "ef" after it; the page after that doesn't count
 pub a_prefix : prefix_of add_sum 4 (pages 4 (abcd_page ++ ef_page ++ abcd_page)) ≡ record { full_pages = 1; partial = Some (101 ∷ 102 ∷ [], slot_of_ef) }
 a_prefix = refl
 
@@ -69,7 +70,7 @@ all_is_opened = refl
 pub none_is_recovered : recovered_bytes add_sum a_cache 8 (no_page ++ abcd_page ++ ef_page) ≡ []
 none_is_recovered = refl
 
--- a writer that stands behind two pages: one full page, and a tip of "ef" under its slot
+-- a writer that stands after two pages: one full page, and a tip of "ef" under its slot
 pub a_recovered_writer : recovered_writer add_sum a_cache 8 (abcd_page ++ ef_page ++ no_page)
     ≡ record { page_size = 4; id = 0; capacity = 8; full_pages = 1; tip = 101 ∷ 102 ∷ []; flushed = Some slot_of_ef; durable = Some slot_of_ef; sync = Clean }
 a_recovered_writer = refl
@@ -78,7 +79,7 @@ a_recovered_writer = refl
 pub a_last_page_stays : recovered_bytes add_sum a_cache 8 (abcd_page ++ ef_page ++ no_page) ≡ abcd_page ++ ef_page
 a_last_page_stays = refl
 
--- "ab", which is less than a page, and a full page behind it: the text is "ab"
+-- "ab", which is less than a page, and a full page after it: the text is "ab"
 abbrev ab_page : List ℕ
 ab_page = 97 ∷ 98 ∷ 0 ∷ 0 ∷ 0 ∷ 2 ∷ 0 ∷ 0 ∷ 0 ∷ 195 ∷ 0 ∷ 0 ∷ 0 ∷ 0 ∷ 0 ∷ 0 ∷ []
 
@@ -99,7 +100,7 @@ both_are_opened = refl
 pub an_opening_to_cut : IsAsOpened add_sum an_opened_writer (record durable { readable = ab_page ++ efgh_page })
 an_opening_to_cut = record { page = refl; written = record { short = omega arith; flushed = refl }; carries = omega arith; waits = tt; durable = λ clean. absurd (cc clean) }
 
--- a recovery cuts behind the first page, which is told by the slot that wasn't its value's: the other is zero
+-- a recovery cuts after the first page, which is told by the slot that wasn't its value's: the other is zero
 pub a_page_before_the_last : recovered_bytes add_sum a_cache 8 (ab_page ++ efgh_page) ≡ 97 ∷ 98 ∷ 0 ∷ 0 ∷ 0 ∷ 0 ∷ 0 ∷ 0 ∷ 0 ∷ 0 ∷ 0 ∷ 2 ∷ 0 ∷ 0 ∷ 0 ∷ 195 ∷ []
 a_page_before_the_last = refl
 
@@ -127,12 +128,12 @@ pub no_other_text : LeavesText add_sum 4 before before
 no_other_text = leaves_text add_sum 4 before before (λ rests. rest_through_start add_sum 4 (text add_sum 4 durable.readable) before rests.since rests.base refl)
 
 -- "abcdefg" is readable, and its last page unsynced: what is readable is one of the things that a crash may leave
-unsynced_image : ReadsImage behind
+unsynced_image : ReadsImage after
 unsynced_image = whole_is_image rewritten rewritten.readable (inr refl)
 
 -- a sync of it, as a recovery makes, keeps each floor: "abcdef" among them
-pub floors_of_a_sync : KeepsFloors add_sum 4 seven behind (next behind (settle (logged SyncAll false rewritten)))
-floors_of_a_sync = floors_sync add_sum 4 seven behind (next behind (settle (logged SyncAll false rewritten))) (Ok tt) unsynced_image refl
+pub floors_of_a_sync : KeepsFloors add_sum 4 seven after (next after (settled_disk (logged SyncAll false rewritten)))
+floors_of_a_sync = floors_sync add_sum 4 seven after (next after (settled_disk (logged SyncAll false rewritten))) (Ok tt) unsynced_image refl
 
 -- the recovered writer is settled
 pub a_settled_recovery : IsSettled (at_prefix 4 0 8 (opened_prefix add_sum 4 (abcd_page ++ ef_page ++ no_page)) Clean)
@@ -149,7 +150,7 @@ abbrev reads : List Entry → Life
 reads entries = next before (record durable { log = entries })
 
 abbrev read : ℕ → ℕ → Entry
-read place len = record { request = ReadAt place len; failed = false }
+read offset len = record { request = ReadAt offset len; failed = false }
 
 -- the second page, and then the first
 pub read_back : ReadsBack 16 before (reads (read 16 16 ∷ read 0 16 ∷ []))
@@ -176,9 +177,9 @@ pub not_within : ReadsWithin 16 before (reads (read 0 32 ∷ [])) → ⊥
 not_within (more, is, within) = let here : AreWithin 16 (ReadAt 0 32 ∷ []) = subst (λ (l : List Entry). AreWithin 16 (map (λ e. e.request) l)) (sym is) within in omega (arith, here.0)
 
 -- one write is one device call
-pub one_call : AsksAtMost 1 before behind
+pub one_call : AsksAtMost 1 before after
 one_call = omega arith
 
 -- and not none
-pub a_call : AsksAtMost 0 before behind → ⊥
+pub a_call : AsksAtMost 0 before after → ⊥
 a_call none = omega (arith, none)

@@ -1,17 +1,14 @@
 -- Answers that are given before anything is put in the cache, and others.
 use Rattle.std.proofs.Common.{◌≡◌, ℕ, List, refl, sym, subst, inl, inr, arith}
-use Rattle.std.specs.Prelude.{◌⊎◌, Result, Ok, Err, Bool, true, false}
+use Rattle.std.specs.Prelude.{◌⊎◌, Result, Ok, Err, Bool, true, false, OnOk}
 use Rattle.std.specs.Result.{IsErrOf}
-use Rattle.std.specs.Prelude.{OnOk}
 use Rattle.disk.specs.Disk.{Life, WriteGoes}
 use Rattle.disk.specs.declared.error.Error.{Error}
-use Rattle.disk.specs.declared.error.Error.TheVariants.{ReadFailed, WriteFailed, ResizeFailed}
-use Rattle.disk.specs.declared.error.Error.TheVariants.{SyncFailed, InvalidChecksum, OutOfMemory}
-use Rattle.disk.specs.declared.error.Error.TheVariants.{BlobInsufficientLength, OffsetOverflow}
-use Rattle.disk.specs.declared.error.Error.TheVariants.{IdsExhausted}
+use Rattle.disk.specs.declared.error.Error.TheVariants.{ReadFailed, WriteFailed, ResizeFailed, SyncFailed, InvalidChecksum, OutOfMemory, BlobInsufficientLength, OffsetOverflow, IdsExhausted}
 use Rattle.cache.specs.CacheState.{CacheState}
-use Rattle.crash.specs.WriterState.{WriterState, SyncState}
-use Rattle.crash.specs.WriterState.SyncState.{Clean, Dirty, Pending}
+use Rattle.writer_state.specs.WriterState.{WriterState}
+use Rattle.writer_state.specs.declared.sync_state.SyncState.{SyncState}
+use Rattle.writer_state.specs.declared.sync_state.SyncState.TheVariants.{Clean, Dirty, Pending}
 use Rattle.paged.specs.Calls.{WaitsForNone, wait_calls, waited, waited_state}
 use Rattle.paged.specs.Caches.{PutsOnceWaited, IsNotBefore}
 
@@ -43,38 +40,38 @@ puts_late old new (Err OffsetOverflow) late = absurd late
 puts_late old new (Err OutOfMemory) late = tt
 puts_late old new (Err IdsExhausted) late = tt
 
--- a write, durable or not, whose place is within the bounds
-pub write_late : (place : ℕ) (bytes : List ℕ) (sync : Bool) (old new : Life)
+-- a write, durable or not, whose offset is within the bounds
+pub write_late : (offset : ℕ) (bytes : List ℕ) (sync : Bool) (old new : Life)
     (result : Result (Unit {0}) Error) → (IsErrOf result OffsetOverflow → ⊥)
-    → WriteGoes place bytes sync old new result → IsNotBefore result
-write_late place bytes false old new (Ok done) fits goes = tt
-write_late place bytes false old new (Err ReadFailed) fits goes = tt
-write_late place bytes false old new (Err WriteFailed) fits goes = tt
-write_late place bytes false old new (Err ResizeFailed) fits goes = tt
-write_late place bytes false old new (Err SyncFailed) fits goes = absurd (cc goes.0)
-write_late place bytes false old new (Err InvalidChecksum) fits goes = tt
-write_late place bytes false old new (Err BlobInsufficientLength) fits goes = tt
-write_late place bytes false old new (Err OffsetOverflow) fits goes = fits refl
-write_late place bytes false old new (Err OutOfMemory) fits goes = tt
-write_late place bytes false old new (Err IdsExhausted) fits goes = tt
-write_late place bytes true old new (Ok done) fits goes = tt
-write_late place bytes true old new (Err ReadFailed) fits goes = tt
-write_late place bytes true old new (Err WriteFailed) fits goes = tt
-write_late place bytes true old new (Err ResizeFailed) fits goes = tt
-write_late place bytes true old new (Err SyncFailed) fits goes = goes
-write_late place bytes true old new (Err InvalidChecksum) fits goes = tt
-write_late place bytes true old new (Err BlobInsufficientLength) fits goes = tt
-write_late place bytes true old new (Err OffsetOverflow) fits goes = fits refl
-write_late place bytes true old new (Err OutOfMemory) fits goes = tt
-write_late place bytes true old new (Err IdsExhausted) fits goes = tt
+    → WriteGoes offset bytes sync old new result → IsNotBefore result
+write_late offset bytes false old new (Ok done) fits goes = tt
+write_late offset bytes false old new (Err ReadFailed) fits goes = tt
+write_late offset bytes false old new (Err WriteFailed) fits goes = tt
+write_late offset bytes false old new (Err ResizeFailed) fits goes = tt
+write_late offset bytes false old new (Err SyncFailed) fits goes = absurd (cc goes.0)
+write_late offset bytes false old new (Err InvalidChecksum) fits goes = tt
+write_late offset bytes false old new (Err BlobInsufficientLength) fits goes = tt
+write_late offset bytes false old new (Err OffsetOverflow) fits goes = fits refl
+write_late offset bytes false old new (Err OutOfMemory) fits goes = tt
+write_late offset bytes false old new (Err IdsExhausted) fits goes = tt
+write_late offset bytes true old new (Ok done) fits goes = tt
+write_late offset bytes true old new (Err ReadFailed) fits goes = tt
+write_late offset bytes true old new (Err WriteFailed) fits goes = tt
+write_late offset bytes true old new (Err ResizeFailed) fits goes = tt
+write_late offset bytes true old new (Err SyncFailed) fits goes = goes
+write_late offset bytes true old new (Err InvalidChecksum) fits goes = tt
+write_late offset bytes true old new (Err BlobInsufficientLength) fits goes = tt
+write_late offset bytes true old new (Err OffsetOverflow) fits goes = fits refl
+write_late offset bytes true old new (Err OutOfMemory) fits goes = tt
+write_late offset bytes true old new (Err IdsExhausted) fits goes = tt
 
--- a call goes on behind another that put nothing, or behind which no sync is pending
-pub puts_behind : {A : Type 0} (old mid new : CacheState) (s : SyncState) (result : Result A Error)
+-- a call goes on after another that put nothing, or after which no sync is pending
+pub puts_after : {A : Type 0} (old mid new : CacheState) (s : SyncState) (result : Result A Error)
     → (mid ≡ old) ⊎ WaitsForNone s → PutsOnceWaited mid new result
     → (WaitsForNone s → IsNotBefore result) → PutsOnceWaited old new result
-puts_behind {A} old mid new s result (inl same) puts late =
+puts_after {A} old mid new s result (inl same) puts late =
     subst (λ (c : CacheState). PutsOnceWaited {A = A} c new result) same puts
-puts_behind old mid new s result (inr none) puts late = puts_late old new result (late none)
+puts_after old mid new s result (inr none) puts late = puts_late old new result (late none)
 
 -- what was waited for is clean
 pub waited_clean : (w m : WriterState) → m ≡ waited w → wait_calls w.sync ≡ 1 → m.sync ≡ Clean

@@ -32,7 +32,7 @@ a_damaged_scan = refl
 pub reads_forward : AreForward 16 0 32 (ReadAt 0 16 ∷ ReadAt 16 16 ∷ [])
 reads_forward = (refl, omega arith, omega arith, (refl, omega arith, omega arith, tt))
 
--- not behind the bound
+-- not after the bound
 pub not_past_the_bound : AreForward 16 0 16 (ReadAt 0 16 ∷ ReadAt 16 16 ∷ []) → ⊥
 not_past_the_bound go = omega (arith, go.3.2)
 

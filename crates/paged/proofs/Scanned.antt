@@ -11,8 +11,8 @@ use Rattle.page.specs.Page.{pages, pieces, text, text_of_pages}
 use Rattle.page.specs.declared.slot.ActiveChecksum.{ActiveChecksum}
 use Rattle.crash.specs.Full.{AreFull}
 use Rattle.crash.specs.Looks.{Looked}
-use Rattle.crash.specs.Sound.{IsSound, TipPage}
-use Rattle.crash.specs.WriterState.{WriterState}
+use Rattle.writer_state.specs.Sound.{IsSound, TipPage}
+use Rattle.writer_state.specs.WriterState.{WriterState}
 use Rattle.crash.proofs.LookLaws.{looked_none}
 use Rattle.crash.proofs.Pages.{fewer_fit, length-pieces, pages_whole, take-pages}
 use Rattle.crash.proofs.Texts.{AreFull_fewer}
@@ -34,7 +34,7 @@ module _ (sum : List ℕ → ℕ) (P first pages : ℕ) (readable : List ℕ) (p
       let rest = pages_from P (pages - first) first readable in
       omega (arith, le, ap (λ (q : Prefix). prefix_pages q) is, (prefix_is sum P rest).within, length-pieces (pages - first) (P + 12) (drop (first * (P + 12)) readable))
 
-  -- and their places are numbers
+  -- and their offsets are numbers
   pub scanned_fits : first ≤ pages → pages * (P + 12) < 2 ^ 64 → prefix_pages p * (P + 12) < 2 ^ 64
   scanned_fits le fits =
       let more : (P + 12) * prefix_pages p ≤ (P + 12) * pages = mul-le-mul_left (P + 12) (scanned_within le) in
@@ -110,7 +110,7 @@ one_page : (P n pages : ℕ) → 0 < n → n ≤ pages * P → 1 ≤ pages
 one_page P n zero some le = absurd (omega (arith, some, le))
 one_page P n (suc k) some le = omega arith
 
--- whose places are numbers
+-- whose offsets are numbers
 pub flushed_fits : (sum : List ℕ → ℕ) (P full : ℕ) (tip readable : List ℕ) (flushed : Option ActiveChecksum) → 0 < P → TipPage sum P full tip readable flushed → FitsBlob P full (length tip)
     → (full + slot_pages flushed) * (P + 12) < 2 ^ 64
 flushed_fits sum P full tip readable None some is fits =
@@ -128,7 +128,7 @@ module _ (sum : List ℕ → ℕ) (w : WriterState) (d : Disk) where
   stands_tip (inl sound) = sound.stands.tip_page
   stands_tip (inr opened) = opened.page
 
-  -- so a scan of it is refused for no place
+  -- so a scan of it is refused for no offset
   pub scan_within : (end len : ℕ) (old new : Life) (result : Result ℕ Error) → old.present ≡ d → 0 < w.page_size → FitsBlob w.page_size w.full_pages (length w.tip) → end ≤ flushed_pages w
       → IsSound sum w d ⊎ IsAsOpened sum w d → Scans (end * (w.page_size + 12)) len old new result → IsWithinBlob result
   scan_within end len old new (Ok n) is some fits le stands scans = tt

@@ -6,9 +6,9 @@ use Rattle.disk.specs.Disk.{Disk, Life}
 use Rattle.disk.specs.declared.error.Error.{Error}
 use Rattle.disk.specs.declared.error.Error.TheVariants.{InvalidChecksum}
 use Rattle.cache.specs.CacheState.{CacheState}
-use Rattle.crash.specs.WriterState.{WriterState}
-use Rattle.crash.specs.Sound.{IsSound}
-use Rattle.crash.proofs.FlushLaws.{tip_reach}
+use Rattle.writer_state.specs.WriterState.{WriterState}
+use Rattle.writer_state.specs.Sound.{IsSound}
+use Rattle.writer_state.proofs.FlushLaws.{tip_reach}
 use Rattle.paged_read.specs.Ranges.{Reads, ReadsUpTo, ReadsMany}
 use Rattle.paged_read.specs.Tail.{HasPages, HasFullPages}
 use Rattle.paged_read.proofs.FullReads.{full_reads, full_reads_up_to, full_reads_many}

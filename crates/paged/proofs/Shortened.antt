@@ -4,10 +4,9 @@ use Rattle.std.specs.Prelude.{OnOk, IfErr, IsOkUnless, Option, min, replicate, �
 use Rattle.std.specs.Int.{w16, w32, to_be_bytes, div_ceil}
 use Rattle.std.proofs.lemmas.List.{take-take, take_all, take_at, take-append-drop}
 use Rattle.std.proofs.lemmas.Option.{same_Some}
-use Rattle.std.proofs.lemmas.Nat.{div-add-mod', div-mul-add, mod-mul-add}
+use Rattle.std.proofs.lemmas.Nat.{div-add-mod', div-mul-add, mod-mul-add, div_below}
 use Rattle.std.proofs.lemmas.Bool.Decides.{nat_tests}
 use Rattle.std.proofs.lemmas.Grind.{div_ceil_times}
-use Rattle.std.proofs.lemmas.Nat.{div_below}
 use Rattle.std.proofs.Math.Nat.{mod-lt, mod-eq_of_lt, div-eq_of_lt}
 use Rattle.disk.specs.Disk.{Disk, Life, LogGrows, ResizeGoes, SyncGoes, applied}
 use Rattle.disk.specs.Disk.Operation.{Write}
@@ -18,17 +17,18 @@ use Rattle.page.specs.Page.{slot_bytes, slot_of, slot_crc, active, value_len, va
 use Rattle.page.specs.declared.slot.Slot.{Slot}
 use Rattle.page.specs.declared.slot.Slot.TheVariants.{First, Second}
 use Rattle.page.specs.declared.slot.ActiveChecksum.{ActiveChecksum}
-use Rattle.crash.specs.WriterState.{WriterState}
-use Rattle.crash.specs.WriterState.SyncState.{Clean}
+use Rattle.writer_state.specs.WriterState.{WriterState}
+use Rattle.writer_state.specs.declared.sync_state.SyncState.TheVariants.{Clean}
 use Rattle.crash.specs.Built.{footer, kept_len}
 use Rattle.crash.specs.Looks.{Looked}
 use Rattle.crash.specs.Moments.{through_end}
 use Rattle.crash.specs.Shrink.{HoldsText, staged, published, cleared}
-use Rattle.crash.specs.Sound.{latest, TipPage, IsSound}
+use Rattle.crash.specs.Contents.{latest}
+use Rattle.writer_state.specs.Sound.{TipPage, IsSound}
 use Rattle.crash.proofs.BuiltLaws.{IsSmall}
 use Rattle.crash.proofs.Lists.{drop_past, within_take}
 use Rattle.crash.proofs.LookLaws.{looked_readable}
-use Rattle.crash.proofs.ShortenLaws.{MayHold, holds_at_rest, rest_latest, resize_latest, value_may_hold, may_hold_on, resize_stays_held, looked_holds, looked_latest, looked_stays_held}
+use Rattle.writer_state.proofs.ShortenLaws.{MayHold, holds_at_rest, rest_latest, resize_latest, value_may_hold, may_hold_on, resize_stays_held, looked_holds, looked_latest, looked_stays_held}
 use Rattle.crash.proofs.Texts.{AreBytes}
 use Rattle.paged_read.specs.Ranges.{page_at}
 use Rattle.paged.specs.Reads.{size_of}
@@ -42,21 +42,21 @@ use Rattle.paged.proofs.Shortening.{DeviceCause, Owed, Ready, device_later, cutt
 -- ---- what the three writes leave
 
 -- bytes over others of the same length
-write_over : (place : ℕ) (before under behind new old : List ℕ) → old ≡ before ++ (under ++ behind) → length before ≡ place → length under ≡ length new → applied (Write place new) old ≡ before ++ (new ++ behind)
-write_over place before under behind new old is start size =
-    let all : length old ≡ place + length new + length behind = omega (arith, ap length is, length-append before (under ++ behind), length-append under behind, start, size) in
-    let gap : place - length old ≡ 0 = omega (arith, all) in
-    let front : take place old ≡ before = ap (λ (l : List ℕ). take place l) is ∙ take_at before (under ++ behind) place start in
-    let skip : place + length new - length before ≡ length under = omega (arith, start, size) in
+write_over : (offset : ℕ) (before under after new old : List ℕ) → old ≡ before ++ (under ++ after) → length before ≡ offset → length under ≡ length new → applied (Write offset new) old ≡ before ++ (new ++ after)
+write_over offset before under after new old is start size =
+    let all : length old ≡ offset + length new + length after = omega (arith, ap length is, length-append before (under ++ after), length-append under after, start, size) in
+    let gap : offset - length old ≡ 0 = omega (arith, all) in
+    let front : take offset old ≡ before = ap (λ (l : List ℕ). take offset l) is ∙ take_at before (under ++ after) offset start in
+    let skip : offset + length new - length before ≡ length under = omega (arith, start, size) in
     let none : length under - length under ≡ 0 = omega arith in
-    let rest : drop (place + length new) old ≡ behind =
-    ap (λ (l : List ℕ). drop (place + length new) l) is
-    ∙ drop_past (place + length new) before (under ++ behind) (omega (arith, start))
-    ∙ ap (λ (n : ℕ). drop n (under ++ behind)) skip
-    ∙ drop_past (length under) under behind (omega arith)
-    ∙ ap (λ (n : ℕ). drop n behind) none in
+    let rest : drop (offset + length new) old ≡ after =
+    ap (λ (l : List ℕ). drop (offset + length new) l) is
+    ∙ drop_past (offset + length new) before (under ++ after) (omega (arith, start))
+    ∙ ap (λ (n : ℕ). drop n (under ++ after)) skip
+    ∙ drop_past (length under) under after (omega arith)
+    ∙ ap (λ (n : ℕ). drop n after) none in
     (λ i. ((front i ++ replicate (gap i) 0) ++ new) ++ rest i)
-    ∙ ap (λ (l : List ℕ). (l ++ new) ++ behind) (append-nil before) ∙ append_assoc before new behind
+    ∙ ap (λ (l : List ℕ). (l ++ new) ++ after) (append-nil before) ∙ append_assoc before new after
 
 module _ (len crc : ℕ) (payload first second : List ℕ) (size_first : length first ≡ 6) (size_second : length second ≡ 6) where
   -- a page's footer once it was rewritten, by the slot of its value
@@ -66,10 +66,10 @@ module _ (len crc : ℕ) (payload first second : List ℕ) (size_first : length 
   rewritten at First start =
       let six : length (slot_bytes 0 crc) ≡ 6 = refl in
       let zeros : length (slot_bytes 0 0) ≡ 6 = refl in
-      let behind_first : length (payload ++ first) ≡ at + 6 = omega (arith, length-append payload first, start, size_first) in
+      let after_first : length (payload ++ first) ≡ at + 6 = omega (arith, length-append payload first, start, size_first) in
       let one = write_over (at + 6) (payload ++ first) second [] (slot_bytes 0 crc) (payload ++ (first ++ second))
-      (sym (append_assoc payload first second) ∙ ap (λ (l : List ℕ). (payload ++ first) ++ l) (sym (append-nil second))) behind_first (omega (arith, six, size_second)) in
-      let two = write_over (at + 6) (payload ++ first) (to_be_bytes w16 0) (to_be_bytes w32 crc) (to_be_bytes w16 len) ((payload ++ first) ++ (slot_bytes 0 crc ++ [])) refl behind_first refl in
+      (sym (append_assoc payload first second) ∙ ap (λ (l : List ℕ). (payload ++ first) ++ l) (sym (append-nil second))) after_first (omega (arith, six, size_second)) in
+      let two = write_over (at + 6) (payload ++ first) (to_be_bytes w16 0) (to_be_bytes w32 crc) (to_be_bytes w16 len) ((payload ++ first) ++ (slot_bytes 0 crc ++ [])) refl after_first refl in
       let three = write_over (at + 0) payload first (slot_bytes len crc) (slot_bytes 0 0) ((payload ++ first) ++ slot_bytes len crc) (append_assoc payload first (slot_bytes len crc)) (omega (arith, start)) (omega (arith, zeros, size_first)) in
       ap (λ (l : List ℕ). applied (Write (at + 0) (slot_bytes 0 0)) (applied (Write (at + 6) (to_be_bytes w16 len)) l)) one
       ∙ ap (λ (l : List ℕ). applied (Write (at + 0) (slot_bytes 0 0)) l) two
@@ -106,7 +106,7 @@ told_slot sum P page f is = by_test (value_len sum P page == 0) is
     by_test false is = sym (ap (λ (a : ActiveChecksum). a.slot) (same_Some (record { slot = value_slot sum P page; len = value_len sum P page; crc = slot_crc (slot_of P (value_slot sum P page) page) }) f is))
 
 module _ (sum : List ℕ → ℕ) (P n : ℕ) (R : List ℕ) where
-  -- what a cut leaves behind a page, and within one
+  -- what a cut leaves after a page, and within one
   pub shortened_whole : n % P ≡ 0 → shortened sum P n R ≡ take (n / P * (P + 12)) R
   shortened_whole none = rw (is_zero (n % P) none) refl
 
@@ -124,10 +124,10 @@ module _ (sum : List ℕ → ℕ) (P n : ℕ) (R : List ℕ) where
   pub rewritten_is : (f : ActiveChecksum) (crc : ℕ) → 0 < n % P → (n / P + 1) * (P + 12) ≤ length R → active sum P (page_at P (n / P) R) ≡ Some f → crc ≡ sum (take (n % P) (drop (n / P * (P + 12)) R))
       → applied (cleared P (n / P) f.slot) (applied (published P (n / P) f.slot (n % P)) (applied (staged P (n / P) f.slot crc) (take ((n / P + 1) * (P + 12)) R))) ≡ shortened sum P n R
   rewritten_is f crc some reach told is =
-      let place = n / P * (P + 12) in
-      let at = place + P in
+      let offset = n / P * (P + 12) in
+      let at = offset + P in
       let all = take ((n / P + 1) * (P + 12)) R in
-      let size : length all ≡ place + P + 12 = omega (arith, length-take-le ((n / P + 1) * (P + 12)) R reach) in
+      let size : length all ≡ offset + P + 12 = omega (arith, length-take-le ((n / P + 1) * (P + 12)) R reach) in
       let first = take 6 (drop at all) in
       let second = drop (at + 6) all in
       let split : all ≡ take at all ++ (first ++ second) =
@@ -195,7 +195,7 @@ module _ (sum : List ℕ → ℕ) (P held size n : ℕ) (old : Life) (some : 0 <
       let differ : (div_ceil n P == div_ceil size P) ≡ false = grind (arith, nat_tests, up, ceil, more refl) in
       rw (differ, is_not_zero (n % P) part) refl
 
-  -- ---- behind a page
+  -- ---- after a page
 
   pub record IsResized (kept : ℕ) (life : Life) : Type 0 where
     pub readable : life.present.readable ≡ take (kept * (P + 12)) old.present.readable
@@ -445,7 +445,7 @@ read_shortens sum P n old mid late OffsetOverflow grows same cause = absurd caus
 read_shortens sum P n old mid late OutOfMemory grows same cause = tt
 read_shortens sum P n old mid late IdsExhausted grows same cause = absurd cause
 
--- the writer stands behind what is left
+-- the writer stands after what is left
 pub stands_left : (sum : List ℕ → ℕ) (w now : WriterState) (n : ℕ) (old new : Life) (pages : ℕ) (bytes : List ℕ) (slot : Option ActiveChecksum) (result : Result (Unit {0}) Error) → w.sync ≡ Clean → pages ≡ n / w.page_size
     → bytes ≡ take (n % w.page_size) (drop (n / w.page_size * (w.page_size + 12)) old.present.readable) → slot ≡ shortened_slot sum w.page_size n old.present.readable
     → new.present.readable ≡ shortened sum w.page_size n old.present.readable → IsDurable new.present → OnOk result (now ≡ standing w pages bytes slot) → IsOkUnless result OutOfMemory → Shortens sum n w old new (answered now result)

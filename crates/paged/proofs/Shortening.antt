@@ -1,6 +1,6 @@
 -- The calls of a cut of which all was durable: what each owes whatever it answers, and what they owe together.
-use Rattle.std.proofs.Common.{◌≡◌, ◌⊎◌, inl, inr, ℕ, ◌+◌, ◌*◌, ◌^◌, ◌<◌, ◌≤◌, List, [], ◌∷◌, ◌++◌, length, take, drop, slice_get, Some, Result, Ok, Err, Bool, true, false, refl, sym, ap, ◌∙◌, subst, arith, append-nil, mul-le-mul_right, length-take-le}
-use Rattle.std.specs.Prelude.{OnOk, IfErr}
+use Rattle.std.proofs.Common.{◌≡◌, ◌⊎◌, inl, inr, ℕ, ◌+◌, ◌*◌, ◌^◌, ◌<◌, ◌≤◌, List, [], ◌∷◌, ◌++◌, length, take, drop, slice_get, Some, Result, Ok, Err, Bool, true, false, refl, sym, ap, ◌∙◌, subst, arith, append-nil, mul-le-mul_right, length-take-le, ◌-◌, length-drop}
+use Rattle.std.specs.Prelude.{OnOk, IfErr, slice_range}
 use Rattle.std.specs.Int.{w16, to_be_bytes}
 use Rattle.std.proofs.lemmas.List.{take-take}
 use Rattle.std.proofs.lemmas.Option.{slice_get_within}
@@ -10,16 +10,16 @@ use Rattle.disk.specs.declared.error.Error.{Error}
 use Rattle.disk.specs.declared.error.Error.TheVariants.{ReadFailed, WriteFailed, ResizeFailed, SyncFailed, InvalidChecksum, BlobInsufficientLength, OffsetOverflow, OutOfMemory, IdsExhausted}
 use Rattle.disk.proofs.Logs.{one_more, failed_later}
 use Rattle.page.specs.Slot.{slot_offset, other}
-use Rattle.page.specs.Page.{slot_bytes, active}
+use Rattle.page.specs.Page.{slot_bytes, active, value_len}
 use Rattle.page.specs.declared.slot.Slot.{Slot}
 use Rattle.page.specs.declared.slot.ActiveChecksum.{ActiveChecksum}
-use Rattle.crash.specs.WriterState.SyncState.{Clean}
+use Rattle.writer_state.specs.declared.sync_state.SyncState.TheVariants.{Clean}
 use Rattle.crash.specs.Below.{SamePages, PagesStay}
 use Rattle.crash.specs.Kept.{Through}
 use Rattle.crash.specs.Looks.{Looked}
 use Rattle.crash.specs.Moments.{through_end, through_joins, through_start}
 use Rattle.crash.specs.Shrink.{HoldsText, staged, published, cleared}
-use Rattle.crash.specs.Sound.{latest}
+use Rattle.crash.specs.Contents.{latest}
 use Rattle.crash.proofs.BelowLaws.{pages_none, pages_one, pages_join, write_pages_stay, sync_pages_stay}
 use Rattle.crash.proofs.BuiltLaws.{IsSmall}
 use Rattle.crash.proofs.Disks.{length-applied_resize, length-applied_write}
@@ -28,16 +28,13 @@ use Rattle.crash.proofs.LookLaws.{looked_asked, looked_none}
 use Rattle.crash.proofs.PageFacts.{slot_offset_le}
 use Rattle.crash.proofs.Pages.{cut_is}
 use Rattle.crash.proofs.ShrinkLaws.{other_other}
-use Rattle.crash.proofs.ShortenLaws.{StartsGoOn, MayHold, looked_holds, resize_holds, sync_holds, stage_holds, publish_holds, clear_holds, looked_goes_on, resize_goes_on, write_goes_on, sync_goes_on, goes_on_joins, sync_stays_held, stays_held, may_hold_on, may_hold_spares, may_hold_payload, published_may_hold, published_spares, write_latest, sync_latest}
-use Rattle.paged.specs.Calls.{AsksAtMost, HasCause}
+use Rattle.writer_state.proofs.ShortenLaws.{StartsGoOn, MayHold, looked_holds, resize_holds, sync_holds, stage_holds, publish_holds, clear_holds, looked_goes_on, resize_goes_on, write_goes_on, sync_goes_on, goes_on_joins, sync_stays_held, stays_held, may_hold_on, may_hold_spares, may_hold_payload, published_may_hold, published_spares, write_latest, sync_latest}
+use Rattle.paged.specs.Calls.{AsksAtMost, CallCause}
 use Rattle.paged_read.specs.Searches.{AreWithin, ReadsWithin}
 use Rattle.paged.specs.Recovery.{IsDurable, RecoveryCause}
 use Rattle.paged.specs.Truncate.{Then, WritesSlot, Stages, Rewrites, ReadsOnce, Cutting, SparesSlot}
 use Rattle.disk.specs.Images.{only_image}
 use Rattle.paged.proofs.Causes.{write_cause, sync_cause, no_overflow}
-use Rattle.std.specs.Prelude.{slice_range}
-use Rattle.std.proofs.Common.{◌-◌, length-drop}
-use Rattle.page.specs.Page.{value_len}
 use Rattle.crash.proofs.Texts.{AreBytes, active_is}
 use Rattle.paged_read.specs.Ranges.{page_at}
 use Rattle.paged.proofs.Reading.{within_page}
@@ -55,13 +52,13 @@ operation_asked o request fault old new (Err OffsetOverflow) (same, passes) = in
 operation_asked o request fault old new (Err OutOfMemory) (same, has) = inl (ap (λ (l : Life). l.present.log) same)
 operation_asked o request fault old new (Err e) (which, (d, is, done)) = inr (true, ap (λ (l : Life). l.present.log) is ∙ ap (λ (x : Disk). x.log) done.rest)
 
-write_asked : (place : ℕ) (bytes : List ℕ) (sync : Bool) (old new : Life) (answer : Result (Unit {0}) Error) → WriteGoes place bytes sync old new answer → Asked (WriteAt place (length bytes) sync) old new
-write_asked place bytes false old new answer goes = operation_asked (Write place bytes) (WriteAt place (length bytes) false) WriteFailed old new answer goes
-write_asked place bytes true old new (Ok u) (d, is, done) = inr (false, ap (λ (l : Life). l.present.log) is ∙ ap (λ (x : Disk). x.log) done.rest)
-write_asked place bytes true old new (Err WriteFailed) (d, is, done) = inr (true, ap (λ (l : Life). l.present.log) is ∙ ap (λ (x : Disk). x.log) done.rest)
-write_asked place bytes true old new (Err OffsetOverflow) (same, passes) = inl (ap (λ (l : Life). l.present.log) same)
-write_asked place bytes true old new (Err OutOfMemory) (same, has) = inl (ap (λ (l : Life). l.present.log) same)
-write_asked place bytes true old new (Err e) goes = absurd goes
+write_asked : (offset : ℕ) (bytes : List ℕ) (sync : Bool) (old new : Life) (answer : Result (Unit {0}) Error) → WriteGoes offset bytes sync old new answer → Asked (WriteAt offset (length bytes) sync) old new
+write_asked offset bytes false old new answer goes = operation_asked (Write offset bytes) (WriteAt offset (length bytes) false) WriteFailed old new answer goes
+write_asked offset bytes true old new (Ok u) (d, is, done) = inr (false, ap (λ (l : Life). l.present.log) is ∙ ap (λ (x : Disk). x.log) done.rest)
+write_asked offset bytes true old new (Err WriteFailed) (d, is, done) = inr (true, ap (λ (l : Life). l.present.log) is ∙ ap (λ (x : Disk). x.log) done.rest)
+write_asked offset bytes true old new (Err OffsetOverflow) (same, passes) = inl (ap (λ (l : Life). l.present.log) same)
+write_asked offset bytes true old new (Err OutOfMemory) (same, has) = inl (ap (λ (l : Life). l.present.log) same)
+write_asked offset bytes true old new (Err e) goes = absurd goes
 
 sync_asked : (old new : Life) (answer : Result (Unit {0}) Error) → SyncGoes old new answer → Asked SyncAll old new
 sync_asked old new (Ok u) is = inr (false, ap (λ (l : Life). l.present.log) is)
@@ -131,7 +128,7 @@ DeviceCause old new SyncFailed = HasFailed SyncFailed old.present new.present
 DeviceCause old new OutOfMemory = Unit {0}
 DeviceCause old new _ = ⊥
 
-write_device : (old new : Life) (e : Error) → HasCause Clean old new e → DeviceCause old new e
+write_device : (old new : Life) (e : Error) → CallCause Clean old new e → DeviceCause old new e
 write_device old new ReadFailed cause = absurd cause
 write_device old new WriteFailed cause = cause
 write_device old new ResizeFailed cause = absurd cause
@@ -264,7 +261,7 @@ pub slot_spared : (sum : List ℕ → ℕ) (P page : ℕ) (f : ActiveChecksum) (
 slot_spared sum P page f s written sync old new answer is image at_rest few goes told held =
     stays_held sum P told page f written sync old new answer held (subst (λ (t : Slot). WritesSlot P page t written sync old new answer) is goes) few (λ durable. rest_is_latest old.present (at_rest durable) image)
 
--- the first write and a sync behind it, where something else is unsynced
+-- the first write and a sync after it, where something else is unsynced
 pub stages_unsynced : (P page : ℕ) (s : Slot) (crc : ℕ) (unsynced : Bool) (old mid new : Life) (answer : Result (Unit {0}) Error) → unsynced ≡ true → WritesSlot P page (other s) (slot_bytes 0 crc) false old mid (Ok tt) → SyncGoes mid new answer
     → Stages P page s crc unsynced old new answer
 stages_unsynced P page s crc false old mid new answer is first second = absurd (cc (is))
@@ -351,24 +348,24 @@ module _ (sum : List ℕ → ℕ) (P : ℕ) (told : List ℕ) (F page : ℕ) (f 
   slot_cuts : (s : Slot) (written : List ℕ) (sync : Bool) (old new : Life) (answer : Result (Unit {0}) Error) → (page + 1) * (P + 12) ≤ length old.present.readable → Through (HoldsText sum P told F) old new
       → WritesSlot P page s written sync old new answer → Cutting sum P told F page 1 old new
   slot_cuts s written sync old new answer there holds goes =
-      let place = page * (P + 12) + P + slot_offset s in
-      one_call sum P told F page (WriteAt place (length written) sync) old new (write_asked place written sync old new answer goes) tt
-      (write_pages_stay P page old place written sync new answer (omega arith) (omega (arith, there, slot_offset_le s)) goes)
-      (write_goes_on old new place written sync answer goes) holds
+      let offset = page * (P + 12) + P + slot_offset s in
+      one_call sum P told F page (WriteAt offset (length written) sync) old new (write_asked offset written sync old new answer goes) tt
+      (write_pages_stay P page old offset written sync new answer (omega arith) (omega (arith, there, slot_offset_le s)) goes)
+      (write_goes_on old new offset written sync answer goes) holds
 
   slot_failed : (s : Slot) (written : List ℕ) (sync : Bool) (old new : Life) (answer : Result (Unit {0}) Error) → length written ≤ 6 → WritesSlot P page s written sync old new answer → IfErr answer (λ e. DeviceCause old new e)
   slot_failed s written sync old new (Ok u) few goes = tt
   slot_failed s written sync old new (Err e) few goes =
-      let place = page * (P + 12) + P + slot_offset s in
-      write_device old new e (write_cause Clean place written sync old new e goes (no_overflow place written sync old new e goes (slot_fits s (length written) few)))
+      let offset = page * (P + 12) + P + slot_offset s in
+      write_device old new e (write_cause Clean offset written sync old new e goes (no_overflow offset written sync old new e goes (slot_fits s (length written) few)))
 
   -- what a write that is done leaves
-  write_done : (place : ℕ) (written : List ℕ) (sync : Bool) (old new : Life) (u : Unit {0}) → WriteGoes place written sync old new (Ok u) → new.present.readable ≡ applied (Write place written) old.present.readable
-  write_done place written true old new u (d, is, done) = ap (λ (l : Life). l.present.readable) is ∙ done.done refl
-  write_done place written false old new u (d, is, done) = ap (λ (l : Life). l.present.readable) is ∙ done.done refl
+  write_done : (offset : ℕ) (written : List ℕ) (sync : Bool) (old new : Life) (u : Unit {0}) → WriteGoes offset written sync old new (Ok u) → new.present.readable ≡ applied (Write offset written) old.present.readable
+  write_done offset written true old new u (d, is, done) = ap (λ (l : Life). l.present.readable) is ∙ done.done refl
+  write_done offset written false old new u (d, is, done) = ap (λ (l : Life). l.present.readable) is ∙ done.done refl
 
-  write_durable : (place : ℕ) (written : List ℕ) (old new : Life) (u : Unit {0}) → WriteGoes place written true old new (Ok u) → IsDurable new.present
-  write_durable place written old new u (d, is, done) = record {
+  write_durable : (offset : ℕ) (written : List ℕ) (old new : Life) (u : Unit {0}) → WriteGoes offset written true old new (Ok u) → IsDurable new.present
+  write_durable offset written old new u (d, is, done) = record {
     since = ap (λ (l : Life). l.present.since) is;
     base = ap (λ (l : Life). l.present.base) is ∙ sym (ap (λ (l : Life). l.present.readable) is);
   }
@@ -393,16 +390,16 @@ module _ (sum : List ℕ → ℕ) (P : ℕ) (told : List ℕ) (F page : ℕ) (f 
       done : (answer : Result (Unit {0}) Error) → WritesSlot P page (other f.slot) (slot_bytes 0 crc) sync old new answer → Through (HoldsText sum P told F) old new → OnOk answer (Ready (applied (staged P page f.slot crc) R) f new)
       done (Err e) goes through = tt
       done (Ok u) goes through =
-          let place = page * (P + 12) + P + slot_offset (other f.slot) in
+          let offset = page * (P + 12) + P + slot_offset (other f.slot) in
           let six : length (slot_bytes 0 crc) ≡ 6 = refl in
           record {
-            readable = write_done place (slot_bytes 0 crc) sync old new u goes ∙ ap (λ (l : List ℕ). applied (staged P page f.slot crc) l) ready.readable;
-            latest_is = write_latest place (slot_bytes 0 crc) sync old new u goes ready.latest_is;
+            readable = write_done offset (slot_bytes 0 crc) sync old new u goes ∙ ap (λ (l : List ℕ). applied (staged P page f.slot crc) l) ready.readable;
+            latest_is = write_latest offset (slot_bytes 0 crc) sync old new u goes ready.latest_is;
             holds = through_end (HoldsText sum P told F) old new through;
             may = may_hold_on sum P told page f old new (λ held. stays_held sum P told page f (slot_bytes 0 crc) sync old new (Ok u) held goes (omega (arith, six)) (λ is. ready.latest_is)) ready.may;
           }
 
-  -- a sync behind the first
+  -- a sync after the first
   sync_done : (old new : Life) (answer : Result (Unit {0}) Error) → Ready (applied (staged P page f.slot crc) R) f old → SyncGoes old new answer → OnOk answer (ReadyAtRest (applied (staged P page f.slot crc) R) f new)
   sync_done old new (Err e) ready goes = tt
   sync_done old new (Ok u) ready goes = record {
@@ -466,16 +463,16 @@ module _ (sum : List ℕ → ℕ) (P : ℕ) (told : List ℕ) (F page : ℕ) (f 
       done : (answer : Result (Unit {0}) Error) → WritesSlot P page (other f.slot) (to_be_bytes w16 len) true old new answer → Through (HoldsText sum P told F) old new → OnOk answer (ReadyAtRest published_bytes new_slot new)
       done (Err e) goes through = tt
       done (Ok u) goes through =
-          let place = page * (P + 12) + P + slot_offset (other f.slot) in
+          let offset = page * (P + 12) + P + slot_offset (other f.slot) in
           let ready = at_rest.ready in
           let two : length (to_be_bytes w16 len) ≡ 2 = refl in
-          let readable : new.present.readable ≡ published_bytes = write_done place (to_be_bytes w16 len) true old new u goes ∙ ap (λ (l : List ℕ). applied (published P page f.slot len) l) ready.readable in
-          let durable = write_durable place (to_be_bytes w16 len) old new u goes in
+          let readable : new.present.readable ≡ published_bytes = write_done offset (to_be_bytes w16 len) true old new u goes ∙ ap (λ (l : List ℕ). applied (published P page f.slot len) l) ready.readable in
+          let durable = write_durable offset (to_be_bytes w16 len) old new u goes in
           let still : MayHold sum P told page f new.present = may_hold_on sum P told page f old new (λ held. stays_held sum P told page f (to_be_bytes w16 len) true old new (Ok u) held goes (omega (arith, two)) (λ is. ready.latest_is)) ready.may in
           record {
             ready = record {
               readable = readable;
-              latest_is = write_latest place (to_be_bytes w16 len) true old new u goes ready.latest_is;
+              latest_is = write_latest offset (to_be_bytes w16 len) true old new u goes ready.latest_is;
               holds = through_end (HoldsText sum P told F) old new through;
               may = published_may_hold sum P told page f R len crc new.present small small_page still durable.since (durable.base ∙ readable) reach some less is_sum;
             };
@@ -497,8 +494,8 @@ module _ (sum : List ℕ → ℕ) (P : ℕ) (told : List ℕ) (F page : ℕ) (f 
       done : (answer : Result (Unit {0}) Error) → WritesSlot P page f.slot (slot_bytes 0 0) true old new answer → OnOk answer ((new.present.readable ≡ applied (cleared P page f.slot) published_bytes) × IsDurable new.present)
       done (Err e) goes = tt
       done (Ok u) goes =
-          let place = page * (P + 12) + P + slot_offset f.slot in
-          (write_done place (slot_bytes 0 0) true old new u goes ∙ ap (λ (l : List ℕ). applied (cleared P page f.slot) l) at_rest.ready.readable, write_durable place (slot_bytes 0 0) old new u goes)
+          let offset = page * (P + 12) + P + slot_offset f.slot in
+          (write_done offset (slot_bytes 0 0) true old new u goes ∙ ap (λ (l : List ℕ). applied (cleared P page f.slot) l) at_rest.ready.readable, write_durable offset (slot_bytes 0 0) old new u goes)
 
   -- together
   pub rewrite_goes : (unsynced : Bool) → Goes sum P told F page (stage_calls unsynced + 2) (Ready R f) (λ old new answer. Rewrites P page f.slot len crc unsynced old new answer)

@@ -1,4 +1,4 @@
--- Sizes of a blob: which of them its places fit.
+-- Sizes of a blob: which of them its offsets fit.
 use Rattle.std.proofs.Common.{ℕ, ◌+◌, ◌*◌, ◌/◌, ◌<◌, ◌≤◌, ◌^◌, ◌↔◌, arith, inl, inr}
 use Rattle.std.specs.Int.{div_ceil}
 use Rattle.std.proofs.Math.Nat.{mul-le-mul_right, le-mul_of_pos_right, add-mul, mul-add, le-div_iff_mul-le}
@@ -6,7 +6,7 @@ use Rattle.std.proofs.lemmas.Grind.{div_ceil_times}
 use Rattle.std.proofs.lemmas.Bool.{cases_lt}
 use Rattle.paged.specs.Writer.{FitsBlob}
 
--- full pages, and pages for bytes behind them, are no more than so many where the bytes of all are within theirs
+-- full pages, and pages for bytes after them, are no more than so many where the bytes of all are within theirs
 pages_within : (P full n c most : ℕ) → n ≤ c * P → c * P < n + P → (full + c ≤ most) ↔ (full * P + n ≤ most * P)
 pages_within P full n c most up near = (
   λ le. let more : (full + c) * P ≤ most * P = mul-le-mul_right P le in omega (arith, more, add-mul full c P, up),
@@ -22,8 +22,8 @@ fits_by_size P full n some =
     let c = div_ceil n P in
     let bounds = div_ceil_times n P some in
     let within = pages_within P full n c (18446744073709551615 / (P + 12)) bounds.0 bounds.1 in
-    let places : (full + c ≤ 18446744073709551615 / (P + 12)) ↔ ((full + c) * (P + 12) ≤ 18446744073709551615) = le-div_iff_mul-le (omega arith) in
-    (λ fits. within.0 (places.1 (omega (arith, fits))), λ le. omega (arith, places.0 (within.1 le)))
+    let offsets : (full + c ≤ 18446744073709551615 / (P + 12)) ↔ ((full + c) * (P + 12) ≤ 18446744073709551615) = le-div_iff_mul-le (omega arith) in
+    (λ fits. within.0 (offsets.1 (omega (arith, fits))), λ le. omega (arith, offsets.0 (within.1 le)))
 
 -- a size that fits is a number of 64 bits
 pub size_fits : (P full n : ℕ) → 0 < P → FitsBlob P full n → full * P + n < 2 ^ 64

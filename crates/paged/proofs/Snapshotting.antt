@@ -6,18 +6,18 @@ use Rattle.disk.specs.declared.error.Error.{Error}
 use Rattle.disk.specs.declared.started_sync.StartedSync.{StartedSync}
 use Rattle.disk.specs.declared.started_sync.StartedSync.TheVariants.{Done, Named}
 use Rattle.cache.specs.CacheState.{CacheState}
-use Rattle.crash.specs.WriterState.{WriterState, SyncState}
-use Rattle.crash.specs.WriterState.SyncState.{Clean, Dirty, Pending}
-use Rattle.crash.specs.Sound.{IsSound, content}
+use Rattle.writer_state.specs.WriterState.{WriterState}
+use Rattle.writer_state.specs.declared.sync_state.SyncState.{SyncState}
+use Rattle.writer_state.specs.declared.sync_state.SyncState.TheVariants.{Clean, Dirty, Pending}
+use Rattle.writer_state.specs.Sound.{IsSound, content}
 use Rattle.crash.specs.Stays.{StaysThrough, KeepsAllFloors, LeavesOnly}
-use Rattle.crash.proofs.FloorLaws.{floors_of_sound}
+use Rattle.writer_state.proofs.FloorLaws.{floors_of_sound}
 use Rattle.paged_read.specs.Tail.{Tail, CanRead}
 use Rattle.paged_read.specs.Replay.{IsReplayOf, new_replay, ReplayState}
 use Rattle.paged_read.specs.Snapshots.{IsTailOf, StandsOn}
 use Rattle.paged_read.proofs.Replays.{new_replays}
 use Rattle.paged.specs.Caches.{ReadsOn, tail_of}
-use Rattle.paged.specs.Calls.{GoesOn, waited}
-use Rattle.paged.specs.Calls.{waited_state, wait_calls, unstarted_calls, start_calls, started_already}
+use Rattle.paged.specs.Calls.{GoesOn, waited, waited_state, wait_calls, unstarted_calls, start_calls, started_already}
 use Rattle.paged.specs.Flush.{has_work}
 use Rattle.paged.specs.Replays.{BeginsReplay}
 use Rattle.paged.specs.Snapshots.{answer_of_seal, MakesSnapshot, seal_calls}
@@ -46,13 +46,13 @@ made_tells sum w now t old new goes is =
     (goes_tells sum w now old new goes)
 
 -- which can be read where the writer could be
-pub made_stands : (sum : List ℕ → ℕ) (w now : WriterState) (t : Tail) (cache behind : CacheState)
+pub made_stands : (sum : List ℕ → ℕ) (w now : WriterState) (t : Tail) (cache after : CacheState)
     (old new : Life) → GoesOn sum w old [] now new → t ≡ tail_of now
-    → ReadsOn w now cache behind old new → CanRead (tail_of w) cache old.present
-    → StandsOn sum t (content w old.present.readable) behind new.present
-made_stands sum w now t cache behind old new goes is reads can = record {
+    → ReadsOn w now cache after old new → CanRead (tail_of w) cache old.present
+    → StandsOn sum t (content w old.present.readable) after new.present
+made_stands sum w now t cache after old new goes is reads can = record {
   tail = made_tells sum w now t old new goes is;
-  can = subst (λ (u : Tail). CanRead u behind new.present) (sym is) (reads can);
+  can = subst (λ (u : Tail). CanRead u after new.present) (sym is) (reads can);
 }
 
 -- ---- a snapshot that is made
@@ -115,7 +115,7 @@ begun_gives sum w now size r old new goes is =
 
 -- ---- a writer that is sealed
 
--- what the call behind the wait answers
+-- what the call after the wait answers
 module _ (w m : WriterState) (old mid : Life) (is : m ≡ waited w)
     (names : mid.present.started ≡ old.present.started) where
   answer : (work : Bool) → has_work w true ≡ work → (s : SyncState) → w.sync ≡ s

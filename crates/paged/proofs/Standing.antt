@@ -1,27 +1,27 @@
--- A writer that stands behind the first pages of some bytes, with nothing unsynced.
+-- A writer that stands after the first pages of some bytes, with nothing unsynced.
 use Rattle.std.proofs.Common.{◌≡◌, ℕ, ◌+◌, ◌*◌, ◌^◌, ◌<◌, ◌≤◌, List, length, take, drop, refl, sym, ◌∙◌, ap, subst, arith}
 use Rattle.std.specs.Prelude.{Option, Some, None}
 use Rattle.std.proofs.lemmas.List.{take-take, length-take-le}
 use Rattle.disk.specs.Disk.{Disk, AreCovered}
 use Rattle.page.specs.Page.{pages, active, value_len, text}
 use Rattle.page.specs.declared.slot.ActiveChecksum.{ActiveChecksum}
-use Rattle.crash.specs.WriterState.SyncState.{Clean}
+use Rattle.writer_state.specs.declared.sync_state.SyncState.TheVariants.{Clean}
 use Rattle.crash.specs.Full.{AreFull}
-use Rattle.crash.specs.Sound.{Soundness, HasPage, content}
+use Rattle.writer_state.specs.Sound.{Soundness, HasPage, content}
 use Rattle.crash.proofs.Lists.{within_take}
 use Rattle.crash.proofs.Pages.{pages_at, pages_reach, page_is, page_fits, length-pages}
 use Rattle.crash.proofs.Texts.{AreBytes, AreFull_same, active_is, text_cut, text_cut_part}
 use Rattle.crash.proofs.BuiltLaws.{IsSmall}
-use Rattle.crash.proofs.FlushLaws.{rest_settled, exact_content, page_content, has_page}
-use Rattle.crash.proofs.Soundness.{exact_sound, page_sound}
+use Rattle.writer_state.proofs.FlushLaws.{rest_settled, exact_content, page_content, has_page}
+use Rattle.writer_state.proofs.Soundness.{exact_sound, page_sound}
 use Rattle.paged_read.specs.declared.prefix.Prefix.{Prefix}
 use Rattle.paged_read.specs.Ranges.{page_at}
 use Rattle.paged_read.specs.Prefix.{prefix_of, prefix_pages, partial_pages, HasBytes}
 use Rattle.paged.specs.Recovery.{IsDurable, at_prefix}
-use Rattle.paged.proofs.Firsts.{Behind, IsFirst, prefix_is}
+use Rattle.paged.proofs.Firsts.{After, IsFirst, prefix_is}
 
-module _ (sum : List ℕ → ℕ) (P : ℕ) (bytes readable : List ℕ) (full : ℕ) (v : List ℕ × ActiveChecksum) (behind : Behind sum P (pages P bytes) full (Some v)) where
-  -- the page behind some pages, where what is readable ends with it
+module _ (sum : List ℕ → ℕ) (P : ℕ) (bytes readable : List ℕ) (full : ℕ) (v : List ℕ × ActiveChecksum) (after : After sum P (pages P bytes) full (Some v)) where
+  -- the page after some pages, where what is readable ends with it
   pub record IsTold : Type 0 where
     pub size : length readable ≡ (full + 1) * (P + 12)
     pub same : page_at P full bytes ≡ page_at P full readable
@@ -29,30 +29,30 @@ module _ (sum : List ℕ → ℕ) (P : ℕ) (bytes readable : List ℕ) (full : 
     pub part : v.1.len < P
     pub tip : v.0 ≡ take v.1.len (drop (full * (P + 12)) readable)
 
-  pub told_behind : readable ≡ take ((full + 1) * (P + 12)) bytes → IsTold
-  told_behind cut =
+  pub told_after : readable ≡ take ((full + 1) * (P + 12)) bytes → IsTold
+  told_after cut =
       let a = v.1 in
       let k = full * (P + 12) in
       let n = (full + 1) * (P + 12) in
-      let page_eq : behind.0 ≡ page_at P full bytes = page_is P full bytes behind.0 behind.1 in
-      let fits : n ≤ length bytes = page_fits P full bytes behind.0 behind.1 in
+      let page_eq : after.0 ≡ page_at P full bytes = page_is P full bytes after.0 after.1 in
+      let fits : n ≤ length bytes = page_fits P full bytes after.0 after.1 in
       let page_same : page_at P full bytes ≡ page_at P full readable = sym (ap (λ (l : List ℕ). page_at P full l) cut ∙ within_take (P + 12) k n bytes (omega arith)) in
-      let told : active sum P (page_at P full readable) ≡ Some a = ap (λ (l : List ℕ). active sum P l) (sym (page_eq ∙ page_same)) ∙ behind.2 in
+      let told : active sum P (page_at P full readable) ≡ Some a = ap (λ (l : List ℕ). active sum P l) (sym (page_eq ∙ page_same)) ∙ after.2 in
       let is = active_is sum P (page_at P full readable) a told in
-      let len : value_len sum P (page_at P full readable) ≡ value_len sum P behind.0 = ap (λ (l : List ℕ). value_len sum P l) (sym (page_eq ∙ page_same)) in
-      let part : a.len < P = omega (arith, is.len, is.fits, len, behind.4) in
+      let len : value_len sum P (page_at P full readable) ≡ value_len sum P after.0 = ap (λ (l : List ℕ). value_len sum P l) (sym (page_eq ∙ page_same)) in
+      let part : a.len < P = omega (arith, is.len, is.fits, len, after.4) in
       record {
         size = ap length cut ∙ length-take-le n bytes fits;
         same = page_same;
         told = told;
         part = part;
-        tip = behind.3 ∙ ap (λ (l : List ℕ). take a.len l) (page_eq ∙ page_same) ∙ take-take a.len (P + 12) (drop k readable) (omega (arith, part));
+        tip = after.3 ∙ ap (λ (l : List ℕ). take a.len l) (page_eq ∙ page_same) ∙ take-take a.len (P + 12) (drop k readable) (omega (arith, part));
       }
 
   -- it is the tip's page
-  pub page_behind : HasBytes P full bytes (Some v) → readable ≡ take ((full + 1) * (P + 12)) bytes → HasPage sum P full v.0 readable v.1
-  page_behind has cut =
-      let shown = told_behind cut in
+  pub page_after : HasBytes P full bytes (Some v) → readable ≡ take ((full + 1) * (P + 12)) bytes → HasPage sum P full v.0 readable v.1
+  page_after has cut =
+      let shown = told_after cut in
       let are_bytes : AreBytes (page_at P full readable) = subst (λ (l : List ℕ). AreBytes l) shown.same has in
       has_page sum P full v.0 readable v.1 shown.size are_bytes shown.told shown.part shown.tip
 
@@ -61,10 +61,10 @@ module _ (sum : List ℕ → ℕ) (small_sum : IsSmall sum) (P id capacity : ℕ
   abbrev pub StandsFor : Prefix → Type 0
   StandsFor p = Soundness sum (at_prefix P id capacity p Clean) d × (content (at_prefix P id capacity p Clean) d.readable ≡ text sum P bytes)
 
-  -- behind full pages alone
-  stands_none : (full : ℕ) → full ≤ length (pages P bytes) → AreFull sum P (take full (pages P bytes)) → Behind sum P (pages P bytes) full None → d.readable ≡ take (full * (P + 12)) bytes
+  -- after full pages alone
+  stands_none : (full : ℕ) → full ≤ length (pages P bytes) → AreFull sum P (take full (pages P bytes)) → After sum P (pages P bytes) full None → d.readable ≡ take (full * (P + 12)) bytes
       → StandsFor (record { full_pages = full; partial = None })
-  stands_none full within are behind cut =
+  stands_none full within are after cut =
       let w = at_prefix P id capacity (record { full_pages = full; partial = None }) Clean in
       let n = full * (P + 12) in
       let reach : n ≤ length bytes = pages_reach P full bytes (omega (arith, within, length-pages P bytes)) in
@@ -74,23 +74,23 @@ module _ (sum : List ℕ → ℕ) (small_sum : IsSmall sum) (P id capacity : ℕ
         exact_sound sum w d durable.since durable.base positive small here refl (rest_settled d covered durable.since) refl size,
         exact_content sum w d durable.since durable.base positive small here refl refl size
             ∙ ap (λ (l : List ℕ). text sum P l) cut
-            ∙ text_cut sum P full bytes positive are reach (λ more. behind (page_at P full bytes) (pages_at P full bytes more)),
+            ∙ text_cut sum P full bytes positive are reach (λ more. after (page_at P full bytes) (pages_at P full bytes more)),
       )
 
-  -- behind full pages and a page with a shorter value
-  stands_some : (full : ℕ) (v : List ℕ × ActiveChecksum) → AreFull sum P (take full (pages P bytes)) → Behind sum P (pages P bytes) full (Some v) → HasBytes P full bytes (Some v) → d.readable ≡ take ((full + 1) * (P + 12)) bytes
+  -- after full pages and a page with a shorter value
+  stands_some : (full : ℕ) (v : List ℕ × ActiveChecksum) → AreFull sum P (take full (pages P bytes)) → After sum P (pages P bytes) full (Some v) → HasBytes P full bytes (Some v) → d.readable ≡ take ((full + 1) * (P + 12)) bytes
       → StandsFor (record { full_pages = full; partial = Some v })
-  stands_some full v are behind has cut =
+  stands_some full v are after has cut =
       let w = at_prefix P id capacity (record { full_pages = full; partial = Some v }) Clean in
       let a = v.1 in
       let k = full * (P + 12) in
       let n = (full + 1) * (P + 12) in
-      let fits : n ≤ length bytes = page_fits P full bytes behind.0 behind.1 in
-      let shown = told_behind sum P bytes d.readable full v behind cut in
+      let fits : n ≤ length bytes = page_fits P full bytes after.0 after.1 in
+      let shown = told_after sum P bytes d.readable full v after cut in
       let same : take k bytes ≡ take k d.readable = sym (ap (λ (l : List ℕ). take k l) cut ∙ take-take k n bytes (omega arith)) in
       let here : AreFull sum P (take full (pages P d.readable)) = AreFull_same sum P full bytes d.readable (omega (arith, fits)) same are in
       let is = active_is sum P (page_at P full d.readable) a shown.told in
-      let page : HasPage sum P full v.0 d.readable a = page_behind sum P bytes d.readable full v behind has cut in
+      let page : HasPage sum P full v.0 d.readable a = page_after sum P bytes d.readable full v after has cut in
       let less : value_len sum P (page_at P full bytes) < P = omega (arith, shown.part, is.len, ap (λ (l : List ℕ). value_len sum P l) shown.same) in (
         page_sound sum w d durable.since durable.base positive small here refl (rest_settled d covered durable.since) small_sum a refl page,
         page_content sum w d.readable a here (omega (arith, shown.size)) shown.told shown.part shown.tip
@@ -98,15 +98,15 @@ module _ (sum : List ℕ → ℕ) (small_sum : IsSmall sum) (P id capacity : ℕ
             ∙ text_cut_part sum P full bytes are fits less,
       )
 
-  pub stands_behind : (full : ℕ) (found : Option (List ℕ × ActiveChecksum)) → full + partial_pages found ≤ length (pages P bytes) → AreFull sum P (take full (pages P bytes)) → Behind sum P (pages P bytes) full found → HasBytes P full bytes found
+  pub stands_after : (full : ℕ) (found : Option (List ℕ × ActiveChecksum)) → full + partial_pages found ≤ length (pages P bytes) → AreFull sum P (take full (pages P bytes)) → After sum P (pages P bytes) full found → HasBytes P full bytes found
       → d.readable ≡ take ((full + partial_pages found) * (P + 12)) bytes → StandsFor (record { full_pages = full; partial = found })
-  stands_behind full None within are behind has cut =
+  stands_after full None within are after has cut =
       let e : full + 0 ≡ full = omega arith in
-      stands_none full (omega (arith, within)) are behind (cut ∙ ap (λ (n : ℕ). take (n * (P + 12)) bytes) e)
-  stands_behind full (Some v) within are behind has cut = stands_some full v are behind has cut
+      stands_none full (omega (arith, within)) are after (cut ∙ ap (λ (n : ℕ). take (n * (P + 12)) bytes) e)
+  stands_after full (Some v) within are after has cut = stands_some full v are after has cut
 
-  -- behind the prefix of the bytes' pages, which is all that the blob has
+  -- after the prefix of the bytes' pages, which is all that the blob has
   pub stands_first : (p : Prefix) → p ≡ prefix_of sum P (pages P bytes) → HasBytes P p.full_pages bytes p.partial → d.readable ≡ take (prefix_pages p * (P + 12)) bytes → StandsFor p
   stands_first p is has cut =
       let first : IsFirst sum P (pages P bytes) p = subst (λ (q : Prefix). IsFirst sum P (pages P bytes) q) (sym is) (prefix_is sum P (pages P bytes)) in
-      stands_behind p.full_pages p.partial first.within first.full first.behind has cut
+      stands_after p.full_pages p.partial first.within first.full first.after has cut

@@ -6,25 +6,26 @@ use Rattle.disk.specs.declared.error.Error.{Error}
 use Rattle.disk.specs.declared.error.Error.TheVariants.{SyncFailed, OutOfMemory}
 use Rattle.disk.specs.declared.started_sync.StartedSync.{StartedSync}
 use Rattle.disk.specs.declared.started_sync.StartedSync.TheVariants.{Done, Named}
-use Rattle.crash.specs.WriterState.{WriterState, SyncState}
-use Rattle.crash.specs.WriterState.SyncState.{Clean, Dirty, Pending}
-use Rattle.crash.specs.Sound.{IsSound, Soundness, AllSettled, content}
+use Rattle.writer_state.specs.WriterState.{WriterState, started_state}
+use Rattle.writer_state.specs.declared.sync_state.SyncState.{SyncState}
+use Rattle.writer_state.specs.declared.sync_state.SyncState.TheVariants.{Clean, Dirty, Pending}
+use Rattle.writer_state.specs.Sound.{IsSound, Soundness, content}
+use Rattle.crash.specs.Started.{AllSettled, WouldKeep, CoversThrough, StartsStand}
 use Rattle.crash.specs.Below.{PagesStay}
 use Rattle.crash.specs.Stays.{Stays, StaysThrough}
-use Rattle.crash.specs.Started.{WouldKeep, CoversThrough, StartsStand}
 use Rattle.crash.specs.Moments.{through_more}
 use Rattle.crash.proofs.BuiltLaws.{IsSmall}
 use Rattle.crash.proofs.Lists.{slice_get-append_right}
 use Rattle.crash.proofs.BelowLaws.{pages_none, pages_one}
-use Rattle.crash.proofs.CoverLaws.{covers_none, covers_one}
+use Rattle.writer_state.proofs.CoverLaws.{covers_none, covers_one}
 use Rattle.crash.proofs.Moments.{stays_through_start}
-use Rattle.crash.proofs.StandLaws.{sound_stands}
-use Rattle.crash.proofs.StartedLaws.{start_sound, start_stays, start_covers, started_covers, pending_covers}
-use Rattle.crash.proofs.Soundness.{sound_leaves, settle_keeps}
+use Rattle.writer_state.proofs.StandLaws.{sound_stands}
+use Rattle.writer_state.proofs.StartedLaws.{start_sound, start_stays, start_covers, started_covers, pending_covers}
+use Rattle.writer_state.proofs.Soundness.{sound_leaves, settle_keeps}
 use Rattle.disk.proofs.Logs.{failed_once}
 use Rattle.disk.specs.Disk.Request.{StartSync}
 use Rattle.paged.specs.Flush.{has_work, paired}
-use Rattle.paged.specs.Calls.{AsksAtMost, wait_calls, unstarted_calls, start_calls, GoesOn, IsSameWriter, IsWritten, HadFailed, HasCause, StartsSync, Starts, started_state, started_already}
+use Rattle.paged.specs.Calls.{AsksAtMost, wait_calls, unstarted_calls, start_calls, GoesOn, IsSameWriter, IsWritten, HadFailed, CallCause, StartsSync, Starts, started_already}
 use Rattle.paged.proofs.Causes.{start_cause, start_grows, start_asks}
 use Rattle.paged.proofs.Flushes.{size_is_length, stays_nil, goes_on_same, goes_on_more, refuses_more, dirty_settled}
 
@@ -36,7 +37,7 @@ newest_failed failed d =
     (slice_get-append_right d.started (s ∷ []) (length d.started) (omega arith) ∙ ap (λ (n : ℕ). slice_get (s ∷ []) n) (let e : length d.started - length d.started ≡ 0 = omega arith in e))
 
 newest_fails : (s : SyncState) (old new : Life) (now : WriterState) (name : ℕ) (failed : Bool) → name ≡ length old.present.started → new ≡ next old (starts failed old.present) → now.sync ≡ Pending name → HadFailed now.sync new.present
-    → HasCause s old new SyncFailed
+    → CallCause s old new SyncFailed
 newest_fails s old new now name failed last is state had =
     let at : had_failed new.present.started name ≡ true = subst (λ (t : SyncState). HadFailed t new.present) state had in
     let here : failed ≡ true = sym (newest_failed failed old.present) ∙ ap (λ (n : ℕ). had_failed (starts failed old.present).started n) (sym last) ∙ ap (λ (l : Life). had_failed l.present.started name) (sym is) ∙ at in
@@ -149,7 +150,7 @@ pub pending_starts : (sum : List ℕ → ℕ) (w : WriterState) (name : ℕ) (li
 unfolding IsSound
 pending_starts sum w name life small sound pending written = (goes_on_same sum w life sound, written, pending, pending_covers sum w life.present sound name small pending written.flushed)
 
--- ---- a start behind a flush
+-- ---- a start after a flush
 
 module _ (sum : List ℕ → ℕ) (w m : WriterState) (old mid new : Life) (first : GoesOn sum w old [] m mid) where
   same_starts : (started : StartedSync) → Starts sum m.page_size (content m mid.present.readable) new started → Starts sum w.page_size (content w old.present.readable) new started
@@ -157,9 +158,9 @@ module _ (sum : List ℕ → ℕ) (w m : WriterState) (old mid new : Life) (firs
       subst (λ (c : List ℕ). Starts sum w.page_size c new started) (first.content ∙ append-nil (content w old.present.readable))
       (subst (λ (P : ℕ). Starts sum P (content m mid.present.readable) new started) first.same.page_size covered)
 
-  pub starts_behind : (result : Result (WriterState × StartedSync) Error) → StartsSync sum m mid new result → StartsSync sum w old new result
-  starts_behind (Ok r) (goes, written, state, covered) = (goes_on_more sum w m r.0 old mid new first goes, written, state, same_starts r.1 covered)
-  starts_behind (Err e) refused = refuses_more sum w m old mid new e first refused
+  pub starts_after : (result : Result (WriterState × StartedSync) Error) → StartsSync sum m mid new result → StartsSync sum w old new result
+  starts_after (Ok r) (goes, written, state, covered) = (goes_on_more sum w m r.0 old mid new first goes, written, state, same_starts r.1 covered)
+  starts_after (Err e) refused = refuses_more sum w m old mid new e first refused
 
 -- what the flush did, by whether there was something to write
 module _ (w m : WriterState) (old mid new : Life) (dirty : has_work w true ≡ true → m.sync ≡ Dirty) (idle : has_work w true ≡ false → (m ≡ w) × (mid ≡ old)) where
@@ -168,8 +169,8 @@ module _ (w m : WriterState) (old mid new : Life) (dirty : has_work w true ≡ t
   calls_by false is first second =
       let same = idle is in omega (arith, second, ap (λ (v : WriterState). unstarted_calls v.sync) same.0, ap (λ (l : Life). length l.present.log) same.1)
 
-  pub start_asks_behind : AsksAtMost (wait_calls w.sync + 1) old mid → AsksAtMost (unstarted_calls m.sync) mid new → AsksAtMost (start_calls w) old new
-  start_asks_behind first second = calls_by (has_work w true) refl first second
+  pub start_asks_after : AsksAtMost (wait_calls w.sync + 1) old mid → AsksAtMost (unstarted_calls m.sync) mid new → AsksAtMost (start_calls w) old new
+  start_asks_after first second = calls_by (has_work w true) refl first second
 
   due_by : (work : Bool) → has_work w true ≡ work → 0 < (if work then wait_calls w.sync + 2 else unstarted_calls w.sync) → 0 < unstarted_calls m.sync
   due_by true is some = omega (arith, ap unstarted_calls (dirty is))
@@ -207,7 +208,7 @@ start_again w m now old mid new result (same, before, none) idle =
     let later = idle (omega (arith, none, ap (λ (v : WriterState). unstarted_calls v.sync) same)) in
     (later.0 ∙ ap (λ (v : WriterState). Ok (started_already v.sync)) same, later.1 ∙ same, later.2 ∙ before)
 
--- a name that is given behind a flush
+-- a name that is given after a flush
 pub start_named : (old mid : Life) (result : Result StartedSync Error) → mid.present.started ≡ old.present.started → IfOk result (λ started. started ≡ Named (length mid.present.started))
     → IfOk result (λ started. started ≡ Named (length old.present.started))
 start_named old mid (Ok started) names fresh = fresh ∙ ap (λ (ss : List Started). Named (length ss)) names

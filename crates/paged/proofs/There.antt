@@ -4,16 +4,16 @@ use Rattle.std.specs.Prelude.{IfOk}
 use Rattle.disk.specs.Disk.{Disk, Life}
 use Rattle.disk.specs.declared.error.Error.{Error}
 use Rattle.cache.specs.CacheState.{CacheState}
-use Rattle.crash.specs.WriterState.{WriterState}
-use Rattle.crash.specs.Sound.{IsSound, content}
+use Rattle.writer_state.specs.WriterState.{WriterState}
+use Rattle.writer_state.specs.Sound.{IsSound, content}
 use Rattle.crash.specs.Stays.{Stays, StaysThrough, LeavesOnly, KeepsAllFloors}
-use Rattle.crash.proofs.FloorLaws.{floors_of_sound}
+use Rattle.writer_state.proofs.FloorLaws.{floors_of_sound}
 use Rattle.crash.specs.Moments.{through_then}
 use Rattle.crash.proofs.Moments.{stays_alike, stays_itself}
 use Rattle.paged.proofs.Halves.{keeps_floors, leaves_only}
 use Rattle.crash.specs.Looks.{SameButLog, Looked}
-use Rattle.crash.proofs.FlushLaws.{tip_reach}
-use Rattle.crash.proofs.Soundness.{looked_sound}
+use Rattle.writer_state.proofs.FlushLaws.{tip_reach}
+use Rattle.writer_state.proofs.Soundness.{looked_sound}
 use Rattle.disk.specs.declared.started_sync.StartedSync.{StartedSync}
 use Rattle.paged.specs.Calls.{Syncs, Appends, StartsSync, WaitsForSync}
 use Rattle.paged.specs.Reads.{HasPages}
@@ -39,7 +39,7 @@ pub recovered_sound : (sum : List ℕ → ℕ) (cache : CacheState) (capacity : 
 recovered_sound sum cache capacity old new (Ok w) is = is.sound
 recovered_sound sum cache capacity old new (Err e) refused = tt
 
--- the pages are there behind a start and a wait
+-- the pages are there after a start and a wait
 pub start_there : (sum : List ℕ → ℕ) (w : WriterState) (old new : Life) (result : Result (WriterState × StartedSync) Error) → StartsSync sum w old new result → IfOk result (λ r. HasPages r.0 new)
 start_there sum w old new (Ok r) (goes, written, state, covered) = sound_has_pages sum r.0 new goes.sound
 start_there sum w old new (Err e) refused = tt

@@ -5,7 +5,7 @@ use Rattle.disk.specs.declared.error.Error.TheVariants.{ReadFailed, WriteFailed,
 use Rattle.page.specs.Page.{text}
 use Rattle.disk.specs.Disk.{Disk, Life}
 use Rattle.disk.specs.declared.error.Error.{Error}
-use Rattle.crash.specs.WriterState.{SyncState}
+use Rattle.writer_state.specs.declared.sync_state.SyncState.{SyncState}
 use Rattle.crash.specs.Looks.{Looked}
 use Rattle.crash.specs.Kept.{AllOnly}
 use Rattle.crash.specs.Stays.{StaysThrough, LeavesOnly, KeepsFloors, KeepsAllFloors}
@@ -16,7 +16,7 @@ use Rattle.crash.proofs.LookLaws.{looked_readable}
 use Rattle.crash.proofs.CutLaws.{cut_few, rest_keeps, resize_stays, cut_sync_stays, rest_through_start, rest_looked_stays, rest_looked_rests}
 use Rattle.paged_read.specs.declared.prefix.Prefix.{Prefix}
 use Rattle.paged_read.specs.Prefix.{prefix_pages}
-use Rattle.paged.specs.Recovery.{IsDurable, Cuts, KeepsText, LeavesText, IsKept, opened_prefix, opened_size}
+use Rattle.paged.specs.Recovery.{IsDurable, Cuts, KeepsText, LeavesText, IsCutBack, opened_prefix, opened_size}
 use Rattle.paged_read.specs.Searches.{Finds}
 use Rattle.paged.specs.Truncate.{KeepsFloorsWithin}
 use Rattle.paged.proofs.Firsts.{text_of_beginning, first_size_le}
@@ -135,7 +135,7 @@ module _ (sum : List ℕ → ℕ) (P : ℕ) (old new : Life) where
         only = leaves_text (λ durable. trims_stay sum P (text sum P bytes) bytes some k old new (start sum P old durable) le leaves trims);
       }
 
-module _ (sum : List ℕ → ℕ) (P : ℕ) (old mid : Life) (some : 0 < P) (s : SyncState) (kept : IsKept old mid (opened_size sum P old.present.readable) s) (owes : Owes sum P old mid) (begun : ReadsImage old) where
+module _ (sum : List ℕ → ℕ) (P : ℕ) (old mid : Life) (some : 0 < P) (s : SyncState) (kept : IsCutBack old mid (opened_size sum P old.present.readable) s) (owes : Owes sum P old mid) (begun : ReadsImage old) where
   -- what opening left has the text
   opened_says : text sum P mid.present.readable ≡ text sum P old.present.readable
   opened_says =

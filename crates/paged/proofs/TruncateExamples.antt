@@ -5,8 +5,8 @@ use Rattle.page.specs.Sums.{add_sum}
 use Rattle.page.proofs.Examples.{abcd_page}
 use Rattle.page.specs.declared.slot.Slot.TheVariants.{Second}
 use Rattle.page.specs.declared.slot.ActiveChecksum.{ActiveChecksum}
-use Rattle.crash.specs.WriterState.{WriterState}
-use Rattle.crash.specs.WriterState.SyncState.{Clean, Dirty}
+use Rattle.writer_state.specs.WriterState.{WriterState}
+use Rattle.writer_state.specs.declared.sync_state.SyncState.TheVariants.{Clean, Dirty}
 use Rattle.paged.specs.Truncate.{shortened_slot, shortened, shortened_writer, cut_bytes, cut_writer, shorten_calls, truncate_calls}
 
 -- "efgh", in the first slot, and "efg" in the second
@@ -22,8 +22,8 @@ pub a_slot_of_it : shortened_slot add_sum 4 6 (abcd_page ++ efgh_page) ≡ Some 
 a_slot_of_it = refl
 
 -- cut to four, the first page is left as it is
-pub a_cut_behind : shortened add_sum 4 4 (abcd_page ++ efgh_page) ≡ abcd_page
-a_cut_behind = refl
+pub a_cut_after : shortened add_sum 4 4 (abcd_page ++ efgh_page) ≡ abcd_page
+a_cut_after = refl
 
 pub no_slot_of_it : shortened_slot add_sum 4 4 (abcd_page ++ efgh_page) ≡ None
 no_slot_of_it = refl
@@ -35,7 +35,7 @@ two_pages = record { page_size = 4; id = 0; capacity = 8; full_pages = 2; tip = 
 abbrev slot_of_ef : ActiveChecksum
 slot_of_ef = record { slot = Second; len = 2; crc = 203 }
 
--- it stands behind the first then, with a tip of "ef"
+-- it stands after the first then, with a tip of "ef"
 pub a_writer_of_it : shortened_writer add_sum two_pages 6 (abcd_page ++ efgh_page)
     ≡ record { page_size = 4; id = 0; capacity = 8; full_pages = 1; tip = 101 ∷ 102 ∷ []; flushed = Some slot_of_ef; durable = Some slot_of_ef; sync = Clean }
 a_writer_of_it = refl
@@ -47,15 +47,15 @@ nothing_to_cut = refl
 pub a_writer_that_stays : cut_writer add_sum two_pages 9 (abcd_page ++ efgh_page) ≡ record two_pages { sync = Clean }
 a_writer_that_stays = refl
 
--- a read and three writes; with a resize and a sync where a page goes; and those alone behind a page
+-- a read and three writes; with a resize and a sync where a page goes; and those alone after a page
 pub calls_inside : shorten_calls 4 8 6 ≡ 4
 calls_inside = refl
 
 pub calls_before : shorten_calls 4 8 2 ≡ 6
 calls_before = refl
 
-pub calls_behind : shorten_calls 4 8 4 ≡ 2
-calls_behind = refl
+pub calls_after : shorten_calls 4 8 4 ≡ 2
+calls_after = refl
 
 -- and a sync before them
 pub calls_of_a_truncate : truncate_calls two_pages 2 ≡ 7

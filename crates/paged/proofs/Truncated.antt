@@ -1,4 +1,4 @@
--- How a truncate ends: the blob and the writer that a cut leaves, and what the cut keeps behind a sync.
+-- How a truncate ends: the blob and the writer that a cut leaves, and what the cut keeps after a sync.
 use Rattle.std.proofs.Common.{◌≡◌, inl, inr, ℕ, ◌+◌, ◌-◌, ◌*◌, ◌/◌, ◌%◌, ◌<◌, ◌≤◌, ◌^◌, List, [], ◌++◌, length, take, drop, Some, None, Ok, refl, sym, ap, ◌∙◌, subst, arith, append_assoc, append-nil, length-append, length-drop, length-take-le, lit<, mul-le-mul_right}
 use Rattle.std.specs.Prelude.{Option}
 use Rattle.std.proofs.lemmas.List.{take_at, drop_at, take-take, take_all, take-append-le}
@@ -11,25 +11,27 @@ use Rattle.page.specs.Page.{pages, slot_bytes, slot_len, slot_of, text, value_le
 use Rattle.page.specs.declared.slot.Slot.{Slot}
 use Rattle.page.specs.declared.slot.Slot.TheVariants.{First, Second}
 use Rattle.page.specs.declared.slot.ActiveChecksum.{ActiveChecksum}
-use Rattle.crash.specs.WriterState.{SyncState, WriterState}
+use Rattle.writer_state.specs.declared.sync_state.SyncState.{SyncState}
+use Rattle.writer_state.specs.WriterState.{WriterState}
 use Rattle.crash.specs.Built.{footer, kept_len}
 use Rattle.crash.specs.Guard.{IsSlotFor}
 use Rattle.crash.specs.Moments.{through_joins}
-use Rattle.crash.specs.Sound.{AllSettled, HasPage, IsSound, Soundness, StartsFit, StateFits, TipPage, content, stored}
+use Rattle.crash.specs.Started.{AllSettled, CoversThrough, StartsStand}
+use Rattle.writer_state.specs.Sound.{HasPage, IsSound, Soundness, StartsFit, StateFits, TipPage, content}
+use Rattle.crash.specs.Contents.{stored}
 use Rattle.crash.specs.Full.{AreFull}
 use Rattle.crash.specs.Kept.{AllOnly}
-use Rattle.crash.specs.Started.{CoversThrough, StartsStand}
 use Rattle.crash.specs.Stays.{KeepsAll, LeavesOnly, StaysThrough}
 use Rattle.crash.proofs.BuiltLaws.{IsSmall, slot_crc_of, slot_len_of, verified_le_slot}
-use Rattle.crash.proofs.FlushLaws.{content_in_page, content_in_tip, rest_settled, tip_reach}
+use Rattle.writer_state.proofs.FlushLaws.{content_in_page, content_in_tip, rest_settled, tip_reach}
 use Rattle.crash.proofs.Lists.{drop_past, same_reach, take_same}
-use Rattle.crash.proofs.CoverLaws.{covers_shorter, covers_through_join}
+use Rattle.writer_state.proofs.CoverLaws.{covers_shorter, covers_through_join}
 use Rattle.crash.proofs.Moments.{only_through}
 use Rattle.crash.proofs.PageFacts.{own_beginning, verified_len_held}
 use Rattle.crash.proofs.Pages.{length-stored, stored_same, take-stored}
 use Rattle.crash.proofs.Texts.{AreFull_fewer, AreFull_same}
-use Rattle.crash.proofs.Soundness.{exact_sound, page_sound, settle_keeps}
-use Rattle.crash.proofs.ShortenLaws.{covers_through_shorten, shorten_floors, shorten_leaves, shorten_stands, sound_text}
+use Rattle.writer_state.proofs.Soundness.{exact_sound, page_sound, settle_keeps}
+use Rattle.writer_state.proofs.ShortenLaws.{covers_through_shorten, shorten_floors, shorten_leaves, shorten_stands, sound_text}
 use Rattle.paged_read.specs.Ranges.{page_at}
 use Rattle.paged.specs.Calls.{IsSettled, Syncs, WaitsForNone}
 use Rattle.paged.specs.Reads.{HasPages, size_of}
@@ -128,8 +130,8 @@ module _ (sum : List ℕ → ℕ) (n : ℕ) (w : WriterState) (old new : Life) (
   cut_floors content = shorten_floors sum w.page_size n old new durable.since durable.base cuts.holds content
 
   -- chance aside, nothing but the text
-  pub cut_only : (behind : List ℕ) → LeavesOnly sum w.page_size (text sum w.page_size old.present.readable) behind old new
-  cut_only behind = shorten_leaves sum w.page_size n old new durable.since durable.base cuts.holds behind
+  pub cut_only : (after : List ℕ) → LeavesOnly sum w.page_size (text sum w.page_size old.present.readable) after old new
+  cut_only after = shorten_leaves sum w.page_size n old new durable.since durable.base cuts.holds after
 
   -- what started syncs cover of those bytes, where each is settled
   pub cut_covers : AllSettled old.present → (content : List ℕ) → CoversThrough sum w.page_size (take n content) old new
@@ -139,7 +141,7 @@ module _ (sum : List ℕ → ℕ) (n : ℕ) (w : WriterState) (old new : Life) (
   pub cut_starts : AllSettled old.present → StartsStand new.present
   cut_starts all = shorten_stands sum w.page_size [] old new all cuts.started
 
--- the same behind a sync of a sound writer
+-- the same after a sync of a sound writer
 module _ (sum : List ℕ → ℕ) (n : ℕ) (w v : WriterState) (old mid new : Life) (sound : IsSound sum w old.present) (syncs : Syncs sum w old mid (Ok v)) (cuts : CutsTo sum n v mid new) where
   synced_durable : IsDurable mid.present
   synced_durable = (settled_opened sum v mid.present syncs.0.sound syncs.1).durable syncs.1.clean
@@ -157,12 +159,12 @@ module _ (sum : List ℕ → ℕ) (n : ℕ) (w v : WriterState) (old mid new : L
   unfolding IsSound
   synced_settled = subst (λ (s : SyncState). StartsFit mid.present s) syncs.1.clean syncs.0.sound.stands.starts
 
-  pub sync_cut_only : (behind : List ℕ) → LeavesOnly sum w.page_size (content w old.present.readable) behind old new
-  sync_cut_only behind =
+  pub sync_cut_only : (after : List ℕ) → LeavesOnly sum w.page_size (content w old.present.readable) after old new
+  sync_cut_only after =
       let held = content w old.present.readable in
-      through_joins (AllOnly sum w.page_size held behind) old mid new
-      (only_through sum w.page_size held behind old mid (subst (λ (l : List ℕ). StaysThrough sum w.page_size l old mid) (append-nil held) syncs.0.stays))
-      (subst (λ (k : ℕ). LeavesOnly sum k held behind mid new) same_size (subst (λ (l : List ℕ). LeavesOnly sum v.page_size l behind mid new) synced_text (cut_only sum n v mid new synced_durable cuts behind)))
+      through_joins (AllOnly sum w.page_size held after) old mid new
+      (only_through sum w.page_size held after old mid (subst (λ (l : List ℕ). StaysThrough sum w.page_size l old mid) (append-nil held) syncs.0.stays))
+      (subst (λ (k : ℕ). LeavesOnly sum k held after mid new) same_size (subst (λ (l : List ℕ). LeavesOnly sum v.page_size l after mid new) synced_text (cut_only sum n v mid new synced_durable cuts after)))
 
   pub sync_cut_covers : CoversThrough sum w.page_size (content w old.present.readable) old mid → CoversThrough sum w.page_size (take n (content w old.present.readable)) old new
   sync_cut_covers first =
@@ -173,7 +175,7 @@ module _ (sum : List ℕ → ℕ) (n : ℕ) (w v : WriterState) (old mid new : L
   pub sync_cut_starts : StartsStand new.present
   sync_cut_starts = cut_starts sum n v mid new synced_durable cuts synced_settled
 
--- ---- the bytes that are left, and the writer behind them
+-- ---- the bytes that are left, and the writer after them
 
 -- the pages that a blob has, where all of its writer's tip is written
 held_pages : (sum : List ℕ → ℕ) (P full : ℕ) (tip R : List ℕ) (flushed : Option ActiveChecksum) → 0 < P → TipPage sum P full tip R flushed → kept_len flushed ≡ length tip
@@ -259,13 +261,13 @@ module _ (sum : List ℕ → ℕ) (n : ℕ) (w : WriterState) (old : Life) (some
   -- the pages before it stay
   pub shortened_begins : take (n / P * (P + 12)) (shortened sum P n R) ≡ take (n / P * (P + 12)) R
   shortened_begins =
-      let place = n / P * (P + 12) in
+      let offset = n / P * (P + 12) in
       elim (cases_lt 0 (n % P)) [
         | inl part ↦
-            let ft = footer (value_slot sum P (page_at P (n / P) R)) (slot_bytes 0 0) (slot_bytes (n % P) (sum (take (n % P) (drop place R)))) in
-            ap (λ (l : List ℕ). take place l) (shortened_part sum P n R part)
-            ∙ take-append-le place (take (place + P) R) ft (omega (arith, length-take-le (place + P) R (omega (arith, page_fits)))) ∙ take-take place (place + P) R (omega arith)
-        | inr whole ↦ ap (λ (l : List ℕ). take place l) (shortened_whole sum P n R (omega (arith, whole))) ∙ take-take place place R (omega arith)
+            let ft = footer (value_slot sum P (page_at P (n / P) R)) (slot_bytes 0 0) (slot_bytes (n % P) (sum (take (n % P) (drop offset R)))) in
+            ap (λ (l : List ℕ). take offset l) (shortened_part sum P n R part)
+            ∙ take-append-le offset (take (offset + P) R) ft (omega (arith, length-take-le (offset + P) R (omega (arith, page_fits)))) ∙ take-take offset (offset + P) R (omega arith)
+        | inr whole ↦ ap (λ (l : List ℕ). take offset l) (shortened_whole sum P n R (omega (arith, whole))) ∙ take-take offset offset R (omega arith)
       ]
 
   -- so the content of what is left is the first n bytes
@@ -284,8 +286,8 @@ module _ (sum : List ℕ → ℕ) (n : ℕ) (w : WriterState) (old : Life) (some
     crc = sum (take (n % w.page_size) (drop (n / w.page_size * (w.page_size + 12)) old.present.readable));
   }
 
-  slot_behind : n % P ≡ 0 → shortened_slot sum P n R ≡ None
-  slot_behind whole = slot_whole sum P n R whole
+  slot_after : n % P ≡ 0 → shortened_slot sum P n R ≡ None
+  slot_after whole = slot_whole sum P n R whole
 
   slot_within : 0 < n % P → shortened_slot sum P n R ≡ Some last_slot
   slot_within part = slot_part sum P n R part
@@ -293,7 +295,7 @@ module _ (sum : List ℕ → ℕ) (n : ℕ) (w : WriterState) (old : Life) (some
   kept_is : kept_len (shortened_slot sum P n R) ≡ n % P
   kept_is = elim (cases_lt 0 (n % P)) [
     | inl part ↦ ap kept_len (slot_within part)
-    | inr past ↦ let whole : n % P ≡ 0 = omega (arith, past) in ap kept_len (slot_behind whole) ∙ sym whole
+    | inr past ↦ let whole : n % P ≡ 0 = omega (arith, past) in ap kept_len (slot_after whole) ∙ sym whole
   ]
 
   -- the page in which it ends, where it ends inside one
@@ -318,12 +320,12 @@ module _ (sum : List ℕ → ℕ) (n : ℕ) (w : WriterState) (old : Life) (some
 
     parts_left : shortened sum P n R ≡ take (n / P * (P + 12)) R ++ last_page
     parts_left =
-        let place = n / P * (P + 12) in
+        let offset = n / P * (P + 12) in
         let s = value_slot sum P (page_at P (n / P) R) in
         let new = slot_bytes (n % P) (sum (take (n % P) payload)) in
         shortened_part sum P n R part
-        ∙ (λ i. take-add place P R i ++ footer s (slot_bytes 0 0) (slot_bytes (n % P) (sum (sym payload_begins i))))
-        ∙ append_assoc (take place R) payload (footer s (slot_bytes 0 0) new)
+        ∙ (λ i. take-add offset P R i ++ footer s (slot_bytes 0 0) (slot_bytes (n % P) (sum (sym payload_begins i))))
+        ∙ append_assoc (take offset R) payload (footer s (slot_bytes 0 0) new)
 
     length_front : length (take (n / P * (P + 12)) R) ≡ n / P * (P + 12)
     length_front = length-take-le (n / P * (P + 12)) R pages_before
@@ -397,7 +399,7 @@ module _ (sum : List ℕ → ℕ) (n : ℕ) (w : WriterState) (old : Life) (some
                 (subst (λ (l : List ℕ). HasPage sum P (n / P) (take (n % P) (drop (n / P * (P + 12)) R)) l last_slot) (sym is.readable) (has_last_page small_sum small part))
             | inr past ↦
                 let whole : n % P ≡ 0 = omega (arith, past) in
-                exact_sound sum v new.present is.durable.since is.durable.base some small full_left refl (rest_settled new.present covered is.durable.since) (slot_behind whole)
+                exact_sound sum v new.present is.durable.since is.durable.base some small full_left refl (rest_settled new.present covered is.durable.since) (slot_after whole)
                 (ap length (is.readable ∙ shortened_whole sum P n R whole) ∙ length-take-le (n / P * (P + 12)) R pages_before)
           ]
 

@@ -1,4 +1,4 @@
--- A truncate: a sync of all that was appended, and where there is more than is to be kept a cut behind it.
+-- A truncate: a sync of all that was appended, and where there is more than is to be kept a cut after it.
 use Rattle.std.proofs.Common.{◌≡◌, ◌⊎◌, inl, inr, ℕ, suc, ◌+◌, ◌*◌, ◌/◌, ◌%◌, ◌<◌, ◌≤◌, ◌^◌, min, List, [], length, take, Some, None, Result, Ok, Err, Bool, true, false, refl, sym, ap, ◌∙◌, subst, arith, append-nil}
 use Rattle.std.specs.Prelude.{OnOk, IfOk, Option, nat_lt}
 use Rattle.std.proofs.Math.Nat.{mod-eq_of_lt, mul-le-mul_right}
@@ -6,35 +6,36 @@ use Rattle.std.proofs.lemmas.List.{take_all}
 use Rattle.std.proofs.lemmas.Bool.{cond-true, cond-false, lt-leb, lt-ltb, cases_lt}
 use Rattle.std.proofs.lemmas.Bool.Decides.{nat_tests}
 use Rattle.std.proofs.lemmas.Nat.{div-add-mod', mod_below}
-use Rattle.disk.specs.Disk.{AreCovered, Disk, Life, LogGrows, SyncAll, WaitSync, settle}
+use Rattle.disk.specs.Disk.{AreCovered, Disk, Life, LogGrows, SyncAll, WaitSync, settled_disk}
 use Rattle.disk.specs.Images.{only_image}
 use Rattle.disk.specs.declared.error.Error.{Error}
 use Rattle.disk.specs.declared.error.Error.TheVariants.{ReadFailed, WriteFailed, ResizeFailed, SyncFailed, InvalidChecksum, BlobInsufficientLength, OffsetOverflow, OutOfMemory, IdsExhausted}
 use Rattle.disk.proofs.Logs.{grows_joins, failed_later}
 use Rattle.page.specs.Page.{pages, text, value_len}
 use Rattle.page.specs.declared.slot.ActiveChecksum.{ActiveChecksum}
-use Rattle.crash.specs.WriterState.{SyncState, WriterState}
-use Rattle.crash.specs.WriterState.SyncState.{Clean, Dirty, Pending}
+use Rattle.writer_state.specs.declared.sync_state.SyncState.{SyncState}
+use Rattle.writer_state.specs.WriterState.{WriterState}
+use Rattle.writer_state.specs.declared.sync_state.SyncState.TheVariants.{Clean, Dirty, Pending}
 use Rattle.crash.specs.Below.{PagesStay, SamePages}
 use Rattle.crash.specs.Built.{kept_len}
 use Rattle.crash.specs.Full.{AreFull}
 use Rattle.crash.specs.Kept.{AllOnly}
 use Rattle.crash.specs.Moments.{through_then, through_start, through_more, through_joins}
-use Rattle.crash.specs.Sound.{IsSound, Soundness, TipPage, content}
+use Rattle.writer_state.specs.Sound.{IsSound, Soundness, TipPage, content}
 use Rattle.crash.specs.Started.{CoversThrough, StartsStand}
 use Rattle.crash.specs.Stays.{KeepsAll, KeepsFloors, LeavesOnly}
 use Rattle.crash.proofs.BelowLaws.{fewer_stay, pages_join}
 use Rattle.crash.proofs.BuiltLaws.{IsSmall}
-use Rattle.crash.proofs.CoverLaws.{covers_shorter}
+use Rattle.writer_state.proofs.CoverLaws.{covers_shorter}
 use Rattle.crash.proofs.CutLaws.{sync_cases}
 use Rattle.crash.proofs.FloorLaws.{ReadsImage, floors_joins, floors_none, floors_sync}
-use Rattle.crash.proofs.FlushLaws.{length-content, rest_settled, tip_reach}
+use Rattle.writer_state.proofs.FlushLaws.{length-content, rest_settled, tip_reach}
 use Rattle.crash.proofs.Moments.{only_through}
 use Rattle.crash.proofs.PageFacts.{own_beginning}
-use Rattle.crash.proofs.ShortenLaws.{sound_text}
+use Rattle.writer_state.proofs.ShortenLaws.{sound_text}
 use Rattle.crash.proofs.Texts.{AreFull_page}
-use Rattle.crash.proofs.Soundness.{settled_sound, settle_keeps}
-use Rattle.paged.specs.Calls.{AsksAtMost, HasCause, HoldsWithin, IsSettled, IsWritten, SettlesBy, Syncs, WaitsForNone, sync_calls, settle_calls}
+use Rattle.writer_state.proofs.Soundness.{settled_sound, settle_keeps}
+use Rattle.paged.specs.Calls.{AsksAtMost, CallCause, HoldsWithin, IsSettled, IsWritten, SettlesBy, Syncs, WaitsForNone, sync_calls, settle_calls}
 use Rattle.paged.specs.Flush.{answered, has_work, synced}
 use Rattle.paged_read.specs.Ranges.{page_at}
 use Rattle.paged.specs.Reads.{HasPages, size_of}
@@ -59,7 +60,7 @@ written_idle w written =
 
 -- what it asks reads nothing
 pub settled_reads : (most : ℕ) (s : SyncState) (old new : Life) (answer : Result (Unit {0}) Error) → SettlesBy s old new answer → ReadsWithin most old new
-settled_reads most Clean old new answer settle = gained_none (AreWithin most) old new settle.1 tt
+settled_reads most Clean old new answer settled_disk = gained_none (AreWithin most) old new settled_disk.1 tt
 settled_reads most Dirty old new (Ok u) is = gained_once (AreWithin most) SyncAll false old new (ap (λ (l : Life). l.present.log) is) tt
 settled_reads most Dirty old new (Err SyncFailed) is = gained_once (AreWithin most) SyncAll true old new (ap (λ (l : Life). l.present.log) is) tt
 settled_reads most Dirty old new (Err OutOfMemory) is = gained_none (AreWithin most) old new is tt
@@ -76,45 +77,45 @@ reads_grow most old new reads = (reads.0, reads.1)
 
 -- where no sync is pending: each floor is kept
 pub settled_floors : (sum : List ℕ → ℕ) (P : ℕ) (content : List ℕ) (s : SyncState) (old new : Life) (answer : Result (Unit {0}) Error) → ReadsImage old → WaitsForNone s → SettlesBy s old new answer → KeepsFloors sum P content old new
-settled_floors sum P content Clean old new answer image none settle = floors_none sum P content old new settle.1
-settled_floors sum P content Dirty old new answer image none settle = floors_sync sum P content old new answer image settle
-settled_floors sum P content (Pending name) old new answer image none settle = absurd none
+settled_floors sum P content Clean old new answer image none settled_disk = floors_none sum P content old new settled_disk.1
+settled_floors sum P content Dirty old new answer image none settled_disk = floors_sync sum P content old new answer image settled_disk
+settled_floors sum P content (Pending name) old new answer image none settled_disk = absurd none
 
 -- why it isn't done
-pub settled_cause : (s : SyncState) (old new : Life) (e : Error) → WaitsForNone s → SettlesBy s old new (Err e) → HasCause s old new e
-settled_cause Clean old new e none settle = absurd (cc (settle.0))
-settled_cause Dirty old new e none settle = sync_cause Dirty old new e settle
-settled_cause (Pending name) old new e none settle = absurd none
+pub settled_cause : (s : SyncState) (old new : Life) (e : Error) → WaitsForNone s → SettlesBy s old new (Err e) → CallCause s old new e
+settled_cause Clean old new e none settled_disk = absurd (cc (settled_disk.0))
+settled_cause Dirty old new e none settled_disk = sync_cause Dirty old new e settled_disk
+settled_cause (Pending name) old new e none settled_disk = absurd none
 
 -- once it is done all is durable
 pub settled_durable : (s : SyncState) (old new : Life) → WaitsForNone s → (s ≡ Clean → IsDurable old.present) → SettlesBy s old new (Ok tt) → IsDurable new.present
-settled_durable Clean old new none durable settle = subst (λ (l : Life). IsDurable l.present) (sym settle.1) (durable refl)
-settled_durable Dirty old new none durable settle = subst (λ (l : Life). IsDurable l.present) (sym settle) (record { since = refl; base = refl })
-settled_durable (Pending name) old new none durable settle = absurd none
+settled_durable Clean old new none durable settled_disk = subst (λ (l : Life). IsDurable l.present) (sym settled_disk.1) (durable refl)
+settled_durable Dirty old new none durable settled_disk = subst (λ (l : Life). IsDurable l.present) (sym settled_disk) (record { since = refl; base = refl })
+settled_durable (Pending name) old new none durable settled_disk = absurd none
 
 -- the text of the only image of a blob of which all is durable
-rest_only : (sum : List ℕ → ℕ) (P : ℕ) (behind bytes : List ℕ) (d : Disk) → d.since ≡ [] → d.base ≡ bytes → AllOnly sum P (text sum P bytes) behind d
-rest_only sum P behind bytes d since base = λ image is_image free.
+rest_only : (sum : List ℕ → ℕ) (P : ℕ) (after bytes : List ℕ) (d : Disk) → d.since ≡ [] → d.base ≡ bytes → AllOnly sum P (text sum P bytes) after d
+rest_only sum P after bytes d since base = λ image is_image free.
     let is : image ≡ bytes = only_image d image since is_image ∙ base in
     inl (ap (λ (l : List ℕ). text sum P l) is ∙ sym (take_all (length (text sum P image)) (text sum P bytes) (omega (arith, ap (λ (l : List ℕ). length (text sum P l)) is))))
 
 -- where all was durable there is nothing else at any moment
-pub settled_only : (sum : List ℕ → ℕ) (P : ℕ) (behind : List ℕ) (s : SyncState) (old new : Life) (answer : Result (Unit {0}) Error) → IsDurable old.present → WaitsForNone s → SettlesBy s old new answer
-    → LeavesOnly sum P (text sum P old.present.readable) behind old new
-settled_only sum P behind Clean old new answer durable none settle =
+pub settled_only : (sum : List ℕ → ℕ) (P : ℕ) (after : List ℕ) (s : SyncState) (old new : Life) (answer : Result (Unit {0}) Error) → IsDurable old.present → WaitsForNone s → SettlesBy s old new answer
+    → LeavesOnly sum P (text sum P old.present.readable) after old new
+settled_only sum P after Clean old new answer durable none settled_disk =
     let held = text sum P old.present.readable in
-    subst (λ (l : Life). LeavesOnly sum P held behind old l) (sym settle.1) (through_start (AllOnly sum P held behind) old (rest_only sum P behind old.present.readable old.present durable.since durable.base))
-settled_only sum P behind Dirty old new answer durable none settle =
+    subst (λ (l : Life). LeavesOnly sum P held after old l) (sym settled_disk.1) (through_start (AllOnly sum P held after) old (rest_only sum P after old.present.readable old.present durable.since durable.base))
+settled_only sum P after Dirty old new answer durable none settled_disk =
     let held = text sum P old.present.readable in
-    let start = through_start (AllOnly sum P held behind) old (rest_only sum P behind old.present.readable old.present durable.since durable.base) in
-    elim (sync_cases old new answer settle) [
-      | inl same ↦ subst (λ (l : Life). LeavesOnly sum P held behind old l) (sym same) start
+    let start = through_start (AllOnly sum P held after) old (rest_only sum P after old.present.readable old.present durable.since durable.base) in
+    elim (sync_cases old new answer settled_disk) [
+      | inl same ↦ subst (λ (l : Life). LeavesOnly sum P held after old l) (sym same) start
       | inr (d, is, readable, inl (base, since)) ↦
-          subst (λ (l : Life). LeavesOnly sum P held behind old l) (sym is) (through_more (AllOnly sum P held behind) old old d start (rest_only sum P behind old.present.readable d (since ∙ durable.since) (base ∙ durable.base)))
+          subst (λ (l : Life). LeavesOnly sum P held after old l) (sym is) (through_more (AllOnly sum P held after) old old d start (rest_only sum P after old.present.readable d (since ∙ durable.since) (base ∙ durable.base)))
       | inr (d, is, readable, inr (base, since)) ↦
-          subst (λ (l : Life). LeavesOnly sum P held behind old l) (sym is) (through_more (AllOnly sum P held behind) old old d start (rest_only sum P behind old.present.readable d since base))
+          subst (λ (l : Life). LeavesOnly sum P held after old l) (sym is) (through_more (AllOnly sum P held after) old old d start (rest_only sum P after old.present.readable d since base))
     ]
-settled_only sum P behind (Pending name) old new answer durable none settle = absurd none
+settled_only sum P after (Pending name) old new answer durable none settled_disk = absurd none
 
 -- ---- a page that a sound writer's blob has tells enough
 
@@ -193,10 +194,10 @@ pub record TruncateOwes (sum : List ℕ → ℕ) (n : ℕ) (w : WriterState) (ol
   pub covers : IsSound sum w old.present → CoversThrough sum w.page_size (take n (content w old.present.readable)) old new
   pub starts : IsSound sum w old.present → StartsStand new.present
 
--- ---- what is known behind the sync
+-- ---- what is known after the sync
 
 -- the writer, and its blob
-pub record Behind (sum : List ℕ → ℕ) (w v : WriterState) (old mid : Life) : Type 0 where
+pub record After (sum : List ℕ → ℕ) (w v : WriterState) (old mid : Life) : Type 0 where
   pub opened : IsAsOpened sum v mid.present
   pub settled : IsSettled v
   pub page_size : v.page_size ≡ w.page_size
@@ -227,7 +228,7 @@ slot_sound sum w d sound few short = record {
     pages = sound.safe.pages;
     guard = sound.safe.guard;
     base = sound.safe.base;
-    place = sound.safe.place;
+    position = sound.safe.position;
   };
   truthful = sound.truthful;
 }
@@ -247,9 +248,9 @@ module _ (sum : List ℕ → ℕ) (n : ℕ) (w : WriterState) (old : Life) (t : 
   size_is : length (content w old.present.readable) ≡ size_of w
   size_is = length-content w old.present.readable reach
 
-  -- behind it the writer is as opened
-  pub behind : (v : WriterState) (mid : Life) → SyncsWritten sum w v old mid (Ok tt) → Behind sum w v old mid
-  behind v mid written = elim t.stands [
+  -- after it the writer is as opened
+  pub after : (v : WriterState) (mid : Life) → SyncsWritten sum w v old mid (Ok tt) → After sum w v old mid
+  after v mid written = elim t.stands [
     | inl sound ↦
         let syncs = written.syncs sound in
         let same : content v mid.present.readable ≡ content w old.present.readable = syncs.0.content ∙ append-nil (content w old.present.readable) in
@@ -339,7 +340,7 @@ module _ (sum : List ℕ → ℕ) (n : ℕ) (w : WriterState) (old : Life) (t : 
 
   -- ---- the sync isn't done
 
-  refuse_cause : (new : Life) (e : Error) → HasCause w.sync old new e → TruncateCause sum n w old new e
+  refuse_cause : (new : Life) (e : Error) → CallCause w.sync old new e → TruncateCause sum n w old new e
   refuse_cause new ReadFailed cause = absurd cause
   refuse_cause new WriteFailed cause = cause
   refuse_cause new ResizeFailed cause = absurd cause
@@ -382,25 +383,25 @@ module _ (sum : List ℕ → ℕ) (n : ℕ) (w : WriterState) (old : Life) (t : 
   -- ---- there is no more than is to be kept
 
   module _ (v : WriterState) (new : Life) (written : SyncsWritten sum w v old new (Ok tt)) (above : size_of v ≤ n) (covered : AreCovered new.present) where
-    after : Behind sum w v old new
-    after = behind v new written
+    later : After sum w v old new
+    later = after v new written
 
     all_kept : take n (content w old.present.readable) ≡ content w old.present.readable
-    all_kept = take_all n (content w old.present.readable) (omega (arith, size_is, after.size, above))
+    all_kept = take_all n (content w old.present.readable) (omega (arith, size_is, later.size, above))
 
     kept_truncates : IsTruncated sum n w old new v
     kept_truncates = record {
-      same = record { page_size = after.page_size; id = after.id; capacity = after.capacity };
-      size = omega (arith, after.size, above);
-      content = after.content ∙ sym all_kept;
-      settled = after.settled;
-      durable = after.opened.durable after.settled.clean;
-      log = after.log;
+      same = record { page_size = later.page_size; id = later.id; capacity = later.capacity };
+      size = omega (arith, later.size, above);
+      content = later.content ∙ sym all_kept;
+      settled = later.settled;
+      durable = later.opened.durable later.settled.clean;
+      log = later.log;
     }
 
     kept_exact : has_work w true ≡ false → IsCut sum n w old new v
     kept_exact idle =
-        let more : nat_lt n (size_of w) ≡ false = lt-leb (suc n) (size_of w) (let few : size_of w ≤ n = omega (arith, above, after.size) in omega (arith, few)) in
+        let more : nat_lt n (size_of w) ≡ false = lt-leb (suc n) (size_of w) (let few : size_of w ≤ n = omega (arith, above, later.size) in omega (arith, few)) in
         record {
           state = written.state idle ∙ sym (cond-false (nat_lt n (size_of w)) (shortened_writer sum w n old.present.readable) (synced w) more);
           readable = settled_readable w.sync old new (Ok tt) (written.written idle) ∙ sym (cond-false (nat_lt n (size_of w)) (shortened sum w.page_size n old.present.readable) old.present.readable more);
@@ -429,16 +430,16 @@ module _ (sum : List ℕ → ℕ) (n : ℕ) (w : WriterState) (old : Life) (t : 
           let pages_are : AreFull sum w.page_size (take w.full_pages (pages w.page_size old.present.readable)) = subst (λ (s : WriterState). AreFull sum w.page_size (take s.full_pages (pages w.page_size old.present.readable))) state full in
           let sound : Soundness sum v new.present = subst (λ (s : WriterState). Soundness sum s new.present) (sym state) (opened_sound opened pages_are) in (
             sound,
-            subst (λ (l : List ℕ). KeepsAll sum w.page_size l new) (after.content ∙ sym all_kept)
-                (subst (λ (k : ℕ). KeepsAll sum k (content v new.present.readable) new) after.page_size (settle_keeps sum v new.present sound after.settled.clean after.settled.flushed)),
+            subst (λ (l : List ℕ). KeepsAll sum w.page_size l new) (later.content ∙ sym all_kept)
+                (subst (λ (k : ℕ). KeepsAll sum k (content v new.present.readable) new) later.page_size (settle_keeps sum v new.present sound later.settled.clean later.settled.flushed)),
           )
     ]
 
     kept_owes : TruncateOwes sum n w old new (Ok v)
     kept_owes = record {
       truncates = kept_truncates;
-      there = (tip_reach sum v.page_size v.full_pages v.tip new.present.readable v.flushed after.opened.page).0;
-      within = omega (arith, after.settled.short, after.page_size, after.capacity, t.room);
+      there = (tip_reach sum v.page_size v.full_pages v.tip new.present.readable v.flushed later.opened.page).0;
+      within = omega (arith, later.settled.short, later.page_size, later.capacity, t.room);
       calls = omega (arith, written.calls);
       synced = λ sound few. written.syncs sound;
       idle = λ none few.
@@ -460,8 +461,8 @@ module _ (sum : List ℕ → ℕ) (n : ℕ) (w : WriterState) (old : Life) (t : 
   -- ---- there is more, and it is cut
 
   module _ (v : WriterState) (mid new : Life) (written : SyncsWritten sum w v old mid (Ok tt)) (less : n < size_of v) (cuts : CutsTo sum n v mid new) where
-    before : Behind sum w v old mid
-    before = behind v mid written
+    before : After sum w v old mid
+    before = after v mid written
 
     mid_durable : IsDurable mid.present
     mid_durable = before.opened.durable before.settled.clean

@@ -1,31 +1,29 @@
--- A wait for the pending sync, and what comes behind it.
+-- A wait for the pending sync, and what comes after it.
 use Rattle.std.proofs.Common.{◌≡◌, ℕ, ◌+◌, ◌≤◌, List, length, [], inl, inr, ◌⊎◌, refl, sym, ap, ◌∙◌, subst, arith, append-nil, true, false, Result, Ok, Err}
 use Rattle.std.specs.Prelude.{OnOk, take, ◌*◌, if◌then◌else◌}
 use Rattle.disk.specs.declared.started_sync.StartedSync.{StartedSync}
 use Rattle.disk.specs.declared.started_sync.StartedSync.TheVariants.{Done, Named}
-use Rattle.disk.specs.Disk.{Disk, Life, WaitSync, WaitGoes, WaitsFor, next, logged, settle_to, failed_at}
+use Rattle.disk.specs.Disk.{Disk, Life, WaitSync, WaitGoes, WaitsFor, next, logged, disk_settled_to, failed_at}
 use Rattle.disk.specs.declared.error.Error.{Error}
 use Rattle.disk.specs.declared.error.Error.TheVariants.{SyncFailed, OutOfMemory}
-use Rattle.crash.specs.WriterState.{WriterState, SyncState}
-use Rattle.crash.specs.WriterState.SyncState.{Clean, Dirty, Pending}
-use Rattle.crash.specs.Sound.{IsSound, Soundness, content}
+use Rattle.writer_state.specs.WriterState.{WriterState}
+use Rattle.writer_state.specs.declared.sync_state.SyncState.{SyncState}
+use Rattle.writer_state.specs.declared.sync_state.SyncState.TheVariants.{Clean, Dirty, Pending}
+use Rattle.writer_state.specs.Sound.{IsSound, Soundness, content}
 use Rattle.crash.specs.Below.{PagesStay}
 use Rattle.crash.specs.Started.{CoversThrough, StartsStand}
 use Rattle.crash.specs.Stays.{StaysThrough}
 use Rattle.crash.proofs.Moments.{stays_through_start}
 use Rattle.crash.proofs.BuiltLaws.{IsSmall}
 use Rattle.crash.proofs.BelowLaws.{pages_none, pages_one, pages_join, sync_pages_stay}
-use Rattle.crash.proofs.CoverLaws.{covers_none, covers_one, covers_through_join, sync_covers}
-use Rattle.crash.proofs.StandLaws.{sound_stands, sync_stands}
+use Rattle.writer_state.proofs.CoverLaws.{covers_none, covers_one, covers_through_join, sync_covers}
+use Rattle.writer_state.proofs.StandLaws.{sound_stands, sync_stands}
 use Rattle.crash.proofs.FloorLaws.{sync_readable}
-use Rattle.crash.proofs.StartedLaws.{settles_same, wait_leaves, wait_sound, wait_covers, waited_keeps}
-use Rattle.crash.proofs.Soundness.{sound_leaves}
-use Rattle.paged.specs.Writer.{state_of}
-use Rattle.paged.specs.declared.writer.SyncState.{SyncState as State}
-use Rattle.paged.specs.declared.writer.SyncState.TheVariants.{Clean as IsClean, Dirty as IsDirty}
+use Rattle.writer_state.proofs.StartedLaws.{settles_same, wait_leaves, wait_sound, wait_covers, waited_keeps}
+use Rattle.writer_state.proofs.Soundness.{sound_leaves}
 use Rattle.paged.specs.Flush.{has_work, synced, answered}
 use Rattle.paged_read.specs.Snapshots.{LeavesWriters}
-use Rattle.paged.specs.Calls.{AsksAtMost, wait_calls, settle_calls, sync_calls, GoesOn, IsSameWriter, Flushes, Settles, SettlesBy, Syncs, HadFailed, HasCause, WaitsForNone, WaitsForSync, Completes, Covers, waited, waited_state}
+use Rattle.paged.specs.Calls.{AsksAtMost, wait_calls, settle_calls, sync_calls, GoesOn, IsSameWriter, Flushes, Settles, SettlesBy, Syncs, HadFailed, CallCause, WaitsForNone, WaitsForSync, Completes, Covers, waited, waited_state}
 use Rattle.paged.proofs.Causes.{wait_cause, wait_asks, wait_grows, sync_asks}
 use Rattle.paged.proofs.Flushes.{size_is_length, stays_nil, goes_on_more, refuses_more, goes_on_same, settle_goes}
 
@@ -41,7 +39,7 @@ moment_is : (old new : Life) (d : Disk) → new ≡ next old d → new ≡ next 
 moment_is old new d is = is ∙ ap (λ (x : Disk). next old x) (sym (ap (λ (l : Life). l.present) is))
 
 wait_moment : (name : ℕ) (old new : Life) (answer : Result (Unit {0}) Error) → WaitGoes name old new answer → (new ≡ old) ⊎ (new ≡ next old new.present)
-wait_moment name old new (Ok u) (s, named, well, is) = inr (moment_is old new (logged (WaitSync name) false (settle_to (s.covers, s.bytes) old.present)) is)
+wait_moment name old new (Ok u) (s, named, well, is) = inr (moment_is old new (logged (WaitSync name) false (disk_settled_to (s.covers, s.bytes) old.present)) is)
 wait_moment name old new (Err SyncFailed) (failed, why, is) = inr (moment_is old new (logged (WaitSync name) failed (record old.present { started = failed_at name old.present.started })) is)
 wait_moment name old new (Err OutOfMemory) is = inl is
 wait_moment name old new (Err e) goes = absurd goes
@@ -78,7 +76,7 @@ pub wait_names : (name : ℕ) (old new : Life) (result : Result (Unit {0}) Error
 wait_names name old new (Ok u) (s, named, well, is) = ap (λ (l : Life). l.present.started) is ∙ (settles_same (s.covers, s.bytes) old.present).2
 wait_names name old new (Err e) goes = tt
 
--- so does what comes behind it
+-- so does what comes after it
 pub on_ok_after : {A : Type 0} (a b c : A) (result : Result (Unit {0}) Error) → b ≡ a → OnOk result (c ≡ b) → OnOk result (c ≡ a)
 on_ok_after a b c (Ok u) first second = second ∙ first
 on_ok_after a b c (Err e) first second = tt
@@ -105,7 +103,7 @@ wait_goes sum w now name old new (Ok u) small sound state goes is =
       is ∙ sym (ap (λ (s : SyncState). record w { sync = waited_state s }) state),
     )
 wait_goes sum w now name old new (Err e) small sound state goes is = record {
-  cause = subst (λ (s : SyncState). HasCause s old new e) (sym state) (wait_cause name old new e goes);
+  cause = subst (λ (s : SyncState). CallCause s old new e) (sym state) (wait_cause name old new e goes);
   stays = (wait_leaves sum w old new name small sound (Err e) goes).1;
   log = wait_grows name old new (Err e) goes;
 }
@@ -115,9 +113,9 @@ pub wait_due : (s : SyncState) (name : ℕ) → s ≡ Pending name → wait_call
 wait_due s name state none = omega (arith, ap wait_calls state, none)
 
 -- where none is pending the writer waits for nothing
-pub none_pending : (w : WriterState) (s : State) → state_of s ≡ w.sync → (s ≡ IsClean) ⊎ (s ≡ IsDirty) → WaitsForNone w.sync
-none_pending w s is (inl clean) = subst (λ (t : SyncState). WaitsForNone t) (ap state_of (sym clean) ∙ is) tt
-none_pending w s is (inr dirty) = subst (λ (t : SyncState). WaitsForNone t) (ap state_of (sym dirty) ∙ is) tt
+pub none_pending : (w : WriterState) (s : SyncState) → s ≡ w.sync → (s ≡ Clean) ⊎ (s ≡ Dirty) → WaitsForNone w.sync
+none_pending w s is (inl clean) = subst (λ (t : SyncState). WaitsForNone t) (sym clean ∙ is) tt
+none_pending w s is (inr dirty) = subst (λ (t : SyncState). WaitsForNone t) (sym dirty ∙ is) tt
 
 module _ (w : WriterState) (none : WaitsForNone w.sync) where
   same_state : (s : SyncState) → WaitsForNone s → s ≡ waited_state s
@@ -180,23 +178,23 @@ pub wait_is_settle : (sum : List ℕ → ℕ) (w : WriterState) (name : ℕ) →
 wait_is_settle sum w name state old new (Ok now) (goes, is) = (goes, is ∙ ap (λ (s : SyncState). record w { sync = waited_state s }) state)
 wait_is_settle sum w name state old new (Err e) refused = refused
 
--- ---- a call behind a wait
+-- ---- a call after a wait
 
 module _ (sum : List ℕ → ℕ) (w m : WriterState) (old mid new : Life) (first : GoesOn sum w old [] m mid) where
-  pub flushes_behind : (result : Result WriterState Error) → Flushes sum m mid new result → Flushes sum w old new result
-  flushes_behind (Ok now) goes = goes_on_more sum w m now old mid new first goes
-  flushes_behind (Err e) refused = refuses_more sum w m old mid new e first refused
+  pub flushes_after : (result : Result WriterState Error) → Flushes sum m mid new result → Flushes sum w old new result
+  flushes_after (Ok now) goes = goes_on_more sum w m now old mid new first goes
+  flushes_after (Err e) refused = refuses_more sum w m old mid new e first refused
 
-  pub syncs_behind : (result : Result WriterState Error) → Syncs sum m mid new result → Syncs sum w old new result
-  syncs_behind (Ok now) goes = (goes_on_more sum w m now old mid new first goes.0, goes.1)
-  syncs_behind (Err e) refused = refuses_more sum w m old mid new e first refused
+  pub syncs_after : (result : Result WriterState Error) → Syncs sum m mid new result → Syncs sum w old new result
+  syncs_after (Ok now) goes = (goes_on_more sum w m now old mid new first goes.0, goes.1)
+  syncs_after (Err e) refused = refuses_more sum w m old mid new e first refused
 
-  pub pages_behind : PagesStay w.page_size w.full_pages old mid → PagesStay m.page_size m.full_pages mid new → PagesStay w.page_size w.full_pages old new
-  pages_behind one two = pages_join w.page_size w.full_pages m.full_pages old mid new first.same.full_pages one (subst (λ (P : ℕ). PagesStay P m.full_pages mid new) first.same.page_size two)
+  pub pages_after : PagesStay w.page_size w.full_pages old mid → PagesStay m.page_size m.full_pages mid new → PagesStay w.page_size w.full_pages old new
+  pages_after one two = pages_join w.page_size w.full_pages m.full_pages old mid new first.same.full_pages one (subst (λ (P : ℕ). PagesStay P m.full_pages mid new) first.same.page_size two)
 
-  pub covers_behind : CoversThrough sum w.page_size (content w old.present.readable) old mid → CoversThrough sum m.page_size (content m mid.present.readable) mid new
+  pub covers_after : CoversThrough sum w.page_size (content w old.present.readable) old mid → CoversThrough sum m.page_size (content m mid.present.readable) mid new
       → CoversThrough sum w.page_size (content w old.present.readable) old new
-  covers_behind one two =
+  covers_after one two =
       covers_through_join sum w.page_size (content w old.present.readable) old mid new one
       (subst (λ (c : List ℕ). CoversThrough sum w.page_size c mid new) (first.content ∙ append-nil (content w old.present.readable))
       (subst (λ (P : ℕ). CoversThrough sum P (content m mid.present.readable) mid new) first.same.page_size two))
@@ -210,8 +208,8 @@ wait_within (Pending name) = omega arith
 pub sync_asks_wait : (w : WriterState) (old new : Life) → AsksAtMost (wait_calls w.sync) old new → AsksAtMost (sync_calls w) old new
 sync_asks_wait w old new calls = omega (arith, calls, wait_within w.sync)
 
-pub sync_asks_behind : (w m : WriterState) (old mid new : Life) → m ≡ waited w → AsksAtMost (wait_calls w.sync) old mid → AsksAtMost (sync_calls m) mid new → AsksAtMost (sync_calls w) old new
-sync_asks_behind w m old mid new is first second =
+pub sync_asks_after : (w m : WriterState) (old mid new : Life) → m ≡ waited w → AsksAtMost (wait_calls w.sync) old mid → AsksAtMost (sync_calls m) mid new → AsksAtMost (sync_calls w) old new
+sync_asks_after w m old mid new is first second =
     let later : sync_calls m ≡ (if has_work w true then 1 else 0) + settle_calls (waited_state w.sync) = ap sync_calls is in
     omega (arith, first, second, later, wait_within w.sync)
 

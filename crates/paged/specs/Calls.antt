@@ -8,14 +8,15 @@ use Rattle.disk.specs.declared.started_sync.StartedSync.TheVariants.{Done, Named
 use Rattle.disk.specs.declared.error.Error.{Error}
 use Rattle.disk.specs.declared.error.Error.TheVariants.{WriteFailed, SyncFailed, OffsetOverflow}
 use Rattle.disk.specs.declared.error.Error.TheVariants.{OutOfMemory}
-use Rattle.crash.specs.WriterState.{WriterState, SyncState}
-use Rattle.crash.specs.WriterState.SyncState.{Clean, Dirty, Pending}
-use Rattle.crash.specs.Sound.{IsSound, LeavesItsContent, content}
+use Rattle.writer_state.specs.WriterState.{WriterState, started_state}
+use Rattle.writer_state.specs.declared.sync_state.SyncState.{SyncState}
+use Rattle.writer_state.specs.declared.sync_state.SyncState.TheVariants.{Clean, Dirty, Pending}
+use Rattle.writer_state.specs.Sound.{IsSound, LeavesItsContent, content}
 use Rattle.crash.specs.Kept.{AllKeep}
 use Rattle.crash.specs.Started.{WouldKeep}
 use Rattle.crash.specs.Stays.{StaysThrough, KeepsAll}
 use Rattle.crash.specs.Built.{kept_len}
-use Rattle.paged.specs.Writer.{physical_size, FitsBlob}
+use Rattle.paged.specs.Writer.{physical_blob_size, FitsBlob}
 use Rattle.paged.specs.Flush.{has_work, synced}
 
 -- the started sync that a writer in this state waits for has failed
@@ -26,12 +27,12 @@ HadFailed (Pending name) d = had_failed d.started name ≡ true
 
 -- why a call of a writer in this state may answer this error: a write or a sync of the device
 -- failed in it, or the started sync that it waited for had failed, or memory was refused
-abbrev pub HasCause : SyncState → Life → Life → Error → Type 0
-HasCause s old new WriteFailed = HasFailed WriteFailed old.present new.present
-HasCause s old new SyncFailed =
+abbrev pub CallCause : SyncState → Life → Life → Error → Type 0
+CallCause s old new WriteFailed = HasFailed WriteFailed old.present new.present
+CallCause s old new SyncFailed =
     HasFailed SyncFailed old.present new.present ⊎ HadFailed s old.present
-HasCause s old new OutOfMemory = Unit {0}
-HasCause s old new _ = ⊥
+CallCause s old new OutOfMemory = Unit {0}
+CallCause s old new _ = ⊥
 
 -- at most so many device calls were made
 abbrev pub AsksAtMost : ℕ → Life → Life → Type 0
@@ -87,12 +88,12 @@ pub record GoesOn (sum : List ℕ → ℕ) (w : WriterState) (old : Life) (more 
   pub same : IsSameWriter w now
   pub log : LogGrows old.present new.present
   -- where the sync that it is left waiting for has failed, this call is why, or it was so before
-  pub waits : HadFailed now.sync new.present → HasCause w.sync old new SyncFailed
+  pub waits : HadFailed now.sync new.present → CallCause w.sync old new SyncFailed
 
 -- a call is refused: why, and what each of its moments owes
 pub record Refuses (sum : List ℕ → ℕ) (w : WriterState) (content : List ℕ) (old new : Life)
     (e : Error) : Type 0 where
-  pub cause : HasCause w.sync old new e
+  pub cause : CallCause w.sync old new e
   pub stays : StaysThrough sum w.page_size content old new
   pub log : LogGrows old.present new.present
 
@@ -157,11 +158,6 @@ Completes sum P (Pending name) old new =
     (content : List ℕ) (cover : ℕ) → WouldKeep sum P content name cover old.present
     → AllKeep sum P content cover new.present
 
--- the state of a writer that started a sync, by what that answered
-abbrev pub started_state : StartedSync → SyncState
-started_state Done = Clean
-started_state (Named name) = Pending name
-
 -- what starting a sync answers where it asks nothing of the device
 abbrev pub started_already : SyncState → StartedSync
 started_already Clean = Done
@@ -170,12 +166,12 @@ started_already (Pending name) = Named name
 
 -- where a writer waits no more for the sync that it waited for, whichever call waited, every image
 -- keeps what that covers of this content
-abbrev pub Completed : (List ℕ → ℕ) → (P : ℕ) → (held : List ℕ) → (before behind : SyncState)
+abbrev pub Completed : (List ℕ → ℕ) → (P : ℕ) → (held : List ℕ) → (before after : SyncState)
     → Life → Life → Type 0
-Completed sum P held Clean behind old new = Unit {0}
-Completed sum P held Dirty behind old new = Unit {0}
-Completed sum P held (Pending name) behind old new =
-    (behind ≢ Pending name) → (cover : ℕ) → cover ≤ length held
+Completed sum P held Clean after old new = Unit {0}
+Completed sum P held Dirty after old new = Unit {0}
+Completed sum P held (Pending name) after old new =
+    (after ≢ Pending name) → (cover : ℕ) → cover ≤ length held
     → WouldKeep sum P held name cover old.present → AllKeep sum P held cover new.present
 
 -- what a started sync covers, every image keeps from then on
@@ -188,7 +184,7 @@ abbrev pub Starts : (List ℕ → ℕ) → (P : ℕ) → List ℕ → Life → S
 Starts sum P content life Done = KeepsAll sum P content life
 Starts sum P content life (Named name) = WouldKeep sum P content name (length content) life.present
 
--- a sync is started behind all that was appended
+-- a sync is started after all that was appended
 abbrev pub StartsSync : (List ℕ → ℕ) → WriterState → Life → Life
     → Result (WriterState × StartedSync) Error → Type 0
 StartsSync sum w old new (Ok r) =
@@ -202,7 +198,8 @@ abbrev pub Appends : (List ℕ → ℕ) → WriterState → List ℕ → Life �
 Appends sum w bytes old new (Ok r) =
     (r.1 ≡ length (content w old.present.readable)) × GoesOn sum w old bytes r.0 new
 Appends sum w bytes old new (Err OffsetOverflow) =
-    (new ≡ old) × (2 ^ 64 ≤ physical_size w.page_size w.full_pages (length w.tip + length bytes))
+    (new ≡ old)
+    × (2 ^ 64 ≤ physical_blob_size w.page_size w.full_pages (length w.tip + length bytes))
 Appends sum w bytes old new (Err e) =
     Refuses sum w (content w old.present.readable ++ bytes) old new e
 
@@ -222,7 +219,7 @@ Buffers w bytes now (Ok passed) =
     × (now ≡ record w { tip = w.tip ++ bytes })
     × (passed ≡ nat_lt w.capacity (length w.tip + length bytes))
 Buffers w bytes now (Err OffsetOverflow) =
-    (2 ^ 64 ≤ physical_size w.page_size w.full_pages (length w.tip + length bytes)) × (now ≡ w)
+    (2 ^ 64 ≤ physical_blob_size w.page_size w.full_pages (length w.tip + length bytes)) × (now ≡ w)
 Buffers w bytes now (Err OutOfMemory) =
     FitsBlob w.page_size w.full_pages (length w.tip + length bytes) × (now ≡ w)
 Buffers w bytes now (Err _) = ⊥
@@ -238,7 +235,7 @@ TryAppends w bytes now (Ok None) =
     FitsBlob w.page_size w.full_pages (length w.tip + length bytes)
     × (w.capacity < length w.tip + length bytes) × (now ≡ w)
 TryAppends w bytes now (Err OffsetOverflow) =
-    (2 ^ 64 ≤ physical_size w.page_size w.full_pages (length w.tip + length bytes)) × (now ≡ w)
+    (2 ^ 64 ≤ physical_blob_size w.page_size w.full_pages (length w.tip + length bytes)) × (now ≡ w)
 TryAppends w bytes now (Err OutOfMemory) =
     FitsBlob w.page_size w.full_pages (length w.tip + length bytes)
     × (length w.tip + length bytes ≤ w.capacity) × (now ≡ w)

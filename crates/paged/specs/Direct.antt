@@ -2,7 +2,8 @@
 use Rattle.std.specs.Prelude.{◌≡◌, ◌<◌, ◌≤◌, ◌+◌, ◌-◌, ◌%◌, ◌&&◌, ◌++◌, ℕ, Bool, List, []}
 use Rattle.std.specs.Prelude.{length, nat_lt, nat_le}
 use Rattle.disk.specs.Disk.{Life}
-use Rattle.crash.specs.WriterState.{WriterState, SyncState}
+use Rattle.writer_state.specs.WriterState.{WriterState}
+use Rattle.writer_state.specs.declared.sync_state.SyncState.{SyncState}
 use Rattle.paged.specs.Writer.{FitsBlob}
 use Rattle.paged.specs.Calls.{wait_calls}
 
@@ -10,7 +11,7 @@ use Rattle.paged.specs.Calls.{wait_calls}
 abbrev pub fill_of : WriterState → ℕ
 fill_of w = (w.page_size - length w.tip % w.page_size) % w.page_size
 
--- whether so many bytes more pass the capacity, and have a whole page behind the boundary
+-- whether so many bytes more pass the capacity, and have a whole page after the boundary
 abbrev pub is_too_big : WriterState → ℕ → Bool
 is_too_big w more =
     nat_lt w.capacity (length w.tip + more) && nat_le (fill_of w + w.page_size) more
@@ -19,7 +20,7 @@ is_too_big w more =
 abbrev pub buffering : WriterState → List ℕ → WriterState
 buffering w more = record w { tip = w.tip ++ more }
 
--- whole pages and less than a page behind them, which a writer with an empty tip is to append
+-- whole pages and less than a page after them, which a writer with an empty tip is to append
 pub record IsDirect (w : WriterState) (whole rest : List ℕ) : Type 0 where
   pub empty : w.tip ≡ []
   pub some : 0 < length whole
@@ -29,5 +30,5 @@ pub record IsDirect (w : WriterState) (whole rest : List ℕ) : Type 0 where
 
 -- at most one device call was made beside the wait that is no longer due
 abbrev pub AsksWithWait : SyncState → SyncState → Life → Life → Type 0
-AsksWithWait before behind old new =
-    length new.present.log + wait_calls behind ≤ length old.present.log + (wait_calls before + 1)
+AsksWithWait before after old new =
+    length new.present.log + wait_calls after ≤ length old.present.log + (wait_calls before + 1)

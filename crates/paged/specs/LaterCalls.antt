@@ -16,25 +16,25 @@ pub record Moment : Type 0 where
 
 -- what the cache held of a page it holds, or nothing, or the page of this content
 abbrev pub PageGoes : (content : List ℕ) → (id page : ℕ) → CacheState → CacheState → Type 0
-PageGoes content id page cache behind =
-    (held behind (id, page) ≡ held cache (id, page)) ⊎ (held behind (id, page) ≡ None)
-    ⊎ (held behind (id, page) ≡ Some (page_of_content cache.page_size content page))
+PageGoes content id page cache after =
+    (held after (id, page) ≡ held cache (id, page)) ⊎ (held after (id, page) ≡ None)
+    ⊎ (held after (id, page) ≡ Some (page_of_content cache.page_size content page))
 
 -- a call that comes later than a snapshot, whatever it answers: the snapshot's pages are in the
 -- blob at each moment of it, and what the cache holds of them is theirs
-pub record IsLaterCall (t : Tail) (before behind : Moment) : Type 0 where
-  pub pages : PagesStay t.page_size t.full_pages before.life behind.life
-  pub page_size : behind.cache.page_size ≡ before.cache.page_size
-  pub ids : before.cache.ids_given ≤ behind.cache.ids_given
+pub record IsLaterCall (t : Tail) (before after : Moment) : Type 0 where
+  pub pages : PagesStay t.page_size t.full_pages before.life after.life
+  pub page_size : after.cache.page_size ≡ before.cache.page_size
+  pub ids : before.cache.ids_given ≤ after.cache.ids_given
   pub each : (page : ℕ) → page < t.full_pages
-      → PageGoes (told t before.life.present.readable) t.id page before.cache behind.cache
+      → PageGoes (told t before.life.present.readable) t.id page before.cache after.cache
 
--- one behind another: the moments between them
+-- one after another: the moments between them
 abbrev pub AreLaterCalls : Tail → Moment → List Moment → Type 0
 AreLaterCalls t start [] = Unit {0}
 AreLaterCalls t start (next ∷ rest) = IsLaterCall t start next × AreLaterCalls t next rest
 
--- the moment behind all of them
+-- the moment after all of them
 abbrev pub last_of : Moment → List Moment → Moment
 last_of start [] = start
 last_of start (next ∷ rest) = last_of next rest
@@ -57,12 +57,12 @@ pub record CanReadBoth (s : TwoBlobs) : Type 0 where
 
 -- a call of one blob: what reads of it stand on goes on, and of the cache keys of its id alone are
 -- put. Where it was refused, that is what it was.
-pub record IsCallOf (t now : Tail) (old new : Life) (cache behind : CacheState) : Type 0 where
+pub record IsCallOf (t now : Tail) (old new : Life) (cache after : CacheState) : Type 0 where
   pub id : now.id ≡ t.id
   pub from : ℕ
   pub content : List ℕ
-  pub caches : CachesOnly t.id from content cache behind
-  pub reads : CanRead t cache old.present → CanRead now behind new.present
+  pub caches : CachesOnly t.id from content cache after
+  pub reads : CanRead t cache old.present → CanRead now after new.present
 
 -- the other blob isn't touched
 pub record IsCallOfFirst (s n : TwoBlobs) : Type 0 where
@@ -85,6 +85,6 @@ abbrev pub AreCallsOfFirst : TwoBlobs → List TwoBlobs → Type 0
 AreCallsOfFirst s [] = Unit {0}
 AreCallsOfFirst s (n ∷ rest) = IsCallOfFirst s n × AreCallsOfFirst n rest
 
-abbrev pub both_behind : TwoBlobs → List TwoBlobs → TwoBlobs
-both_behind s [] = s
-both_behind s (n ∷ rest) = both_behind n rest
+abbrev pub both_after : TwoBlobs → List TwoBlobs → TwoBlobs
+both_after s [] = s
+both_after s (n ∷ rest) = both_after n rest

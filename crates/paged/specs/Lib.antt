@@ -11,3 +11,4 @@ pub mod Snapshots
 pub mod LaterCalls
 pub mod Replays
 pub mod Scans
+pub mod Outlook

@@ -8,9 +8,9 @@ use Rattle.disk.specs.declared.error.Error.TheVariants.{ReadFailed, WriteFailed,
 use Rattle.disk.specs.declared.error.Error.TheVariants.{SyncFailed, OffsetOverflow, OutOfMemory}
 use Rattle.disk.specs.declared.error.Error.TheVariants.{IdsExhausted}
 use Rattle.cache.specs.CacheState.{CacheState}
-use Rattle.crash.specs.WriterState.{WriterState}
-use Rattle.crash.specs.WriterState.SyncState.{Clean}
-use Rattle.crash.specs.Sound.{IsSound, LeavesItsContent, content}
+use Rattle.writer_state.specs.WriterState.{WriterState}
+use Rattle.writer_state.specs.declared.sync_state.SyncState.TheVariants.{Clean}
+use Rattle.writer_state.specs.Sound.{IsSound, LeavesItsContent, content}
 use Rattle.paged.specs.Calls.{IsSettled}
 use Rattle.paged.specs.Recovery.{IsDurable, opened_writer, opened_size, cache_after}
 use Rattle.paged.specs.Truncate.{cut_writer, cut_bytes}

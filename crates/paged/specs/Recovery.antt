@@ -9,18 +9,17 @@ use Rattle.disk.specs.declared.error.Error.TheVariants.{OffsetOverflow, OutOfMem
 use Rattle.page.specs.Page.{pages, text}
 use Rattle.page.specs.declared.slot.ActiveChecksum.{ActiveChecksum}
 use Rattle.cache.specs.CacheState.{CacheState}
-use Rattle.crash.specs.WriterState.{WriterState, SyncState}
-use Rattle.crash.specs.WriterState.SyncState.{Clean, Dirty}
+use Rattle.writer_state.specs.WriterState.{WriterState}
+use Rattle.writer_state.specs.declared.sync_state.SyncState.{SyncState}
+use Rattle.writer_state.specs.declared.sync_state.SyncState.TheVariants.{Clean, Dirty}
 use Rattle.crash.specs.Looks.{Looked}
-use Rattle.crash.specs.Sound.{IsSound, TipPage, content}
+use Rattle.writer_state.specs.Sound.{IsSound, TipPage, content}
 use Rattle.crash.specs.Kept.{AllKeep, Through}
 use Rattle.crash.specs.Full.{AreFull}
 use Rattle.crash.specs.Built.{kept_len}
 use Rattle.crash.specs.Stays.{LeavesOnly}
 use Rattle.paged_read.specs.declared.prefix.Prefix.{Prefix}
-use Rattle.paged.specs.declared.writer.SyncState.TheVariants.{Clean as IsClean, Dirty as IsDirty}
-use Rattle.paged.specs.declared.writer.SyncState.TheVariants.{Pending as IsPending}
-use Rattle.paged.specs.declared.writer.SyncState.{SyncState as State}
+use Rattle.writer_state.specs.declared.sync_state.SyncState.TheVariants.{Pending}
 use Rattle.paged_read.specs.Prefix.{last_prefix, prefix_pages, tip_of, HasBytes}
 use Rattle.paged.specs.Calls.{IsWritten, WaitsForNone}
 
@@ -37,7 +36,7 @@ pub record IsDurable (d : Disk) : Type 0 where
   pub since : d.since ≡ []
   pub base : d.base ≡ d.readable
 
--- a cut to so many bytes: a resize, and a sync behind it
+-- a cut to so many bytes: a resize, and a sync after it
 abbrev pub Cuts : ℕ → Life → Life → Result (Unit {0}) Error → Type 0
 Cuts kept old new (Ok u) = (mid : Life) × ResizeGoes kept old mid (Ok u) × SyncGoes mid new (Ok u)
 Cuts kept old new (Err e) =
@@ -45,18 +44,18 @@ Cuts kept old new (Err e) =
     ⊎ ((mid : Life) × ResizeGoes kept old mid (Ok tt) × SyncGoes mid new (Err e))
 
 -- the same, where there is more
-abbrev pub CutsBack : ℕ → Life → Life → Result State Error → Type 0
-CutsBack kept old new (Ok IsDirty) = (kept ≡ length old.present.readable) × (new ≡ old)
-CutsBack kept old new (Ok IsClean) =
+abbrev pub CutsBack : ℕ → Life → Life → Result SyncState Error → Type 0
+CutsBack kept old new (Ok Dirty) = (kept ≡ length old.present.readable) × (new ≡ old)
+CutsBack kept old new (Ok Clean) =
     (kept ≢ length old.present.readable) × Cuts kept old new (Ok tt)
-CutsBack kept old new (Ok (IsPending name)) = ⊥
+CutsBack kept old new (Ok (Pending name)) = ⊥
 CutsBack kept old new (Err e) = Cuts kept old new (Err e)
 
 -- the blob keeps its first bytes: all of them and nothing was written, or the cut is durable
-pub data IsKept (old new : Life) (kept : ℕ) : SyncState → Type 0 where
-  whole : kept ≡ length old.present.readable → Looked old new → IsKept old new kept Dirty
+pub data IsCutBack (old new : Life) (kept : ℕ) : SyncState → Type 0 where
+  whole : kept ≡ length old.present.readable → Looked old new → IsCutBack old new kept Dirty
   cut : kept ≢ length old.present.readable → new.present.readable ≡ take kept old.present.readable
-      → IsDurable new.present → IsKept old new kept Clean
+      → IsDurable new.present → IsCutBack old new kept Clean
 
 -- the slot that tells a partial page, where there is one
 abbrev pub slot_of_tip : Option (List ℕ × ActiveChecksum) → Option ActiveChecksum
@@ -77,12 +76,13 @@ at_prefix P id capacity p sync = record {
   sync = sync;
 }
 
--- a writer that stands behind these pages gets an id
-abbrev pub Stands : CacheState → ℕ → Prefix → SyncState → Result WriterState Error → Type 0
-Stands cache capacity p sync (Ok w) = w ≡ at_prefix cache.page_size cache.ids_given capacity p sync
-Stands cache capacity p sync (Err OutOfMemory) = Unit {0}
-Stands cache capacity p sync (Err IdsExhausted) = 2 ^ 64 ≤ cache.ids_given
-Stands cache capacity p sync (Err _) = ⊥
+-- a writer that stands after these pages gets an id
+abbrev pub GivesWriter : CacheState → ℕ → Prefix → SyncState → Result WriterState Error → Type 0
+GivesWriter cache capacity p sync (Ok w) =
+    w ≡ at_prefix cache.page_size cache.ids_given capacity p sync
+GivesWriter cache capacity p sync (Err OutOfMemory) = Unit {0}
+GivesWriter cache capacity p sync (Err IdsExhausted) = 2 ^ 64 ≤ cache.ids_given
+GivesWriter cache capacity p sync (Err _) = ⊥
 
 -- the pages of some bytes up to the last that has a value
 abbrev pub opened_prefix : (List ℕ → ℕ) → ℕ → List ℕ → Prefix
@@ -125,7 +125,7 @@ pub record IsOpened (sum : List ℕ → ℕ) (cache : CacheState) (capacity : �
     (w : WriterState) : Type 0 where
   pub sync : SyncState
   pub state : w ≡ opened_writer sum cache capacity old.present.readable sync
-  pub kept : IsKept old new (opened_size sum cache.page_size old.present.readable) sync
+  pub kept : IsCutBack old new (opened_size sum cache.page_size old.present.readable) sync
   pub bytes : HasBytes cache.page_size w.full_pages old.present.readable
       (opened_prefix sum cache.page_size old.present.readable).partial
   pub sound : SoundWhereFull sum cache.page_size old new w
@@ -137,7 +137,7 @@ Opens sum cache capacity old new (Err OffsetOverflow) =
     (new ≡ old) × (2 ^ 64 ≤ adjusted capacity cache.page_size)
 Opens sum cache capacity old new (Err IdsExhausted) =
     (2 ^ 64 ≤ cache.ids_given) × (sync : SyncState)
-    × IsKept old new (opened_size sum cache.page_size old.present.readable) sync
+    × IsCutBack old new (opened_size sum cache.page_size old.present.readable) sync
 Opens sum cache capacity old new (Err e) = RecoveryCause old new e
 
 -- the cache once it was asked for an id, where the call came so far

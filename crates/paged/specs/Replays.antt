@@ -3,14 +3,14 @@ use Rattle.std.specs.Prelude.{◌≡◌, ◌+◌, ℕ, List, [], if◌then◌els
 use Rattle.disk.specs.Disk.{Life}
 use Rattle.disk.specs.declared.error.Error.{Error}
 use Rattle.disk.specs.declared.error.Error.TheVariants.{OutOfMemory}
-use Rattle.crash.specs.WriterState.{WriterState}
-use Rattle.crash.specs.Sound.{content}
+use Rattle.writer_state.specs.WriterState.{WriterState}
+use Rattle.writer_state.specs.Sound.{content}
 use Rattle.paged_read.specs.Replay.{new_replay, ReplayState}
 use Rattle.paged.specs.Caches.{tail_of}
 use Rattle.paged.specs.Calls.{GoesOn, IsWritten, Refuses, wait_calls}
 use Rattle.paged.specs.Flush.{has_work}
 
--- a replay begins behind all that was appended: the writer goes on with all of its bytes written,
+-- a replay begins after all that was appended: the writer goes on with all of its bytes written,
 -- and the replay, with a buffer of this size, is of what its reads stand on
 abbrev pub BeginsReplay : (List ℕ → ℕ) → WriterState → (buffer_size : ℕ) → Life → Life
     → Result (WriterState × ReplayState) Error → Type 0

@@ -7,14 +7,14 @@ use Rattle.disk.specs.declared.error.Error.TheVariants.{OutOfMemory}
 use Rattle.disk.specs.declared.started_sync.StartedSync.{StartedSync}
 use Rattle.disk.specs.declared.started_sync.StartedSync.TheVariants.{Done, Named}
 use Rattle.cache.specs.CacheState.{CacheState}
-use Rattle.crash.specs.WriterState.{WriterState}
-use Rattle.crash.specs.Sound.{content}
+use Rattle.writer_state.specs.WriterState.{WriterState}
+use Rattle.writer_state.specs.Sound.{content}
 use Rattle.paged_read.specs.Tail.{Tail}
 use Rattle.paged.specs.Caches.{PutsUpTo, tail_of}
 use Rattle.paged.specs.Calls.{GoesOn, Refuses, StartsSync, unstarted_calls, wait_calls}
 use Rattle.paged.specs.Flush.{has_work}
 
--- a snapshot is made behind the full pages: the writer goes on, buffers less than a page, and the
+-- a snapshot is made after the full pages: the writer goes on, buffers less than a page, and the
 -- snapshot is what its reads stand on
 abbrev pub MakesSnapshot : (List ℕ → ℕ) → WriterState → Life → Life
     → Result (WriterState × Tail) Error → Type 0
@@ -39,7 +39,7 @@ TriesSnapshot w (Ok None) = w.page_size ≤ length w.tip
 TriesSnapshot w (Err OutOfMemory) = length w.tip < w.page_size
 TriesSnapshot w (Err _) = ⊥
 
--- a writer is sealed: a sync is started behind all that was appended, and of the writer that would
+-- a writer is sealed: a sync is started after all that was appended, and of the writer that would
 -- go on what its reads stand on is left
 abbrev pub SealsWriter : (List ℕ → ℕ) → WriterState → Life → Life
     → Result (Tail × StartedSync) Error → Type 0

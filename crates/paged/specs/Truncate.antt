@@ -12,9 +12,9 @@ use Rattle.page.specs.Slot.{other, slot_offset}
 use Rattle.page.specs.Page.{slot_bytes, value_len, value_slot, active, pages, text}
 use Rattle.page.specs.declared.slot.Slot.{Slot}
 use Rattle.page.specs.declared.slot.ActiveChecksum.{ActiveChecksum}
-use Rattle.crash.specs.WriterState.{WriterState}
-use Rattle.crash.specs.WriterState.SyncState.{Clean}
-use Rattle.crash.specs.Sound.{IsSound, content}
+use Rattle.writer_state.specs.WriterState.{WriterState}
+use Rattle.writer_state.specs.declared.sync_state.SyncState.TheVariants.{Clean}
+use Rattle.writer_state.specs.Sound.{IsSound, content}
 use Rattle.crash.specs.Full.{AreFull}
 use Rattle.crash.specs.Built.{footer}
 use Rattle.crash.specs.Stays.{KeepsAll, KeepsFloors}
@@ -41,12 +41,12 @@ shortened_slot sum P n bytes =
 -- told by the slot that wasn't its value's, and six zeros in the other
 abbrev pub shortened : (List ℕ → ℕ) → (P n : ℕ) → List ℕ → List ℕ
 shortened sum P n bytes =
-    let place = n / P * (P + 12) in
-    if n % P == 0 then take place bytes
-    else (take (place + P) bytes ++ footer (value_slot sum P (page_at P (n / P) bytes))
-    (slot_bytes 0 0) (slot_bytes (n % P) (sum (take (n % P) (drop place bytes)))))
+    let offset = n / P * (P + 12) in
+    if n % P == 0 then take offset bytes
+    else (take (offset + P) bytes ++ footer (value_slot sum P (page_at P (n / P) bytes))
+    (slot_bytes 0 0) (slot_bytes (n % P) (sum (take (n % P) (drop offset bytes)))))
 
--- the writer that stands behind them
+-- the writer that stands after them
 abbrev pub shortened_writer : (List ℕ → ℕ) → WriterState → (n : ℕ) → List ℕ → WriterState
 shortened_writer sum w n bytes =
     let P = w.page_size in
@@ -153,7 +153,7 @@ WritesSlot P page s bytes sync old new answer =
     WriteGoes (page * (P + 12) + P + slot_offset s) bytes sync old new answer
 
 -- the checksum goes into the slot that isn't this one, with no length: durably at once, or where
--- something else is unsynced by a sync behind it
+-- something else is unsynced by a sync after it
 abbrev pub Stages : (P page : ℕ) → Slot → (crc : ℕ) → (unsynced : Bool) → Life → Life
     → Result (Unit {0}) Error → Type 0
 Stages P page s crc false old new answer =
@@ -175,7 +175,7 @@ SparesSlot sum P page slot old new =
     (content : List ℕ) → HeldBy sum P content page slot old.present
     → StaysHeld sum P content page slot old new
 
--- the writer behind so many pages, and these bytes of the next, which this slot tells
+-- the writer after so many pages, and these bytes of the next, which this slot tells
 abbrev pub standing : WriterState → (pages : ℕ) → List ℕ → Option ActiveChecksum → WriterState
 standing w pages bytes slot = record w {
   full_pages = pages;

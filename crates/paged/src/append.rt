@@ -1,12 +1,12 @@
 // Appending.
 ghost use Rattle.std.specs.Prelude.{◌≡◌, ◌↔◌, ◌+◌, ◌-◌, ◌*◌, ◌/◌, ◌^◌, ◌≤◌, ◌<◌, ◌++◌, length};
 ghost use Rattle.std.specs.Prelude.{IsTrue, IfOk, OnOk, Err};
-ghost use Rattle.crash.specs.Sound.{IsSound, content};
+ghost use Rattle.writer_state.specs.Sound.{IsSound, content};
 ghost use Rattle.crash.specs.Below.{PagesStay};
-ghost use Rattle.crash.specs.WriterState.SyncState.{Dirty};
+ghost use Rattle.writer_state.specs.declared.sync_state.SyncState.TheVariants.{Dirty};
 ghost use Rattle.crash.specs.Started.{CoversThrough, StartsStand};
 ghost use Rattle.crash.specs.Stays.{KeepsAllFloors, LeavesOnly};
-ghost use Rattle.paged.specs.Writer.{physical_size, FitsBlob};
+ghost use Rattle.paged.specs.Writer.{physical_blob_size, FitsBlob};
 ghost use Rattle.paged.specs.Calls.{AsksAtMost, HoldsWithin, Appends, Buffers, BuffersAll};
 ghost use Rattle.paged.specs.Calls.{Completed, wait_calls};
 ghost use Rattle.paged.specs.Calls.{TryAppends, BuffersOver, KeepsSound, KeepsPages};
@@ -22,7 +22,7 @@ use cache::CacheRef;
 use disk::{Blob, Error, IoBuf};
 use page::{CHECKSUM_SIZE, EncodeSize, Sum, Write};
 
-/// The most bytes for which a blob has places.
+/// The most bytes for which a blob has room.
 fn greatest_size(page_size: u64) -> u64
     requires { page_size < 2 ^ 16 }
     ensures { result ≡ (2 ^ 64 - 1) / (page_size + 12) * page_size }
@@ -31,7 +31,7 @@ fn greatest_size(page_size: u64) -> u64
 }
 
 impl<B, H, Phase> Writer<B, H, Phase> {
-    /// Whether the blob has places for so many bytes more.
+    /// Whether the blob has room for so many bytes more.
     pub(crate) fn fits(&self, more: usize) -> bool
         ensures { IsTrue result
             ↔ FitsBlob self.now.page_size self.now.full_pages (length self.now.tip + more) }
@@ -40,7 +40,7 @@ impl<B, H, Phase> Writer<B, H, Phase> {
         let Some(size) = self.size().checked_add(more as u64) else {
             return false;
         };
-        // With pages of one byte, the smallest, there are places for more.
+        // With pages of one byte, the smallest, there are offsets for more.
         size < 1 << 60 || size <= greatest_size(page_size)
     }
 
@@ -57,7 +57,7 @@ impl<B, H, Phase> Writer<B, H, Phase> {
 }
 
 impl<B: Blob, H: Sum, Phase> Writer<B, H, Phase> {
-    /// Appends bytes, and answers the logical place of the first: the size until now. They are
+    /// Appends bytes, and answers the logical offset of the first: the size until now. They are
     /// buffered; where the buffer then holds more than its capacity, its full pages are written,
     /// without a sync, once a sync that was started has been waited for. Where a whole page is left
     /// of them once the buffer is filled to a page boundary, the buffer is written first, and then
@@ -80,7 +80,7 @@ impl<B: Blob, H: Sum, Phase> Writer<B, H, Phase> {
         ensures appends { let old = B.life blob.old in let new = B.life blob.new in
             Appends H.sum_of self bytes.now old new result }
         ensures overflow { let buffered = length self.tip + length bytes.now in
-            2 ^ 64 ≤ physical_size self.page_size self.full_pages buffered
+            2 ^ 64 ≤ physical_blob_size self.page_size self.full_pages buffered
             → result ≡ Err Error.OffsetOverflow }
         ensures sound { IfOk result (λ r. IsSound H.sum_of r.0 (B.life blob.new).present) }
         ensures there { IfOk result (λ r. HasPages r.0 (B.life blob.new)) }
@@ -151,7 +151,7 @@ impl<B: Blob, H: Sum, Phase> Writer<B, H, Phase> {
             let held = content self.old old.present.readable in
             CoversThrough H.sum_of self.old.page_size held old new }
         ensures overflow { let buffered = length self.old.tip + length bytes.now in
-            2 ^ 64 ≤ physical_size self.old.page_size self.old.full_pages buffered
+            2 ^ 64 ≤ physical_blob_size self.old.page_size self.old.full_pages buffered
             → result ≡ Err Error.OffsetOverflow }
         ensures within { OnOk result (HoldsWithin self.new) }
         ensures buffered { let old = B.life blob.old in let new = B.life blob.new in
@@ -199,7 +199,7 @@ impl<B: Blob, H: Sum, Phase> Writer<B, H, Phase> {
             let held = content self.old old.present.readable in
             CoversThrough H.sum_of self.old.page_size held old new }
         ensures overflow { let buffered = length self.old.tip + length bytes.now in
-            2 ^ 64 ≤ physical_size self.old.page_size self.old.full_pages buffered
+            2 ^ 64 ≤ physical_blob_size self.old.page_size self.old.full_pages buffered
             → result ≡ Err Error.OffsetOverflow }
         ensures within { OnOk result (HoldsWithin self.new) }
         ensures buffered { let old = B.life blob.old in let new = B.life blob.new in
@@ -225,7 +225,7 @@ impl<B: Blob, H: Sum, Phase> Writer<B, H, Phase> {
         }
     }
 
-    /// Appends bytes where they fit what is buffered, and answers the logical place of the first:
+    /// Appends bytes where they fit what is buffered, and answers the logical offset of the first:
     /// the size until now. `None` exactly where what is buffered would then hold more than its
     /// capacity. No device is asked.
     ///

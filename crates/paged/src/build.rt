@@ -112,7 +112,7 @@ fn footers_of<H: Sum>(
     Ok(out)
 }
 
-/// Each page with its part of the footers behind it, in a list with room for one buffer more. The
+/// Each page with its part of the footers after it, in a list with room for one buffer more. The
 /// pages aren't copied. `OutOfMemory` alone.
 fn with_footers(alloc: Global, pages: Vec<IoBuf>, footers: &IoBuf) -> Result<IoBufs, Error>
     requires all { length footers.now ≡ 12 * length pages.items }

@@ -4,17 +4,17 @@ ghost use Rattle.std.specs.Prelude.{if◌then◌else◌, false, ◌⊎◌};
 ghost use Rattle.std.specs.Prelude.{IfOk, OnOk, IsErrOf, IsOkUnless, Err};
 ghost use Rattle.std.specs.List.{concat};
 ghost use Rattle.disk.specs.Disk.{WriteGoes};
-ghost use Rattle.crash.specs.WriterState.SyncState.{Dirty};
+ghost use Rattle.writer_state.specs.declared.sync_state.SyncState.TheVariants.{Dirty};
 ghost use Rattle.crash.specs.Built.{built};
-ghost use Rattle.crash.specs.Sound.{IsSound, content};
+ghost use Rattle.writer_state.specs.Sound.{IsSound, content};
 ghost use Rattle.crash.specs.Below.{PagesStay};
 ghost use Rattle.crash.specs.Started.{CoversThrough, StartsStand};
 ghost use Rattle.crash.specs.Stays.{KeepsAllFloors, LeavesOnly};
-ghost use Rattle.paged.specs.Writer.{physical_size, FitsBlob};
+ghost use Rattle.paged.specs.Writer.{physical_blob_size, FitsBlob};
 ghost use Rattle.paged.specs.Calls.{AsksAtMost, HoldsWithin, Appends, BuffersAll, WaitsForNone};
 ghost use Rattle.paged.specs.Calls.{Completed, wait_calls};
 ghost use Rattle.paged.specs.Direct.{fill_of, is_too_big, buffering, IsDirect, AsksWithWait};
-ghost use Rattle.paged.specs.Flush.{advanced, answered, flush_bytes, place_of, written};
+ghost use Rattle.paged.specs.Flush.{advanced, answered, flush_bytes, offset_of, written};
 ghost use Rattle.paged.specs.Reads.{HasPages, size_of};
 ghost use Rattle.paged.specs.Caches.{CachesTo, Caches, ReadsOn, PutsOnceWaited, IsNotBefore};
 ghost use Rattle.cache.specs.Pages.{CachesOnly, IsFresh};
@@ -23,11 +23,11 @@ ghost use Rattle.paged_read.specs.Snapshots.{LeavesOthers, LeavesTails};
 
 use crate::Writer;
 use crate::build::physical_pages;
-use crate::writer::SyncState;
 use cache::CacheRef;
 use disk::{Blob, Error, IoBuf, IoBufs, WriteOptions};
 use page::{ActiveChecksum, Sum, split_pages};
 use std::alloc::Global;
+use writer_state::SyncState;
 
 /// The physical pages of these whole pages, which aren't copied. `OutOfMemory` alone.
 fn cut_pages<H: Sum>(
@@ -51,7 +51,7 @@ fn cut_pages<H: Sum>(
 
 impl<B, H, Phase> Writer<B, H, Phase> {
     /// Where so many bytes more are too big for the buffer, how many of them fill the tip to a page
-    /// boundary. They are where they pass its capacity, and a whole page is left behind the
+    /// boundary. They are where they pass its capacity, and a whole page is left after the
     /// boundary.
     pub(crate) fn too_big_for_buffer(&self, more: usize) -> Option<usize>
         ensures { result ≡ (if is_too_big self.now more then Some (fill_of self.now) else None) }
@@ -69,7 +69,7 @@ impl<B, H, Phase> Writer<B, H, Phase> {
         }
     }
 
-    /// Puts the tip, which is empty, behind whole pages, with the rest that stands behind them.
+    /// Puts the tip, which is empty, after whole pages, with the rest that stands after them.
     /// `OutOfMemory` alone.
     fn pass(&mut self, whole: &IoBuf, rest: &[u8]) -> Result<(), Error>
         requires direct { IsDirect self.old whole.now rest.now }
@@ -114,7 +114,7 @@ impl<B, H: Sum, Phase> Writer<B, H, Phase> {
 
 impl<B: Blob, H: Sum, Phase> Writer<B, H, Phase> {
     /// Appends bytes that the caller owns, as [`append`](Writer::append) does: pages that don't go
-    /// through the buffer aren't copied. It answers the logical place of the first byte: the size
+    /// through the buffer aren't copied. It answers the logical offset of the first byte: the size
     /// until now.
     ///
     /// It makes no device call where the bytes fit what is buffered, and at most three else: a wait
@@ -134,7 +134,7 @@ impl<B: Blob, H: Sum, Phase> Writer<B, H, Phase> {
         ensures appends { let old = B.life blob.old in let new = B.life blob.new in
             Appends H.sum_of self bytes old new result }
         ensures overflow { let buffered = length self.tip + length bytes in
-            2 ^ 64 ≤ physical_size self.page_size self.full_pages buffered
+            2 ^ 64 ≤ physical_blob_size self.page_size self.full_pages buffered
             → result ≡ Err Error.OffsetOverflow }
         ensures sound { IfOk result (λ r. IsSound H.sum_of r.0 (B.life blob.new).present) }
         ensures there { IfOk result (λ r. HasPages r.0 (B.life blob.new)) }
@@ -200,7 +200,7 @@ impl<B: Blob, H: Sum, Phase> Writer<B, H, Phase> {
             let held = content self.old old.present.readable in
             CoversThrough H.sum_of self.old.page_size held old new }
         ensures overflow { let buffered = length self.old.tip + length bytes.now in
-            2 ^ 64 ≤ physical_size self.old.page_size self.old.full_pages buffered
+            2 ^ 64 ≤ physical_blob_size self.old.page_size self.old.full_pages buffered
             → result ≡ Err Error.OffsetOverflow }
         ensures within { OnOk result (HoldsWithin self.new) }
         ensures buffered { let old = B.life blob.old in let new = B.life blob.new in
@@ -376,18 +376,18 @@ impl<B: Blob, H: Sum, Phase> Writer<B, H, Phase> {
         ensures goes { let old = B.life blob.old in let new = B.life blob.new in
             let direct = buffering self.old (whole ++ rest.now) in
             let bytes = flush_bytes H.sum_of direct false in
-            WriteGoes (place_of direct) bytes false old new result }
+            WriteGoes (offset_of direct) bytes false old new result }
         ensures state { let direct = buffering self.old (whole ++ rest.now) in
             OnOk result (self.new ≡ written H.sum_of direct false false) }
         ensures puts { CachesTo self.old self.new (whole ++ rest.now) cache.old cache.new result }
     {
-        let place = self.place();
+        let offset = self.physical_offset();
         let bufs = self.take_direct(cache, whole, rest)?;
         let options = WriteOptions {
             sync: false,
             dont_cache: true,
         };
-        blob.write_at(place, &bufs, options)?;
+        blob.write_at(offset, &bufs, options)?;
         self.sync_state = SyncState::after_write(false);
         Ok(())
     }

@@ -4,9 +4,9 @@ ghost use Rattle.std.specs.Prelude.{Ok, not, ◌&&◌, ◌==◌, ◌%◌, ◌≤
 ghost use Rattle.std.specs.Prelude.{take};
 ghost use Rattle.std.specs.List.{concat};
 ghost use Rattle.disk.specs.Disk.{WriteGoes, SyncGoes, WaitGoes};
-ghost use Rattle.crash.specs.WriterState.SyncState.{Clean, Dirty};
+ghost use Rattle.writer_state.specs.declared.sync_state.SyncState.TheVariants.{Clean, Dirty};
 ghost use Rattle.crash.specs.Built.{durable_after, rest_written};
-ghost use Rattle.crash.specs.Sound.{CanWrite, IsSound, MayFlush, content, guard_slot};
+ghost use Rattle.writer_state.specs.Sound.{CanWrite, IsSound, MayFlush, content, guard_slot};
 ghost use Rattle.crash.specs.Below.{PagesStay};
 ghost use Rattle.crash.specs.Started.{CoversThrough, StartsStand};
 ghost use Rattle.crash.specs.Stays.{KeepsAll, KeepsAllFloors, LeavesOnly};
@@ -20,17 +20,17 @@ ghost use Rattle.paged.specs.Caches.{CachesTo, Caches, ReadsOn, PutsOnceWaited, 
 ghost use Rattle.cache.specs.CacheState.{PutsAll};
 ghost use Rattle.cache.specs.Pages.{CachesOnly, IsFresh};
 ghost use Rattle.paged.specs.Flush.{full_in, rest_of, rest_bytes, has_work, carried, advanced};
-ghost use Rattle.paged.specs.Flush.{place_of, flush_bytes, synced, written, outcome, answered};
+ghost use Rattle.paged.specs.Flush.{offset_of, flush_bytes, synced, written, outcome, answered};
 ghost use Rattle.paged_read.specs.Replay.{LeavesReplays};
 ghost use Rattle.paged_read.specs.Snapshots.{LeavesOthers, LeavesTails};
 
 use crate::Writer;
 use crate::build::{physical_pages, push_page};
-use crate::writer::SyncState;
 use bytes::Bytes;
 use cache::CacheRef;
 use disk::{Blob, Error, IoBuf, IoBufs, StartedSync, WriteOptions};
 use page::{ActiveChecksum, CHECKSUM_SIZE, Sum, split_pages};
+use writer_state::SyncState;
 
 /// Puts these whole pages of a blob in the cache, the first under this number.
 fn cache_pages(cache: &mut CacheRef, id: u64, first: u64, pages: &[IoBuf])
@@ -68,14 +68,14 @@ impl<B, H, Phase> Writer<B, H, Phase> {
         page_size <= self.tip.len() || rest && partial != 0 && partial != flushed
     }
 
-    /// Whether bytes are buffered behind the tip's full pages.
+    /// Whether bytes are buffered after the tip's full pages.
     fn has_rest(&self) -> bool
         ensures { result ≡ not (length self.now.tip % self.now.page_size == 0) }
     {
         self.tip.len() % usize::from(self.page_size.get()) != 0
     }
 
-    /// Whether a flush writes the bytes behind the full pages: where asked, and there are some.
+    /// Whether a flush writes the bytes after the full pages: where asked, and there are some.
     fn writes_rest(&self, rest: bool) -> bool
         ensures { result ≡ (rest && not (length self.now.tip % self.now.page_size == 0)) }
     {
@@ -95,8 +95,8 @@ impl<B, H, Phase> Writer<B, H, Phase> {
     }
 
     /// Where a flush writes.
-    pub(crate) fn place(&self) -> u64
-        ensures place { result ≡ place_of self.now }
+    pub(crate) fn physical_offset(&self) -> u64
+        ensures offset { result ≡ offset_of self.now }
         ensures fits { FitsBlob self.now.page_size self.now.full_pages (length self.now.tip) }
     {
         self.full_pages() * self.physical_page_size()
@@ -180,17 +180,17 @@ impl<B: Blob, H: Sum, Phase> Writer<B, H, Phase> {
         ensures fits { IsErrOf result Error.OffsetOverflow → ⊥ }
         ensures goes { let old = B.life blob.old in let new = B.life blob.new in
             let bytes = flush_bytes H.sum_of self.old rest in
-            WriteGoes (place_of self.old) bytes sync old new result }
+            WriteGoes (offset_of self.old) bytes sync old new result }
         ensures state { OnOk result (self.new ≡ written H.sum_of self.old rest sync) }
         ensures puts { CachesTo self.old self.new self.old.tip cache.old cache.new result }
     {
-        let place = self.place();
+        let offset = self.physical_offset();
         let bufs = self.take_pages(cache, rest)?;
         let options = WriteOptions {
             sync,
             dont_cache: true,
         };
-        blob.write_at(place, &bufs, options)?;
+        blob.write_at(offset, &bufs, options)?;
         self.sync_state = SyncState::after_write(sync);
         Ok(())
     }
@@ -244,7 +244,7 @@ impl<B: Blob, H: Sum, Phase> Writer<B, H, Phase> {
         }
     }
 
-    /// Writes the tip's full pages out, and with `rest` the bytes behind them, without a sync; it
+    /// Writes the tip's full pages out, and with `rest` the bytes after them, without a sync; it
     /// waits for a pending sync before. It makes no device call where there is nothing to write.
     /// After an error the writer is of no use.
     pub(crate) fn flush(
@@ -307,9 +307,9 @@ impl<B: Blob, H: Sum, Phase> Writer<B, H, Phase> {
         ensures puts { CachesTo self.old self.new self.old.tip cache.old cache.new result }
         ensures late { IsNotBefore result }
     {
-        let behind = self.writes_rest(rest);
+        let after = self.writes_rest(rest);
         self.carry();
-        self.write_pages(blob, cache, behind, false)
+        self.write_pages(blob, cache, after, false)
     }
 
     /// Makes all that was appended durable. It makes two device calls at most: a write and a sync

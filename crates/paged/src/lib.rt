@@ -6,6 +6,7 @@ mod append;
 mod build;
 mod direct;
 mod flush;
+mod outlook;
 mod raw;
 mod read;
 mod recovery;
@@ -16,6 +17,7 @@ mod start;
 mod truncate;
 mod writer;
 
+pub use outlook::{Outlook, look};
 pub use recovery::recover;
 pub use start::wait_sync;
 pub use writer::{Append, Recovering, Recovery, Writer};

@@ -13,14 +13,14 @@ use std::alloc::Global;
 use std::num::NonZeroU16;
 
 impl<B: Blob, H: Sum> Writer<B, H> {
-    /// The `len` bytes from the logical place `offset` on, of a blob of pages of `page_size`
+    /// The `len` bytes from the logical offset `offset` on, of a blob of pages of `page_size`
     /// logical bytes that nobody opened: of the values of its pages, each read by a read of its
     /// own, in rising order. Of no bytes no device is asked.
     ///
     /// `OffsetOverflow` where the range passes the greatest `u64`, before anything is asked for.
     /// Then the first page decides that gives nothing: `InvalidChecksum` where it has no value,
     /// `BlobInsufficientLength` where its value has no byte of the range, or the blob ends before
-    /// the page does, `OffsetOverflow` where its place passes the greatest; and behind the last
+    /// the page does, `OffsetOverflow` where its offset passes the greatest; and after the last
     /// `BlobInsufficientLength` where fewer than `len` bytes were found. `ReadFailed` where the
     /// device failed, `OutOfMemory`. The blob is only read, also where it fails.
     pub fn read_range(

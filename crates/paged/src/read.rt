@@ -6,7 +6,7 @@ ghost use Rattle.std.specs.List.{concat};
 ghost use Rattle.disk.specs.Disk.{Disk};
 ghost use Rattle.page.specs.Geometry.{AreInOrder, EndWithin};
 ghost use Rattle.crash.specs.Looks.{Looked};
-ghost use Rattle.crash.specs.Sound.{content, IsSound};
+ghost use Rattle.writer_state.specs.Sound.{content, IsSound};
 ghost use Rattle.crash.specs.Stays.{KeepsAllFloors, LeavesOnly};
 ghost use Rattle.paged_read.specs.Tail.{CanRead, IsView, tail_at, told};
 ghost use Rattle.paged_read.specs.Ranges.{Reads, ReadsUpTo, ReadsMany, range_up_to, TriesRead};
@@ -34,7 +34,7 @@ impl<B, H, Phase> Writer<B, H, Phase> {
         View::new(self.alloc, self.page_size, self.id, &self.tip)
     }
 
-    /// Copies the bytes from `offset` on into `buf`, as many as it has places for, where that needs
+    /// Copies the bytes from `offset` on into `buf`, as many as it has room for, where that needs
     /// no device: where they are within the size, and the cache holds the pages of those below the
     /// tip. It answers whether it did; where it didn't, what `buf` holds says nothing. It takes no
     /// memory.
@@ -47,10 +47,10 @@ impl<B, H, Phase> Writer<B, H, Phase> {
         self.view().try_read_sync_into(cache, buf, offset)
     }
 
-    /// Copies those of these ranges, each a place and a length, that need no device to their places
-    /// in `buf`, one range behind the other, and answers the numbers of the others, rising: of all
-    /// where one passes the end. The ranges are in order, don't overlap, and fill `buf`. Its only
-    /// error is `OutOfMemory`.
+    /// Copies those of these ranges, each an offset and a length, that need no device to their
+    /// offsets in `buf`, one range after the other, and answers the numbers of the others, rising:
+    /// of all where one passes the end. The ranges are in order, don't overlap, and fill `buf`. Its
+    /// only error is `OutOfMemory`.
     pub fn try_read_ranges_sync_into(
         &self,
         cache: &CacheRef,
@@ -72,7 +72,7 @@ impl<B, H, Phase> Writer<B, H, Phase> {
         self.view().try_read_ranges_sync_into(cache, buf, ranges)
     }
 
-    /// The same of ranges of `len` bytes at these places.
+    /// The same of ranges of `len` bytes at these offsets.
     pub fn try_read_many_sync_into(
         &self,
         cache: &CacheRef,
@@ -98,10 +98,10 @@ impl<B, H, Phase> Writer<B, H, Phase> {
 }
 
 impl<B: Blob, H: Sum, Phase> Writer<B, H, Phase> {
-    /// Copies the bytes from `offset` on into `buf`, as many as it has places for: those below the
+    /// Copies the bytes from `offset` on into `buf`, as many as it has room for: those below the
     /// tip from pages that the cache holds, else from the blob, one read for each page, and the
     /// others from memory. A read of held pages takes no memory and asks no device. Pages that are
-    /// read are put in the cache, also where the call fails behind them.
+    /// read are put in the cache, also where the call fails after them.
     ///
     /// `OffsetOverflow` where the range passes the greatest `u64`, else `BlobInsufficientLength`
     /// where it passes the size: both before anything is asked for. `ReadFailed` where the device
@@ -205,9 +205,9 @@ impl<B: Blob, H: Sum, Phase> Writer<B, H, Phase> {
     }
 
     /// As many bytes from `offset` on as there are, at most `len`, in place of what `bytes` held,
-    /// and how many: at least one, unless none is asked for, which is answered at any place.
+    /// and how many: at least one, unless none is asked for, which is answered at any offset.
     ///
-    /// `BlobInsufficientLength` at or behind the end, before anything is asked for; `ReadFailed`,
+    /// `BlobInsufficientLength` at or after the end, before anything is asked for; `ReadFailed`,
     /// `InvalidChecksum`, `OutOfMemory`, as [`Writer::read_into`] answers them.
     pub fn read_up_to(
         &self,
@@ -256,7 +256,7 @@ impl<B: Blob, H: Sum, Phase> Writer<B, H, Phase> {
         self.view().read_up_to(blob, cache, offset, len, bytes)
     }
 
-    /// Reads these ranges, each a place and a length, to their places in `buf`, one behind the
+    /// Reads these ranges, each an offset and a length, to their places in `buf`, one after the
     /// other, and answers how many of them needed no device: empty ones count. The ranges are in
     /// order, don't overlap, and fill `buf`. The pages that the cache lacks are read in one call of
     /// the device, each once, and put in the cache as they are delivered.
@@ -311,7 +311,7 @@ impl<B: Blob, H: Sum, Phase> Writer<B, H, Phase> {
         self.view().read_ranges_into(blob, cache, buf, ranges)
     }
 
-    /// The same of ranges of `len` bytes at these places.
+    /// The same of ranges of `len` bytes at these offsets.
     pub fn read_many_into(
         &self,
         blob: &mut B,

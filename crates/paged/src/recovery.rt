@@ -2,33 +2,34 @@
 ghost use Rattle.std.specs.Prelude.{◌≡◌, ◌+◌, ◌*◌, ◌%◌, ◌≤◌, ◌<◌, ◌^◌, length, Err, IfOk, OnOk};
 ghost use Rattle.page.specs.Geometry.{adjusted};
 ghost use Rattle.std.specs.Int.NonZero.{non_zero_u16_get, non_zero_usize_get};
-ghost use Rattle.crash.specs.WriterState.SyncState.{Clean};
+ghost use Rattle.writer_state.specs.declared.sync_state.SyncState.TheVariants.{Clean};
 ghost use Rattle.paged_read.specs.Prefix.{prefix_pages, prefix_size, tip_of};
-ghost use Rattle.paged.specs.Writer.{state_of, FitsBlob};
+ghost use Rattle.paged.specs.Writer.{FitsBlob};
 ghost use Rattle.paged.specs.Calls.{HoldsWithin};
-ghost use Rattle.paged.specs.Recovery.{Opens, Cuts, CutsBack, Stands, cache_after};
+ghost use Rattle.paged.specs.Recovery.{Opens, Cuts, CutsBack, GivesWriter, cache_after};
 ghost use Rattle.paged.specs.Recovery.{at_prefix, slot_of_tip};
 ghost use Rattle.paged.specs.Recovery.{IsAsOpened, KeepsText, LeavesText};
 ghost use Rattle.paged.specs.Recovers.{Recovers, GivesId};
-ghost use Rattle.paged_read.specs.Searches.{ReadsBack, ReadsWithin, scan_bytes};
+ghost use Rattle.paged_read.specs.Backward.{ReadsBack};
+ghost use Rattle.paged_read.specs.Searches.{ReadsWithin, scan_bytes};
 ghost use Rattle.page.specs.Page.{text};
 ghost use Rattle.paged.specs.Reads.{HasPages};
 ghost use Rattle.paged.specs.Caches.{tail_of};
 ghost use Rattle.paged_read.specs.Tail.{CanRead};
 ghost use Rattle.cache.specs.Pages.{IsFresh};
-ghost use Rattle.crash.specs.Sound.{IsSound};
+ghost use Rattle.writer_state.specs.Sound.{IsSound};
 ghost use Rattle.crash.specs.Stays.{KeepsAll, KeepsAllFloors};
 ghost use Rattle.paged_read.specs.Snapshots.{LeavesReads};
 
-use crate::writer::SyncState;
 use crate::{Recovery, Writer};
 use cache::CacheRef;
 use disk::{Blob, Error};
 use page::{ActiveChecksum, Buffer, Sum, adjusted_capacity};
-use paged_read::{Partial, Prefix, last_pages, pages_of, physical_size, scan};
+use paged_read::{Partial, Prefix, last_pages, pages_of, physical_page_size, scan};
 use std::alloc::Global;
 use std::marker::PhantomData;
 use std::num::{NonZeroU16, NonZeroUsize};
+use writer_state::SyncState;
 
 /// Cuts a blob to so many bytes, durably.
 pub(crate) fn cut<B: Blob>(blob: &mut B, kept: u64) -> Result<(), Error>
@@ -74,7 +75,7 @@ pub(crate) fn size_of(prefix: &Prefix, page_size: NonZeroU16) -> u64
 }
 
 impl<B, H> Recovery<B, H> {
-    /// A writer with an id of its own that stands behind these pages of its blob. `OutOfMemory`;
+    /// A writer with an id of its own that stands after these pages of its blob. `OutOfMemory`;
     /// `IdsExhausted` where the cache has no id left.
     fn at_prefix(
         alloc: Global,
@@ -88,7 +89,7 @@ impl<B, H> Recovery<B, H> {
         requires fits { FitsBlob cache.old.page_size prefix.full_pages
             (length (tip_of prefix.partial)) }
         requires short { length (tip_of prefix.partial) < cache.old.page_size }
-        ensures stands { Stands cache.old capacity prefix (state_of sync_state) result }
+        ensures stands { GivesWriter cache.old capacity prefix sync_state result }
         ensures ids { cache.new ≡ cache_after result cache.old }
     {
         let (bytes, slot) = tip_and_slot(&prefix.partial);
@@ -161,9 +162,9 @@ impl<B: Blob, H: Sum> Recovery<B, H> {
     {
         let page_size = cache.page_size();
         let capacity = adjusted_capacity(capacity, u64::from(page_size.get()))?;
-        let physical_size = physical_size(page_size);
-        let last = last_pages::<B, H>(alloc, blob, page_size, size / physical_size)?;
-        let kept = pages_of(&last) * physical_size;
+        let physical_page_size = physical_page_size(page_size);
+        let last = last_pages::<B, H>(alloc, blob, page_size, size / physical_page_size)?;
+        let kept = pages_of(&last) * physical_page_size;
         let sync_state = cut_back(blob, size, kept)?;
         Self::at_prefix(alloc, cache, capacity, last, sync_state)
     }

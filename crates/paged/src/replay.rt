@@ -3,8 +3,8 @@ ghost use Rattle.std.specs.Prelude.{◌≡◌, ◌≤◌, ◌<◌, Ok, IfOk, OnO
 ghost use Rattle.std.specs.Int.NonZero.{non_zero_usize_get};
 ghost use Rattle.cache.specs.Pages.{CachesOnly, IsFresh};
 ghost use Rattle.crash.specs.Below.{PagesStay};
-ghost use Rattle.crash.specs.WriterState.SyncState.{Dirty};
-ghost use Rattle.crash.specs.Sound.{content, IsSound};
+ghost use Rattle.writer_state.specs.declared.sync_state.SyncState.TheVariants.{Dirty};
+ghost use Rattle.writer_state.specs.Sound.{content, IsSound};
 ghost use Rattle.crash.specs.Started.{CoversThrough, StartsStand};
 ghost use Rattle.crash.specs.Stays.{KeepsAllFloors, LeavesOnly};
 ghost use Rattle.paged_read.specs.Replay.{IsReplayOf, LeavesReplays};
@@ -25,7 +25,7 @@ use std::num::NonZeroUsize;
 
 impl<B: Blob, H: Sum, Phase> Writer<B, H, Phase> {
     /// A replay of all that was appended until now, from the first byte on, and the writer. What
-    /// isn't written is written first, a page that isn't full too, without a sync; the bytes behind
+    /// isn't written is written first, a page that isn't full too, without a sync; the bytes after
     /// the full pages are copied. So it makes two device calls at most, a wait for the sync that
     /// was started before and a write; and none where all is written. The replay reads nothing yet.
     ///

@@ -4,7 +4,7 @@ ghost use Rattle.std.specs.Int.NonZero.{non_zero_usize_get};
 ghost use Rattle.cache.specs.CacheState.{CacheState};
 ghost use Rattle.page.specs.Page.{text};
 ghost use Rattle.crash.specs.Looks.{Looked};
-ghost use Rattle.crash.specs.Sound.{content, IsSound};
+ghost use Rattle.writer_state.specs.Sound.{content, IsSound};
 ghost use Rattle.crash.specs.Stays.{KeepsAllFloors, LeavesOnly};
 ghost use Rattle.paged_read.specs.Replay.{LeavesAllReplays};
 ghost use Rattle.paged_read.specs.Scans.{IsProven, IsWithinBlob, ReadsForward, scan_end};
@@ -18,7 +18,7 @@ use crate::Writer;
 use crate::recovery::size_of;
 use disk::{Blob, Error, ReadOptions};
 use page::Sum;
-use paged_read::{physical_size, scan_from};
+use paged_read::{physical_page_size, scan_from};
 use std::num::NonZeroUsize;
 
 impl<B, H, Phase> Writer<B, H, Phase> {
@@ -40,11 +40,11 @@ impl<B: Blob, H: Sum, Phase> Writer<B, H, Phase> {
     /// Pages that were flushed are counted, so bytes that are only buffered aren't.
     ///
     /// The first `proven` bytes count as told: the scan begins at the page that holds their end,
-    /// and at most behind the full pages. Where they aren't told the answer says nothing. Each read
+    /// and at most after the full pages. Where they aren't told the answer says nothing. Each read
     /// is of at most as many whole pages as fit `buffer_size` bytes, and at least one.
     ///
     /// `ReadFailed` where the device failed, `OutOfMemory`; `BlobInsufficientLength` where the blob
-    /// is shorter than the writer's pages, and `OffsetOverflow` where a place in them passes the
+    /// is shorter than the writer's pages, and `OffsetOverflow` where an offset in them passes the
     /// greatest, which neither is with the writer's own blob. The blob and the writer stay as they
     /// were.
     pub fn recoverable_prefix_len(
@@ -76,7 +76,7 @@ impl<B: Blob, H: Sum, Phase> Writer<B, H, Phase> {
             → IfOk result (λ len. len ≡ length told) }
 
         // Of a sound writer: it answers the length of the blob's text, whatever is proven. It is
-        // refused for no place, nor is one that was opened over any blob.
+        // refused for no offset, nor is one that was opened over any blob.
         ensures text { let old = B.life blob.old in
             IsSound H.sum_of self.now old.present
             → IfOk result (λ len. len
@@ -144,7 +144,7 @@ impl<B: Blob, H: Sum, Phase> Writer<B, H, Phase> {
             → IfOk result (λ len. len ≡ min max_size (length told)) }
 
         // Of a sound writer: it answers the length of the blob's text, whatever is proven. It is
-        // refused for no place, nor is one that was opened over any blob.
+        // refused for no offset, nor is one that was opened over any blob.
         ensures text { let old = B.life blob.old in
             IsSound H.sum_of self.now old.present
             → IfOk result (λ len. len
@@ -182,7 +182,7 @@ impl<B: Blob, H: Sum, Phase> Writer<B, H, Phase> {
         Ok(max_size.min(len))
     }
 
-    /// Scans the blob up to the page `end`, which was flushed or is one behind those that were.
+    /// Scans the blob up to the page `end`, which was flushed or is one after those that were.
     fn scan_to(
         &self,
         blob: &mut B,
@@ -208,7 +208,10 @@ impl<B: Blob, H: Sum, Phase> Writer<B, H, Phase> {
             IsSound H.sum_of self.now old.present ⊎ IsAsOpened H.sum_of self.now old.present
             → IsWithinBlob result }
     {
-        if end.checked_mul(physical_size(self.page_size)).is_none() {
+        if end
+            .checked_mul(physical_page_size(self.page_size))
+            .is_none()
+        {
             return Err(Error::OffsetOverflow);
         }
         let page = proven / u64::from(self.page_size.get());

@@ -2,8 +2,8 @@
 ghost use Rattle.std.specs.Prelude.{◌≡◌, ◌≤◌, ◌<◌, ◌*◌, Ok, IfOk, OnOk, false, true, length};
 ghost use Rattle.cache.specs.Pages.{CachesOnly, IsFresh};
 ghost use Rattle.crash.specs.Below.{PagesStay};
-ghost use Rattle.crash.specs.WriterState.SyncState.{Dirty};
-ghost use Rattle.crash.specs.Sound.{content, IsSound};
+ghost use Rattle.writer_state.specs.declared.sync_state.SyncState.TheVariants.{Dirty};
+ghost use Rattle.writer_state.specs.Sound.{content, IsSound};
 ghost use Rattle.crash.specs.Started.{CoversThrough, StartsStand};
 ghost use Rattle.crash.specs.Stays.{KeepsAllFloors, LeavesOnly};
 ghost use Rattle.paged_read.specs.Replay.{LeavesReplays};
@@ -43,7 +43,7 @@ impl<B, H, Phase> Writer<B, H, Phase> {
 
 impl<B, H> Writer<B, H> {
     /// A snapshot of all that was appended until now, for which nothing is written: `None` exactly
-    /// while a full page is buffered. It copies the bytes behind the full pages, less than a page,
+    /// while a full page is buffered. It copies the bytes after the full pages, less than a page,
     /// and makes no device call. `OutOfMemory` alone; the writer stays as it is.
     pub fn try_snapshot(&self) -> Result<Option<Sealed<B, H>>, Error>
         ensures { TriesSnapshot self.now result }
@@ -72,7 +72,7 @@ impl<B, H> Writer<B, H> {
 
 impl<B: Blob, H: Sum> Writer<B, H> {
     /// A snapshot of all that was appended until now, and the writer. Full pages that are buffered
-    /// are written first, without a sync; the bytes behind them, less than a page, are copied. So
+    /// are written first, without a sync; the bytes after them, less than a page, are copied. So
     /// it makes two device calls at most, a wait for the sync that was started before and a write;
     /// and none where no full page is buffered.
     ///

@@ -1,13 +1,14 @@
 // Syncs that are started, and waited for later.
 ghost use Rattle.std.specs.Prelude.{ℕ, ◌≡◌, true, false, ◌<◌, ◌≤◌, Ok, IfOk, OnOk, length, nat_lt};
 ghost use Rattle.disk.specs.declared.started_sync.StartedSync.TheVariants.{Named};
-ghost use Rattle.crash.specs.Sound.{IsSound, content};
+ghost use Rattle.writer_state.specs.Sound.{IsSound, content};
 ghost use Rattle.crash.specs.Below.{PagesStay};
 ghost use Rattle.crash.specs.Started.{CoversThrough, StartsStand};
 ghost use Rattle.crash.specs.Stays.{KeepsAllFloors, LeavesOnly};
 ghost use Rattle.paged.specs.Calls.{AsksAtMost, HoldsWithin, IsWritten, StartsSync};
 ghost use Rattle.paged.specs.Calls.{WaitsForSync, Completed, Completes, start_calls};
-ghost use Rattle.paged.specs.Calls.{started_already, started_state, Covers};
+ghost use Rattle.paged.specs.Calls.{started_already, Covers};
+ghost use Rattle.writer_state.specs.WriterState.{started_state};
 ghost use Rattle.paged_read.specs.Replay.{LeavesAllReplays, LeavesReplays};
 ghost use Rattle.paged_read.specs.Snapshots.{LeavesAllTails, LeavesOthers, LeavesTails};
 ghost use Rattle.paged_read.specs.Snapshots.{LeavesWriters};
@@ -22,10 +23,10 @@ ghost use Rattle.cache.specs.CacheState.{CacheState};
 ghost use Rattle.cache.specs.Pages.{CachesOnly, IsFresh};
 
 use crate::Writer;
-use crate::writer::SyncState;
 use cache::CacheRef;
 use disk::{Blob, Error, StartedSync};
 use page::Sum;
+use writer_state::SyncState;
 
 impl<B, H, Phase> Writer<B, H, Phase> {
     /// Whether a sync has something to do: something isn't written, or isn't durable.

@@ -5,8 +5,8 @@ ghost use Rattle.std.specs.Prelude.{ℕ, ◌-◌, slice_index, take, min};
 ghost use Rattle.std.specs.Int.{w16, to_be_bytes};
 ghost use Rattle.page.specs.Slot.{other};
 ghost use Rattle.page.specs.Page.{active, slot_bytes, value_len};
-ghost use Rattle.crash.specs.WriterState.SyncState.{Clean};
-ghost use Rattle.crash.specs.Sound.{IsSound, LeavesItsContent, content};
+ghost use Rattle.writer_state.specs.declared.sync_state.SyncState.TheVariants.{Clean};
+ghost use Rattle.writer_state.specs.Sound.{IsSound, LeavesItsContent, content};
 ghost use Rattle.crash.specs.Below.{PagesStay};
 ghost use Rattle.crash.specs.Started.{CoversThrough, StartsStand};
 ghost use Rattle.crash.specs.Stays.{KeepsAll, LeavesOnly};
@@ -46,7 +46,7 @@ impl<B: Blob, H: Sum> Recovery<B, H> {
     /// Cuts the blob to its first `size` logical bytes, durably; where it has no more, it is synced
     /// alone. A crash at any moment leaves each byte of these that it would have left before.
     ///
-    /// All that was appended is made durable first. Then what stands behind the page of the last
+    /// All that was appended is made durable first. Then what stands after the page of the last
     /// byte is cut. Where that page is to keep a part, it is read, and rewritten in three steps,
     /// each durable before the next: the slot that isn't its value's gets the new checksum with no
     /// length, then the length, and then the other slot is emptied.
@@ -174,14 +174,14 @@ impl<B: Blob, H: Sum> Recovery<B, H> {
         ensures cuts { CutsTo H.sum_of size self.old (B.life blob.old) (B.life blob.new) }
     {
         if size % u64::from(self.page_size.get()) == 0 {
-            self.cut_behind(blob, size)
+            self.cut_after(blob, size)
         } else {
             self.cut_within(blob, size)
         }
     }
 
-    /// The same, behind a page.
-    fn cut_behind(&mut self, blob: &mut B, size: u64) -> Result<(), Error>
+    /// The same, after a page.
+    fn cut_after(&mut self, blob: &mut B, size: u64) -> Result<(), Error>
         requires opened { IsAsOpened H.sum_of self.old (B.life blob.old).present }
         requires clean { self.old.sync ≡ Clean }
         requires less { size < size_of self.old }
@@ -380,7 +380,7 @@ impl<B: Blob, H: Sum> Recovery<B, H> {
         blob.write_at(footer + slot.offset() as u64, &bufs, options)
     }
 
-    /// The writer stands behind so many pages, and these bytes of the next, which this slot tells.
+    /// The writer stands after so many pages, and these bytes of the next, which this slot tells.
     /// `OutOfMemory` alone.
     fn stand_at(
         &mut self,

@@ -1,13 +1,12 @@
 // The writer.
 ghost use Rattle.std.specs.Prelude.{◌≡◌, ◌+◌, ◌*◌, length};
-ghost use Rattle.paged.specs.Writer.{FitsBlob, state_of, state_after_write};
-ghost use Rattle.paged.specs.Calls.{started_state};
+ghost use Rattle.paged.specs.Writer.{FitsBlob};
 
-use disk::StartedSync;
 use page::{ActiveChecksum, Buffer};
 use std::alloc::Global;
 use std::marker::{Model, PhantomData};
 use std::num::NonZeroU16;
+use writer_state::SyncState;
 
 /// The phase in which a blob is appended to.
 pub struct Append;
@@ -15,43 +14,9 @@ pub struct Append;
 /// The phase in which what a blob keeps is still being chosen.
 pub struct Recovering;
 
-/// Whether a write or a resize of the writer isn't durable yet.
-#[derive(Clone, Copy, Debug, PartialEq, Eq)]
-pub(crate) enum SyncState {
-    /// All is durable.
-    Clean,
-    /// Something isn't, and no started sync covers it.
-    Dirty,
-    /// What isn't is covered by the started sync of this name.
-    Pending(u64),
-}
-
-impl SyncState {
-    /// The state after a write: clean where it was durable at once.
-    pub(crate) fn after_write(sync: bool) -> Self
-        ensures { state_of result ≡ state_after_write sync }
-    {
-        if sync {
-            SyncState::Clean
-        } else {
-            SyncState::Dirty
-        }
-    }
-
-    /// The state behind a sync that was started.
-    pub(crate) fn after_start(started: StartedSync) -> Self
-        ensures { state_of result ≡ started_state started }
-    {
-        match started {
-            StartedSync::Done => SyncState::Clean,
-            StartedSync::Named(name) => SyncState::Pending(name),
-        }
-    }
-}
-
 /// The one writer of a blob of the type `B`, with pages under the checksum function `H`.
 ///
-/// Appended bytes are buffered behind the full pages that the blob has. The blob and the cache are
+/// Appended bytes are buffered after the full pages that the blob has. The blob and the cache are
 /// lent to each call: always the ones with which the writer was opened, and nobody else writes that
 /// blob meanwhile. A call that takes the writer gives it back only on success; after an error the
 /// writer is gone, and what the blob holds is to be recovered.
@@ -61,7 +26,7 @@ impl SyncState {
 pub struct Writer<B, H, Phase = Append> {
     pub(crate) alloc: Global,
     pub(crate) id: u64,
-    /// The bytes behind the full pages.
+    /// The bytes after the full pages.
     pub(crate) tip: Buffer,
     /// Of the page in which the tip begins: the slot that was written last.
     pub(crate) flushed: Option<ActiveChecksum>,
@@ -75,8 +40,8 @@ pub struct Writer<B, H, Phase = Append> {
 impl<B, H, Phase> Model for Writer<B, H, Phase> {
     ghost use Rattle.std.specs.Prelude.{◌/◌};
     ghost use Rattle.std.specs.Int.NonZero.{non_zero_u16_get};
-    ghost use Rattle.crash.specs.WriterState.{WriterState};
-    ghost use Rattle.paged.specs.Writer.{state_of, IsWriter};
+    ghost use Rattle.writer_state.specs.WriterState.{WriterState};
+    ghost use Rattle.paged.specs.Writer.{IsWriter};
 
     ghost Value = { WriterState };
 
@@ -88,7 +53,7 @@ impl<B, H, Phase> Model for Writer<B, H, Phase> {
       tip = w.tip.bytes;
       flushed = w.flushed;
       durable = w.durable;
-      sync = state_of w.sync_state;
+      sync = w.sync_state;
     } };
 
     ghost invariant = { λ w. IsWriter (non_zero_u16_get w.page_size) w.tip };

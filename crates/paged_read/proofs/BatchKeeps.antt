@@ -4,7 +4,7 @@ use Rattle.std.specs.Prelude.{All, slice_get, Some, Option}
 use Rattle.std.specs.Option.{option_map}
 use Rattle.std.proofs.lemmas.Bool.{cases_eq, cases_lt}
 use Rattle.std.proofs.lemmas.Option.{same_Some, slice_get-map, slice_get-get_or, slice_get_within, get_or_from_slice_get}
-use Rattle.std.proofs.lemmas.List.{get_or-set_same, get_or-set_other, get_or_default, take_more, map-append, length-take-le}
+use Rattle.std.proofs.lemmas.List.{get_or-set_same, get_or-set_other, get_or_default, take_more, map-append, length-take-le, length-map}
 use borrow.Rule.Slice.PartMut.{put_mid, post_of, Post-is}
 use Rattle.disk.specs.Disk.{Life, Delivers, bytes_of}
 use Rattle.crash.specs.Looks.{Looked, looked_start}
@@ -13,16 +13,15 @@ use Rattle.cache.specs.CacheState.{CacheState, Puts, put_at}
 use Rattle.cache.specs.Pages.{page_of_content}
 use Rattle.cache.specs.declared.piece.Piece.{Piece}
 use Rattle.paged_read.specs.Tail.{Tail, told, CanRead}
-use Rattle.paged_read.specs.Ranges.{LeavesAll, places, page_at}
+use Rattle.paged_read.specs.Ranges.{LeavesAll, page_ranges, page_at}
 use Rattle.paged_read.specs.Parts.{with_told, ArePagesFull, PagesFault}
 use Rattle.paged_read.specs.Batch.{AreMarked, IsDelivered, KeepsFault, IsReady, IsTold, IsLack, pieces_in, bytes_found, DeliversPages}
 use Rattle.paged_read.specs.declared.lack.Lack.{Lack}
 use Rattle.paged_read.proofs.Leaving.{leaves_put, leaves_joins, leaves_cache, length-page_at, payload_told}
 use Rattle.crash.proofs.Lists.{within_take}
-use Rattle.std.proofs.lemmas.List.{length-map}
 use Rattle.disk.specs.declared.error.Error.{Error}
 use Rattle.disk.specs.declared.error.Error.TheVariants.{ReadFailed, WriteFailed, ResizeFailed, SyncFailed, InvalidChecksum, BlobInsufficientLength, OffsetOverflow, OutOfMemory, IdsExhausted}
-use Rattle.paged_read.proofs.BatchReads.{length-places}
+use Rattle.paged_read.proofs.BatchReads.{length-page_ranges}
 use Rattle.paged_read.proofs.BatchSteps.{told_push}
 
 -- ---- pages that are kept
@@ -38,7 +37,7 @@ marked_more at out n number there fits here before = λ k d less. elim (cases_eq
         let h = before k d before_n in
         let stays : get_or (set at number n) (get_or out k d).0 0 ≡ get_or at (get_or out k d).0 0 = get_or-set_other at number (get_or out k d).0 n 0 apart in
         (omega (arith, stays, h.0), ap (λ (m : ℕ). (get_or out m d).0) stays ∙ h.1)
-    | inr behind ↦ absurd (let same : k ≡ n = omega (arith, less, behind) in apart (ap (λ (m : ℕ). (get_or out m d).0) same ∙ here d))
+    | inr after ↦ absurd (let same : k ≡ n = omega (arith, less, after) in apart (ap (λ (m : ℕ). (get_or out m d).0) same ∙ here d))
   ]
 ]
 
@@ -47,21 +46,21 @@ pub full_more : (sum : List ℕ → ℕ) (P : ℕ) (out : List (ℕ × List ℕ)
     → (k : ℕ) (d : ℕ × List ℕ) → k < n + 1 → value_len sum P (get_or out k d).1 ≡ P
 full_more sum P out n here before = λ k d less. elim (cases_lt k n) [
   | inl earlier ↦ before k d earlier
-  | inr behind ↦ let same : k ≡ n = omega (arith, less, behind) in ap (λ (m : ℕ). value_len sum P (get_or out m d).1) same ∙ here d
+  | inr after ↦ let same : k ≡ n = omega (arith, less, after) in ap (λ (m : ℕ). value_len sum P (get_or out m d).1) same ∙ here d
 ]
 
 -- a delivered page has its number's bytes
-pub delivered_at : (P : ℕ) (pages readable : List ℕ) (out : List (ℕ × List ℕ)) (k : ℕ) (d : ℕ × List ℕ) → Delivers (places P pages) readable out → k < length out
+pub delivered_at : (P : ℕ) (pages readable : List ℕ) (out : List (ℕ × List ℕ)) (k : ℕ) (d : ℕ × List ℕ) → Delivers (page_ranges P pages) readable out → k < length out
     → slice_get (map (λ (page : ℕ). page_at P page readable) pages) (get_or out k d).0 ≡ Some (get_or out k d).1
 delivered_at P pages readable out k d delivers there =
     let f : ℕ × ℕ → List ℕ = λ r. take r.1 (drop r.0 readable) in
     ap (λ (l : List (List ℕ)). slice_get l (get_or out k d).0) (maps pages) ∙ delivers.each k d there
   where
-    maps : (ps : List ℕ) → map (λ (page : ℕ). page_at P page readable) ps ≡ bytes_of (places P ps) readable
+    maps : (ps : List ℕ) → map (λ (page : ℕ). page_at P page readable) ps ≡ bytes_of (page_ranges P ps) readable
     maps [] = refl
     maps (p ∷ ps) = ap (λ (l : List (List ℕ)). page_at P p readable ∷ l) (maps ps)
 
-pub delivered_number : (P : ℕ) (pages readable : List ℕ) (out : List (ℕ × List ℕ)) (k : ℕ) (d : ℕ × List ℕ) → Delivers (places P pages) readable out → k < length out → (get_or out k d).0 < length pages
+pub delivered_number : (P : ℕ) (pages readable : List ℕ) (out : List (ℕ × List ℕ)) (k : ℕ) (d : ℕ × List ℕ) → Delivers (page_ranges P pages) readable out → k < length out → (get_or out k d).0 < length pages
 delivered_number P pages readable out k d delivers there =
     let h = slice_get_within (map (λ (page : ℕ). page_at P page readable) pages) (get_or out k d).0 (get_or out k d).1 (delivered_at P pages readable out k d delivers there) in
     let same : length (map (λ (page : ℕ). page_at P page readable) pages) ≡ length pages = lengths pages in
@@ -71,13 +70,13 @@ delivered_number P pages readable out k d delivers there =
     lengths [] = refl
     lengths (p ∷ ps) = ap suc (lengths ps)
 
-pub delivered_bytes : (P : ℕ) (pages readable : List ℕ) (out : List (ℕ × List ℕ)) (k : ℕ) (d : ℕ × List ℕ) (page : ℕ) → Delivers (places P pages) readable out → k < length out → slice_get pages (get_or out k d).0 ≡ Some page
+pub delivered_bytes : (P : ℕ) (pages readable : List ℕ) (out : List (ℕ × List ℕ)) (k : ℕ) (d : ℕ × List ℕ) (page : ℕ) → Delivers (page_ranges P pages) readable out → k < length out → slice_get pages (get_or out k d).0 ≡ Some page
     → (get_or out k d).1 ≡ page_at P page readable
 delivered_bytes P pages readable out k d page delivers there is =
     same_Some (get_or out k d).1 (page_at P page readable) (sym (delivered_at P pages readable out k d delivers there) ∙ slice_get-map (λ (p : ℕ). page_at P p readable) pages (get_or out k d).0 ∙ ap (λ (o : Option ℕ). option_map (λ (p : ℕ). page_at P p readable) o) is)
 
 -- it's whole
-pub delivered_whole : (t : Tail) (pages readable : List ℕ) (out : List (ℕ × List ℕ)) → t.full_pages * (t.page_size + 12) ≤ length readable → All (λ page. page < t.full_pages) pages → Delivers (places t.page_size pages) readable out
+pub delivered_whole : (t : Tail) (pages readable : List ℕ) (out : List (ℕ × List ℕ)) → t.full_pages * (t.page_size + 12) ≤ length readable → All (λ page. page < t.full_pages) pages → Delivers (page_ranges t.page_size pages) readable out
     → All (IsDelivered t.page_size (length pages)) out
 delivered_whole t pages readable out reach below delivers = λ k d there.
     let number = delivered_number t.page_size pages readable out k d delivers there in
@@ -86,53 +85,53 @@ delivered_whole t pages readable out reach below delivers = λ k d there.
     (number, ap length bytes ∙ length-page_at t page readable reach (below (get_or out k d).0 0 number))
 
 -- one more is kept
-pub leaves_more : (t : Tail) (cache between behind : CacheState) (life : Life) (pages : List ℕ) (out : List (ℕ × List ℕ)) (k : ℕ) (bytes : List ℕ) (page : ℕ) → LeavesAll t cache between life life
-    → All (λ page. page < t.full_pages) pages → Delivers (places t.page_size pages) life.present.readable out → k < length out → ((d : ℕ × List ℕ) → (get_or out k d).1 ≡ bytes)
-    → ((d : ℕ × List ℕ) → page ≡ get_or pages (get_or out k d).0 0) → Puts (t.id, page) (take t.page_size bytes) between behind → LeavesAll t cache behind life life
-leaves_more t cache between behind life pages out k bytes page before below delivers there bytes_is page_is puts =
+pub leaves_more : (t : Tail) (cache between after : CacheState) (life : Life) (pages : List ℕ) (out : List (ℕ × List ℕ)) (k : ℕ) (bytes : List ℕ) (page : ℕ) → LeavesAll t cache between life life
+    → All (λ page. page < t.full_pages) pages → Delivers (page_ranges t.page_size pages) life.present.readable out → k < length out → ((d : ℕ × List ℕ) → (get_or out k d).1 ≡ bytes)
+    → ((d : ℕ × List ℕ) → page ≡ get_or pages (get_or out k d).0 0) → Puts (t.id, page) (take t.page_size bytes) between after → LeavesAll t cache after life life
+leaves_more t cache between after life pages out k bytes page before below delivers there bytes_is page_is puts =
     let d : ℕ × List ℕ = (0, []) in
     let number = delivered_number t.page_size pages life.present.readable out k d delivers there in
     let here : page ≡ get_or pages (get_or out k d).0 0 = page_is d in
     let less : page < t.full_pages = omega (arith, here, below (get_or out k d).0 0 number) in
     let is : bytes ≡ page_at t.page_size page life.present.readable =
     sym (bytes_is d) ∙ delivered_bytes t.page_size pages life.present.readable out k d page delivers there (slice_get-get_or pages (get_or out k d).0 0 number ∙ ap (λ (p : ℕ). Some p) (sym here)) in
-    leaves_joins t cache between behind life life life before
-    (leaves_put t between behind life life page (take t.page_size bytes) before.can (looked_start life) less (ap (λ (l : List ℕ). take t.page_size l) is) puts)
+    leaves_joins t cache between after life life life before
+    (leaves_put t between after life life page (take t.page_size bytes) before.can (looked_start life) less (ap (λ (l : List ℕ). take t.page_size l) is) puts)
 
 -- ---- pieces that are copied
 
 -- the part of a buffer that was written over
-put_over : (place len : ℕ) (buf part bytes : List ℕ) → part ≡ bytes → length bytes ≡ len → put_mid place (place + len - place) buf part ≡ put_at place bytes buf
-put_over place len buf part bytes is many =
-    ap (λ (l : List ℕ). take place buf ++ (l ++ post_of place (place + len - place) buf)) is
-    ∙ ap (λ (l : List ℕ). take place buf ++ (bytes ++ l)) (Post-is place (place + len) buf (omega arith))
-    ∙ ap (λ (n : ℕ). take place buf ++ (bytes ++ drop (place + n) buf)) (sym many)
-    ∙ sym (append_assoc (take place buf) bytes (drop (place + length bytes) buf))
+put_over : (buf_offset len : ℕ) (buf part bytes : List ℕ) → part ≡ bytes → length bytes ≡ len → put_mid buf_offset (buf_offset + len - buf_offset) buf part ≡ put_at buf_offset bytes buf
+put_over buf_offset len buf part bytes is many =
+    ap (λ (l : List ℕ). take buf_offset buf ++ (l ++ post_of buf_offset (buf_offset + len - buf_offset) buf)) is
+    ∙ ap (λ (l : List ℕ). take buf_offset buf ++ (bytes ++ l)) (Post-is buf_offset (buf_offset + len) buf (omega arith))
+    ∙ ap (λ (n : ℕ). take buf_offset buf ++ (bytes ++ drop (buf_offset + n) buf)) (sym many)
+    ∙ sym (append_assoc (take buf_offset buf) bytes (drop (buf_offset + length bytes) buf))
 
 -- one piece more
 pub told_more : (P : ℕ) (content : List ℕ) (lacks : List Lack) (i : ℕ) (d : Lack) (at : List ℕ) (out : List (ℕ × List ℕ)) (buf part first : List ℕ) (room : ℕ) → i < length lacks → IsReady at out room (get_or lacks i d)
     → IsTold P content at out (get_or lacks i d) → part ≡ take ((get_or lacks i d).piece.skip + (get_or lacks i d).piece.len - (get_or lacks i d).piece.skip) (drop (get_or lacks i d).piece.skip (bytes_found at out (get_or lacks i d).number))
     → buf ≡ with_told P content (pieces_in (take i lacks)) first
-    → put_mid (get_or lacks i d).piece.place ((get_or lacks i d).piece.place + (get_or lacks i d).piece.len - (get_or lacks i d).piece.place) buf part ≡ with_told P content (pieces_in (take (i + 1) lacks)) first
+    → put_mid (get_or lacks i d).piece.buf_offset ((get_or lacks i d).piece.buf_offset + (get_or lacks i d).piece.len - (get_or lacks i d).piece.buf_offset) buf part ≡ with_told P content (pieces_in (take (i + 1) lacks)) first
 told_more P content lacks i d at out buf part first room there ready told is before =
     let lack = get_or lacks i d in
     let piece = lack.piece in
     let found = bytes_found at out lack.number in
     let n : piece.skip + piece.len - piece.skip ≡ piece.len = omega arith in
     let many : length (take piece.len (drop piece.skip found)) ≡ piece.len = length-take-le piece.len (drop piece.skip found) (omega (arith, ready.within, length-drop piece.skip found)) in
-    put_over piece.place piece.len buf part (take piece.len (drop piece.skip found)) (is ∙ ap (λ (m : ℕ). take m (drop piece.skip found)) n) many
-    ∙ ap (λ (l : List ℕ). put_at piece.place l buf) told
-    ∙ ap (λ (l : List ℕ). put_at piece.place (take piece.len (drop piece.skip (page_of_content P content piece.page))) l) before
+    put_over piece.buf_offset piece.len buf part (take piece.len (drop piece.skip found)) (is ∙ ap (λ (m : ℕ). take m (drop piece.skip found)) n) many
+    ∙ ap (λ (l : List ℕ). put_at piece.buf_offset l buf) told
+    ∙ ap (λ (l : List ℕ). put_at piece.buf_offset (take piece.len (drop piece.skip (page_of_content P content piece.page))) l) before
     ∙ sym (told_push P content (pieces_in (take i lacks)) piece first)
     ∙ ap (λ (l : List Piece). with_told P content l first) (sym (map-append (λ (l : Lack). l.piece) (take i lacks) (lack ∷ [])) ∙ ap (λ (l : List Lack). pieces_in l) (sym (take_more lacks i d there)))
 
 -- ---- all of them
 
 -- the page of a number is found
-found_number : (P : ℕ) (pages readable at : List ℕ) (out : List (ℕ × List ℕ)) (number : ℕ) (d : ℕ × List ℕ) → Delivers (places P pages) readable out → AreMarked at out (length out) → number < length pages
+found_number : (P : ℕ) (pages readable at : List ℕ) (out : List (ℕ × List ℕ)) (number : ℕ) (d : ℕ × List ℕ) → Delivers (page_ranges P pages) readable out → AreMarked at out (length out) → number < length pages
     → (get_or at number 0 < length out) × ((get_or out (get_or at number 0) d).0 ≡ number)
 found_number P pages readable at out number d delivers marked there =
-    let has = delivers.all number (omega (arith, there, length-places P pages)) in
+    let has = delivers.all number (omega (arith, there, length-page_ranges P pages)) in
     let k = has.0 in
     let less : k < length out = omega (arith, has.1, length-map out (λ (r : ℕ × List ℕ). r.0)) in
     let is : (get_or out k d).0 ≡ number = sym (get_or-map-at out k number d less) ∙ has.2 in
@@ -144,7 +143,7 @@ found_number P pages readable at out number d delivers marked there =
     get_or-map-at (x ∷ xs) zero n e less = refl
     get_or-map-at (x ∷ xs) (suc k) n e less = get_or-map-at xs k n e (omega arith)
 
-found_bytes : (P : ℕ) (pages readable at : List ℕ) (out : List (ℕ × List ℕ)) (number page : ℕ) → Delivers (places P pages) readable out → AreMarked at out (length out) → slice_get pages number ≡ Some page
+found_bytes : (P : ℕ) (pages readable at : List ℕ) (out : List (ℕ × List ℕ)) (number page : ℕ) → Delivers (page_ranges P pages) readable out → AreMarked at out (length out) → slice_get pages number ≡ Some page
     → bytes_found at out number ≡ page_at P page readable
 found_bytes P pages readable at out number page delivers marked is =
     let d : ℕ × List ℕ = (0, []) in
@@ -152,7 +151,7 @@ found_bytes P pages readable at out number page delivers marked is =
     delivered_bytes P pages readable out (get_or at number 0) d page delivers h.0 (ap (λ (n : ℕ). slice_get pages n) h.1 ∙ is)
 
 -- each piece can be copied
-pub lacks_ready : (t : Tail) (pages readable at : List ℕ) (out : List (ℕ × List ℕ)) (room : ℕ) (lacks : List Lack) → t.full_pages * (t.page_size + 12) ≤ length readable → All (λ page. page < t.full_pages) pages → Delivers (places t.page_size pages) readable out
+pub lacks_ready : (t : Tail) (pages readable at : List ℕ) (out : List (ℕ × List ℕ)) (room : ℕ) (lacks : List Lack) → t.full_pages * (t.page_size + 12) ≤ length readable → All (λ page. page < t.full_pages) pages → Delivers (page_ranges t.page_size pages) readable out
     → AreMarked at out (length out) → length at ≡ length pages → All (IsLack t.page_size pages room) lacks → All (IsReady at out room) lacks
 lacks_ready t pages readable at out room lacks reach below delivers marked long each = λ k d less.
     let lack = get_or lacks k d in
@@ -168,7 +167,7 @@ lacks_ready t pages readable at out room lacks reach below delivers marked long 
     }
 
 -- and has the content's bytes
-pub lacks_told : (t : Tail) (pages readable at : List ℕ) (out : List (ℕ × List ℕ)) (room : ℕ) (lacks : List Lack) → t.full_pages * (t.page_size + 12) ≤ length readable → All (λ page. page < t.full_pages) pages → Delivers (places t.page_size pages) readable out
+pub lacks_told : (t : Tail) (pages readable at : List ℕ) (out : List (ℕ × List ℕ)) (room : ℕ) (lacks : List Lack) → t.full_pages * (t.page_size + 12) ≤ length readable → All (λ page. page < t.full_pages) pages → Delivers (page_ranges t.page_size pages) readable out
     → AreMarked at out (length out) → All (IsLack t.page_size pages room) lacks → All (IsTold t.page_size (told t readable) at out) lacks
 lacks_told t pages readable at out room lacks reach below delivers marked each = λ k d less.
     let lack = get_or lacks k d in
@@ -181,7 +180,7 @@ lacks_told t pages readable at out room lacks reach below delivers marked each =
     ∙ ap (λ (l : List ℕ). take piece.len (drop piece.skip l)) (payload_told t readable reach piece.page page_below)
 
 -- each page is full
-pub pages_full : (sum : List ℕ → ℕ) (P : ℕ) (pages readable at : List ℕ) (out : List (ℕ × List ℕ)) → Delivers (places P pages) readable out → AreMarked at out (length out) → All (λ page. value_len sum P page.1 ≡ P) out
+pub pages_full : (sum : List ℕ → ℕ) (P : ℕ) (pages readable at : List ℕ) (out : List (ℕ × List ℕ)) → Delivers (page_ranges P pages) readable out → AreMarked at out (length out) → All (λ page. value_len sum P page.1 ≡ P) out
     → ArePagesFull sum P pages readable
 pages_full sum P pages readable at out delivers marked full = λ page (number, there, is).
     let d : ℕ × List ℕ = (0, []) in
@@ -190,7 +189,7 @@ pages_full sum P pages readable at out delivers marked full = λ page (number, t
     sym (ap (λ (l : List ℕ). value_len sum P l) (found_bytes P pages readable at out number page delivers marked here)) ∙ full (get_or at number 0) d h.0
 
 -- why one isn't
-pub keeps_fault : (sum : List ℕ → ℕ) (P : ℕ) (pages : List ℕ) (out : List (ℕ × List ℕ)) (old new : Life) (e : Error) → Delivers (places P pages) old.present.readable out → KeepsFault sum P out e → PagesFault sum P pages old new e
+pub keeps_fault : (sum : List ℕ → ℕ) (P : ℕ) (pages : List ℕ) (out : List (ℕ × List ℕ)) (old new : Life) (e : Error) → Delivers (page_ranges P pages) old.present.readable out → KeepsFault sum P out e → PagesFault sum P pages old new e
 keeps_fault sum P pages out old new ReadFailed delivers fault = absurd fault
 keeps_fault sum P pages out old new WriteFailed delivers fault = fault
 keeps_fault sum P pages out old new ResizeFailed delivers fault = fault
@@ -220,12 +219,12 @@ delivers_fault sum P pages old new IdsExhausted fault = fault
 
 -- ---- the same under other names
 
-pub delivers_same : (P : ℕ) (pages pages_there readable readable_there : List ℕ) (out out_there : List (ℕ × List ℕ)) → pages_there ≡ pages → readable_there ≡ readable → out_there ≡ out → Delivers (places P pages) readable out
-    → Delivers (places P pages_there) readable_there out_there
+pub delivers_same : (P : ℕ) (pages pages_there readable readable_there : List ℕ) (out out_there : List (ℕ × List ℕ)) → pages_there ≡ pages → readable_there ≡ readable → out_there ≡ out → Delivers (page_ranges P pages) readable out
+    → Delivers (page_ranges P pages_there) readable_there out_there
 delivers_same P pages pages_there readable readable_there out out_there same_pages same_readable same_out delivers =
-    subst (λ (l : List (ℕ × List ℕ)). Delivers (places P pages_there) readable_there l) (sym same_out)
-    (subst (λ (r : List ℕ). Delivers (places P pages_there) r out) (sym same_readable)
-    (subst (λ (ps : List ℕ). Delivers (places P ps) readable out) (sym same_pages) delivers))
+    subst (λ (l : List (ℕ × List ℕ)). Delivers (page_ranges P pages_there) readable_there l) (sym same_out)
+    (subst (λ (r : List ℕ). Delivers (page_ranges P pages_there) r out) (sym same_readable)
+    (subst (λ (ps : List ℕ). Delivers (page_ranges P ps) readable out) (sym same_pages) delivers))
 
 pub whole_same : (P : ℕ) (pages pages_there : List ℕ) (out out_there : List (ℕ × List ℕ)) → pages_there ≡ pages → out_there ≡ out → All (IsDelivered P (length pages)) out → All (IsDelivered P (length pages_there)) out_there
 whole_same P pages pages_there out out_there same_pages same_out whole =
@@ -244,8 +243,8 @@ told_same P content at at_there out out_there lacks lacks_there same_at same_out
 pub marked_same : (at : List ℕ) (out out_there : List (ℕ × List ℕ)) → out_there ≡ out → AreMarked at out_there (length out_there) → AreMarked at out (length out)
 marked_same at out out_there same marked = subst (λ (o : List (ℕ × List ℕ)). AreMarked at o (length o)) same marked
 
--- a read, and what was kept behind it
-pub leaves_kept : (t : Tail) (cache behind : CacheState) (old new : Life) → CanRead t cache old.present → Looked old new → (CanRead t cache new.present → LeavesAll t cache behind new new) → LeavesAll t cache behind old new
-leaves_kept t cache behind old new can looked kept =
+-- a read, and what was kept after it
+pub leaves_kept : (t : Tail) (cache after : CacheState) (old new : Life) → CanRead t cache old.present → Looked old new → (CanRead t cache new.present → LeavesAll t cache after new new) → LeavesAll t cache after old new
+leaves_kept t cache after old new can looked kept =
     let first = leaves_cache t cache old new can looked in
-    leaves_joins t cache cache behind old new new first (kept first.can)
+    leaves_joins t cache cache after old new new first (kept first.can)

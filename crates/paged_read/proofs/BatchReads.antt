@@ -12,7 +12,7 @@ use Rattle.disk.specs.declared.error.Error.TheVariants.{ReadFailed, WriteFailed,
 use Rattle.disk.proofs.Logs.{grows_once, failed_once}
 use Rattle.crash.specs.Kept.{Through}
 use Rattle.crash.specs.Looks.{Looked, looked_start}
-use Rattle.paged_read.specs.Ranges.{AsksTogether, places}
+use Rattle.paged_read.specs.Ranges.{AsksTogether, page_ranges}
 use Rattle.paged_read.specs.Batch.{DeliversPages}
 
 -- a call that only reads
@@ -60,21 +60,21 @@ asks_many ranges old new out (Err OffsetOverflow) some goes = absurd goes
 asks_many ranges old new out (Err OutOfMemory) some goes = not_asked ranges old new goes.0
 asks_many ranges old new out (Err IdsExhausted) some goes = absurd goes
 
--- the places of pages that are there are within the blob
-pub places_within : (P : ℕ) (pages readable : List ℕ) → All (λ page. (page + 1) * (P + 12) ≤ length readable) pages → IsWithin (places P pages) readable
-places_within P [] readable there = All-nil (λ (r : ℕ × ℕ). r.0 + r.1 ≤ length readable)
-places_within P (page ∷ pages) readable there =
-    All-cons (λ (r : ℕ × ℕ). r.0 + r.1 ≤ length readable) (page * (P + 12), P + 12) (places P pages) (omega (arith, there 0 page (omega arith), suc-mul page (P + 12)))
-    (places_within P pages readable (λ k d less. there (suc k) d (omega arith)))
+-- the offsets of pages that are there are within the blob
+pub page_ranges_within : (P : ℕ) (pages readable : List ℕ) → All (λ page. (page + 1) * (P + 12) ≤ length readable) pages → IsWithin (page_ranges P pages) readable
+page_ranges_within P [] readable there = All-nil (λ (r : ℕ × ℕ). r.0 + r.1 ≤ length readable)
+page_ranges_within P (page ∷ pages) readable there =
+    All-cons (λ (r : ℕ × ℕ). r.0 + r.1 ≤ length readable) (page * (P + 12), P + 12) (page_ranges P pages) (omega (arith, there 0 page (omega arith), suc-mul page (P + 12)))
+    (page_ranges_within P pages readable (λ k d less. there (suc k) d (omega arith)))
 
 -- why it answers an error
-pub many_fault : (P : ℕ) (pages : List ℕ) (old new : Life) (out : List (ℕ × List ℕ)) (e : Error) → All (λ page. (page + 1) * (P + 12) ≤ length old.present.readable) pages → ReadManyGoes (places P pages) old new out (Err e) → DeliversPages P pages old new (Err e)
-many_fault P pages old new out ReadFailed there goes = failed_once (ReadMany (places P pages)) old.present new.present (ap (λ l. l.present.log) goes)
+pub many_fault : (P : ℕ) (pages : List ℕ) (old new : Life) (out : List (ℕ × List ℕ)) (e : Error) → All (λ page. (page + 1) * (P + 12) ≤ length old.present.readable) pages → ReadManyGoes (page_ranges P pages) old new out (Err e) → DeliversPages P pages old new (Err e)
+many_fault P pages old new out ReadFailed there goes = failed_once (ReadMany (page_ranges P pages)) old.present new.present (ap (λ l. l.present.log) goes)
 many_fault P pages old new out WriteFailed there goes = goes
 many_fault P pages old new out ResizeFailed there goes = goes
 many_fault P pages old new out SyncFailed there goes = goes
 many_fault P pages old new out InvalidChecksum there goes = goes
-many_fault P pages old new out BlobInsufficientLength there goes = absurd (goes.1 (places_within P pages old.present.readable there))
+many_fault P pages old new out BlobInsufficientLength there goes = absurd (goes.1 (page_ranges_within P pages old.present.readable there))
 many_fault P pages old new out OffsetOverflow there goes = goes
 many_fault P pages old new out OutOfMemory there goes = tt
 many_fault P pages old new out IdsExhausted there goes = goes
@@ -84,7 +84,7 @@ unfolding IsDistinct
 distinct_none = tt
 
 -- nothing is delivered of no pages
-pub delivers_none : (P : ℕ) (pages : List ℕ) (readable : List ℕ) (out : List (ℕ × List ℕ)) → length pages ≡ 0 → out ≡ [] → Delivers (places P pages) readable out
+pub delivers_none : (P : ℕ) (pages : List ℕ) (readable : List ℕ) (out : List (ℕ × List ℕ)) → length pages ≡ 0 → out ≡ [] → Delivers (page_ranges P pages) readable out
 delivers_none P [] readable out none no_out =
     let nothing : Delivers [] readable [] = record {
       count = refl;
@@ -95,18 +95,18 @@ delivers_none P [] readable out none no_out =
     subst (λ (l : List (ℕ × List ℕ)). Delivers [] readable l) (sym no_out) nothing
 delivers_none P (page ∷ pages) readable out none no_out = absurd (omega arith)
 
--- one place more
-pub places_more : (size : ℕ) (pages : List ℕ) (i : ℕ) (d : ℕ) (ranges : List (ℕ × ℕ)) → i < length pages → ranges ≡ map (λ (page : ℕ). (page * size, size)) (take i pages)
+-- one offset more
+pub page_ranges_more : (size : ℕ) (pages : List ℕ) (i : ℕ) (d : ℕ) (ranges : List (ℕ × ℕ)) → i < length pages → ranges ≡ map (λ (page : ℕ). (page * size, size)) (take i pages)
     → ranges ++ (get_or pages i d * size, size) ∷ [] ≡ map (λ (page : ℕ). (page * size, size)) (take (i + 1) pages)
-places_more size pages i d ranges there before =
+page_ranges_more size pages i d ranges there before =
     let f : ℕ → ℕ × ℕ = λ page. (page * size, size) in
     ap (λ (l : List (ℕ × ℕ)). l ++ (get_or pages i d * size, size) ∷ []) before
     ∙ sym (map-append f (take i pages) (get_or pages i d ∷ []))
     ∙ ap (λ (l : List ℕ). map f l) (sym (take_more pages i d there))
 
 -- all of them
-pub places_all : (P size : ℕ) (pages : List ℕ) (n : ℕ) (ranges : List (ℕ × ℕ)) → size ≡ P + 12 → length pages ≤ n → ranges ≡ map (λ (page : ℕ). (page * size, size)) (take n pages) → ranges ≡ places P pages
-places_all P size pages n ranges is enough made =
+pub page_ranges_all : (P size : ℕ) (pages : List ℕ) (n : ℕ) (ranges : List (ℕ × ℕ)) → size ≡ P + 12 → length pages ≤ n → ranges ≡ map (λ (page : ℕ). (page * size, size)) (take n pages) → ranges ≡ page_ranges P pages
+page_ranges_all P size pages n ranges is enough made =
     made ∙ ap (λ (l : List ℕ). map (λ (page : ℕ). (page * size, size)) l) (take_all n pages enough)
     ∙ ap (λ (s : ℕ). map (λ (page : ℕ). (page * s, s)) pages) is
 
@@ -114,6 +114,6 @@ pub some_from_test : (pages : List ℕ) → (length pages == 0) ≡ false → 0 
 some_from_test [] is = cc
 some_from_test (page ∷ pages) is = omega arith
 
-pub length-places : (P : ℕ) (pages : List ℕ) → length (places P pages) ≡ length pages
-length-places P [] = refl
-length-places P (page ∷ pages) = ap suc (length-places P pages)
+pub length-page_ranges : (P : ℕ) (pages : List ℕ) → length (page_ranges P pages) ≡ length pages
+length-page_ranges P [] = refl
+length-page_ranges P (page ∷ pages) = ap suc (length-page_ranges P pages)

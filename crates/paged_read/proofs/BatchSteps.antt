@@ -23,7 +23,7 @@ use Rattle.paged_read.proofs.Copies.{length-put_at}
 use Rattle.paged_read.proofs.Leaving.{length-told}
 use Rattle.paged_read.proofs.RangedPages.{missing_nil, missing_split, missing_none, missing_served, missing_page, unserved_page, last_pushed, served_none, served_split}
 
--- ---- pieces that are put in their places
+-- ---- pieces that are put at their offsets
 
 -- the bytes of a piece of a content
 abbrev pub piece_bytes : (P : ℕ) → List ℕ → Piece → List ℕ
@@ -33,43 +33,43 @@ length_piece : (P : ℕ) (content : List ℕ) (piece : Piece) → length (piece_
 length_piece P content piece = omega (arith, length-take piece.len (drop piece.skip (page_of_content P content piece.page)))
 
 -- bytes that are put within the front of a buffer leave the rest
-put_front : (place : ℕ) (bytes xs ys : List ℕ) → place + length bytes ≤ length xs → put_at place bytes (xs ++ ys) ≡ put_at place bytes xs ++ ys
-put_front place bytes xs ys fits =
-    ap (λ (l : List ℕ). l ++ bytes ++ drop (place + length bytes) (xs ++ ys)) (take-append-le place xs ys (omega (arith, fits)))
-    ∙ ap (λ (l : List ℕ). take place xs ++ bytes ++ l) (drop-append-le (place + length bytes) xs ys fits)
-    ∙ sym (append_assoc (take place xs ++ bytes) (drop (place + length bytes) xs) ys)
+put_front : (buf_offset : ℕ) (bytes xs ys : List ℕ) → buf_offset + length bytes ≤ length xs → put_at buf_offset bytes (xs ++ ys) ≡ put_at buf_offset bytes xs ++ ys
+put_front buf_offset bytes xs ys fits =
+    ap (λ (l : List ℕ). l ++ bytes ++ drop (buf_offset + length bytes) (xs ++ ys)) (take-append-le buf_offset xs ys (omega (arith, fits)))
+    ∙ ap (λ (l : List ℕ). take buf_offset xs ++ bytes ++ l) (drop-append-le (buf_offset + length bytes) xs ys fits)
+    ∙ sym (append_assoc (take buf_offset xs ++ bytes) (drop (buf_offset + length bytes) xs) ys)
 
 -- room for pieces
 abbrev pub HaveRoom : (room : ℕ) → List Piece → Type 0
-HaveRoom room pieces = All (λ piece. piece.place + piece.len ≤ room) pieces
+HaveRoom room pieces = All (λ piece. piece.buf_offset + piece.len ≤ room) pieces
 
 pub length_told_pieces : (P : ℕ) (content : List ℕ) (pieces : List Piece) (xs : List ℕ) → HaveRoom (length xs) pieces → length (with_told P content pieces xs) ≡ length xs
 length_told_pieces P content [] xs room = refl
 length_told_pieces P content (piece ∷ pieces) xs room =
-    let same : length (put_at piece.place (piece_bytes P content piece) xs) ≡ length xs = length-put_at piece.place (piece_bytes P content piece) xs (omega (arith, length_piece P content piece, room 0 piece (omega arith))) in
-    length_told_pieces P content pieces (put_at piece.place (piece_bytes P content piece) xs) (λ k d less. omega (arith, same, room (suc k) d (omega arith))) ∙ same
+    let same : length (put_at piece.buf_offset (piece_bytes P content piece) xs) ≡ length xs = length-put_at piece.buf_offset (piece_bytes P content piece) xs (omega (arith, length_piece P content piece, room 0 piece (omega arith))) in
+    length_told_pieces P content pieces (put_at piece.buf_offset (piece_bytes P content piece) xs) (λ k d less. omega (arith, same, room (suc k) d (omega arith))) ∙ same
 
 -- pieces of the front leave the rest
 pub told_front : (P : ℕ) (content : List ℕ) (pieces : List Piece) (xs ys : List ℕ) → HaveRoom (length xs) pieces → with_told P content pieces (xs ++ ys) ≡ with_told P content pieces xs ++ ys
 told_front P content [] xs ys room = refl
 told_front P content (piece ∷ pieces) xs ys room =
-    let fits : piece.place + length (piece_bytes P content piece) ≤ length xs = omega (arith, length_piece P content piece, room 0 piece (omega arith)) in
-    let same : length (put_at piece.place (piece_bytes P content piece) xs) ≡ length xs = length-put_at piece.place (piece_bytes P content piece) xs fits in
-    ap (λ (l : List ℕ). with_told P content pieces l) (put_front piece.place (piece_bytes P content piece) xs ys fits)
-    ∙ told_front P content pieces (put_at piece.place (piece_bytes P content piece) xs) ys (λ k d less. omega (arith, same, room (suc k) d (omega arith)))
+    let fits : piece.buf_offset + length (piece_bytes P content piece) ≤ length xs = omega (arith, length_piece P content piece, room 0 piece (omega arith)) in
+    let same : length (put_at piece.buf_offset (piece_bytes P content piece) xs) ≡ length xs = length-put_at piece.buf_offset (piece_bytes P content piece) xs fits in
+    ap (λ (l : List ℕ). with_told P content pieces l) (put_front piece.buf_offset (piece_bytes P content piece) xs ys fits)
+    ∙ told_front P content pieces (put_at piece.buf_offset (piece_bytes P content piece) xs) ys (λ k d less. omega (arith, same, room (suc k) d (omega arith)))
 
 -- one piece more
-pub told_push : (P : ℕ) (content : List ℕ) (pieces : List Piece) (piece : Piece) (xs : List ℕ) → with_told P content (pieces ++ piece ∷ []) xs ≡ put_at piece.place (piece_bytes P content piece) (with_told P content pieces xs)
+pub told_push : (P : ℕ) (content : List ℕ) (pieces : List Piece) (piece : Piece) (xs : List ℕ) → with_told P content (pieces ++ piece ∷ []) xs ≡ put_at piece.buf_offset (piece_bytes P content piece) (with_told P content pieces xs)
 told_push P content [] piece xs = refl
-told_push P content (first ∷ pieces) piece xs = told_push P content pieces piece (put_at first.place (piece_bytes P content first) xs)
+told_push P content (first ∷ pieces) piece xs = told_push P content pieces piece (put_at first.buf_offset (piece_bytes P content first) xs)
 
 -- ---- what was gathered
 
--- the pieces lie before the place
+-- the pieces lie before the offset
 lacks_room : (P : ℕ) (pages : List ℕ) (room : ℕ) (lacks : List Lack) (xs : List ℕ) → All (IsLack P pages room) lacks → length xs ≡ room → HaveRoom (length xs) (pieces_in lacks)
-lacks_room P pages room [] xs each is = All-nil (λ piece. piece.place + piece.len ≤ length xs)
+lacks_room P pages room [] xs each is = All-nil (λ piece. piece.buf_offset + piece.len ≤ length xs)
 lacks_room P pages room (lack ∷ lacks) xs each is =
-    All-cons (λ piece. piece.place + piece.len ≤ length xs) lack.piece (pieces_in lacks) (let h = each 0 lack (omega arith) in omega (arith, h.fits, is))
+    All-cons (λ piece. piece.buf_offset + piece.len ≤ length xs) lack.piece (pieces_in lacks) (let h = each 0 lack (omega arith) in omega (arith, h.fits, is))
     (lacks_room P pages room lacks xs (λ k d less. each (suc k) d (omega arith)) is)
 
 push_slices : (content : List ℕ) (ranges : List (ℕ × ℕ)) (range : ℕ × ℕ) → flat_map (slice content) (ranges ++ range ∷ []) ≡ flat_map (slice content) ranges ++ slice content range
@@ -100,18 +100,18 @@ gathered_start cache t pages lacks buf no_pages no_lacks = record {
 }
 
 -- an empty range
-pub gathered_none : (cache : CacheState) (t : Tail) (ranges : List (ℕ × ℕ)) (o place : ℕ) (pages : List ℕ) (lacks : List Lack) (buf : List ℕ) → Gathered cache t ranges place pages lacks buf
-    → Gathered cache t (ranges ++ (o, 0) ∷ []) place pages lacks buf
-gathered_none cache t ranges o place pages lacks buf g = record {
+pub gathered_none : (cache : CacheState) (t : Tail) (ranges : List (ℕ × ℕ)) (o buf_offset : ℕ) (pages : List ℕ) (lacks : List Lack) (buf : List ℕ) → Gathered cache t ranges buf_offset pages lacks buf
+    → Gathered cache t (ranges ++ (o, 0) ∷ []) buf_offset pages lacks buf
+gathered_none cache t ranges o buf_offset pages lacks buf g = record {
   wanted = g.wanted ∙ sym (missing_none cache t ranges o);
   each = g.each;
   bytes = λ d can. g.bytes d can ∙ sym (push_slices (told t d.readable) ranges (o, 0) ∙ append-nil (flat_map (slice (told t d.readable)) ranges));
 }
 
 -- a range of two parts
-pub gathered_split : (cache : CacheState) (t : Tail) (ranges : List (ℕ × ℕ)) (o d n place : ℕ) (pages : List ℕ) (lacks : List Lack) (buf : List ℕ) → 0 < t.page_size
-    → Gathered cache t ((ranges ++ (o, d) ∷ []) ++ (o + d, n) ∷ []) place pages lacks buf → Gathered cache t (ranges ++ (o, d + n) ∷ []) place pages lacks buf
-gathered_split cache t ranges o d n place pages lacks buf wide g = record {
+pub gathered_split : (cache : CacheState) (t : Tail) (ranges : List (ℕ × ℕ)) (o d n buf_offset : ℕ) (pages : List ℕ) (lacks : List Lack) (buf : List ℕ) → 0 < t.page_size
+    → Gathered cache t ((ranges ++ (o, d) ∷ []) ++ (o + d, n) ∷ []) buf_offset pages lacks buf → Gathered cache t (ranges ++ (o, d + n) ∷ []) buf_offset pages lacks buf
+gathered_split cache t ranges o d n buf_offset pages lacks buf wide g = record {
   wanted = g.wanted ∙ sym (missing_split cache t ranges o d n wide);
   each = g.each;
   bytes = λ disk can. g.bytes disk can ∙ sym (slices_split (told t disk.readable) ranges o d n);
@@ -123,17 +123,17 @@ wider P pages room more lacks le each = λ k d less.
     record { page = h.page; within = h.within; fits = omega (arith, h.fits, le) }
 
 -- a part that was copied
-pub gathered_served : (cache : CacheState) (t : Tail) (ranges : List (ℕ × ℕ)) (o n place : ℕ) (pages : List ℕ) (lacks : List Lack) (buf part behind : List ℕ) → place ≤ length buf
-    → is_served cache t (o, n) ≡ true → take (place + n) behind ≡ take place buf ++ part → ((d : Disk) → CanRead t cache d → part ≡ slice (told t d.readable) (o, n))
-    → Gathered cache t ranges place pages lacks buf → Gathered cache t (ranges ++ (o, n) ∷ []) (place + n) pages lacks behind
-gathered_served cache t ranges o n place pages lacks buf part behind fits served front is g = record {
+pub gathered_served : (cache : CacheState) (t : Tail) (ranges : List (ℕ × ℕ)) (o n buf_offset : ℕ) (pages : List ℕ) (lacks : List Lack) (buf part after : List ℕ) → buf_offset ≤ length buf
+    → is_served cache t (o, n) ≡ true → take (buf_offset + n) after ≡ take buf_offset buf ++ part → ((d : Disk) → CanRead t cache d → part ≡ slice (told t d.readable) (o, n))
+    → Gathered cache t ranges buf_offset pages lacks buf → Gathered cache t (ranges ++ (o, n) ∷ []) (buf_offset + n) pages lacks after
+gathered_served cache t ranges o n buf_offset pages lacks buf part after fits served front is g = record {
   wanted = g.wanted ∙ sym (missing_served cache t ranges (o, n) served);
-  each = wider t.page_size pages place (place + n) lacks (omega arith) g.each;
+  each = wider t.page_size pages buf_offset (buf_offset + n) lacks (omega arith) g.each;
   bytes = λ d can.
       let content = told t d.readable in
-      let short : length (take place buf) ≡ place = omega (arith, length-take place buf, fits) in
+      let short : length (take buf_offset buf) ≡ buf_offset = omega (arith, length-take buf_offset buf, fits) in
       ap (λ (l : List ℕ). with_told t.page_size content (pieces_in lacks) l) front
-      ∙ told_front t.page_size content (pieces_in lacks) (take place buf) part (lacks_room t.page_size pages place lacks (take place buf) g.each short)
+      ∙ told_front t.page_size content (pieces_in lacks) (take buf_offset buf) part (lacks_room t.page_size pages buf_offset lacks (take buf_offset buf) g.each short)
       ∙ ap (λ (l : List ℕ). l ++ part) (g.bytes d can)
       ∙ ap (λ (l : List ℕ). flat_map (slice content) ranges ++ l) (is d can)
       ∙ sym (push_slices content ranges (o, n));
@@ -162,10 +162,10 @@ with_page_keeps q xs i x is = by_test (is_page q (slice_get xs (length xs - 1)))
     by_test false = slice_get-append_left xs (q ∷ []) i (slice_get_within xs i x is) ∙ is
 
 -- bytes that are put at the end
-put_end : (place : ℕ) (bytes xs ys : List ℕ) → length xs ≡ place → length ys ≡ length bytes → put_at place bytes (xs ++ ys) ≡ xs ++ bytes
-put_end place bytes xs ys is same =
-    ap (λ (l : List ℕ). l ++ bytes ++ drop (place + length bytes) (xs ++ ys)) (take_at xs ys place is)
-    ∙ ap (λ (l : List ℕ). xs ++ bytes ++ l) (drop_all (place + length bytes) (xs ++ ys) (omega (arith, length-append xs ys, is, same)))
+put_end : (buf_offset : ℕ) (bytes xs ys : List ℕ) → length xs ≡ buf_offset → length ys ≡ length bytes → put_at buf_offset bytes (xs ++ ys) ≡ xs ++ bytes
+put_end buf_offset bytes xs ys is same =
+    ap (λ (l : List ℕ). l ++ bytes ++ drop (buf_offset + length bytes) (xs ++ ys)) (take_at xs ys buf_offset is)
+    ∙ ap (λ (l : List ℕ). xs ++ bytes ++ l) (drop_all (buf_offset + length bytes) (xs ++ ys) (omega (arith, length-append xs ys, is, same)))
     ∙ append-nil (xs ++ bytes)
 
 -- bytes within one page
@@ -176,11 +176,11 @@ piece_is P o n content within =
     ∙ ap (λ (k : ℕ). take n (drop k content)) (div-add-mod' o P)
 
 -- a part that was added to the batch
-pub gathered_lacked : (cache : CacheState) (t : Tail) (ranges : List (ℕ × ℕ)) (o n place : ℕ) (pages more : List ℕ) (lacks added : List Lack) (piece : Piece) (buf part behind : List ℕ) → 0 < t.page_size → 0 < n
-    → place ≤ length buf → length part ≡ n → o + n ≤ size_of t → EndWithin o ranges → (o < t.full_pages * t.page_size → o % t.page_size + n ≤ t.page_size) → is_served cache t (o, n) ≡ false
-    → take (place + n) behind ≡ take place buf ++ part → piece ≡ record { page = o / t.page_size; skip = o % t.page_size; place = place; len = n } → more ≡ with_page piece.page pages
-    → added ≡ lacks ++ record { number = length more - 1; piece = piece } ∷ [] → Gathered cache t ranges place pages lacks buf → Gathered cache t (ranges ++ (o, n) ∷ []) (place + n) more added behind
-gathered_lacked cache t ranges o n place pages more lacks added piece buf part behind wide some fits size ends before page unserved front piece_eq more_is added_is g =
+pub gathered_lacked : (cache : CacheState) (t : Tail) (ranges : List (ℕ × ℕ)) (o n buf_offset : ℕ) (pages more : List ℕ) (lacks added : List Lack) (piece : Piece) (buf part after : List ℕ) → 0 < t.page_size → 0 < n
+    → buf_offset ≤ length buf → length part ≡ n → o + n ≤ size_of t → EndWithin o ranges → (o < t.full_pages * t.page_size → o % t.page_size + n ≤ t.page_size) → is_served cache t (o, n) ≡ false
+    → take (buf_offset + n) after ≡ take buf_offset buf ++ part → piece ≡ record { page = o / t.page_size; skip = o % t.page_size; buf_offset = buf_offset; len = n } → more ≡ with_page piece.page pages
+    → added ≡ lacks ++ record { number = length more - 1; piece = piece } ∷ [] → Gathered cache t ranges buf_offset pages lacks buf → Gathered cache t (ranges ++ (o, n) ∷ []) (buf_offset + n) more added after
+gathered_lacked cache t ranges o n buf_offset pages more lacks added piece buf part after wide some fits size ends before page unserved front piece_eq more_is added_is g =
     let P = t.page_size in
     let q = o / P in
     let here : piece.page ≡ q = ap (λ (p : Piece). p.page) piece_eq in
@@ -188,33 +188,33 @@ gathered_lacked cache t ranges o n place pages more lacks added piece buf part b
     let h = unserved_page cache t o n wide page unserved in
     let lack : Lack = record { number = length more - 1; piece = piece } in
     let last : slice_get more (length more - 1) ≡ Some piece.page = ap (λ (l : List ℕ). slice_get l (length l - 1)) pages_eq ∙ with_page_last q pages ∙ ap (λ (p : ℕ). Some p) (sym here) in
-    let old_each : All (IsLack P more (place + n)) lacks = λ k d less.
+    let old_each : All (IsLack P more (buf_offset + n)) lacks = λ k d less.
     let l = g.each k d less in
     record { page = ap (λ (xs : List ℕ). slice_get xs (get_or lacks k d).number) pages_eq ∙ with_page_keeps q pages _ _ l.page; within = l.within; fits = omega (arith, l.fits) } in
-    let new_is : IsLack P more (place + n) lack = record {
+    let new_is : IsLack P more (buf_offset + n) lack = record {
       page = last;
       within = omega (arith, ap (λ (p : Piece). p.skip + p.len) piece_eq, h.1);
-      fits = omega (arith, ap (λ (p : Piece). p.place + p.len) piece_eq);
+      fits = omega (arith, ap (λ (p : Piece). p.buf_offset + p.len) piece_eq);
     } in
     record {
       wanted = pages_eq ∙ ap (λ (l : List ℕ). with_page q l) g.wanted ∙ sym (missing_page cache t ranges o n wide some before page unserved);
-      each = subst (λ l. All (IsLack P more (place + n)) l) (sym added_is) (All-push (IsLack P more (place + n)) lacks lack old_each new_is);
+      each = subst (λ l. All (IsLack P more (buf_offset + n)) l) (sym added_is) (All-push (IsLack P more (buf_offset + n)) lacks lack old_each new_is);
       bytes = λ d can.
           let content = told t d.readable in
-          let short : length (take place buf) ≡ place = omega (arith, length-take place buf, fits) in
-          let done = with_told P content (pieces_in lacks) (take place buf) in
-          let room = lacks_room P pages place lacks (take place buf) g.each short in
-          let long : length done ≡ place = length_told_pieces P content (pieces_in lacks) (take place buf) room ∙ short in
+          let short : length (take buf_offset buf) ≡ buf_offset = omega (arith, length-take buf_offset buf, fits) in
+          let done = with_told P content (pieces_in lacks) (take buf_offset buf) in
+          let room = lacks_room P pages buf_offset lacks (take buf_offset buf) g.each short in
+          let long : length done ≡ buf_offset = length_told_pieces P content (pieces_in lacks) (take buf_offset buf) room ∙ short in
           let all : length content ≡ size_of t = length-told t d.readable can.there in
           let is : piece_bytes P content piece ≡ slice content (o, n) = ap (λ (p : Piece). piece_bytes P content p) piece_eq ∙ piece_is P o n content h.1 in
           let enough : length (slice content (o, n)) ≡ n = omega (arith, length-take n (drop o content), length-drop o content, all, ends) in
-          ap (λ (l : List Lack). with_told P content (pieces_in l) (take (place + n) behind)) added_is
-          ∙ ap (λ (l : List Piece). with_told P content l (take (place + n) behind)) (map-append (λ (l : Lack). l.piece) lacks (lack ∷ []))
-          ∙ told_push P content (pieces_in lacks) piece (take (place + n) behind)
-          ∙ ap (λ (l : List ℕ). put_at piece.place (piece_bytes P content piece) (with_told P content (pieces_in lacks) l)) front
-          ∙ ap (λ (l : List ℕ). put_at piece.place (piece_bytes P content piece) l) (told_front P content (pieces_in lacks) (take place buf) part room)
-          ∙ ap (λ (k : ℕ). put_at k (piece_bytes P content piece) (done ++ part)) (ap (λ (p : Piece). p.place) piece_eq)
-          ∙ put_end place (piece_bytes P content piece) done part long (omega (arith, size, enough, ap length is))
+          ap (λ (l : List Lack). with_told P content (pieces_in l) (take (buf_offset + n) after)) added_is
+          ∙ ap (λ (l : List Piece). with_told P content l (take (buf_offset + n) after)) (map-append (λ (l : Lack). l.piece) lacks (lack ∷ []))
+          ∙ told_push P content (pieces_in lacks) piece (take (buf_offset + n) after)
+          ∙ ap (λ (l : List ℕ). put_at piece.buf_offset (piece_bytes P content piece) (with_told P content (pieces_in lacks) l)) front
+          ∙ ap (λ (l : List ℕ). put_at piece.buf_offset (piece_bytes P content piece) l) (told_front P content (pieces_in lacks) (take buf_offset buf) part room)
+          ∙ ap (λ (k : ℕ). put_at k (piece_bytes P content piece) (done ++ part)) (ap (λ (p : Piece). p.buf_offset) piece_eq)
+          ∙ put_end buf_offset (piece_bytes P content piece) done part long (omega (arith, size, enough, ap length is))
           ∙ ap (λ (l : List ℕ). done ++ l) is
           ∙ ap (λ (l : List ℕ). l ++ slice content (o, n)) (g.bytes d can)
           ∙ sym (push_slices content ranges (o, n));
@@ -231,12 +231,12 @@ tried_unserved t range cache bytes answer tries ends none =
     sym (ap (λ (b : Bool). b && is_served cache t range) there) ∙ sym tries.0 ∙ none
 
 -- the part of a buffer for so many bytes
-pub length_part : (place n : ℕ) (buf : List ℕ) → place + n ≤ length buf → length (take (place + n - place) (drop place buf)) ≡ n
-length_part place n buf fits = omega (arith, length-take (place + n - place) (drop place buf), length-drop place buf, fits)
+pub length_part : (buf_offset n : ℕ) (buf : List ℕ) → buf_offset + n ≤ length buf → length (take (buf_offset + n - buf_offset) (drop buf_offset buf)) ≡ n
+length_part buf_offset n buf fits = omega (arith, length-take (buf_offset + n - buf_offset) (drop buf_offset buf), length-drop buf_offset buf, fits)
 
-pub tried_part : (t : Tail) (o n place : ℕ) (cache : CacheState) (buf bytes : List ℕ) (answer : Bool) → place + n ≤ length buf → TriesRead t (o, length (take (place + n - place) (drop place buf))) cache bytes answer
+pub tried_part : (t : Tail) (o n buf_offset : ℕ) (cache : CacheState) (buf bytes : List ℕ) (answer : Bool) → buf_offset + n ≤ length buf → TriesRead t (o, length (take (buf_offset + n - buf_offset) (drop buf_offset buf))) cache bytes answer
     → TriesRead t (o, n) cache bytes answer
-tried_part t o n place cache buf bytes answer fits tries = subst (λ (m : ℕ). TriesRead t (o, m) cache bytes answer) (length_part place n buf fits) tries
+tried_part t o n buf_offset cache buf bytes answer fits tries = subst (λ (m : ℕ). TriesRead t (o, m) cache bytes answer) (length_part buf_offset n buf fits) tries
 
 -- ---- a range, part by part
 
@@ -244,39 +244,39 @@ tried_part t o n place cache buf bytes answer fits tries = subst (λ (m : ℕ). 
 pub served_start : (cache : CacheState) (t : Tail) (o n : ℕ) → n ≡ 0 → true ≡ is_served cache t (o, n)
 served_start cache t o n none = sym (ap (λ (m : ℕ). is_served cache t (o, m)) none ∙ served_none cache t o)
 
-pub gathered_empty : (cache : CacheState) (t : Tail) (ranges : List (ℕ × ℕ)) (o n place : ℕ) (pages : List ℕ) (lacks : List Lack) (buf : List ℕ) → n ≡ 0 → Gathered cache t ranges place pages lacks buf
-    → Gathered cache t (ranges ++ (o, n) ∷ []) (place + n) pages lacks buf
-gathered_empty cache t ranges o n place pages lacks buf none g =
-    let here : place ≡ place + n = omega (arith, none) in
-    let first : Gathered cache t (ranges ++ (o, n) ∷ []) place pages lacks buf = subst (λ (m : ℕ). Gathered cache t (ranges ++ (o, m) ∷ []) place pages lacks buf) (sym none) (gathered_none cache t ranges o place pages lacks buf g) in
+pub gathered_empty : (cache : CacheState) (t : Tail) (ranges : List (ℕ × ℕ)) (o n buf_offset : ℕ) (pages : List ℕ) (lacks : List Lack) (buf : List ℕ) → n ≡ 0 → Gathered cache t ranges buf_offset pages lacks buf
+    → Gathered cache t (ranges ++ (o, n) ∷ []) (buf_offset + n) pages lacks buf
+gathered_empty cache t ranges o n buf_offset pages lacks buf none g =
+    let here : buf_offset ≡ buf_offset + n = omega (arith, none) in
+    let first : Gathered cache t (ranges ++ (o, n) ∷ []) buf_offset pages lacks buf = subst (λ (m : ℕ). Gathered cache t (ranges ++ (o, m) ∷ []) buf_offset pages lacks buf) (sym none) (gathered_none cache t ranges o buf_offset pages lacks buf g) in
     subst (λ (m : ℕ). Gathered cache t (ranges ++ (o, n) ∷ []) m pages lacks buf) here first
 
 -- a part more
 pub served_more : (cache : CacheState) (t : Tail) (o at n : ℕ) (before here : Bool) → 0 < t.page_size → o ≤ at → before ≡ is_served cache t (o, at - o) → here ≡ is_served cache t (at, n)
     → (before && here) ≡ is_served cache t (o, at + n - o)
-served_more cache t o at n before here wide after first second =
-    let joined : at - o + n ≡ at + n - o = omega (arith, after) in
-    let place : o + (at - o) ≡ at = omega (arith, after) in
-    ap (λ (b : Bool). b && here) first ∙ ap (λ (b : Bool). is_served cache t (o, at - o) && b) (second ∙ ap (λ (k : ℕ). is_served cache t (k, n)) (sym place))
+served_more cache t o at n before here wide ahead first second =
+    let joined : at - o + n ≡ at + n - o = omega (arith, ahead) in
+    let buf_offset : o + (at - o) ≡ at = omega (arith, ahead) in
+    ap (λ (b : Bool). b && here) first ∙ ap (λ (b : Bool). is_served cache t (o, at - o) && b) (second ∙ ap (λ (k : ℕ). is_served cache t (k, n)) (sym buf_offset))
     ∙ sym (served_split cache t o (at - o) n wide) ∙ ap (λ (m : ℕ). is_served cache t (o, m)) joined
 
 end_more : (o at : ℕ) (ranges : List (ℕ × ℕ)) → o ≤ at → EndWithin o ranges → EndWithin at (ranges ++ (o, at - o) ∷ [])
-end_more o at ranges after ends = All-push (λ range. range.0 + range.1 ≤ at) ranges (o, at - o) (λ k d less. omega (arith, ends k d less, after)) (omega (arith, after))
+end_more o at ranges ahead ends = All-push (λ range. range.0 + range.1 ≤ at) ranges (o, at - o) (λ k d less. omega (arith, ends k d less, ahead)) (omega (arith, ahead))
 
-pub gathered_more : (cache : CacheState) (t : Tail) (ranges : List (ℕ × ℕ)) (o at n place : ℕ) (pages more : List ℕ) (lacks added : List Lack) (buf behind : List ℕ) → 0 < t.page_size → o ≤ at → EndWithin o ranges
-    → Gathered cache t (ranges ++ (o, at - o) ∷ []) (place + (at - o)) pages lacks buf
-    → ((others : List (ℕ × ℕ)) → EndWithin at others → Gathered cache t others (place + (at - o)) pages lacks buf → Gathered cache t (others ++ (at, n) ∷ []) (place + (at - o) + n) more added behind)
-    → Gathered cache t (ranges ++ (o, at + n - o) ∷ []) (place + (at + n - o)) more added behind
-gathered_more cache t ranges o at n place pages more lacks added buf behind wide after ends before step =
+pub gathered_more : (cache : CacheState) (t : Tail) (ranges : List (ℕ × ℕ)) (o at n buf_offset : ℕ) (pages more : List ℕ) (lacks added : List Lack) (buf after : List ℕ) → 0 < t.page_size → o ≤ at → EndWithin o ranges
+    → Gathered cache t (ranges ++ (o, at - o) ∷ []) (buf_offset + (at - o)) pages lacks buf
+    → ((others : List (ℕ × ℕ)) → EndWithin at others → Gathered cache t others (buf_offset + (at - o)) pages lacks buf → Gathered cache t (others ++ (at, n) ∷ []) (buf_offset + (at - o) + n) more added after)
+    → Gathered cache t (ranges ++ (o, at + n - o) ∷ []) (buf_offset + (at + n - o)) more added after
+gathered_more cache t ranges o at n buf_offset pages more lacks added buf after wide ahead ends before step =
     let d = at - o in
-    let here : at ≡ o + d = omega (arith, after) in
-    let joined : d + n ≡ at + n - o = omega (arith, after) in
-    let reach : place + d + n ≡ place + (at + n - o) = omega (arith, after) in
-    let parts : Gathered cache t ((ranges ++ (o, d) ∷ []) ++ (o + d, n) ∷ []) (place + d + n) more added behind =
-    subst (λ (k : ℕ). Gathered cache t ((ranges ++ (o, d) ∷ []) ++ (k, n) ∷ []) (place + d + n) more added behind) here (step (ranges ++ (o, d) ∷ []) (end_more o at ranges after ends) before) in
-    let whole : Gathered cache t (ranges ++ (o, d + n) ∷ []) (place + d + n) more added behind = gathered_split cache t ranges o d n (place + d + n) more added behind wide parts in
-    let there : Gathered cache t (ranges ++ (o, at + n - o) ∷ []) (place + d + n) more added behind = subst (λ (m : ℕ). Gathered cache t (ranges ++ (o, m) ∷ []) (place + d + n) more added behind) joined whole in
-    subst (λ (m : ℕ). Gathered cache t (ranges ++ (o, at + n - o) ∷ []) m more added behind) reach there
+    let here : at ≡ o + d = omega (arith, ahead) in
+    let joined : d + n ≡ at + n - o = omega (arith, ahead) in
+    let reach : buf_offset + d + n ≡ buf_offset + (at + n - o) = omega (arith, ahead) in
+    let parts : Gathered cache t ((ranges ++ (o, d) ∷ []) ++ (o + d, n) ∷ []) (buf_offset + d + n) more added after =
+    subst (λ (k : ℕ). Gathered cache t ((ranges ++ (o, d) ∷ []) ++ (k, n) ∷ []) (buf_offset + d + n) more added after) here (step (ranges ++ (o, d) ∷ []) (end_more o at ranges ahead ends) before) in
+    let whole : Gathered cache t (ranges ++ (o, d + n) ∷ []) (buf_offset + d + n) more added after = gathered_split cache t ranges o d n (buf_offset + d + n) more added after wide parts in
+    let there : Gathered cache t (ranges ++ (o, at + n - o) ∷ []) (buf_offset + d + n) more added after = subst (λ (m : ℕ). Gathered cache t (ranges ++ (o, m) ∷ []) (buf_offset + d + n) more added after) joined whole in
+    subst (λ (m : ℕ). Gathered cache t (ranges ++ (o, at + n - o) ∷ []) m more added after) reach there
 
 -- what a part within the size answers is whether it's served
 pub tried_is : (t : Tail) (range : ℕ × ℕ) (cache : CacheState) (bytes : List ℕ) (answer : Bool) → TriesRead t range cache bytes answer → range.0 + range.1 ≤ size_of t → answer ≡ is_served cache t range

@@ -53,23 +53,23 @@ module _ (t : Tail) (cache : CacheState) (offset len : ℕ) (some : 0 < t.page_s
       (λ i under. elim (copied.agrees i under) [ inl right ↦ inl right | inr (inl left) ↦ inr left | inr (inr none) ↦ absurd none ])
 
   -- so the range is read
-  pub missing_read : (sum : List ℕ → ℕ) (old new : Life) (left pieces : List Piece) (buf mid behind : List ℕ) (result : Result (Unit {0}) Error) → CanRead t cache old.present → length buf ≡ len
+  pub missing_read : (sum : List ℕ → ℕ) (old new : Life) (left pieces : List Piece) (buf mid after : List ℕ) (result : Result (Unit {0}) Error) → CanRead t cache old.present → length buf ≡ len
       → pieces ≡ pieces_of t.page_size (offset, len) 0 → left ≡ pieces_left cache t.id pieces → mid ≡ with_pieces cache t.id pieces buf
-      → ReadsPieces sum t left mid behind old new result → ReadsBelow sum t cache (offset, len) behind old new result
-  missing_read sum old new left pieces buf mid behind (Ok u) can size all is copied reads =
+      → ReadsPieces sum t left mid after old new result → ReadsBelow sum t cache (offset, len) after old new result
+  missing_read sum old new left pieces buf mid after (Ok u) can size all is copied reads =
       let those : left ≡ pieces_left cache t.id (pieces_of t.page_size (offset, len) 0) = is ∙ ap (λ (l : List Piece). pieces_left cache t.id l) all in
       let there : mid ≡ with_pieces cache t.id (pieces_of t.page_size (offset, len) 0) buf = copied ∙ ap (λ (l : List Piece). with_pieces cache t.id l buf) all in
       let pages : missing cache t ((offset, len) ∷ []) ≡ pages_of left = missing_pages cache t offset len 0 some below ∙ ap pages_of (sym those) in (
-        copied_all old.present buf behind can size (reads.0 ∙ ap (λ (l : List Piece). with_told t.page_size (told t old.present.readable) l mid) those ∙ ap (λ (l : List ℕ). with_told t.page_size (told t old.present.readable) (pieces_left cache t.id (pieces_of t.page_size (offset, len) 0)) l) there),
+        copied_all old.present buf after can size (reads.0 ∙ ap (λ (l : List Piece). with_told t.page_size (told t old.present.readable) l mid) those ∙ ap (λ (l : List ℕ). with_told t.page_size (told t old.present.readable) (pieces_left cache t.id (pieces_of t.page_size (offset, len) 0)) l) there),
         full_missing sum cache t ((offset, len) ∷ []) (pages_of left) old.present.readable pages reads.1,
       )
-  missing_read sum old new left pieces buf mid behind (Err e) can size all is copied reads =
+  missing_read sum old new left pieces buf mid after (Err e) can size all is copied reads =
       let those : left ≡ pieces_left cache t.id (pieces_of t.page_size (offset, len) 0) = is ∙ ap (λ (l : List Piece). pieces_left cache t.id l) all in
       faults_missing sum cache t ((offset, len) ∷ []) (pages_of left) old new e (missing_pages cache t offset len 0 some below ∙ ap pages_of (sym those)) reads
 
 -- ---- a part that the cache had, and the rest
 
--- a range is its beginning and what is behind it
+-- a range is its beginning and what is after it
 pub slice_two : (content : List ℕ) (offset n m : ℕ) → slice content (offset, n + m) ≡ slice content (offset, n) ++ slice content (offset + n, m)
 slice_two content offset n m =
     let xs = drop offset content in
@@ -78,15 +78,15 @@ slice_two content offset n m =
     ∙ ap (λ (l : List ℕ). take n xs ++ l) (drop-take n m xs)
     ∙ ap (λ (l : List ℕ). take n xs ++ take m l) (drop-drop n offset content)
 
--- places below a tail are numbers of 64 bits
-pub places_fit : (P full place : ℕ) → full * (P + 12) < 2 ^ 64 → place ≤ full * P → place < 2 ^ 64
-places_fit P full place fits below =
+-- offsets below a tail are numbers of 64 bits
+pub offsets_fit : (P full offset : ℕ) → full * (P + 12) < 2 ^ 64 → offset ≤ full * P → offset < 2 ^ 64
+offsets_fit P full offset fits below =
     let h : full * P ≤ full * (P + 12) = mul-le-mul_left full (omega arith) in
     omega (arith, h, fits, below)
 
--- nothing is behind the end of a list
-none_behind : (count : ℕ) (xs : List ℕ) → count ≤ length xs → post_of count (length xs - count) xs ≡ []
-none_behind count xs within = Post-is count (length xs) xs within ∙ drop_all (length xs) xs (omega arith)
+-- nothing is after the end of a list
+none_after : (count : ℕ) (xs : List ℕ) → count ≤ length xs → post_of count (length xs - count) xs ≡ []
+none_after count xs within = Post-is count (length xs) xs within ∙ drop_all (length xs) xs (omega arith)
 
 module _ (t : Tail) (cache : CacheState) (offset : ℕ) (buf mid : List ℕ) (count : ℕ) (some : 0 < t.page_size) (cached : ReadsCached cache t.id offset buf mid count) where
   -- the whole range is read where the rest is
@@ -96,7 +96,7 @@ module _ (t : Tail) (cache : CacheState) (offset : ℕ) (buf mid : List ℕ) (co
       let content = told t old.present.readable in
       let within = cached_within cache t.id offset buf mid count cached in
       let front : take count mid ≡ slice content (offset, count) = cached_bytes cache t.id offset buf mid count cached t refl can.page_size some old.present can below in
-      let none : post_of count (length mid - count) mid ≡ [] = none_behind count mid (omega (arith, within, cached.size)) in
+      let none : post_of count (length mid - count) mid ≡ [] = none_after count mid (omega (arith, within, cached.size)) in
       let many : count + (length buf - count) ≡ length buf = omega (arith, within) in (
         is ∙ ap (λ (l : List ℕ). take count mid ++ (rest ++ l)) none ∙ ap (λ (l : List ℕ). take count mid ++ l) (append-nil rest)
             ∙ ap (λ (l : List ℕ). l ++ rest) front ∙ ap (λ (l : List ℕ). slice content (offset, count) ++ l) reads.0
@@ -112,7 +112,7 @@ module _ (t : Tail) (cache : CacheState) (offset : ℕ) (buf mid : List ℕ) (co
   asks_joins old new size below fits short asks =
       let within = cached_within cache t.id offset buf mid count cached in
       let less : count < length buf = omega (arith, within, short) in
-      let lacks : 0 < length (missing cache t ((offset, length buf) ∷ [])) = cached_some cache t.id offset buf mid count cached t refl size some below (places_fit t.page_size t.full_pages (offset + length buf) fits below) less in (
+      let lacks : 0 < length (missing cache t ((offset, length buf) ∷ [])) = cached_some cache t.id offset buf mid count cached t refl size some below (offsets_fit t.page_size t.full_pages (offset + length buf) fits below) less in (
         omega (arith, asks, ap length (missing_rest cache t.id offset buf mid count cached t refl size some)),
         λ served. absurd (none_served (length (missing cache t ((offset, length buf) ∷ []))) served lacks),
       )
@@ -143,7 +143,7 @@ module _ (t : Tail) (cache : CacheState) (offset : ℕ) (buf mid : List ℕ) (co
         elim (cases_lt count (length buf)) [
           | inl short ↦
               let more = below (omega (arith, short)) in
-              differ count (length mid) (omega (arith, short, cached.size)) ∙ sym (not_none (length (missing cache t ((offset, length buf) ∷ []))) (cached_some cache t.id offset buf mid count cached t refl size some more (places_fit t.page_size t.full_pages (offset + length buf) fits more) short))
+              differ count (length mid) (omega (arith, short, cached.size)) ∙ sym (not_none (length (missing cache t ((offset, length buf) ∷ []))) (cached_some cache t.id offset buf mid count cached t refl size some more (offsets_fit t.page_size t.full_pages (offset + length buf) fits more) short))
           | inr long ↦
               let all : count ≡ length buf = omega (arith, long, within) in
               alike count (length mid) (omega (arith, all, cached.size)) ∙ sym (ap (λ (l : List ℕ). nat_eq (length l) 0) (cached_all cache t.id offset buf mid count cached t refl size some all))

@@ -13,24 +13,24 @@ use Rattle.cache.specs.CacheState.{CacheState, held, ReadsCached, HoldsByte, IsM
 use Rattle.cache.specs.Pages.{page_of_content}
 use Rattle.paged_read.specs.Tail.{Tail, told, CanRead}
 use Rattle.paged_read.specs.Ranges.{touches, missing, slice}
-use Rattle.paged_read.proofs.Windows.{needs, missing_same, missing_none, touches_yes, touches_none, touches_behind, touches_before}
+use Rattle.paged_read.proofs.Windows.{needs, missing_same, missing_none, touches_yes, touches_none, touches_after, touches_before}
 use Rattle.paged_read.proofs.Leaving.{length-told}
 
--- the page in which a place lies
-page_is : (P place page : ℕ) → 0 < P → page * P ≤ place → place < (page + 1) * P → place / P ≡ page
-page_is P place page some above below = omega (arith, div_below place P (page + 1) some below, le-div page place P some above)
+-- the page in which an offset lies
+page_is : (P offset page : ℕ) → 0 < P → page * P ≤ offset → offset < (page + 1) * P → offset / P ≡ page
+page_is P offset page some above below = omega (arith, div_below offset P (page + 1) some below, le-div page offset P some above)
 
 -- how many bytes were copied
 count_within : (old : List ℕ) (count : ℕ) (More : Type 0) → (count ≡ length old) ⊎ ((count < length old) × More) → count ≤ length old
 count_within old count More (inl all) = omega (arith, all)
 count_within old count More (inr some) = omega (arith, some.0)
 
--- the page of a place is held
-abbrev HoldsPage : CacheState → (id place : ℕ) → Type 0
-HoldsPage cache id place = is_some (held cache (id, place / cache.page_size)) ≡ true
+-- the page of an offset is held
+abbrev HoldsPage : CacheState → (id offset : ℕ) → Type 0
+HoldsPage cache id offset = is_some (held cache (id, offset / cache.page_size)) ≡ true
 
-holds_page : (cache : CacheState) (id place byte : ℕ) → HoldsByte cache id place byte → HoldsPage cache id place
-holds_page cache id place byte holds = ap is_some holds.1
+holds_page : (cache : CacheState) (id offset byte : ℕ) → HoldsByte cache id offset byte → HoldsPage cache id offset
+holds_page cache id offset byte holds = ap is_some holds.1
 
 -- a test that a number passes
 filter_some : (f : ℕ → Bool) (first n p : ℕ) → first ≤ p → p < first + n → f p ≡ true → 0 < length (filter f (range_with_len first n))
@@ -64,16 +64,16 @@ module _ (cache : CacheState) (id offset : ℕ) (old new : List ℕ) (count : �
 
     -- what they leave finds missing what the whole does
     pub missing_rest : missing cache t ((offset, length old) ∷ []) ≡ missing cache t ((offset + count, length old - count) ∷ [])
-    missing_rest = missing_same cache t (offset, length old) (offset + count, length old - count) (λ page below. by_place page)
+    missing_rest = missing_same cache t (offset, length old) (offset + count, length old - count) (λ page below. by_offset page)
       where
         P : ℕ
         P = t.page_size
 
-        by_place : (page : ℕ) → (is_some (held cache (t.id, page)) ≡ true) ⊎ (touches P (offset, length old) page ≡ touches P (offset + count, length old - count) page)
-        by_place page = elim (cases_lt 0 (length old)) [
+        by_offset : (page : ℕ) → (is_some (held cache (t.id, page)) ≡ true) ⊎ (touches P (offset, length old) page ≡ touches P (offset + count, length old - count) page)
+        by_offset page = elim (cases_lt 0 (length old)) [
           | inr none ↦ inr (touches_none P offset (length old) page (omega (arith, none)) ∙ sym (touches_none P (offset + count) (length old - count) page (omega (arith, none))))
           | inl more ↦ elim (cases_lt (page * P) (offset + length old)) [
-            | inr behind ↦ inr (touches_behind P offset (length old) page behind ∙ sym (touches_behind P (offset + count) (length old - count) page (omega (arith, behind, cached_within))))
+            | inr after ↦ inr (touches_after P offset (length old) page after ∙ sym (touches_after P (offset + count) (length old - count) page (omega (arith, after, cached_within))))
             | inl begins ↦ elim (cases_lt offset ((page + 1) * P)) [
               | inr before ↦ inr (touches_before P offset (length old) page before ∙ sym (touches_before P (offset + count) (length old - count) page (omega (arith, before))))
               | inl ends ↦ elim (cases_lt (max offset (page * P)) (offset + count)) [
@@ -98,14 +98,14 @@ module _ (cache : CacheState) (id offset : ℕ) (old new : List ℕ) (count : �
       | inr (less, inl past) ↦ absurd (omega (arith, past, fits, less))
       | inr (less, inr none) ↦
           let P = t.page_size in
-          let place = offset + count in
-          let page = place / P in
-          let whole : page * P + place % P ≡ place = div-add-mod' place P in
-          let rest : place % P < P = mod-lt place some in
+          let here = offset + count in
+          let page = here / P in
+          let whole : page * P + here % P ≡ here = div-add-mod' here P in
+          let rest : here % P < P = mod-lt here some in
           let touched : touches P (offset, length old) page ≡ true = touches_yes P offset (length old) page (omega (arith, short)) (omega (arith, whole, short)) (omega (arith, whole, rest, suc-mul page P)) in
-          let lacks : held cache (t.id, page) ≡ None = ap (λ n. held cache (n, page)) mine ∙ ap (λ s. held cache (id, place / s)) (sym size) ∙ none in
+          let lacks : held cache (t.id, page) ≡ None = ap (λ n. held cache (n, page)) mine ∙ ap (λ s. held cache (id, here / s)) (sym size) ∙ none in
           let wanted : needs cache t (offset, length old) page ≡ true = ap (λ b. not (is_some (held cache (t.id, page))) && (b || false)) touched ∙ ap (λ (o : Option (List ℕ)). not (is_some o) && (true || false)) lacks in
-          filter_some (needs cache t (offset, length old)) 0 t.full_pages page (omega arith) (omega (arith, div_below place P t.full_pages some (omega (arith, below, short)))) wanted
+          filter_some (needs cache t (offset, length old)) 0 t.full_pages page (omega arith) (omega (arith, div_below here P t.full_pages some (omega (arith, below, short)))) wanted
     ]
 
     -- those that were copied are the content's

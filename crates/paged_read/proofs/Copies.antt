@@ -10,16 +10,16 @@ use Rattle.cache.specs.Pages.{page_of_content}
 use Rattle.cache.specs.declared.piece.Piece.{Piece}
 use Rattle.paged_read.specs.Parts.{with_told}
 
--- a place of the buffer lies in a piece
+-- an offset of the buffer lies in a piece
 abbrev pub Covers : Piece → ℕ → Type 0
-Covers piece i = (piece.place ≤ i) × (i < piece.place + piece.len)
+Covers piece i = (piece.buf_offset ≤ i) × (i < piece.buf_offset + piece.len)
 
 -- or in one of these
 abbrev pub SomeCovers : List Piece → ℕ → Type 0
 SomeCovers [] i = ⊥
 SomeCovers (piece ∷ pieces) i = Covers piece i ⊎ SomeCovers pieces i
 
--- each byte is the wanted one, or this is said of its place
+-- each byte is the wanted one, or this is said of its offset
 abbrev pub AgreesOr : (ℕ → Type 0) → (buf wanted : List ℕ) → Type 0
 AgreesOr Else buf wanted = (i : ℕ) → i < length wanted → (slice_get buf i ≡ slice_get wanted i) ⊎ Else i
 
@@ -27,10 +27,10 @@ AgreesOr Else buf wanted = (i : ℕ) → i < length wanted → (slice_get buf i 
 abbrev pub told_of : (P : ℕ) → List ℕ → Piece → List ℕ
 told_of P content piece = take piece.len (drop piece.skip (page_of_content P content piece.page))
 
--- those are the wanted ones at the piece's place
+-- those are the wanted ones at the piece's offset
 pub record Fits (P : ℕ) (content wanted : List ℕ) (piece : Piece) : Type 0 where
-  pub within : piece.place + piece.len ≤ length wanted
-  pub bytes : told_of P content piece ≡ take piece.len (drop piece.place wanted)
+  pub within : piece.buf_offset + piece.len ≤ length wanted
+  pub bytes : told_of P content piece ≡ take piece.len (drop piece.buf_offset wanted)
 
 -- each piece does
 abbrev pub AllFit : (P : ℕ) → (content wanted : List ℕ) → List Piece → Type 0
@@ -39,87 +39,87 @@ AllFit P content wanted (piece ∷ pieces) = Fits P content wanted piece × AllF
 
 -- ---- bytes put into a buffer
 
-length_of : (place n : ℕ) (bytes wanted : List ℕ) → bytes ≡ take n (drop place wanted) → place + n ≤ length wanted → length bytes ≡ n
-length_of place n bytes wanted is within = ap length is ∙ length-take-le n (drop place wanted) (omega (arith, length-drop place wanted, within))
+length_of : (buf_offset n : ℕ) (bytes wanted : List ℕ) → bytes ≡ take n (drop buf_offset wanted) → buf_offset + n ≤ length wanted → length bytes ≡ n
+length_of buf_offset n bytes wanted is within = ap length is ∙ length-take-le n (drop buf_offset wanted) (omega (arith, length-drop buf_offset wanted, within))
 
-put_parts : (place : ℕ) (bytes buf : List ℕ) → put_at place bytes buf ≡ take place buf ++ (bytes ++ drop (place + length bytes) buf)
-put_parts place bytes buf = append_assoc (take place buf) bytes (drop (place + length bytes) buf)
+put_parts : (buf_offset : ℕ) (bytes buf : List ℕ) → put_at buf_offset bytes buf ≡ take buf_offset buf ++ (bytes ++ drop (buf_offset + length bytes) buf)
+put_parts buf_offset bytes buf = append_assoc (take buf_offset buf) bytes (drop (buf_offset + length bytes) buf)
 
 -- its length stays
-pub length-put_at : (place : ℕ) (bytes buf : List ℕ) → place + length bytes ≤ length buf → length (put_at place bytes buf) ≡ length buf
-length-put_at place bytes buf fits =
-    omega (arith, ap length (put_parts place bytes buf), length-append (take place buf) (bytes ++ drop (place + length bytes) buf), length-append bytes (drop (place + length bytes) buf), length-take-le place buf (omega (arith, fits)), length-drop (place + length bytes) buf, fits)
+pub length-put_at : (buf_offset : ℕ) (bytes buf : List ℕ) → buf_offset + length bytes ≤ length buf → length (put_at buf_offset bytes buf) ≡ length buf
+length-put_at buf_offset bytes buf fits =
+    omega (arith, ap length (put_parts buf_offset bytes buf), length-append (take buf_offset buf) (bytes ++ drop (buf_offset + length bytes) buf), length-append bytes (drop (buf_offset + length bytes) buf), length-take-le buf_offset buf (omega (arith, fits)), length-drop (buf_offset + length bytes) buf, fits)
 
 -- before them it is as it was
-put_before : (place : ℕ) (bytes buf : List ℕ) (i : ℕ) → place + length bytes ≤ length buf → i < place → slice_get (put_at place bytes buf) i ≡ slice_get buf i
-put_before place bytes buf i fits before =
-    let size : length (take place buf) ≡ place = length-take-le place buf (omega (arith, fits)) in
-    ap (λ (l : List ℕ). slice_get l i) (put_parts place bytes buf)
-    ∙ slice_get-append_left (take place buf) (bytes ++ drop (place + length bytes) buf) i (omega (arith, size, before))
-    ∙ slice_get-take place buf i before
+put_before : (buf_offset : ℕ) (bytes buf : List ℕ) (i : ℕ) → buf_offset + length bytes ≤ length buf → i < buf_offset → slice_get (put_at buf_offset bytes buf) i ≡ slice_get buf i
+put_before buf_offset bytes buf i fits before =
+    let size : length (take buf_offset buf) ≡ buf_offset = length-take-le buf_offset buf (omega (arith, fits)) in
+    ap (λ (l : List ℕ). slice_get l i) (put_parts buf_offset bytes buf)
+    ∙ slice_get-append_left (take buf_offset buf) (bytes ++ drop (buf_offset + length bytes) buf) i (omega (arith, size, before))
+    ∙ slice_get-take buf_offset buf i before
 
--- behind them too
-put_behind : (place : ℕ) (bytes buf : List ℕ) (i : ℕ) → place + length bytes ≤ length buf → place + length bytes ≤ i → slice_get (put_at place bytes buf) i ≡ slice_get buf i
-put_behind place bytes buf i fits behind =
-    let size : length (take place buf) ≡ place = length-take-le place buf (omega (arith, fits)) in
-    let rest = drop (place + length bytes) buf in
-    ap (λ (l : List ℕ). slice_get l i) (put_parts place bytes buf)
-    ∙ slice_get-append_right (take place buf) (bytes ++ rest) i (omega (arith, size, behind))
-    ∙ slice_get-append_right bytes rest (i - length (take place buf)) (omega (arith, size, behind))
-    ∙ slice_get-drop (place + length bytes) buf (i - length (take place buf) - length bytes)
-    ∙ ap (λ k. slice_get buf k) (let e : place + length bytes + (i - length (take place buf) - length bytes) ≡ i = omega (arith, size, behind) in e)
+-- after them too
+put_after : (buf_offset : ℕ) (bytes buf : List ℕ) (i : ℕ) → buf_offset + length bytes ≤ length buf → buf_offset + length bytes ≤ i → slice_get (put_at buf_offset bytes buf) i ≡ slice_get buf i
+put_after buf_offset bytes buf i fits after =
+    let size : length (take buf_offset buf) ≡ buf_offset = length-take-le buf_offset buf (omega (arith, fits)) in
+    let rest = drop (buf_offset + length bytes) buf in
+    ap (λ (l : List ℕ). slice_get l i) (put_parts buf_offset bytes buf)
+    ∙ slice_get-append_right (take buf_offset buf) (bytes ++ rest) i (omega (arith, size, after))
+    ∙ slice_get-append_right bytes rest (i - length (take buf_offset buf)) (omega (arith, size, after))
+    ∙ slice_get-drop (buf_offset + length bytes) buf (i - length (take buf_offset buf) - length bytes)
+    ∙ ap (λ k. slice_get buf k) (let e : buf_offset + length bytes + (i - length (take buf_offset buf) - length bytes) ≡ i = omega (arith, size, after) in e)
 
--- and at their places they stand
-put_here : (place n : ℕ) (bytes buf wanted : List ℕ) (i : ℕ) → bytes ≡ take n (drop place wanted) → place + n ≤ length wanted → length buf ≡ length wanted → place ≤ i → i < place + n
-    → slice_get (put_at place bytes buf) i ≡ slice_get wanted i
-put_here place n bytes buf wanted i is within size above below =
-    let many : length bytes ≡ n = length_of place n bytes wanted is within in
-    let front : length (take place buf) ≡ place = length-take-le place buf (omega (arith, within, size)) in
-    let rest = drop (place + length bytes) buf in
-    let at : i - length (take place buf) ≡ i - place = omega (arith, front) in
-    ap (λ (l : List ℕ). slice_get l i) (put_parts place bytes buf)
-    ∙ slice_get-append_right (take place buf) (bytes ++ rest) i (omega (arith, front, above))
+-- and at their offsets they stand
+put_here : (buf_offset n : ℕ) (bytes buf wanted : List ℕ) (i : ℕ) → bytes ≡ take n (drop buf_offset wanted) → buf_offset + n ≤ length wanted → length buf ≡ length wanted → buf_offset ≤ i → i < buf_offset + n
+    → slice_get (put_at buf_offset bytes buf) i ≡ slice_get wanted i
+put_here buf_offset n bytes buf wanted i is within size above below =
+    let many : length bytes ≡ n = length_of buf_offset n bytes wanted is within in
+    let front : length (take buf_offset buf) ≡ buf_offset = length-take-le buf_offset buf (omega (arith, within, size)) in
+    let rest = drop (buf_offset + length bytes) buf in
+    let at : i - length (take buf_offset buf) ≡ i - buf_offset = omega (arith, front) in
+    ap (λ (l : List ℕ). slice_get l i) (put_parts buf_offset bytes buf)
+    ∙ slice_get-append_right (take buf_offset buf) (bytes ++ rest) i (omega (arith, front, above))
     ∙ ap (λ k. slice_get (bytes ++ rest) k) at
-    ∙ slice_get-append_left bytes rest (i - place) (omega (arith, many, above, below))
-    ∙ ap (λ (l : List ℕ). slice_get l (i - place)) is
-    ∙ slice_get-take n (drop place wanted) (i - place) (omega (arith, above, below))
-    ∙ slice_get-drop place wanted (i - place)
-    ∙ ap (λ k. slice_get wanted k) (let e : place + (i - place) ≡ i = omega (arith, above) in e)
+    ∙ slice_get-append_left bytes rest (i - buf_offset) (omega (arith, many, above, below))
+    ∙ ap (λ (l : List ℕ). slice_get l (i - buf_offset)) is
+    ∙ slice_get-take n (drop buf_offset wanted) (i - buf_offset) (omega (arith, above, below))
+    ∙ slice_get-drop buf_offset wanted (i - buf_offset)
+    ∙ ap (λ k. slice_get wanted k) (let e : buf_offset + (i - buf_offset) ≡ i = omega (arith, above) in e)
 
--- the bytes of a piece make those places right
+-- the bytes of a piece make those offsets right
 put_agrees : (Else : ℕ → Type 0) (P : ℕ) (content : List ℕ) (piece : Piece) (buf wanted : List ℕ) → length buf ≡ length wanted → Fits P content wanted piece → AgreesOr (λ i. Covers piece i ⊎ Else i) buf wanted
-    → AgreesOr Else (put_at piece.place (told_of P content piece) buf) wanted
+    → AgreesOr Else (put_at piece.buf_offset (told_of P content piece) buf) wanted
 put_agrees Else P content piece buf wanted size fits agrees i below =
     let bytes = told_of P content piece in
-    let many : length bytes ≡ piece.len = length_of piece.place piece.len bytes wanted fits.bytes fits.within in
-    let room : piece.place + length bytes ≤ length buf = omega (arith, many, size, fits.within) in
-    elim (cases_lt i piece.place) [
+    let many : length bytes ≡ piece.len = length_of piece.buf_offset piece.len bytes wanted fits.bytes fits.within in
+    let room : piece.buf_offset + length bytes ≤ length buf = omega (arith, many, size, fits.within) in
+    elim (cases_lt i piece.buf_offset) [
       | inl before ↦ elim (agrees i below) [
-        | inl right ↦ inl (put_before piece.place bytes buf i room before ∙ right)
+        | inl right ↦ inl (put_before piece.buf_offset bytes buf i room before ∙ right)
         | inr (inl (above, under)) ↦ absurd (omega (arith, before, above))
         | inr (inr other) ↦ inr other
       ]
-      | inr above ↦ elim (cases_lt i (piece.place + piece.len)) [
-        | inl here ↦ inl (put_here piece.place piece.len bytes buf wanted i fits.bytes fits.within size above here)
-        | inr behind ↦ elim (agrees i below) [
-          | inl right ↦ inl (put_behind piece.place bytes buf i room (omega (arith, many, behind)) ∙ right)
-          | inr (inl (from, under)) ↦ absurd (omega (arith, behind, under))
+      | inr above ↦ elim (cases_lt i (piece.buf_offset + piece.len)) [
+        | inl here ↦ inl (put_here piece.buf_offset piece.len bytes buf wanted i fits.bytes fits.within size above here)
+        | inr after ↦ elim (agrees i below) [
+          | inl right ↦ inl (put_after piece.buf_offset bytes buf i room (omega (arith, many, after)) ∙ right)
+          | inr (inl (from, under)) ↦ absurd (omega (arith, after, under))
           | inr (inr other) ↦ inr other
         ]
       ]
     ]
 
-put_size : (P : ℕ) (content : List ℕ) (piece : Piece) (buf wanted : List ℕ) → length buf ≡ length wanted → Fits P content wanted piece → length (put_at piece.place (told_of P content piece) buf) ≡ length wanted
+put_size : (P : ℕ) (content : List ℕ) (piece : Piece) (buf wanted : List ℕ) → length buf ≡ length wanted → Fits P content wanted piece → length (put_at piece.buf_offset (told_of P content piece) buf) ≡ length wanted
 put_size P content piece buf wanted size fits =
-    let many = length_of piece.place piece.len (told_of P content piece) wanted fits.bytes fits.within in
-    length-put_at piece.place (told_of P content piece) buf (omega (arith, many, size, fits.within)) ∙ size
+    let many = length_of piece.buf_offset piece.len (told_of P content piece) wanted fits.bytes fits.within in
+    length-put_at piece.buf_offset (told_of P content piece) buf (omega (arith, many, size, fits.within)) ∙ size
 
--- all these pieces make their places right
+-- all these pieces make their offsets right
 pub told_agrees : (P : ℕ) (content : List ℕ) (pieces : List Piece) (buf wanted : List ℕ) → length buf ≡ length wanted → AllFit P content wanted pieces → AgreesOr (SomeCovers pieces) buf wanted
     → with_told P content pieces buf ≡ wanted
 told_agrees P content [] buf wanted size fit agrees = sym (same_elements wanted buf (sym size) (λ i x is. elim (agrees i (slice_get_within wanted i x is)) [ inl right ↦ right ∙ is | inr none ↦ absurd none ]))
 told_agrees P content (piece ∷ pieces) buf wanted size fit agrees =
-    told_agrees P content pieces (put_at piece.place (told_of P content piece) buf) wanted (put_size P content piece buf wanted size fit.0) fit.1
+    told_agrees P content pieces (put_at piece.buf_offset (told_of P content piece) buf) wanted (put_size P content piece buf wanted size fit.0) fit.1
     (put_agrees (SomeCovers pieces) P content piece buf wanted size fit.0 agrees)
 
 -- those of a cache's pages that are the content's
@@ -162,7 +162,7 @@ held_agrees Else cache id P content (piece ∷ pieces) buf wanted size fit true_
     by_held later (Some page) is =
         let told : page ≡ page_of_content P content piece.page = true_pages.0 page is in
         subst (λ (l : List ℕ). goes (Some l)) (sym told)
-        (later Else (put_at piece.place (told_of P content piece) buf) (put_size P content piece buf wanted size fit.0)
+        (later Else (put_at piece.buf_offset (told_of P content piece) buf) (put_size P content piece buf wanted size fit.0)
         (put_agrees (λ i. SomeCovers pieces i ⊎ Else i) P content piece buf wanted size fit.0 (λ i below. elim (agrees i below) [
           | inl right ↦ inl right
           | inr (inl (inl here)) ↦ inr (inl here)

@@ -1,6 +1,5 @@
 -- Reads of a tail whose pages are full find each of them full.
-use Rattle.std.proofs.Common.{◌≡◌, inl, inr, ℕ, zero, suc, ◌+◌, ◌<◌, List, []}
-use Rattle.std.proofs.Common.{◌∷◌, refl, ap, subst, arith, Bool, true, false, cond}
+use Rattle.std.proofs.Common.{◌≡◌, inl, inr, ℕ, zero, suc, ◌+◌, ◌<◌, List, [], ◌∷◌, refl, ap, subst, arith, Bool, true, false, cond}
 use Rattle.std.specs.Prelude.{Result, Vec, IsErrOf}
 use Rattle.std.specs.List.{Contains, filter, range_with_len}
 use Rattle.std.specs.declared.alloc.Global.{Global}

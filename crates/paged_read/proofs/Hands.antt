@@ -2,17 +2,16 @@
 use Rattle.std.proofs.Common.{◌^◌, ◌≡◌, ◌⊎◌, inl, inr, ℕ, zero, suc, ◌+◌, ◌*◌, ◌-◌, ◌/◌, ◌%◌, ◌<◌, ◌≤◌, min, List, [], ◌∷◌, ◌++◌, length, take, drop, refl, sym, ap, ◌∙◌, arith, append-nil, append_assoc, length-append, length-take, length-drop, All, subst, slice_index_or}
 use Rattle.std.proofs.lemmas.Bool.{cases_lt}
 use Rattle.std.proofs.lemmas.Nat.{div_below, mod_below, div-add-mod'}
-use Rattle.std.proofs.Math.Nat.{add-div_right}
+use Rattle.std.proofs.Math.Nat.{add-div_right, suc-mul}
 use Rattle.std.proofs.lemmas.List.{take-take, drop-drop, take_all, drop_all, drop_at, take_at, drop_more, length-take-le, drop-append-le}
 use Rattle.bytes.proofs.Ranges.{drop-take_less}
 use Rattle.std.proofs.Math.Seq.{take-add}
 use Rattle.std.specs.List.{flat_map}
 use borrow.Rule.Slice.PartMut.{put_mid, post_of, Post-is}
 use Rattle.page.specs.Page.{pieces}
-use Rattle.paged_read.specs.Hand.{payloads, payloads_from, payloads_at, IsPlace, IsHand}
+use Rattle.paged_read.specs.Hand.{payloads, payloads_from, payloads_at, IsCursor, IsHand}
 use Rattle.std.proofs.lemmas.List.Elements.{All-drop, All-append}
 use Rattle.std.proofs.lemmas.Grind.{flat_map-append}
-use Rattle.std.proofs.Math.Nat.{suc-mul}
 
 -- ---- payloads
 
@@ -61,19 +60,19 @@ payloads_begin P bytes = elim (cases_lt (length bytes) P) [
       payloads_first P bytes ∙ ap (λ (k : ℕ). take k bytes ++ payloads P (drop (k + 12) bytes)) n
 ]
 
--- ---- places
+-- ---- cursors
 
--- the first bytes from a place on are those left of its page
-pub place_first : (P : ℕ) (first : List ℕ) (runs : List (List ℕ)) (start left : ℕ) → start + left ≤ length first
+-- the first bytes from a cursor on are those left of its page
+pub cursor_first : (P : ℕ) (first : List ℕ) (runs : List (List ℕ)) (start left : ℕ) → start + left ≤ length first
     → take left (payloads_from P (first ∷ runs) start left) ≡ take left (drop start first)
-place_first P first runs start left within =
+cursor_first P first runs start left within =
     take_at (take left (drop start first)) (payloads P (drop (start + left + 12) first) ++ flat_map (payloads P) runs) left
     (length-take-le left (drop start first) (omega (arith, within, length-drop start first)))
 
 -- and then the other pages
-pub place_others : (P : ℕ) (first : List ℕ) (runs : List (List ℕ)) (start left : ℕ) → start + left ≤ length first
+pub cursor_others : (P : ℕ) (first : List ℕ) (runs : List (List ℕ)) (start left : ℕ) → start + left ≤ length first
     → drop left (payloads_from P (first ∷ runs) start left) ≡ payloads P (drop (start + left + 12) first) ++ flat_map (payloads P) runs
-place_others P first runs start left within =
+cursor_others P first runs start left within =
     drop_at (take left (drop start first)) (payloads P (drop (start + left + 12) first) ++ flat_map (payloads P) runs) left
     (length-take-le left (drop start first) (omega (arith, within, length-drop start first)))
 
@@ -85,24 +84,24 @@ begins_runs P first runs =
     ∙ sym (append_assoc (take (min (length first) P) first) (payloads P (drop (min (length first) P + 12) first)) (flat_map (payloads P) runs))
     ∙ ap (λ (l : List ℕ). l ++ flat_map (payloads P) runs) (sym (payloads_begin P first))
 
--- behind a page stands the next one of its run
-pub behind_page : (P : ℕ) (first : List ℕ) (runs : List (List ℕ)) (start left rest : ℕ) → start + left + 12 + rest ≡ length first
+-- after a page stands the next one of its run
+pub after_page : (P : ℕ) (first : List ℕ) (runs : List (List ℕ)) (start left rest : ℕ) → start + left + 12 + rest ≡ length first
     → drop left (payloads_from P (first ∷ runs) start left) ≡ payloads_from P (first ∷ runs) (start + left + 12) (min rest P)
-behind_page P first runs start left rest whole =
+after_page P first runs start left rest whole =
     let at = start + left + 12 in
     let back = drop at first in
     let size : length back ≡ rest = omega (arith, whole, length-drop at first) in
-    place_others P first runs start left (omega (arith, whole))
+    cursor_others P first runs start left (omega (arith, whole))
     ∙ ap (λ (l : List ℕ). l ++ flat_map (payloads P) runs) (payloads_begin P back)
     ∙ ap (λ (k : ℕ). (take (min k P) back ++ payloads P (drop (min k P + 12) back)) ++ flat_map (payloads P) runs) size
     ∙ append_assoc (take (min rest P) back) (payloads P (drop (min rest P + 12) back)) (flat_map (payloads P) runs)
     ∙ ap (λ (l : List ℕ). take (min rest P) back ++ (payloads P l ++ flat_map (payloads P) runs)) (drop-drop (min rest P + 12) at first ∙ ap (λ (k : ℕ). drop k first) (let e : at + (min rest P + 12) ≡ at + min rest P + 12 = omega arith in e))
 
 -- or the next run
-pub behind_run : (P : ℕ) (first : List ℕ) (runs : List (List ℕ)) (start left : ℕ) → start + left ≤ length first → length first ≤ start + left + 12
+pub after_run : (P : ℕ) (first : List ℕ) (runs : List (List ℕ)) (start left : ℕ) → start + left ≤ length first → length first ≤ start + left + 12
     → drop left (payloads_from P (first ∷ runs) start left) ≡ flat_map (payloads P) runs
-behind_run P first runs start left within ends =
-    place_others P first runs start left within
+after_run P first runs start left within ends =
+    cursor_others P first runs start left within
     ∙ ap (λ (l : List ℕ). payloads P l ++ flat_map (payloads P) runs) (drop_all (start + left + 12) first ends)
     ∙ ap (λ (l : List ℕ). l ++ flat_map (payloads P) runs) (payloads_none P)
 
@@ -121,63 +120,63 @@ begins P run left runs first below is size =
     ∙ begins_runs P first (drop (run + 1) runs)
     ∙ ap (λ (l : List (List ℕ)). flat_map (payloads P) l) (sym whole)
 
--- a place in runs that is in one of them
-pub place_in : (runs : List (List ℕ)) (run start left : ℕ) (first : List ℕ) → run < length runs → first ≡ slice_index_or runs run first
-    → IsPlace (drop run runs) start left → (0 < left) × (start + left ≤ length first)
-place_in runs run start left first below is place = subst (λ (l : List (List ℕ)). IsPlace l start left) (runs_from runs run first below is) place
+-- a cursor in runs that is in one of them
+pub cursor_in : (runs : List (List ℕ)) (run start left : ℕ) (first : List ℕ) → run < length runs → first ≡ slice_index_or runs run first
+    → IsCursor (drop run runs) start left → (0 < left) × (start + left ≤ length first)
+cursor_in runs run start left first below is cursor = subst (λ (l : List (List ℕ)). IsCursor l start left) (runs_from runs run first below is) cursor
 
-pub place_of : (runs : List (List ℕ)) (run start left : ℕ) (first : List ℕ) → run < length runs → first ≡ slice_index_or runs run first
-    → 0 < left → start + left ≤ length first → IsPlace (drop run runs) start left
-place_of runs run start left first below is some within = subst (λ (l : List (List ℕ)). IsPlace l start left) (sym (runs_from runs run first below is)) (some, within)
+pub cursor_of : (runs : List (List ℕ)) (run start left : ℕ) (first : List ℕ) → run < length runs → first ≡ slice_index_or runs run first
+    → 0 < left → start + left ≤ length first → IsCursor (drop run runs) start left
+cursor_of runs run start left first below is some within = subst (λ (l : List (List ℕ)). IsCursor l start left) (sym (runs_from runs run first below is)) (some, within)
 
-pub behind_same : (P run start left rest : ℕ) (runs : List (List ℕ)) (first : List ℕ) → run < length runs → first ≡ slice_index_or runs run first → start + left + 12 + rest ≡ length first
+pub after_same : (P run start left rest : ℕ) (runs : List (List ℕ)) (first : List ℕ) → run < length runs → first ≡ slice_index_or runs run first → start + left + 12 + rest ≡ length first
     → drop left (payloads_at P runs run start left) ≡ payloads_at P runs run (start + left + 12) (min rest P)
-behind_same P run start left rest runs first below is whole =
+after_same P run start left rest runs first below is whole =
     let same = runs_from runs run first below is in
     ap (λ (l : List (List ℕ)). drop left (payloads_from P l start left)) same
-    ∙ behind_page P first (drop (run + 1) runs) start left rest whole
+    ∙ after_page P first (drop (run + 1) runs) start left rest whole
     ∙ ap (λ (l : List (List ℕ)). payloads_from P l (start + left + 12) (min rest P)) (sym same)
 
-pub behind_next : (P run start left next_start next_left : ℕ) (runs : List (List ℕ)) (first : List ℕ) → run < length runs → first ≡ slice_index_or runs run first → start + left ≤ length first → length first ≤ start + left + 12
+pub after_next : (P run start left next_start next_left : ℕ) (runs : List (List ℕ)) (first : List ℕ) → run < length runs → first ≡ slice_index_or runs run first → start + left ≤ length first → length first ≤ start + left + 12
     → payloads_from P (drop (run + 1) runs) next_start next_left ≡ flat_map (payloads P) (drop (run + 1) runs)
     → drop left (payloads_at P runs run start left) ≡ payloads_at P runs (run + 1) next_start next_left
-behind_next P run start left next_start next_left runs first below is within ends begins =
+after_next P run start left next_start next_left runs first below is within ends begins =
     ap (λ (l : List (List ℕ)). drop left (payloads_from P l start left)) (runs_from runs run first below is)
-    ∙ behind_run P first (drop (run + 1) runs) start left within ends
+    ∙ after_run P first (drop (run + 1) runs) start left within ends
     ∙ sym begins
 
--- ---- so many bytes behind a place
+-- ---- so many bytes after a cursor
 
 -- in its page
-pub passed : (P : ℕ) (runs : List (List ℕ)) (start left count : ℕ) → IsPlace runs start left → (left ≡ 0) ⊎ (count < left)
+pub passed : (P : ℕ) (runs : List (List ℕ)) (start left count : ℕ) → IsCursor runs start left → (left ≡ 0) ⊎ (count < left)
     → count ≤ length (payloads_from P runs start left) → drop count (payloads_from P runs start left) ≡ payloads_from P runs (start + count) (left - count)
-passed P [] start left count place few there = drop_all count [] (omega arith)
-passed P (first ∷ runs) start left count place few there =
-    let less : count < left = elim few [ inl none ↦ absurd (omega (arith, none, place.0)) | inr less ↦ less ] in
+passed P [] start left count cursor few there = drop_all count [] (omega arith)
+passed P (first ∷ runs) start left count cursor few there =
+    let less : count < left = elim few [ inl none ↦ absurd (omega (arith, none, cursor.0)) | inr less ↦ less ] in
     let page = take left (drop start first) in
     let others = payloads P (drop (start + left + 12) first) ++ flat_map (payloads P) runs in
-    let size : length page ≡ left = length-take-le left (drop start first) (omega (arith, place.1, length-drop start first)) in
+    let size : length page ≡ left = length-take-le left (drop start first) (omega (arith, cursor.1, length-drop start first)) in
     drop-append-le count page others (omega (arith, less, size))
     ∙ ap (λ (l : List ℕ). l ++ others) (drop-take_less (drop start first) count left (omega (arith, less)) ∙ ap (λ (l : List ℕ). take (left - count) l) (drop-drop count start first))
     ∙ ap (λ (k : ℕ). take (left - count) (drop (start + count) first) ++ (payloads P (drop k first) ++ flat_map (payloads P) runs)) (let e : start + left + 12 ≡ start + count + (left - count) + 12 = omega (arith, less) in e)
 
-pub passed_place : (runs : List (List ℕ)) (start left count : ℕ) → IsPlace runs start left → (left ≡ 0) ⊎ (count < left) → IsPlace runs (start + count) (left - count)
-passed_place [] start left count place few = omega (arith, place)
-passed_place (first ∷ runs) start left count place few =
-    let less : count < left = elim few [ inl none ↦ absurd (omega (arith, none, place.0)) | inr less ↦ less ] in
-    (omega (arith, less), omega (arith, less, place.1))
+pub passed_cursor : (runs : List (List ℕ)) (start left count : ℕ) → IsCursor runs start left → (left ≡ 0) ⊎ (count < left) → IsCursor runs (start + count) (left - count)
+passed_cursor [] start left count cursor few = omega (arith, cursor)
+passed_cursor (first ∷ runs) start left count cursor few =
+    let less : count < left = elim few [ inl none ↦ absurd (omega (arith, none, cursor.0)) | inr less ↦ less ] in
+    (omega (arith, less), omega (arith, less, cursor.1))
 
--- a place with no byte left is behind all
-pub none_left : (P : ℕ) (runs : List (List ℕ)) (start : ℕ) → IsPlace runs start 0 → payloads_from P runs start 0 ≡ []
-none_left P [] start place = refl
-none_left P (first ∷ runs) start place = absurd (omega (arith, place.0))
+-- a cursor with no byte left is after all
+pub none_left : (P : ℕ) (runs : List (List ℕ)) (start : ℕ) → IsCursor runs start 0 → payloads_from P runs start 0 ≡ []
+none_left P [] start cursor = refl
+none_left P (first ∷ runs) start cursor = absurd (omega (arith, cursor.0))
 
 -- one with some is in a run
-pub some_left : (runs : List (List ℕ)) (run start left : ℕ) → run ≤ length runs → IsPlace (drop run runs) start left → 0 < left → run < length runs
-some_left runs run start left within place some = elim (cases_lt run (length runs)) [
+pub some_left : (runs : List (List ℕ)) (run start left : ℕ) → run ≤ length runs → IsCursor (drop run runs) start left → 0 < left → run < length runs
+some_left runs run start left within cursor some = elim (cases_lt run (length runs)) [
   | inl below ↦ below
   | inr over ↦
-      let none : IsPlace [] start left = subst (λ (l : List (List ℕ)). IsPlace l start left) (drop_all run runs over) place in
+      let none : IsCursor [] start left = subst (λ (l : List (List ℕ)). IsCursor l start left) (drop_all run runs over) cursor in
       absurd (omega (arith, none, some))
 ]
 
@@ -191,12 +190,12 @@ pub step_there : (xs ys : List ℕ) (left more : ℕ) → drop left xs ≡ ys �
 step_there xs ys left more is there = let size : length (drop left xs) ≡ length ys = ap (λ (l : List ℕ). length l) is in omega (arith, there, size, length-drop left xs)
 
 -- where fewer bytes are left to pass than the page has, or none
-pub few_left : (P : ℕ) (runs : List (List ℕ)) (start left more : ℕ) → IsPlace runs start left → more ≤ length (payloads_from P runs start left) → (left ≤ 0) ⊎ (more < left) → (more ≤ left) × ((left ≡ 0) ⊎ (more < left))
-few_left P runs start left more place there few = elim few [
+pub few_left : (P : ℕ) (runs : List (List ℕ)) (start left more : ℕ) → IsCursor runs start left → more ≤ length (payloads_from P runs start left) → (left ≤ 0) ⊎ (more < left) → (more ≤ left) × ((left ≡ 0) ⊎ (more < left))
+few_left P runs start left more cursor there few = elim few [
   | inl none ↦
       let zero_left : left ≡ 0 = omega (arith, none) in
       let nothing : payloads_from P runs start left ≡ [] =
-      ap (λ (k : ℕ). payloads_from P runs start k) zero_left ∙ none_left P runs start (subst (λ (k : ℕ). IsPlace runs start k) zero_left place) in
+      ap (λ (k : ℕ). payloads_from P runs start k) zero_left ∙ none_left P runs start (subst (λ (k : ℕ). IsCursor runs start k) zero_left cursor) in
       let size : length (payloads_from P runs start left) ≡ 0 = ap (λ (l : List ℕ). length l) nothing in
       (omega (arith, there, size), inl zero_left)
   | inr less ↦ (omega (arith, less), inr less)
@@ -206,31 +205,31 @@ few_left P runs start left more place there few = elim few [
 
 -- after so many bytes
 pub hand_passed : (P : ℕ) (all now : List (List ℕ)) (start left remaining run next_start next_left count : ℕ) → IsHand P all start left remaining
-    → now ≡ drop run all → IsPlace (drop run all) next_start next_left → next_start + next_left < 2 ^ 64
+    → now ≡ drop run all → IsCursor (drop run all) next_start next_left → next_start + next_left < 2 ^ 64
     → payloads_from P (drop run all) next_start next_left ≡ drop count (payloads_from P all start left)
     → IsHand P now next_start next_left (remaining - count)
-hand_passed P all now start left remaining run next_start next_left count h same place fits bytes =
+hand_passed P all now start left remaining run next_start next_left count h same cursor fits bytes =
     let size : length (payloads_from P (drop run all) next_start next_left) ≡ remaining - count =
     ap (λ (l : List ℕ). length l) bytes ∙ length-drop count (payloads_from P all start left) ∙ ap (λ (k : ℕ). k - count) (sym h.count) in
     subst (λ (l : List (List ℕ)). IsHand P l next_start next_left (remaining - count)) (sym same) (record {
       some = h.some;
       runs = All-drop (λ (l : List ℕ). 0 < length l) run all h.runs;
-      place = place;
+      cursor = cursor;
       fits = fits;
       count = sym size;
     })
 
 -- ---- copied page by page
 
--- where bytes are left behind a place, it is in a run, and some are of its page
-pub still_some : (P : ℕ) (runs : List (List ℕ)) (run start left : ℕ) → run ≤ length runs → IsPlace (drop run runs) start left → 0 < length (payloads_at P runs run start left)
+-- where bytes are left after a cursor, it is in a run, and some are of its page
+pub still_some : (P : ℕ) (runs : List (List ℕ)) (run start left : ℕ) → run ≤ length runs → IsCursor (drop run runs) start left → 0 < length (payloads_at P runs run start left)
     → (run < length runs) × (0 < left)
-still_some P runs run start left within place more = elim (cases_lt 0 left) [
-  | inl some ↦ (some_left runs run start left within place some, some)
+still_some P runs run start left within cursor more = elim (cases_lt 0 left) [
+  | inl some ↦ (some_left runs run start left within cursor some, some)
   | inr none ↦
       let zero_left : left ≡ 0 = omega (arith, none) in
       let nothing : payloads_at P runs run start left ≡ [] =
-      ap (λ (k : ℕ). payloads_at P runs run start k) zero_left ∙ none_left P (drop run runs) start (subst (λ (k : ℕ). IsPlace (drop run runs) start k) zero_left place) in
+      ap (λ (k : ℕ). payloads_at P runs run start k) zero_left ∙ none_left P (drop run runs) start (subst (λ (k : ℕ). IsCursor (drop run runs) start k) zero_left cursor) in
       absurd (let size : length (payloads_at P runs run start left) ≡ 0 = ap (λ (l : List ℕ). length l) nothing in omega (arith, more, size))
 ]
 
@@ -288,9 +287,9 @@ pushed_first P skip run less within =
     ∙ sym (passed P (run ∷ []) 0 n skip (omega (arith, less, within), omega arith) (inr (omega (arith, less, within))) (omega (arith, size, less, within, payloads_more P run)))
     ∙ ap (λ (l : List ℕ). drop skip l) all
 
-pushed_behind : (P start left : ℕ) (first run : List ℕ) (rest : List (List ℕ))
+pushed_after : (P start left : ℕ) (first run : List ℕ) (rest : List (List ℕ))
     → payloads_from P (first ∷ (rest ++ run ∷ [])) start left ≡ payloads_from P (first ∷ rest) start left ++ payloads P run
-pushed_behind P start left first run rest =
+pushed_after P start left first run rest =
     let front = take left (drop start first) in
     let page = payloads P (drop (start + left + 12) first) in
     ap (λ (l : List ℕ). front ++ (page ++ l)) (flat_map-append (payloads P) rest (run ∷ []) ∙ ap (λ (l : List ℕ). flat_map (payloads P) rest ++ l) (append-nil (payloads P run)))
@@ -300,30 +299,30 @@ pushed_behind P start left first run rest =
 -- what a run more makes of the bytes at hand
 pub record Pushed (P : ℕ) (all : List (List ℕ)) (start left : ℕ) (run : List ℕ) (skip next_start next_left : ℕ) : Type 0 where
   pub bytes : payloads_from P (all ++ run ∷ []) next_start next_left ≡ payloads_from P all start left ++ drop skip (payloads P run)
-  pub place : IsPlace (all ++ run ∷ []) next_start next_left
+  pub cursor : IsCursor (all ++ run ∷ []) next_start next_left
   pub fits : next_start + next_left < 2 ^ 64
 
 pub pushed : (P : ℕ) (all : List (List ℕ)) (start left remaining : ℕ) (run : List ℕ) (skip next_start next_left : ℕ) → IsHand P all start left remaining
     → skip < P → skip < length run → length run < 2 ^ 64 → (0 < length (payloads_from P all start left) → skip ≡ 0)
     → (all ≡ [] → (next_start ≡ skip) × (next_left ≡ min (length run) P - skip)) → ((all ≡ [] → ⊥) → (next_start ≡ start) × (next_left ≡ left))
     → Pushed P all start left run skip next_start next_left
-pushed P [] start left remaining run skip next_start next_left h less within small behind none some =
+pushed P [] start left remaining run skip next_start next_left h less within small after none some =
     let is = none refl in
     record {
       bytes = ap (λ (k : ℕ). payloads_from P (run ∷ []) k next_left) is.0 ∙ ap (λ (k : ℕ). payloads_from P (run ∷ []) skip k) is.1 ∙ pushed_first P skip run less within;
-      place = (omega (arith, is.1, less, within), omega (arith, is.0, is.1, less, within));
+      cursor = (omega (arith, is.1, less, within), omega (arith, is.0, is.1, less, within));
       fits = omega (arith, is.0, is.1, less, within, small);
     }
-pushed P (first ∷ rest) start left remaining run skip next_start next_left h less within small behind none some =
+pushed P (first ∷ rest) start left remaining run skip next_start next_left h less within small after none some =
     let is = some (λ e. nil_cons first rest e) in
     let page = take left (drop start first) in
-    let size : length page ≡ left = length-take-le left (drop start first) (omega (arith, h.place.1, length-drop start first)) in
-    let zero_skip : skip ≡ 0 = behind (omega (arith, size, h.place.0, length-append page (payloads P (drop (start + left + 12) first) ++ flat_map (payloads P) rest))) in
+    let size : length page ≡ left = length-take-le left (drop start first) (omega (arith, h.cursor.1, length-drop start first)) in
+    let zero_skip : skip ≡ 0 = after (omega (arith, size, h.cursor.0, length-append page (payloads P (drop (start + left + 12) first) ++ flat_map (payloads P) rest))) in
     record {
       bytes = ap (λ (k : ℕ). payloads_from P (first ∷ (rest ++ run ∷ [])) k next_left) is.0 ∙ ap (λ (k : ℕ). payloads_from P (first ∷ (rest ++ run ∷ [])) start k) is.1
-          ∙ pushed_behind P start left first run rest
+          ∙ pushed_after P start left first run rest
           ∙ ap (λ (k : ℕ). payloads_from P (first ∷ rest) start left ++ drop k (payloads P run)) (sym zero_skip);
-      place = (omega (arith, is.1, h.place.0), omega (arith, is.0, is.1, h.place.1));
+      cursor = (omega (arith, is.1, h.cursor.0), omega (arith, is.0, is.1, h.cursor.1));
       fits = omega (arith, is.0, is.1, h.fits);
     }
   where
@@ -339,7 +338,7 @@ pushed_is P all now start left remaining run skip next_start next_left more h is
     subst (λ (l : List (List ℕ)). IsHand P l next_start next_left (remaining + more)) (sym same) (record {
       some = h.some;
       runs = All-append (λ (l : List ℕ). 0 < length l) all (run ∷ []) h.runs (one_run run some);
-      place = is.place;
+      cursor = is.cursor;
       fits = is.fits;
       count = omega (arith, told, size, h.count, length-append (payloads_from P all start left) (drop skip (payloads P run)), length-drop skip (payloads P run));
     })

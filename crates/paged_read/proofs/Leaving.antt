@@ -5,7 +5,7 @@ use Rattle.std.proofs.lemmas.List.{take-take, length-take-le}
 use borrow.Rule.Slice.PartMut.{put_mid, post_of, Post-is}
 use Rattle.disk.specs.Disk.{Life}
 use Rattle.crash.specs.Looks.{Looked, looked_start, looked_joins}
-use Rattle.crash.specs.Sound.{stored}
+use Rattle.crash.specs.Contents.{stored}
 use Rattle.crash.proofs.LookLaws.{looked_readable}
 use Rattle.crash.proofs.Lists.{within_append, drop_past}
 use Rattle.crash.proofs.Pages.{stored_within, length-stored}
@@ -32,7 +32,7 @@ module _ (t : Tail) (readable : List ℕ) (reach : t.full_pages * (t.page_size +
       within_append n (p * P + i) (stored P t.full_pages readable) t.bytes (omega (arith, length-stored P t.full_pages readable reach, more, suc-mul p P, fits))
       ∙ stored_within P t.full_pages p i n readable reach below fits
 
-  -- what stands behind them
+  -- what stands after them
   pub told_in_tip : (i : ℕ) → drop (t.full_pages * t.page_size + i) (told t readable) ≡ drop i t.bytes
   told_in_tip i =
       let joined = stored t.page_size t.full_pages readable in
@@ -56,17 +56,17 @@ pub told_later : (t : Tail) (old new : Life) → Looked old new → told t new.p
 told_later t old new looked = ap (λ (l : List ℕ). told t l) (looked_readable old new looked)
 
 -- a call that only looked, and put pages of the content
-pub leaves_of : (t : Tail) (cache behind : CacheState) (old new : Life) → CanRead t cache old.present → Looked old new → CachesOnly t.id 0 (told t old.present.readable) cache behind → LeavesAll t cache behind old new
-leaves_of t cache behind old new can looked caches = record {
+pub leaves_of : (t : Tail) (cache after : CacheState) (old new : Life) → CanRead t cache old.present → Looked old new → CachesOnly t.id 0 (told t old.present.readable) cache after → LeavesAll t cache after old new
+leaves_of t cache after old new can looked caches = record {
   looked = looked;
   cached = caches;
   can = record {
     there = omega (arith, can.there, ap length (looked_readable old new looked));
     page_size = caches.settings.page_size ∙ can.page_size;
     given = omega (arith, can.given, caches.settings.ids_given);
-    cached = subst (λ (content : List ℕ). IsTrueFor t.id content t.full_pages behind) (sym (told_later t old new looked)) (read_true t.id (told t old.present.readable) t.full_pages 0 cache behind caches can.cached);
+    cached = subst (λ (content : List ℕ). IsTrueFor t.id content t.full_pages after) (sym (told_later t old new looked)) (read_true t.id (told t old.present.readable) t.full_pages 0 cache after caches can.cached);
   };
-  fresh = fresh_stays t.id 0 (told t old.present.readable) cache behind can.given caches;
+  fresh = fresh_stays t.id 0 (told t old.present.readable) cache after can.given caches;
 }
 
 -- one that put none
@@ -78,35 +78,35 @@ pub leaves_none : (t : Tail) (cache : CacheState) (life : Life) → CanRead t ca
 leaves_none t cache life can = leaves_cache t cache life life can (looked_start life)
 
 -- one that put a page that it had read
-pub leaves_put : (t : Tail) (cache behind : CacheState) (old new : Life) (page : ℕ) (bytes : List ℕ) → CanRead t cache old.present → Looked old new → page < t.full_pages
-    → bytes ≡ take t.page_size (page_at t.page_size page old.present.readable) → Puts (t.id, page) bytes cache behind → LeavesAll t cache behind old new
-leaves_put t cache behind old new page bytes can looked below is puts =
+pub leaves_put : (t : Tail) (cache after : CacheState) (old new : Life) (page : ℕ) (bytes : List ℕ) → CanRead t cache old.present → Looked old new → page < t.full_pages
+    → bytes ≡ take t.page_size (page_at t.page_size page old.present.readable) → Puts (t.id, page) bytes cache after → LeavesAll t cache after old new
+leaves_put t cache after old new page bytes can looked below is puts =
     let size = can.page_size in
     let content = told t old.present.readable in
     let all : length content ≡ size_of t = length-told t old.present.readable can.there in
     let more : (page + 1) * cache.page_size ≤ t.full_pages * cache.page_size = mul-le-mul_right cache.page_size (omega (arith, below)) in
     let same : t.full_pages * cache.page_size ≡ t.full_pages * t.page_size = ap (λ P. t.full_pages * P) size in
     let page_is : bytes ≡ page_of_content cache.page_size content page = is ∙ payload_told t old.present.readable can.there page below ∙ ap (λ P. page_of_content P content page) (sym size) in
-    leaves_of t cache behind old new can looked (caches_put t.id 0 page content bytes cache behind (omega arith) (omega (arith, all, more, same)) page_is (put_weakly (t.id, page) bytes cache behind puts))
+    leaves_of t cache after old new can looked (caches_put t.id 0 page content bytes cache after (omega arith) (omega (arith, all, more, same)) page_is (put_weakly (t.id, page) bytes cache after puts))
 
 -- one call after another
-pub leaves_joins : (t : Tail) (cache between behind : CacheState) (old mid new : Life) → LeavesAll t cache between old mid → LeavesAll t between behind mid new → LeavesAll t cache behind old new
-leaves_joins t cache between behind old mid new first second = record {
+pub leaves_joins : (t : Tail) (cache between after : CacheState) (old mid new : Life) → LeavesAll t cache between old mid → LeavesAll t between after mid new → LeavesAll t cache after old new
+leaves_joins t cache between after old mid new first second = record {
   looked = looked_joins old mid new first.looked second.looked;
-  cached = caches_join t.id 0 (told t old.present.readable) cache between behind first.cached (subst (λ (content : List ℕ). CachesOnly t.id 0 content between behind) (told_later t old mid first.looked) second.cached);
+  cached = caches_join t.id 0 (told t old.present.readable) cache between after first.cached (subst (λ (content : List ℕ). CachesOnly t.id 0 content between after) (told_later t old mid first.looked) second.cached);
   can = second.can;
   fresh = λ fresh. second.fresh (first.fresh fresh);
 }
 
 -- ---- a piece of a page that was read
 
--- the part of a buffer that was written over is bytes put at its place
-put_mid_is : (place len : ℕ) (buf part bytes : List ℕ) → part ≡ bytes → length bytes ≡ len → put_mid place (place + len - place) buf part ≡ put_at place bytes buf
-put_mid_is place len buf part bytes is many =
-    ap (λ (l : List ℕ). take place buf ++ (l ++ post_of place (place + len - place) buf)) is
-    ∙ ap (λ (l : List ℕ). take place buf ++ (bytes ++ l)) (Post-is place (place + len) buf (omega arith))
-    ∙ ap (λ n. take place buf ++ (bytes ++ drop (place + n) buf)) (sym many)
-    ∙ sym (append_assoc (take place buf) bytes (drop (place + length bytes) buf))
+-- the part of a buffer that was written over is bytes put at its offset
+put_mid_is : (buf_offset len : ℕ) (buf part bytes : List ℕ) → part ≡ bytes → length bytes ≡ len → put_mid buf_offset (buf_offset + len - buf_offset) buf part ≡ put_at buf_offset bytes buf
+put_mid_is buf_offset len buf part bytes is many =
+    ap (λ (l : List ℕ). take buf_offset buf ++ (l ++ post_of buf_offset (buf_offset + len - buf_offset) buf)) is
+    ∙ ap (λ (l : List ℕ). take buf_offset buf ++ (bytes ++ l)) (Post-is buf_offset (buf_offset + len) buf (omega arith))
+    ∙ ap (λ n. take buf_offset buf ++ (bytes ++ drop (buf_offset + n) buf)) (sym many)
+    ∙ sym (append_assoc (take buf_offset buf) bytes (drop (buf_offset + length bytes) buf))
 
 -- a physical page that is there has all its bytes
 pub length-page_at : (t : Tail) (page : ℕ) (readable : List ℕ) → t.full_pages * (t.page_size + 12) ≤ length readable → page < t.full_pages → length (page_at t.page_size page readable) ≡ t.page_size + 12
@@ -118,7 +118,7 @@ length-page_at t page readable reach below =
 -- a piece that was copied out of a payload
 pub piece_told : (t : Tail) (readable : List ℕ) (piece : Piece) (buf part : List ℕ) → t.full_pages * (t.page_size + 12) ≤ length readable → IsPieceOf t (length buf) piece
     → part ≡ take (piece.skip + piece.len - piece.skip) (drop piece.skip (take t.page_size (page_at t.page_size piece.page readable)))
-    → put_mid piece.place (piece.place + piece.len - piece.place) buf part ≡ with_told t.page_size (told t readable) (piece ∷ []) buf
+    → put_mid piece.buf_offset (piece.buf_offset + piece.len - piece.buf_offset) buf part ≡ with_told t.page_size (told t readable) (piece ∷ []) buf
 piece_told t readable piece buf part reach of is =
     let P = t.page_size in
     let payload = take P (page_at P piece.page readable) in
@@ -127,5 +127,5 @@ piece_told t readable piece buf part reach of is =
     let n : piece.skip + piece.len - piece.skip ≡ piece.len = omega arith in
     let bytes = take piece.len (drop piece.skip payload) in
     let many : length bytes ≡ piece.len = length-take-le piece.len (drop piece.skip payload) (omega (arith, length-drop piece.skip payload, whole, of.part.within)) in
-    put_mid_is piece.place piece.len buf part bytes (is ∙ ap (λ k. take k (drop piece.skip payload)) n) many
-    ∙ ap (λ (l : List ℕ). put_at piece.place (take piece.len (drop piece.skip l)) buf) (payload_told t readable reach piece.page of.below)
+    put_mid_is piece.buf_offset piece.len buf part bytes (is ∙ ap (λ k. take k (drop piece.skip payload)) n) many
+    ∙ ap (λ (l : List ℕ). put_at piece.buf_offset (take piece.len (drop piece.skip l)) buf) (payload_told t readable reach piece.page of.below)

@@ -16,6 +16,8 @@ pub mod BatchKeeps
 pub mod Prefixes
 pub mod Looking
 pub mod Searching
+pub mod Backward
+pub mod Forward
 pub mod Outliving
 pub mod FullReads
 mod Hands

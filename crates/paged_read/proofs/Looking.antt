@@ -12,30 +12,30 @@ use Rattle.paged_read.specs.Scans.{LooksThrough}
 use Rattle.paged_read.specs.Searches.{Finds}
 
 -- a look that goes on with a read
-pub looked_on : (place len : ℕ) (start old new : Life) (bytes : List ℕ) → Looked start old → ReadGoes place len old new (Ok bytes) → Looked start new
-looked_on place len start old new bytes so_far goes = looked_joins start old new so_far (looked_asked (ReadAt place len) false old new goes.2)
+pub looked_on : (offset len : ℕ) (start old new : Life) (bytes : List ℕ) → Looked start old → ReadGoes offset len old new (Ok bytes) → Looked start new
+looked_on offset len start old new bytes so_far goes = looked_joins start old new so_far (looked_asked (ReadAt offset len) false old new goes.2)
 
 -- what was read was there
-pub read_there : (place len : ℕ) (start old new : Life) (bytes : List ℕ) → Looked start old → ReadGoes place len old new (Ok bytes) → place + len ≤ length start.present.readable
-read_there place len start old new bytes so_far goes = omega (arith, goes.0, ap (λ (l : List ℕ). length l) (looked_readable start old so_far))
+pub read_there : (offset len : ℕ) (start old new : Life) (bytes : List ℕ) → Looked start old → ReadGoes offset len old new (Ok bytes) → offset + len ≤ length start.present.readable
+read_there offset len start old new bytes so_far goes = omega (arith, goes.0, ap (λ (l : List ℕ). length l) (looked_readable start old so_far))
 
 -- a look that goes on with a read that isn't answered
-pub look_fault : {A : Type 0} (place len reach : ℕ) (a : A) (start old new : Life) (e : Error) → Looked start old → place + len ≤ reach → ReadGoes place len old new (Err e) → LooksThrough reach a start new (Err e)
-look_fault place len reach a start old new ReadFailed so_far le goes = (
-  failed_later ReadFailed start.present old.present new.present so_far.log (failed_once (ReadAt place len) old.present new.present (ap (λ (l : Life). l.present.log) goes)),
-  looked_joins start old new so_far (looked_asked (ReadAt place len) true old new goes),
+pub look_fault : {A : Type 0} (offset len reach : ℕ) (a : A) (start old new : Life) (e : Error) → Looked start old → offset + len ≤ reach → ReadGoes offset len old new (Err e) → LooksThrough reach a start new (Err e)
+look_fault offset len reach a start old new ReadFailed so_far le goes = (
+  failed_later ReadFailed start.present old.present new.present so_far.log (failed_once (ReadAt offset len) old.present new.present (ap (λ (l : Life). l.present.log) goes)),
+  looked_joins start old new so_far (looked_asked (ReadAt offset len) true old new goes),
 )
-look_fault place len reach a start old new WriteFailed so_far le goes = goes
-look_fault place len reach a start old new ResizeFailed so_far le goes = goes
-look_fault place len reach a start old new SyncFailed so_far le goes = goes
-look_fault place len reach a start old new InvalidChecksum so_far le goes = goes
-look_fault place len reach a start old new BlobInsufficientLength so_far le goes = (
+look_fault offset len reach a start old new WriteFailed so_far le goes = goes
+look_fault offset len reach a start old new ResizeFailed so_far le goes = goes
+look_fault offset len reach a start old new SyncFailed so_far le goes = goes
+look_fault offset len reach a start old new InvalidChecksum so_far le goes = goes
+look_fault offset len reach a start old new BlobInsufficientLength so_far le goes = (
   omega (arith, le, goes.1, ap (λ (l : List ℕ). length l) (looked_readable start old so_far)),
   subst (λ (l : Life). Looked start l) (sym goes.0) so_far,
 )
-look_fault place len reach a start old new OffsetOverflow so_far le goes = goes
-look_fault place len reach a start old new OutOfMemory so_far le goes = subst (λ (l : Life). Looked start l) (sym goes.0) so_far
-look_fault place len reach a start old new IdsExhausted so_far le goes = goes
+look_fault offset len reach a start old new OffsetOverflow so_far le goes = goes
+look_fault offset len reach a start old new OutOfMemory so_far le goes = subst (λ (l : Life). Looked start l) (sym goes.0) so_far
+look_fault offset len reach a start old new IdsExhausted so_far le goes = goes
 
 -- one that no memory ends
 pub look_memory : {A : Type 0} (reach : ℕ) (a : A) (start new : Life) (e : Error) → Looked start new → e ≡ OutOfMemory → LooksThrough reach a start new (Err e)
@@ -55,19 +55,19 @@ look_finds reach p q old new (Err OutOfMemory) there is looks = looks
 look_finds reach p q old new (Err IdsExhausted) there is looks = looks
 
 -- a look that goes on with a read that isn't answered
-pub finds_fault : (place len : ℕ) (p : Prefix) (start old new : Life) (e : Error) → Looked start old → place + len ≤ length start.present.readable → ReadGoes place len old new (Err e) → Finds p start new (Err e)
-finds_fault place len p start old new ReadFailed so_far there goes = (
-  failed_later ReadFailed start.present old.present new.present so_far.log (failed_once (ReadAt place len) old.present new.present (ap (λ (l : Life). l.present.log) goes)),
-  looked_joins start old new so_far (looked_asked (ReadAt place len) true old new goes),
+pub finds_fault : (offset len : ℕ) (p : Prefix) (start old new : Life) (e : Error) → Looked start old → offset + len ≤ length start.present.readable → ReadGoes offset len old new (Err e) → Finds p start new (Err e)
+finds_fault offset len p start old new ReadFailed so_far there goes = (
+  failed_later ReadFailed start.present old.present new.present so_far.log (failed_once (ReadAt offset len) old.present new.present (ap (λ (l : Life). l.present.log) goes)),
+  looked_joins start old new so_far (looked_asked (ReadAt offset len) true old new goes),
 )
-finds_fault place len p start old new WriteFailed so_far there goes = goes
-finds_fault place len p start old new ResizeFailed so_far there goes = goes
-finds_fault place len p start old new SyncFailed so_far there goes = goes
-finds_fault place len p start old new InvalidChecksum so_far there goes = goes
-finds_fault place len p start old new BlobInsufficientLength so_far there goes = absurd (omega (arith, goes.1, ap (λ (l : List ℕ). length l) (looked_readable start old so_far)))
-finds_fault place len p start old new OffsetOverflow so_far there goes = goes
-finds_fault place len p start old new OutOfMemory so_far there goes = subst (λ (l : Life). Looked start l) (sym goes.0) so_far
-finds_fault place len p start old new IdsExhausted so_far there goes = goes
+finds_fault offset len p start old new WriteFailed so_far there goes = goes
+finds_fault offset len p start old new ResizeFailed so_far there goes = goes
+finds_fault offset len p start old new SyncFailed so_far there goes = goes
+finds_fault offset len p start old new InvalidChecksum so_far there goes = goes
+finds_fault offset len p start old new BlobInsufficientLength so_far there goes = absurd (omega (arith, goes.1, ap (λ (l : List ℕ). length l) (looked_readable start old so_far)))
+finds_fault offset len p start old new OffsetOverflow so_far there goes = goes
+finds_fault offset len p start old new OutOfMemory so_far there goes = subst (λ (l : Life). Looked start l) (sym goes.0) so_far
+finds_fault offset len p start old new IdsExhausted so_far there goes = goes
 
 -- a look that no memory ends
 pub finds_memory : (p : Prefix) (start new : Life) (e : Error) → Looked start new → e ≡ OutOfMemory → Finds p start new (Err e)

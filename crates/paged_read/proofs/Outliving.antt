@@ -11,19 +11,18 @@ use Rattle.crash.specs.Below.{SamePages, PagesStay}
 use Rattle.crash.specs.Full.{AreFull}
 use Rattle.crash.specs.Looks.{SameButLog, Looked}
 use Rattle.crash.specs.Moments.{through_end, through_then}
-use Rattle.crash.specs.Sound.{IsSound, content}
+use Rattle.writer_state.specs.Sound.{IsSound, content}
 use Rattle.crash.specs.Started.{CoversStay}
 use Rattle.crash.specs.Stays.{Stays}
 use Rattle.crash.proofs.BelowLaws.{fewer_stay, pages_there, full_still, stored_still}
 use Rattle.crash.proofs.LookLaws.{looked_readable}
 use Rattle.crash.proofs.Moments.{stays_alike, stays_itself}
-use Rattle.crash.proofs.Soundness.{looked_sound}
-use Rattle.crash.proofs.StartedLaws.{alike_covers}
+use Rattle.writer_state.proofs.Soundness.{looked_sound}
+use Rattle.writer_state.proofs.StartedLaws.{alike_covers}
 use Rattle.page.specs.Page.{pages}
 use Rattle.paged_read.specs.Tail.{Tail, told, size_of, HasPages, CanRead}
 use Rattle.paged_read.specs.Ranges.{LeavesAll, page_at}
-use Rattle.paged_read.specs.Snapshots.{IsTailOf, StandsOn, LeavesTails, LeavesAllTails}
-use Rattle.paged_read.specs.Snapshots.{LeavesAllReads, LeavesOthers, LeavesReads, LeavesWriters}
+use Rattle.paged_read.specs.Snapshots.{IsTailOf, StandsOn, LeavesTails, LeavesAllTails, LeavesAllReads, LeavesOthers, LeavesReads, LeavesWriters}
 use Rattle.paged_read.proofs.Leaving.{length-told, payload_told}
 
 -- ---- a call that leaves the first pages
@@ -47,49 +46,49 @@ module _ (t : Tail) (k : ℕ) (d e : Disk) (below : t.full_pages ≤ k)
     is = still_told tail.there ∙ tail.is;
   }
 
-  -- and can be read, where only pages behind it were put
-  pub reads_stay : (id : ℕ) (content : List ℕ) (cache behind : CacheState)
-      → CachesOnly id k content cache behind → CanRead t cache d → CanRead t behind e
-  reads_stay id content cache behind caches can = record {
+  -- and can be read, where only pages after it were put
+  pub reads_stay : (id : ℕ) (content : List ℕ) (cache after : CacheState)
+      → CachesOnly id k content cache after → CanRead t cache d → CanRead t after e
+  reads_stay id content cache after caches can = record {
     there = pages_there (λ _. 0) t.page_size t.full_pages d e can.there fewer;
     page_size = caches.settings.page_size ∙ can.page_size;
     given = omega (arith, can.given, caches.settings.ids_given);
-    cached = subst (λ (held : List ℕ). IsTrueFor t.id held t.full_pages behind)
+    cached = subst (λ (held : List ℕ). IsTrueFor t.id held t.full_pages after)
         (sym (still_told can.there))
-        (caches_true id k content t.id (told t d.readable) t.full_pages cache behind caches
+        (caches_true id k content t.id (told t d.readable) t.full_pages cache after caches
         (inr below) can.cached);
   }
 
 -- so each snapshot stands on
-pub tails_stay : (sum : List ℕ → ℕ) (P id k : ℕ) (content : List ℕ) (cache behind : CacheState)
+pub tails_stay : (sum : List ℕ → ℕ) (P id k : ℕ) (content : List ℕ) (cache after : CacheState)
     (old new : Life) → cache.page_size ≡ P → PagesStay P k old new
-    → CachesOnly id k content cache behind → LeavesTails sum k cache behind old new
-tails_stay sum P id k content cache behind old new size stay caches t held below stands =
+    → CachesOnly id k content cache after → LeavesTails sum k cache after old new
+tails_stay sum P id k content cache after old new size stay caches t held below stands =
     let same : SamePages t.page_size k old.present new.present =
     subst (λ (n : ℕ). SamePages n k old.present new.present) (sym size ∙ stands.can.page_size)
     (through_end (SamePages P k old.present) old new stay) in
     record {
       tail = tail_stays t k old.present new.present below same sum held stands.tail;
-      can = reads_stay t k old.present new.present below same id content cache behind caches
+      can = reads_stay t k old.present new.present below same id content cache after caches
           stands.can;
     }
 
 -- another blob's call leaves what reads stand on, whatever it puts
-pub others_stay : (id from : ℕ) (content : List ℕ) (cache behind : CacheState)
-    → CachesOnly id from content cache behind → LeavesOthers id cache behind
-others_stay id from content cache behind caches t d apart can = record {
+pub others_stay : (id from : ℕ) (content : List ℕ) (cache after : CacheState)
+    → CachesOnly id from content cache after → LeavesOthers id cache after
+others_stay id from content cache after caches t d apart can = record {
   there = can.there;
   page_size = caches.settings.page_size ∙ can.page_size;
   given = omega (arith, can.given, caches.settings.ids_given);
-  cached = caches_true id from content t.id (told t d.readable) t.full_pages cache behind caches
+  cached = caches_true id from content t.id (told t d.readable) t.full_pages cache after caches
       (inl apart) can.cached;
 }
 
 -- ---- a read by one tail of a blob leaves each other that lies below it, or whose own bytes are
 -- less than a page
 
-module _ (sum : List ℕ → ℕ) (mine : Tail) (cache behind : CacheState) (old new : Life)
-    (can : CanRead mine cache old.present) (leaves : LeavesAll mine cache behind old new) where
+module _ (sum : List ℕ → ℕ) (mine : Tail) (cache after : CacheState) (old new : Life)
+    (can : CanRead mine cache old.present) (leaves : LeavesAll mine cache after old new) where
   -- a page that was put is one below the reading tail
   abbrev IsWithin : Tail → Type 0
   IsWithin t =
@@ -115,13 +114,13 @@ module _ (sum : List ℕ → ℕ) (mine : Tail) (cache behind : CacheState) (old
       one_size = sym other.page_size ∙ can.page_size
 
   true_still : (t : Tail) → IsWithin t → CanRead t cache old.present
-      → IsTrueFor t.id (told t old.present.readable) t.full_pages behind
+      → IsTrueFor t.id (told t old.present.readable) t.full_pages after
   true_still t within other page bytes below there = elim (leaves.cached.each (t.id, page)) [
     | inl stays ↦ other.cached page bytes below (sym stays ∙ there)
         ∙ ap (λ (P : ℕ). page_of_content P (told t old.present.readable) page)
         (sym leaves.cached.settings.page_size)
     | inr (inl goes) ↦ absurd (cc (goes, there))
-    | inr (inr (same, behind_none, full, now)) ↦
+    | inr (inr (same, after_none, full, now)) ↦
         let fits : (page + 1) * mine.page_size ≤ size_of mine =
         subst (λ (P : ℕ). (page + 1) * P ≤ size_of mine) can.page_size
         (omega (arith, full, length-told mine old.present.readable can.there)) in
@@ -132,19 +131,19 @@ module _ (sum : List ℕ → ℕ) (mine : Tail) (cache behind : CacheState) (old
   ]
 
   reads_still : (t : Tail) → IsWithin t → CanRead t cache old.present
-      → CanRead t behind new.present
+      → CanRead t after new.present
   reads_still t within other =
       let same = looked_readable old new leaves.looked in
       record {
         there = omega (arith, other.there, ap length same);
         page_size = leaves.cached.settings.page_size ∙ other.page_size;
         given = omega (arith, other.given, leaves.cached.settings.ids_given);
-        cached = subst (λ (l : List ℕ). IsTrueFor t.id (told t l) t.full_pages behind)
+        cached = subst (λ (l : List ℕ). IsTrueFor t.id (told t l) t.full_pages after)
             (sym same) (true_still t within other);
       }
 
   still : (t : Tail) (held : List ℕ) → IsWithin t → StandsOn sum t held cache old.present
-      → StandsOn sum t held behind new.present
+      → StandsOn sum t held after new.present
   still t held within stands =
       let same = looked_readable old new leaves.looked in
       record {
@@ -158,7 +157,7 @@ module _ (sum : List ℕ → ℕ) (mine : Tail) (cache behind : CacheState) (old
         can = reads_still t within stands.can;
       }
 
-  pub read_leaves_tails : LeavesTails sum mine.full_pages cache behind old new
+  pub read_leaves_tails : LeavesTails sum mine.full_pages cache after old new
   read_leaves_tails t held below stands =
       still t held (λ page under fits. omega (arith, under, below)) stands
 
@@ -173,15 +172,15 @@ module _ (sum : List ℕ → ℕ) (mine : Tail) (cache behind : CacheState) (old
       ]
 
   pub read_leaves_all_tails : length mine.bytes < mine.page_size
-      → LeavesAllTails sum cache behind old new
+      → LeavesAllTails sum cache after old new
   read_leaves_all_tails short t held stands = still t held (fits_below short t) stands
 
   pub read_leaves_all_reads : length mine.bytes < mine.page_size
-      → LeavesAllReads cache behind old new
+      → LeavesAllReads cache after old new
   read_leaves_all_reads short t other = reads_still t (fits_below short t) other
 
-  pub read_leaves_others : LeavesOthers mine.id cache behind
-  read_leaves_others = others_stay mine.id 0 (told mine old.present.readable) cache behind leaves.cached
+  pub read_leaves_others : LeavesOthers mine.id cache after
+  read_leaves_others = others_stay mine.id 0 (told mine old.present.readable) cache after leaves.cached
 
 -- ---- a read leaves the blob's writer
 
@@ -244,12 +243,12 @@ look_leaves_reads cache old new looked t can =
     }
 
 -- one that takes an id
-pub given_reads : (cache behind : CacheState)
-    → (behind ≡ cache) ⊎ (behind ≡ record cache { ids_given = cache.ids_given + 1 })
-    → LeavesReads cache behind
-given_reads cache behind (inl same) t d can =
+pub given_reads : (cache after : CacheState)
+    → (after ≡ cache) ⊎ (after ≡ record cache { ids_given = cache.ids_given + 1 })
+    → LeavesReads cache after
+given_reads cache after (inl same) t d can =
     subst (λ (c : CacheState). CanRead t c d) (sym same) can
-given_reads cache behind (inr more) t d can =
+given_reads cache after (inr more) t d can =
     subst (λ (c : CacheState). CanRead t c d) (sym more) (record {
       there = can.there;
       page_size = can.page_size;

@@ -12,15 +12,15 @@ use Rattle.crash.proofs.Lists.{within_take, within_drop}
 use Rattle.crash.proofs.Pages.{pieces-add, pages_of_take, take-pages, length-pieces}
 use Rattle.paged_read.specs.declared.prefix.Prefix.{Prefix}
 use Rattle.paged_read.specs.Ranges.{page_at}
-use Rattle.paged_read.specs.Prefix.{behind, value_and_slot, prefix_of, last_prefix, prefix_pages, partial_pages, tip_of, HasBytes}
+use Rattle.paged_read.specs.Prefix.{after, value_and_slot, prefix_of, last_prefix, prefix_pages, partial_pages, tip_of, HasBytes}
 
 -- pages in front of pages in front
-pub behind-behind : (m n : ℕ) (p : Prefix) → behind m (behind n p) ≡ behind (m + n) p
-behind-behind m n p = ap (λ (k : ℕ). record p { full_pages = k }) (let e : m + (n + p.full_pages) ≡ m + n + p.full_pages = omega arith in e)
+pub after-after : (m n : ℕ) (p : Prefix) → after m (after n p) ≡ after (m + n) p
+after-after m n p = ap (λ (k : ℕ). record p { full_pages = k }) (let e : m + (n + p.full_pages) ≡ m + n + p.full_pages = omega arith in e)
 
 -- no page in front
-pub behind-zero : (p : Prefix) → behind 0 p ≡ p
-behind-zero p = ap (λ (k : ℕ). record p { full_pages = k }) (let e : 0 + p.full_pages ≡ p.full_pages = omega arith in e)
+pub after-zero : (p : Prefix) → after 0 p ≡ p
+after-zero p = ap (λ (k : ℕ). record p { full_pages = k }) (let e : 0 + p.full_pages ≡ p.full_pages = omega arith in e)
 
 -- the last of some pages that fit does too, with the numbers that a program has
 pub last_fits : (P size n m reach : ℕ) → size ≡ P + 12 → 0 < n → n ≤ m → m * (P + 12) ≤ reach → (n - 1) * size + size ≤ reach
@@ -30,7 +30,7 @@ last_fits P size (suc k) m reach is some le fits =
     let more : (P + 12) * suc k ≤ (P + 12) * m = mul-le-mul_left (P + 12) le in
     omega arith
 
--- so do some pages behind others
+-- so do some pages after others
 pub batch_fits : (P size k b n reach : ℕ) → size ≡ P + 12 → k + b ≤ n → n * (P + 12) ≤ reach → k * size + b * size ≤ reach
 batch_fits P size k b n reach is le fits =
     let front : k * size ≡ k * (P + 12) = ap (λ (j : ℕ). k * j) is in
@@ -42,9 +42,9 @@ batch_fits P size k b n reach is le fits =
 pub pieces_from : (n k size : ℕ) (bytes : List ℕ) → k < n → pieces (n - k) size (drop (k * size) bytes) ≡ take size (drop (k * size) bytes) ∷ pieces (n - (k + 1)) size (drop ((k + 1) * size) bytes)
 pieces_from n k size bytes lt =
     let count : n - k ≡ suc (n - (k + 1)) = omega arith in
-    let place : k * size + size ≡ (k + 1) * size = omega arith in
+    let offset : k * size + size ≡ (k + 1) * size = omega arith in
     ap (λ (m : ℕ). pieces m size (drop (k * size) bytes)) count
-    ∙ ap (λ (l : List ℕ). take size (drop (k * size) bytes) ∷ pieces (n - (k + 1)) size l) (drop-drop size (k * size) bytes ∙ ap (λ (m : ℕ). drop m bytes) place)
+    ∙ ap (λ (l : List ℕ). take size (drop (k * size) bytes) ∷ pieces (n - (k + 1)) size l) (drop-drop size (k * size) bytes ∙ ap (λ (m : ℕ). drop m bytes) offset)
 
 -- a value takes one page at most
 pub partial_pages_le : (found : Option (List ℕ × ActiveChecksum)) → partial_pages found ≤ 1
@@ -87,7 +87,7 @@ module _ (sum : List ℕ → ℕ) (P : ℕ) where
   value_within page (Some s) at n is fits = omega (arith, (active_is sum P page s (sym is)).fits)
 
   -- the first page is full
-  pub prefix_full : (page : List ℕ) (rest : List (List ℕ)) → value_len sum P page ≡ P → prefix_of sum P (page ∷ rest) ≡ behind 1 (prefix_of sum P rest)
+  pub prefix_full : (page : List ℕ) (rest : List (List ℕ)) → value_len sum P page ≡ P → prefix_of sum P (page ∷ rest) ≡ after 1 (prefix_of sum P rest)
   prefix_full page rest full = cond-true (value_len sum P page == P) _ _ (eq-eqb _ _ full)
 
   -- the first page isn't full
@@ -96,30 +96,30 @@ module _ (sum : List ℕ → ℕ) (P : ℕ) where
 
   -- this is the prefix of n pages, where the first k are full
   abbrev pub StandsAt : Prefix → ℕ → ℕ → List ℕ → Type 0
-  StandsAt p n k bytes = p ≡ behind k (prefix_of sum P (pieces (n - k) (P + 12) (drop (k * (P + 12)) bytes)))
+  StandsAt p n k bytes = p ≡ after k (prefix_of sum P (pieces (n - k) (P + 12) (drop (k * (P + 12)) bytes)))
 
   -- nothing was looked at
   pub stands_first : (n : ℕ) (bytes : List ℕ) → StandsAt (prefix_of sum P (pieces n (P + 12) bytes)) n 0 bytes
   stands_first n bytes =
       let count : n ≡ n - 0 = omega arith in
-      let place : 0 ≡ 0 * (P + 12) = omega arith in
+      let offset : 0 ≡ 0 * (P + 12) = omega arith in
       ap (λ (m : ℕ). prefix_of sum P (pieces m (P + 12) bytes)) count
-      ∙ ap (λ (m : ℕ). prefix_of sum P (pieces (n - 0) (P + 12) (drop m bytes))) place
-      ∙ sym (behind-zero (prefix_of sum P (pieces (n - 0) (P + 12) (drop (0 * (P + 12)) bytes))))
+      ∙ ap (λ (m : ℕ). prefix_of sum P (pieces (n - 0) (P + 12) (drop m bytes))) offset
+      ∙ sym (after-zero (prefix_of sum P (pieces (n - 0) (P + 12) (drop (0 * (P + 12)) bytes))))
 
   -- one page more is full
   pub stands_next : (p : Prefix) (n k : ℕ) (bytes : List ℕ) → k < n → StandsAt p n k bytes → value_len sum P (page_at P k bytes) ≡ P → StandsAt p n (k + 1) bytes
   stands_next p n k bytes lt is full =
-      is ∙ ap (λ (l : List (List ℕ)). behind k (prefix_of sum P l)) (pieces_from n k (P + 12) bytes lt)
-      ∙ ap (λ (q : Prefix). behind k q) (prefix_full (page_at P k bytes) (pieces (n - (k + 1)) (P + 12) (drop ((k + 1) * (P + 12)) bytes)) full)
-      ∙ behind-behind k 1 (prefix_of sum P (pieces (n - (k + 1)) (P + 12) (drop ((k + 1) * (P + 12)) bytes)))
+      is ∙ ap (λ (l : List (List ℕ)). after k (prefix_of sum P l)) (pieces_from n k (P + 12) bytes lt)
+      ∙ ap (λ (q : Prefix). after k q) (prefix_full (page_at P k bytes) (pieces (n - (k + 1)) (P + 12) (drop ((k + 1) * (P + 12)) bytes)) full)
+      ∙ after-after k 1 (prefix_of sum P (pieces (n - (k + 1)) (P + 12) (drop ((k + 1) * (P + 12)) bytes)))
 
   -- a page isn't full: the prefix ends with it
   pub stands_part : (p : Prefix) (n k : ℕ) (bytes : List ℕ) → k < n → StandsAt p n k bytes → value_len sum P (page_at P k bytes) ≢ P
       → p ≡ record { full_pages = k; partial = value_and_slot (active sum P (page_at P k bytes)) (page_at P k bytes) }
   stands_part p n k bytes lt is part =
-      is ∙ ap (λ (l : List (List ℕ)). behind k (prefix_of sum P l)) (pieces_from n k (P + 12) bytes lt)
-      ∙ ap (λ (q : Prefix). behind k q) (prefix_part (page_at P k bytes) (pieces (n - (k + 1)) (P + 12) (drop ((k + 1) * (P + 12)) bytes)) part)
+      is ∙ ap (λ (l : List (List ℕ)). after k (prefix_of sum P l)) (pieces_from n k (P + 12) bytes lt)
+      ∙ ap (λ (q : Prefix). after k q) (prefix_part (page_at P k bytes) (pieces (n - (k + 1)) (P + 12) (drop ((k + 1) * (P + 12)) bytes)) part)
       ∙ ap (λ (m : ℕ). record { full_pages = m; partial = value_and_slot (active sum P (page_at P k bytes)) (page_at P k bytes) }) (let e : k + 0 ≡ k = omega arith in e)
 
   -- what was told of a page, with the numbers that a program has
@@ -216,7 +216,7 @@ module _ (sum : List ℕ → ℕ) (P : ℕ) where
   pub tip_short : (page : List ℕ) → value_len sum P page ≢ P → length (tip_of (value_and_slot (active sum P page) page)) < P
   tip_short page part = value_short (active sum P page) page (omega (arith, told_len page, value_len_le sum P page, part))
 
-  -- the last of some pages that has a value is one of them, and none behind it has one
+  -- the last of some pages that has a value is one of them, and none after it has one
   pub record IsLast (n : ℕ) (bytes : List ℕ) (p : Prefix) : Type 0 where
     pub within : prefix_pages p ≤ n
     pub tip : 0 < P → length (tip_of p.partial) < P
@@ -250,20 +250,20 @@ module _ (sum : List ℕ → ℕ) (P : ℕ) where
   prefix_short [] back short = absurd (omega arith)
   prefix_short (page ∷ front) back short = elim (cases_eq (value_len sum P page) P) [
     | inl full ↦
-        let head : prefix_of sum P (page ∷ front) ≡ behind 1 (prefix_of sum P front) = prefix_full page front full in
+        let head : prefix_of sum P (page ∷ front) ≡ after 1 (prefix_of sum P front) = prefix_full page front full in
         let rest : (prefix_of sum P front).full_pages < length front = omega (arith, short, ap (λ (p : Prefix). p.full_pages) head) in
-        prefix_full page (front ++ back) full ∙ ap (λ (p : Prefix). behind 1 p) (prefix_short front back rest) ∙ sym head
+        prefix_full page (front ++ back) full ∙ ap (λ (p : Prefix). after 1 p) (prefix_short front back rest) ∙ sym head
     | inr part ↦ prefix_part page (front ++ back) part ∙ sym (prefix_part page front part)
   ]
 
   -- the first pages are full
-  pub prefix_long : (front back : List (List ℕ)) → length front ≤ (prefix_of sum P front).full_pages → prefix_of sum P (front ++ back) ≡ behind (length front) (prefix_of sum P back)
-  prefix_long [] back long = sym (behind-zero (prefix_of sum P back))
+  pub prefix_long : (front back : List (List ℕ)) → length front ≤ (prefix_of sum P front).full_pages → prefix_of sum P (front ++ back) ≡ after (length front) (prefix_of sum P back)
+  prefix_long [] back long = sym (after-zero (prefix_of sum P back))
   prefix_long (page ∷ front) back long = elim (cases_eq (value_len sum P page) P) [
     | inl full ↦
         let rest : length front ≤ (prefix_of sum P front).full_pages = omega (arith, long, ap (λ (p : Prefix). p.full_pages) (prefix_full page front full)) in
-        prefix_full page (front ++ back) full ∙ ap (λ (p : Prefix). behind 1 p) (prefix_long front back rest) ∙ behind-behind 1 (length front) (prefix_of sum P back)
-        ∙ ap (λ (n : ℕ). behind n (prefix_of sum P back)) (let e : 1 + length front ≡ suc (length front) = omega arith in e)
+        prefix_full page (front ++ back) full ∙ ap (λ (p : Prefix). after 1 p) (prefix_long front back rest) ∙ after-after 1 (length front) (prefix_of sum P back)
+        ∙ ap (λ (n : ℕ). after n (prefix_of sum P back)) (let e : 1 + length front ≡ suc (length front) = omega arith in e)
     | inr part ↦ absurd (omega (arith, long, ap (λ (p : Prefix). p.full_pages) (prefix_part page front part)))
   ]
 
@@ -307,15 +307,15 @@ module _ (sum : List ℕ → ℕ) (P : ℕ) where
     pub stands_ended : (p : Prefix) → StandsAt p n k readable → q.full_pages < b → p ≡ record { full_pages = k + q.full_pages; partial = q.partial }
     stands_ended p is short =
         let shorter : (prefix_of sum P front).full_pages < length front = omega (arith, short, ap (λ (x : Prefix). x.full_pages) front_is, length-pieces b (P + 12) rest) in
-        is ∙ ap (λ (l : List (List ℕ)). behind k (prefix_of sum P l)) split ∙ ap (λ (x : Prefix). behind k x) (prefix_short front back shorter ∙ sym front_is)
+        is ∙ ap (λ (l : List (List ℕ)). after k (prefix_of sum P l)) split ∙ ap (λ (x : Prefix). after k x) (prefix_short front back shorter ∙ sym front_is)
 
     -- they are full
     pub stands_on : (p : Prefix) → StandsAt p n k readable → b ≤ q.full_pages → StandsAt p n (k + b) readable
     stands_on p is long =
         let longer : length front ≤ (prefix_of sum P front).full_pages = omega (arith, long, ap (λ (x : Prefix). x.full_pages) front_is, length-pieces b (P + 12) rest) in
-        is ∙ ap (λ (l : List (List ℕ)). behind k (prefix_of sum P l)) split ∙ ap (λ (x : Prefix). behind k x) (prefix_long front back longer)
-        ∙ behind-behind k (length front) (prefix_of sum P back)
-        ∙ ap (λ (m : ℕ). behind (k + m) (prefix_of sum P back)) (length-pieces b (P + 12) rest)
+        is ∙ ap (λ (l : List (List ℕ)). after k (prefix_of sum P l)) split ∙ ap (λ (x : Prefix). after k x) (prefix_long front back longer)
+        ∙ after-after k (length front) (prefix_of sum P back)
+        ∙ ap (λ (m : ℕ). after (k + m) (prefix_of sum P back)) (length-pieces b (P + 12) rest)
 
     -- a page of theirs
     pub page_of_batch : (f : ℕ) → f < b → page_at P f bytes ≡ page_at P (k + f) readable

@@ -53,10 +53,10 @@ record Part (P offset len page from end : ℕ) : Type 0 where
   end_page : end ≤ page * P + P
 
 part_of : (P offset len page : ℕ) → page * P < offset + len → offset < (page + 1) * P → Part P offset len page (max offset (page * P)) (min (offset + len) ((page + 1) * P))
-part_of P offset len page before behind = record {
+part_of P offset len page before after = record {
   from_range = omega arith;
   from_page = omega arith;
-  order = omega (arith, before, behind, suc-mul page P);
+  order = omega (arith, before, after, suc-mul page P);
   end_range = omega arith;
   end_page = omega (arith, suc-mul page P);
 }
@@ -76,8 +76,8 @@ length-slice : (content : List ℕ) (offset len : ℕ) → offset + len ≤ leng
 length-slice content offset len within = length-take-le len (drop offset content) (omega (arith, length-drop offset content, within))
 
 part_fits : (P offset len page : ℕ) (content : List ℕ) → page * P < offset + len → offset < (page + 1) * P → offset + len ≤ length content → Fits P content (slice content (offset, len)) (piece_of P (offset, len) 0 page)
-part_fits P offset len page content before behind there =
-    let part = part_of P offset len page before behind in
+part_fits P offset len page content before after there =
+    let part = part_of P offset len page before after in
     record {
       within = omega (arith, part, length-slice content offset len there);
       bytes = part_bytes P offset len page (max offset (page * P)) (min (offset + len) ((page + 1) * P)) content part;

@@ -19,19 +19,19 @@ use Rattle.paged_read.specs.Batch.{Gathered, ranges_of}
 use Rattle.paged_read.specs.declared.lack.Lack.{Lack}
 use Rattle.paged_read.proofs.RangedPages.{range_split}
 
--- a range begins behind where the first may
-begins_after : (place : ℕ) (ranges : List (ℕ × ℕ)) (i : ℕ) (d : ℕ × ℕ) → AreInOrderFrom place ranges → i < length ranges → place ≤ (get_or ranges i d).0
-begins_after place [] i d order there = absurd (omega arith)
-begins_after place (range ∷ ranges) zero d order there = order.0
-begins_after place (range ∷ ranges) (suc i) d order there =
+-- a range begins after where the first may
+begins_after : (offset : ℕ) (ranges : List (ℕ × ℕ)) (i : ℕ) (d : ℕ × ℕ) → AreInOrderFrom offset ranges → i < length ranges → offset ≤ (get_or ranges i d).0
+begins_after offset [] i d order there = absurd (omega arith)
+begins_after offset (range ∷ ranges) zero d order there = order.0
+begins_after offset (range ∷ ranges) (suc i) d order there =
     let h = begins_after (range.0 + range.1) ranges i d order.1 (omega arith) in
     omega (arith, h, order.0)
 
 -- and where those before it end
-pub ends_before : (place : ℕ) (ranges : List (ℕ × ℕ)) (i : ℕ) (d : ℕ × ℕ) → AreInOrderFrom place ranges → i < length ranges → EndWithin (get_or ranges i d).0 (take i ranges)
-ends_before place [] i d order there = absurd (omega arith)
-ends_before place (range ∷ ranges) zero d order there = All-nil (λ (r : ℕ × ℕ). r.0 + r.1 ≤ range.0)
-ends_before place (range ∷ ranges) (suc i) d order there =
+pub ends_before : (offset : ℕ) (ranges : List (ℕ × ℕ)) (i : ℕ) (d : ℕ × ℕ) → AreInOrderFrom offset ranges → i < length ranges → EndWithin (get_or ranges i d).0 (take i ranges)
+ends_before offset [] i d order there = absurd (omega arith)
+ends_before offset (range ∷ ranges) zero d order there = All-nil (λ (r : ℕ × ℕ). r.0 + r.1 ≤ range.0)
+ends_before offset (range ∷ ranges) (suc i) d order there =
     All-cons (λ (r : ℕ × ℕ). r.0 + r.1 ≤ (get_or ranges i d).0) range (take i ranges) (begins_after (range.0 + range.1) ranges i d order.1 (omega arith))
     (ends_before (range.0 + range.1) ranges i d order.1 (omega arith))
 
@@ -52,16 +52,16 @@ served_count cache t ranges i d count here there before is =
     one false r = refl
 
 -- and gathered
-pub gathered_next : (cache : CacheState) (t : Tail) (ranges : List (ℕ × ℕ)) (i : ℕ) (d : ℕ × ℕ) (place : ℕ) (pages more pages_behind : List ℕ) (lacks added lacks_behind : List Lack) (buf behind : List ℕ) → AreInOrderFrom 0 ranges → i < length ranges
-    → Gathered cache t (take i ranges) place pages lacks buf
-    → ((others : List (ℕ × ℕ)) → EndWithin (get_or ranges i d).0 others → Gathered cache t others place pages lacks buf → Gathered cache t (others ++ get_or ranges i d ∷ []) (place + (get_or ranges i d).1) more added behind)
-    → pages_behind ≡ more → lacks_behind ≡ added → Gathered cache t (take (i + 1) ranges) (place + (get_or ranges i d).1) pages_behind lacks_behind behind
-gathered_next cache t ranges i d place pages more pages_behind lacks added lacks_behind buf behind order there before step same_pages same_lacks =
-    let place_behind = place + (get_or ranges i d).1 in
-    let next : Gathered cache t (take (i + 1) ranges) place_behind more added behind =
-    subst (λ (rs : List (ℕ × ℕ)). Gathered cache t rs place_behind more added behind) (sym (take_more ranges i d there)) (step (take i ranges) (ends_before 0 ranges i d order there) before) in
-    let first : Gathered cache t (take (i + 1) ranges) place_behind pages_behind added behind = subst (λ (ps : List ℕ). Gathered cache t (take (i + 1) ranges) place_behind ps added behind) (sym same_pages) next in
-    subst (λ (ls : List Lack). Gathered cache t (take (i + 1) ranges) place_behind pages_behind ls behind) (sym same_lacks) first
+pub gathered_next : (cache : CacheState) (t : Tail) (ranges : List (ℕ × ℕ)) (i : ℕ) (d : ℕ × ℕ) (buf_offset : ℕ) (pages more pages_after : List ℕ) (lacks added lacks_after : List Lack) (buf after : List ℕ) → AreInOrderFrom 0 ranges → i < length ranges
+    → Gathered cache t (take i ranges) buf_offset pages lacks buf
+    → ((others : List (ℕ × ℕ)) → EndWithin (get_or ranges i d).0 others → Gathered cache t others buf_offset pages lacks buf → Gathered cache t (others ++ get_or ranges i d ∷ []) (buf_offset + (get_or ranges i d).1) more added after)
+    → pages_after ≡ more → lacks_after ≡ added → Gathered cache t (take (i + 1) ranges) (buf_offset + (get_or ranges i d).1) pages_after lacks_after after
+gathered_next cache t ranges i d buf_offset pages more pages_after lacks added lacks_after buf after order there before step same_pages same_lacks =
+    let offset_after = buf_offset + (get_or ranges i d).1 in
+    let next : Gathered cache t (take (i + 1) ranges) offset_after more added after =
+    subst (λ (rs : List (ℕ × ℕ)). Gathered cache t rs offset_after more added after) (sym (take_more ranges i d there)) (step (take i ranges) (ends_before 0 ranges i d order there) before) in
+    let first : Gathered cache t (take (i + 1) ranges) offset_after pages_after added after = subst (λ (ps : List ℕ). Gathered cache t (take (i + 1) ranges) offset_after ps added after) (sym same_pages) next in
+    subst (λ (ls : List Lack). Gathered cache t (take (i + 1) ranges) offset_after pages_after ls after) (sym same_lacks) first
 
 -- what one range counts
 pub one_at_most : (here : Bool) → cond here 1 0 ≤ 1
@@ -84,9 +84,9 @@ missed_push n cache t (first ∷ ranges) range at is = by_test (is_served cache 
     by_test true rest = rest
     by_test false rest = ap (λ (l : List ℕ). n ∷ l) rest
 
-pub missed_more : (cache : CacheState) (t : Tail) (ranges : List (ℕ × ℕ)) (i : ℕ) (d : ℕ × ℕ) (missed behind : List ℕ) (here : Bool) → i < length ranges → here ≡ is_served cache t (get_or ranges i d) → behind ≡ missed ++ cond here [] (i ∷ [])
-    → missed ≡ missed_from 0 cache t (take i ranges) → behind ≡ missed_from 0 cache t (take (i + 1) ranges)
-missed_more cache t ranges i d missed behind here there is added before =
+pub missed_more : (cache : CacheState) (t : Tail) (ranges : List (ℕ × ℕ)) (i : ℕ) (d : ℕ × ℕ) (missed after : List ℕ) (here : Bool) → i < length ranges → here ≡ is_served cache t (get_or ranges i d) → after ≡ missed ++ cond here [] (i ∷ [])
+    → missed ≡ missed_from 0 cache t (take i ranges) → after ≡ missed_from 0 cache t (take (i + 1) ranges)
+missed_more cache t ranges i d missed after here there is added before =
     added ∙ ap (λ (l : List ℕ). l ++ cond here [] (i ∷ [])) before ∙ ap (λ (b : Bool). missed_from 0 cache t (take i ranges) ++ cond b [] (i ∷ [])) is
     ∙ sym (missed_push 0 cache t (take i ranges) (get_or ranges i d) i (omega (arith, length-take-le i ranges (omega arith))))
     ∙ ap (λ (rs : List (ℕ × ℕ)). missed_from 0 cache t rs) (sym (take_more ranges i d there))
@@ -105,13 +105,13 @@ served_push cache t (first ∷ ranges) range content buf part size long is has =
           (served_push cache t ranges range content (drop first.1 buf) part (omega (arith, size, cons, length-drop first.1 buf)) long is has.1),
     )
 
-pub served_more_bytes : (cache : CacheState) (t : Tail) (ranges : List (ℕ × ℕ)) (i : ℕ) (d : ℕ × ℕ) (content buf behind part : List ℕ) (place : ℕ) → i < length ranges → place ≤ length buf → place ≡ sum_by (λ (r : ℕ × ℕ). r.1) (take i ranges)
-    → take (place + (get_or ranges i d).1) behind ≡ take place buf ++ part → length part ≡ (get_or ranges i d).1 → (is_served cache t (get_or ranges i d) ≡ true → part ≡ slice content (get_or ranges i d))
-    → HasServed cache t (take i ranges) content (take place buf) → HasServed cache t (take (i + 1) ranges) content (take (place + (get_or ranges i d).1) behind)
-served_more_bytes cache t ranges i d content buf behind part place there fits is front long served has =
+pub served_more_bytes : (cache : CacheState) (t : Tail) (ranges : List (ℕ × ℕ)) (i : ℕ) (d : ℕ × ℕ) (content buf after part : List ℕ) (buf_offset : ℕ) → i < length ranges → buf_offset ≤ length buf → buf_offset ≡ sum_by (λ (r : ℕ × ℕ). r.1) (take i ranges)
+    → take (buf_offset + (get_or ranges i d).1) after ≡ take buf_offset buf ++ part → length part ≡ (get_or ranges i d).1 → (is_served cache t (get_or ranges i d) ≡ true → part ≡ slice content (get_or ranges i d))
+    → HasServed cache t (take i ranges) content (take buf_offset buf) → HasServed cache t (take (i + 1) ranges) content (take (buf_offset + (get_or ranges i d).1) after)
+served_more_bytes cache t ranges i d content buf after part buf_offset there fits is front long served has =
     subst (λ (l : List ℕ). HasServed cache t (take (i + 1) ranges) content l) (sym front)
-    (subst (λ (rs : List (ℕ × ℕ)). HasServed cache t rs content (take place buf ++ part)) (sym (take_more ranges i d there))
-    (served_push cache t (take i ranges) (get_or ranges i d) content (take place buf) part (length-take-le place buf fits ∙ is) long served has))
+    (subst (λ (rs : List (ℕ × ℕ)). HasServed cache t rs content (take buf_offset buf ++ part)) (sym (take_more ranges i d there))
+    (served_push cache t (take i ranges) (get_or ranges i d) content (take buf_offset buf) part (length-take-le buf_offset buf fits ∙ is) long served has))
 
 -- ---- ranges that can't be read
 
@@ -126,14 +126,14 @@ refused_ends size range OffsetOverflow small goes ends = omega (arith, goes, end
 refused_ends size range OutOfMemory small goes ends = goes
 refused_ends size range IdsExhausted small goes ends = goes
 
-refused_among : (size : ℕ) (before behind : List (ℕ × ℕ)) (range : ℕ × ℕ) → EndWithin size (before ++ range ∷ behind) → range.0 + range.1 ≤ size
-refused_among size [] behind range ends = ends 0 range (omega arith)
-refused_among size (first ∷ before) behind range ends = refused_among size before behind range (λ k d less. ends (suc k) d (omega arith))
+refused_among : (size : ℕ) (before after : List (ℕ × ℕ)) (range : ℕ × ℕ) → EndWithin size (before ++ range ∷ after) → range.0 + range.1 ≤ size
+refused_among size [] after range ends = ends 0 range (omega arith)
+refused_among size (first ∷ before) after range ends = refused_among size before after range (λ k d less. ends (suc k) d (omega arith))
 
 -- some range doesn't end within the size
 pub refused_not : (size : ℕ) (ranges : List (ℕ × ℕ)) (e : Error) → size < 2 ^ 64 → RangesGo size ranges (Err e) → EndWithin size ranges → ⊥
-refused_not size ranges e small (before, behind, (range, is, first, goes)) ends =
-    refused_ends size range e small goes (refused_among size before behind range (subst (λ (rs : List (ℕ × ℕ)). EndWithin size rs) is ends))
+refused_not size ranges e small (before, after, (range, is, first, goes)) ends =
+    refused_ends size range e small goes (refused_among size before after range (subst (λ (rs : List (ℕ × ℕ)). EndWithin size rs) is ends))
 
 pub err_refused : (size : ℕ) (ranges : List (ℕ × ℕ)) (result : Result (Unit {0}) Error) → size < 2 ^ 64 → is_ok result ≡ false → RangesGo size ranges result → EndWithin size ranges → ⊥
 err_refused size ranges (Ok u) small not_ok goes ends = absurd (both_ways true not_ok refl)
@@ -145,9 +145,9 @@ ok_ends size ranges (Err e) ok goes = absurd (both_ways false refl ok)
 
 -- ---- ranges of one length
 
-one_refused : (size : ℕ) (range : ℕ × ℕ) (e : Error) (before behind : List (ℕ × ℕ)) (refused : ℕ × ℕ) → range ∷ [] ≡ before ++ refused ∷ behind → RangeGoes size refused (Err e) → RangeGoes size range (Err e)
-one_refused size range e [] behind refused is goes = subst (λ (r : ℕ × ℕ). RangeGoes size r (Err e)) (sym (ap (λ (l : List (ℕ × ℕ)). get_or l 0 range) is)) goes
-one_refused size range e (first ∷ before) behind refused is goes = absurd (omega (arith, ap length is, length-append before (refused ∷ behind)))
+one_refused : (size : ℕ) (range : ℕ × ℕ) (e : Error) (before after : List (ℕ × ℕ)) (refused : ℕ × ℕ) → range ∷ [] ≡ before ++ refused ∷ after → RangeGoes size refused (Err e) → RangeGoes size range (Err e)
+one_refused size range e [] after refused is goes = subst (λ (r : ℕ × ℕ). RangeGoes size r (Err e)) (sym (ap (λ (l : List (ℕ × ℕ)). get_or l 0 range) is)) goes
+one_refused size range e (first ∷ before) after refused is goes = absurd (omega (arith, ap length is, length-append before (refused ∷ after)))
 
 take-ranges_of : (len : ℕ) (offsets : List ℕ) (i : ℕ) → take i (ranges_of len offsets) ≡ ranges_of len (take i offsets)
 take-ranges_of len offsets i = take-map (λ (offset : ℕ). (offset, len)) i offsets
@@ -163,10 +163,10 @@ length-ranges_of len (offset ∷ offsets) = ap suc (length-ranges_of len offsets
 
 -- the first of them that can't be read decides
 pub offsets_refused : (size len : ℕ) (offsets : List ℕ) (i d : ℕ) (e : Error) → i < length offsets → EndWithin size (ranges_of len (take i offsets)) → RangesGo size ((get_or offsets i d, len) ∷ []) (Err e) → RangesGo size (ranges_of len offsets) (Err e)
-offsets_refused size len offsets i d e there before (front, behind, (range, is, first, goes)) =
+offsets_refused size len offsets i d e there before (front, after, (range, is, first, goes)) =
     RangesGo-refused size (ranges_of len offsets) i (0, 0) e (omega (arith, there, length-ranges_of len offsets))
     (subst (λ (rs : List (ℕ × ℕ)). EndWithin size rs) (sym (take-ranges_of len offsets i)) before)
-    (subst (λ (r : ℕ × ℕ). RangeGoes size r (Err e)) (sym (get_or-ranges_of len offsets i d there)) (one_refused size (get_or offsets i d, len) e front behind range is goes))
+    (subst (λ (r : ℕ × ℕ). RangeGoes size r (Err e)) (sym (get_or-ranges_of len offsets i d there)) (one_refused size (get_or offsets i d, len) e front after range is goes))
 
 -- one range more
 pub ranges_push : (len : ℕ) (offsets : List ℕ) (i d : ℕ) → i < length offsets → ranges_of len (take i offsets) ++ (get_or offsets i d, len) ∷ [] ≡ ranges_of len (take (i + 1) offsets)

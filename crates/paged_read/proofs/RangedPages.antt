@@ -66,7 +66,7 @@ not_last : (q : ℕ) (o : Option ℕ) → ((x : ℕ) → o ≡ Some x → x < q)
 not_last q None less = refl
 not_last q (Some x) less = ne_eqb x q (λ same. omega (arith, same, less x refl))
 
--- a page that is behind all is added
+-- a page that is after all is added
 pub with_page_new : (q : ℕ) (xs : List ℕ) → ((k x : ℕ) → slice_get xs k ≡ Some x → x < q) → with_page q xs ≡ xs ++ q ∷ []
 with_page_new q xs less = ap (λ (b : Bool). cond b xs (xs ++ q ∷ [])) (not_last q (slice_get xs (length xs - 1)) (less (length xs - 1)))
 
@@ -80,7 +80,7 @@ last_pushed q xs =
 pub with_page_again : (q : ℕ) (xs : List ℕ) → with_page q (xs ++ q ∷ []) ≡ xs ++ q ∷ []
 with_page_again q xs = ap (λ (o : Option ℕ). cond (is_page q o) (xs ++ q ∷ []) ((xs ++ q ∷ []) ++ q ∷ [])) (last_pushed q xs) ∙ ap (λ (b : Bool). cond b (xs ++ q ∷ []) ((xs ++ q ∷ []) ++ q ∷ [])) (eq-eqb q q refl)
 
--- where a test lets one page more through, and none behind that one
+-- where a test lets one page more through, and none after that one
 pub filter_step : (f g : ℕ → Bool) (q n : ℕ) → q < n → g q ≡ true → ((p : ℕ) → p < n → p ≢ q → g p ≡ f p) → ((p : ℕ) → p < n → f p ≡ true → p ≤ q)
     → filter g (range_with_len 0 n) ≡ with_page q (filter f (range_with_len 0 n))
 filter_step f g q n less here apart below =
@@ -88,14 +88,14 @@ filter_step f g q n less here apart below =
     let front = filter f (range_with_len 0 q) in
     let split : (h : ℕ → Bool) → filter h (range_with_len 0 n) ≡ filter h (range_with_len 0 q) ++ cond (h q) (q ∷ filter h (range_with_len (q + 1) m)) (filter h (range_with_len (q + 1) m)) =
     λ h. ap (λ (l : List ℕ). filter h l) (range_split 0 q (suc m) n q (omega arith) (omega arith)) ∙ filter-append h (range_with_len 0 q) (q ∷ range_with_len (q + 1) m) in
-    let f_behind : filter f (range_with_len (q + 1) m) ≡ [] = filter_none f (q + 1) m (λ p lo hi. false_from_ne_true (f p) (λ met. absurd (omega (arith, lo, below p (omega arith) met)))) in
-    let g_behind : filter g (range_with_len (q + 1) m) ≡ [] = filter_same g f (q + 1) m (λ p lo hi. apart p (omega arith) (λ same. omega (arith, same, lo))) ∙ f_behind in
+    let f_after : filter f (range_with_len (q + 1) m) ≡ [] = filter_none f (q + 1) m (λ p lo hi. false_from_ne_true (f p) (λ met. absurd (omega (arith, lo, below p (omega arith) met)))) in
+    let g_after : filter g (range_with_len (q + 1) m) ≡ [] = filter_same g f (q + 1) m (λ p lo hi. apart p (omega arith) (λ same. omega (arith, same, lo))) ∙ f_after in
     let g_is : filter g (range_with_len 0 n) ≡ front ++ q ∷ [] =
     split g
     ∙ ap (λ (l : List ℕ). l ++ cond (g q) (q ∷ filter g (range_with_len (q + 1) m)) (filter g (range_with_len (q + 1) m))) (filter_same g f 0 q (λ p lo hi. apart p (omega arith) (λ same. omega (arith, same, hi))))
     ∙ ap (λ (b : Bool). front ++ cond b (q ∷ filter g (range_with_len (q + 1) m)) (filter g (range_with_len (q + 1) m))) here
-    ∙ ap (λ (l : List ℕ). front ++ q ∷ l) g_behind in
-    let f_is : filter f (range_with_len 0 n) ≡ front ++ cond (f q) (q ∷ []) [] = split f ∙ ap (λ (l : List ℕ). front ++ cond (f q) (q ∷ l) l) f_behind in
+    ∙ ap (λ (l : List ℕ). front ++ q ∷ l) g_after in
+    let f_is : filter f (range_with_len 0 n) ≡ front ++ cond (f q) (q ∷ []) [] = split f ∙ ap (λ (l : List ℕ). front ++ cond (f q) (q ∷ l) l) f_after in
     g_is ∙ sym (ap (λ (l : List ℕ). with_page q l) f_is ∙ by_test (f q) front (kept_below f 0 q q (omega arith)))
   where
     by_test : (b : Bool) (front : List ℕ) → ((k x : ℕ) → slice_get front k ≡ Some x → x < q) → with_page q (front ++ cond b (q ∷ []) []) ≡ front ++ q ∷ []
@@ -111,7 +111,7 @@ touch_true P o n p met =
     (ltb-true _ _ b.0, ltb-true _ _ b.1, ltb-true _ _ a.1)
 
 pub touch_from : (P o n p : ℕ) → 0 < n → p * P < o + n → o < (p + 1) * P → touches P (o, n) p ≡ true
-touch_from P o n p some before behind = and_from _ _ (and_from _ _ (lt-ltb _ _ some) (lt-ltb _ _ before)) (lt-ltb _ _ behind)
+touch_from P o n p some before after = and_from _ _ (and_from _ _ (lt-ltb _ _ some) (lt-ltb _ _ before)) (lt-ltb _ _ after)
 
 -- a range that is cut touches what its parts touch
 pub touches_split : (P o d n p : ℕ) → 0 < P → touches P (o, d + n) p ≡ (touches P (o, d) p || touches P (o + d, n) p)
@@ -143,26 +143,26 @@ touches_one P o n p wide fits met =
     let below : o / P < p + 1 = div_below o P (p + 1) wide h.2 in
     elim (cases_lt (o / P) p) [
       | inl less ↦ absurd (let more : (o / P + 1) * P ≤ p * P = mul-le-mul_right P (omega arith) in omega (arith, more, whole, h.1, fits, suc-mul (o / P) P))
-      | inr behind ↦ omega (arith, behind, below)
+      | inr after ↦ omega (arith, after, below)
     ]
 
--- what ends before a place touches no page behind the place's
-pub touches_before : (P o n p place : ℕ) → 0 < P → o + n ≤ place → touches P (o, n) p ≡ true → p ≤ place / P
-touches_before P o n p place wide ends met =
+-- what ends before an offset touches no page after the offset's
+pub touches_before : (P o n p offset : ℕ) → 0 < P → o + n ≤ offset → touches P (o, n) p ≡ true → p ≤ offset / P
+touches_before P o n p offset wide ends met =
     let h = touch_true P o n p met in
-    let whole : place / P * P + place % P ≡ place = div-add-mod' place P in
-    let short : place % P < P = mod-lt place wide in
-    elim (cases_lt (place / P) p) [
-      | inl less ↦ absurd (let more : (place / P + 1) * P ≤ p * P = mul-le-mul_right P (omega arith) in omega (arith, more, whole, short, h.1, ends, suc-mul (place / P) P))
-      | inr behind ↦ behind
+    let whole : offset / P * P + offset % P ≡ offset = div-add-mod' offset P in
+    let short : offset % P < P = mod-lt offset wide in
+    elim (cases_lt (offset / P) p) [
+      | inl less ↦ absurd (let more : (offset / P + 1) * P ≤ p * P = mul-le-mul_right P (omega arith) in omega (arith, more, whole, short, h.1, ends, suc-mul (offset / P) P))
+      | inr after ↦ after
     ]
 
--- what begins behind whole pages touches none of them
-pub touches_behind : (P o n p full : ℕ) → full * P ≤ o → p < full → touches P (o, n) p ≡ true → ⊥
-touches_behind P o n p full behind below met =
+-- what begins after whole pages touches none of them
+pub touches_after : (P o n p full : ℕ) → full * P ≤ o → p < full → touches P (o, n) p ≡ true → ⊥
+touches_after P o n p full after below met =
     let h = touch_true P o n p met in
     let more : (p + 1) * P ≤ full * P = mul-le-mul_right P (omega arith) in
-    omega (arith, more, h.2, behind)
+    omega (arith, more, h.2, after)
 
 -- ---- which pages ranges lack
 
@@ -293,22 +293,22 @@ unserved_page cache t o n wide fits unserved = elim (cases_lt o (t.full_pages * 
         let same = touches_one t.page_size o n p wide (fits below) (sym (or_false _) ∙ h.1) in
         both_ways _ (not_true _ h.0) (ap (λ (q : ℕ). is_some (held cache (t.id, q))) same ∙ there))))),
   )
-  | inr behind ↦ absurd (both_ways _ unserved (lacks_served cache t (o, n) (λ p less. false_from_ne_true _ (λ met. touches_behind t.page_size o n p t.full_pages behind less (sym (or_false _) ∙ (and_parts _ _ met).1)))))
+  | inr after ↦ absurd (both_ways _ unserved (lacks_served cache t (o, n) (λ p less. false_from_ne_true _ (λ met. touches_after t.page_size o n p t.full_pages after less (sym (or_false _) ∙ (and_parts _ _ met).1)))))
 ]
   where
     not_true : (b : Bool) → not b ≡ true → b ≡ false
     not_true true is = sym is
     not_true false is = refl
 
--- ranges that end before a place touch no page behind the place's
-touched_before : (P : ℕ) (ranges : List (ℕ × ℕ)) (p place : ℕ) → 0 < P → EndWithin place ranges → is_touched P ranges p ≡ true → p ≤ place / P
-touched_before P [] p place wide ends met = cc
-touched_before P (range ∷ ranges) p place wide ends met = elim (or_cases _ _ met) [
-  | inl first ↦ touches_before P range.0 range.1 p place wide (ends 0 range (omega arith)) first
-  | inr rest ↦ touched_before P ranges p place wide (λ k d less. ends (suc k) d (omega arith)) rest
+-- ranges that end before an offset touch no page after the offset's
+touched_before : (P : ℕ) (ranges : List (ℕ × ℕ)) (p offset : ℕ) → 0 < P → EndWithin offset ranges → is_touched P ranges p ≡ true → p ≤ offset / P
+touched_before P [] p offset wide ends met = cc
+touched_before P (range ∷ ranges) p offset wide ends met = elim (or_cases _ _ met) [
+  | inl first ↦ touches_before P range.0 range.1 p offset wide (ends 0 range (omega arith)) first
+  | inr rest ↦ touched_before P ranges p offset wide (λ k d less. ends (suc k) d (omega arith)) rest
 ]
 
--- behind ranges that end before it, it adds that page
+-- after ranges that end before it, it adds that page
 pub missing_page : (cache : CacheState) (t : Tail) (ranges : List (ℕ × ℕ)) (o n : ℕ) → 0 < t.page_size → 0 < n → EndWithin o ranges → (o < t.full_pages * t.page_size → o % t.page_size + n ≤ t.page_size) → is_served cache t (o, n) ≡ false
     → missing cache t (ranges ++ (o, n) ∷ []) ≡ with_page (o / t.page_size) (missing cache t ranges)
 missing_page cache t ranges o n wide some ends fits unserved =

@@ -15,7 +15,7 @@ use Rattle.crash.specs.Looks.{Looked, looked_joins, looked_start}
 use Rattle.crash.proofs.LookLaws.{looked_read, looked_none, looked_readable}
 use Rattle.crash.proofs.Texts.{active_is, active_none}
 use Rattle.paged_read.specs.Ranges.{page_at}
-use Rattle.paged_read.specs.RawReads.{all_of, behind_told, ending_at, joined, part_of, parts_told, range_end, range_told, ReadsTold, some_of, tail_told, value_told}
+use Rattle.paged_read.specs.RawReads.{all_of, after_told, ending_at, joined, part_of, parts_told, range_end, range_told, ReadsTold, some_of, tail_told, value_told}
 
 -- ---- one page
 
@@ -26,7 +26,7 @@ module _ (sum : List ℕ → ℕ) (P page : ℕ) (readable : List ℕ) where
   abbrev here : List ℕ
   here = page_at P page readable
 
-  -- its place passes the greatest
+  -- its offset passes the greatest
   pub value_passes : 2 ^ 64 ≤ end → value_told sum P page readable ≡ Err OffsetOverflow
   value_passes over = cond-true (nat_le (2 ^ 64) end) _ _ (le-leb (2 ^ 64) end over)
 
@@ -51,43 +51,43 @@ module _ (sum : List ℕ → ℕ) (P page : ℕ) (readable : List ℕ) where
       ∙ cond-false (value_len sum P here == 0) _ _ (ne_eqb (value_len sum P here) 0 some)
 
 -- a read of a page that isn't answered
-pub value_fault : {A : Type 0} (sum : List ℕ → ℕ) (of : A → List ℕ) (P page size place : ℕ) (old new : Life) (e : Error) → size ≡ P + 12 → place ≡ page * (P + 12) → (page + 1) * (P + 12) < 2 ^ 64
-    → ReadGoes place size old new (Err e) → ReadsTold of (value_told sum P page old.present.readable) old new (Err e)
-value_fault sum of P page size place old new ReadFailed size_is place_is fits goes =
-    (failed_once (ReadAt place size) old.present new.present (ap (λ (l : Life). l.present.log) goes), looked_read place size old new (Err ReadFailed) goes)
-value_fault sum of P page size place old new WriteFailed size_is place_is fits goes = absurd goes
-value_fault sum of P page size place old new ResizeFailed size_is place_is fits goes = absurd goes
-value_fault sum of P page size place old new SyncFailed size_is place_is fits goes = absurd goes
-value_fault sum of P page size place old new InvalidChecksum size_is place_is fits goes = absurd goes
-value_fault sum of P page size place old new BlobInsufficientLength size_is place_is fits goes =
-    (value_lacks sum P page old.present.readable fits (omega (arith, goes.1, size_is, place_is)), looked_none old new goes.0)
-value_fault sum of P page size place old new OffsetOverflow size_is place_is fits goes = absurd goes
-value_fault sum of P page size place old new OutOfMemory size_is place_is fits goes = looked_none old new goes.0
-value_fault sum of P page size place old new IdsExhausted size_is place_is fits goes = absurd goes
+pub value_fault : {A : Type 0} (sum : List ℕ → ℕ) (of : A → List ℕ) (P page size page_start : ℕ) (old new : Life) (e : Error) → size ≡ P + 12 → page_start ≡ page * (P + 12) → (page + 1) * (P + 12) < 2 ^ 64
+    → ReadGoes page_start size old new (Err e) → ReadsTold of (value_told sum P page old.present.readable) old new (Err e)
+value_fault sum of P page size page_start old new ReadFailed size_is page_start_is fits goes =
+    (failed_once (ReadAt page_start size) old.present new.present (ap (λ (l : Life). l.present.log) goes), looked_read page_start size old new (Err ReadFailed) goes)
+value_fault sum of P page size page_start old new WriteFailed size_is page_start_is fits goes = absurd goes
+value_fault sum of P page size page_start old new ResizeFailed size_is page_start_is fits goes = absurd goes
+value_fault sum of P page size page_start old new SyncFailed size_is page_start_is fits goes = absurd goes
+value_fault sum of P page size page_start old new InvalidChecksum size_is page_start_is fits goes = absurd goes
+value_fault sum of P page size page_start old new BlobInsufficientLength size_is page_start_is fits goes =
+    (value_lacks sum P page old.present.readable fits (omega (arith, goes.1, size_is, page_start_is)), looked_none old new goes.0)
+value_fault sum of P page size page_start old new OffsetOverflow size_is page_start_is fits goes = absurd goes
+value_fault sum of P page size page_start old new OutOfMemory size_is page_start_is fits goes = looked_none old new goes.0
+value_fault sum of P page size page_start old new IdsExhausted size_is page_start_is fits goes = absurd goes
 
 -- the page that was read, with the numbers that a program has
-pub page_read : (P page size place : ℕ) (old new : Life) (bytes : List ℕ) → size ≡ P + 12 → place ≡ page * (P + 12) → ReadGoes place size old new (Ok bytes) → bytes ≡ page_at P page old.present.readable
-page_read P page size place old new bytes size_is place_is goes =
-    goes.1 ∙ ap (λ (n : ℕ). take n (drop place old.present.readable)) size_is ∙ ap (λ (n : ℕ). take (P + 12) (drop n old.present.readable)) place_is
+pub page_read : (P page size page_start : ℕ) (old new : Life) (bytes : List ℕ) → size ≡ P + 12 → page_start ≡ page * (P + 12) → ReadGoes page_start size old new (Ok bytes) → bytes ≡ page_at P page old.present.readable
+page_read P page size page_start old new bytes size_is page_start_is goes =
+    goes.1 ∙ ap (λ (n : ℕ). take n (drop page_start old.present.readable)) size_is ∙ ap (λ (n : ℕ). take (P + 12) (drop n old.present.readable)) page_start_is
 
-pub page_there : (P page size place : ℕ) (old new : Life) (bytes : List ℕ) → size ≡ P + 12 → place ≡ page * (P + 12) → ReadGoes place size old new (Ok bytes) → (page + 1) * (P + 12) ≤ length old.present.readable
-page_there P page size place old new bytes size_is place_is goes = omega (arith, goes.0, size_is, place_is)
+pub page_there : (P page size page_start : ℕ) (old new : Life) (bytes : List ℕ) → size ≡ P + 12 → page_start ≡ page * (P + 12) → ReadGoes page_start size old new (Ok bytes) → (page + 1) * (P + 12) ≤ length old.present.readable
+page_there P page size page_start old new bytes size_is page_start_is goes = omega (arith, goes.0, size_is, page_start_is)
 
 -- it has no value
-pub read_missing_value : {A : Type 0} (sum : List ℕ → ℕ) (of : A → List ℕ) (P page size place : ℕ) (old new : Life) (bytes : List ℕ) → size ≡ P + 12 → place ≡ page * (P + 12) → (page + 1) * (P + 12) < 2 ^ 64
-    → ReadGoes place size old new (Ok bytes) → active sum P bytes ≡ None → ReadsTold of (value_told sum P page old.present.readable) old new (Err InvalidChecksum)
-read_missing_value sum of P page size place old new bytes size_is place_is fits goes none =
-    let there = page_there P page size place old new bytes size_is place_is goes in
-    let is = page_read P page size place old new bytes size_is place_is goes in
-    (value_missing sum P page old.present.readable fits there (ap (λ (l : List ℕ). value_len sum P l) (sym is) ∙ active_none sum P bytes none), looked_read place size old new (Ok bytes) goes)
+pub read_missing_value : {A : Type 0} (sum : List ℕ → ℕ) (of : A → List ℕ) (P page size page_start : ℕ) (old new : Life) (bytes : List ℕ) → size ≡ P + 12 → page_start ≡ page * (P + 12) → (page + 1) * (P + 12) < 2 ^ 64
+    → ReadGoes page_start size old new (Ok bytes) → active sum P bytes ≡ None → ReadsTold of (value_told sum P page old.present.readable) old new (Err InvalidChecksum)
+read_missing_value sum of P page size page_start old new bytes size_is page_start_is fits goes none =
+    let there = page_there P page size page_start old new bytes size_is page_start_is goes in
+    let is = page_read P page size page_start old new bytes size_is page_start_is goes in
+    (value_missing sum P page old.present.readable fits there (ap (λ (l : List ℕ). value_len sum P l) (sym is) ∙ active_none sum P bytes none), looked_read page_start size old new (Ok bytes) goes)
 
 -- it has one, of so many bytes
-pub read_value_is : (sum : List ℕ → ℕ) (P page size place : ℕ) (old new : Life) (bytes : List ℕ) (slot : ActiveChecksum) → size ≡ P + 12 → place ≡ page * (P + 12) → (page + 1) * (P + 12) < 2 ^ 64
-    → ReadGoes place size old new (Ok bytes) → active sum P bytes ≡ Some slot → value_told sum P page old.present.readable ≡ Ok (take slot.len bytes)
-read_value_is sum P page size place old new bytes slot size_is place_is fits goes some =
+pub read_value_is : (sum : List ℕ → ℕ) (P page size page_start : ℕ) (old new : Life) (bytes : List ℕ) (slot : ActiveChecksum) → size ≡ P + 12 → page_start ≡ page * (P + 12) → (page + 1) * (P + 12) < 2 ^ 64
+    → ReadGoes page_start size old new (Ok bytes) → active sum P bytes ≡ Some slot → value_told sum P page old.present.readable ≡ Ok (take slot.len bytes)
+read_value_is sum P page size page_start old new bytes slot size_is page_start_is fits goes some =
     let readable = old.present.readable in
-    let there = page_there P page size place old new bytes size_is place_is goes in
-    let is = page_read P page size place old new bytes size_is place_is goes in
+    let there = page_there P page size page_start old new bytes size_is page_start_is goes in
+    let is = page_read P page size page_start old new bytes size_is page_start_is goes in
     let told = active_is sum P bytes slot some in
     let len : slot.len ≡ value_len sum P (page_at P page readable) = told.len ∙ ap (λ (l : List ℕ). value_len sum P l) is in
     value_there sum P page readable fits there (λ none. omega (arith, told.some, len, none))
@@ -150,7 +150,7 @@ told_looks of told old new (Err OffsetOverflow) reads = reads.1
 told_looks of told old new (Err OutOfMemory) reads = reads
 told_looks of told old new (Err IdsExhausted) reads = reads.1
 
--- one that is refused behind a look, as a part of another
+-- one that is refused after a look, as a part of another
 pub told_fault : {A B C D : Type 0} (of : A → B) (to : C → D) (told : Result B Error) (whole : Result D Error) (start old new : Life) (e : Error) → Looked start old
     → ((f : Error) → told ≡ Err f → whole ≡ Err f) → ReadsTold of told old new (Err e) → ReadsTold to whole start new (Err e)
 told_fault of to told whole start old new ReadFailed so_far meant reads = (failed_later ReadFailed start.present old.present new.present so_far.log reads.0, looked_joins start old new so_far reads.1)
@@ -220,7 +220,7 @@ module _ (sum : List ℕ → ℕ) (P offset len : ℕ) (readable : List ℕ) whe
   abbrev pages : Result (List ℕ) Error
   pages = parts_told sum P offset (offset + len) (range_end P offset len - offset / P) (offset / P) readable
 
-  -- the end passes the greatest place
+  -- the end passes the greatest offset
   pub range_passes : 2 ^ 64 ≤ offset + len → range_told sum P offset len readable ≡ Err OffsetOverflow
   range_passes over = cond-true (nat_le (2 ^ 64) (offset + len)) _ _ (le-leb (2 ^ 64) (offset + len) over)
 
@@ -254,7 +254,7 @@ module _ (sum : List ℕ → ℕ) (P size len : ℕ) (readable : List ℕ) where
   tail_torn torn = cond-false (size % (P + 12) == 0) _ _ (ne_eqb (size % (P + 12)) 0 torn)
 
   whole : size % (P + 12) ≡ 0 → tail_told sum P size len readable
-      ≡ (if size == 0 then (if len == 0 then Ok (0, []) else Err BlobInsufficientLength) else behind_told sum P last len readable (value_told sum P last readable))
+      ≡ (if size == 0 then (if len == 0 then Ok (0, []) else Err BlobInsufficientLength) else after_told sum P last len readable (value_told sum P last readable))
   whole is = cond-true (size % (P + 12) == 0) _ _ (eq-eqb (size % (P + 12)) 0 is)
 
   -- there is none
@@ -265,38 +265,38 @@ module _ (sum : List ℕ → ℕ) (P size len : ℕ) (readable : List ℕ) where
   tail_lacks is none some = whole is ∙ cond-true (size == 0) _ _ (eq-eqb size 0 none) ∙ cond-false (len == 0) _ _ (ne_eqb len 0 some)
 
   -- the last one decides
-  pub tail_behind : size % (P + 12) ≡ 0 → size ≢ 0 → tail_told sum P size len readable ≡ behind_told sum P last len readable (value_told sum P last readable)
-  tail_behind is some = whole is ∙ cond-false (size == 0) _ _ (ne_eqb size 0 some)
+  pub tail_after : size % (P + 12) ≡ 0 → size ≢ 0 → tail_told sum P size len readable ≡ after_told sum P last len readable (value_told sum P last readable)
+  tail_after is some = whole is ∙ cond-false (size == 0) _ _ (ne_eqb size 0 some)
 
 module _ (sum : List ℕ → ℕ) (P page len : ℕ) (readable bytes : List ℕ) where
-  abbrev behind_end : ℕ
-  behind_end = page * P + length bytes
+  abbrev after_end : ℕ
+  after_end = page * P + length bytes
 
   abbrev front : Result (List ℕ) Error
-  front = range_told sum P (behind_end - len) (page * P - (behind_end - len)) readable
+  front = range_told sum P (after_end - len) (page * P - (after_end - len)) readable
 
   -- there are fewer
-  pub behind_short : behind_end < len → behind_told sum P page len readable (Ok bytes) ≡ Err BlobInsufficientLength
-  behind_short few = cond-true (nat_lt behind_end len) _ _ (lt-ltb behind_end len few)
+  pub after_short : after_end < len → after_told sum P page len readable (Ok bytes) ≡ Err BlobInsufficientLength
+  after_short few = cond-true (nat_lt after_end len) _ _ (lt-ltb after_end len few)
 
-  behind_is : len ≤ behind_end → behind_told sum P page len readable (Ok bytes) ≡ ending_at behind_end (joined front (Ok (drop (behind_end - len - page * P) bytes)))
-  behind_is le = cond-false (nat_lt behind_end len) _ _ (le-ltb behind_end len le)
+  after_is : len ≤ after_end → after_told sum P page len readable (Ok bytes) ≡ ending_at after_end (joined front (Ok (drop (after_end - len - page * P) bytes)))
+  after_is le = cond-false (nat_lt after_end len) _ _ (le-ltb after_end len le)
 
   -- those before the last page decide
-  pub behind_fault : (e : Error) → len ≤ behind_end → front ≡ Err e → behind_told sum P page len readable (Ok bytes) ≡ Err e
-  behind_fault e le told =
-      behind_is le ∙ ap (λ (r : Result (List ℕ) Error). ending_at behind_end (joined r (Ok (drop (behind_end - len - page * P) bytes)))) told
+  pub after_fault : (e : Error) → len ≤ after_end → front ≡ Err e → after_told sum P page len readable (Ok bytes) ≡ Err e
+  after_fault e le told =
+      after_is le ∙ ap (λ (r : Result (List ℕ) Error). ending_at after_end (joined r (Ok (drop (after_end - len - page * P) bytes)))) told
 
-  pub behind_found : (found : List ℕ) → len ≤ behind_end → front ≡ Ok found → behind_told sum P page len readable (Ok bytes) ≡ Ok (behind_end, found ++ drop (behind_end - len - page * P) bytes)
-  behind_found found le told =
-      behind_is le ∙ ap (λ (r : Result (List ℕ) Error). ending_at behind_end (joined r (Ok (drop (behind_end - len - page * P) bytes)))) told
+  pub after_found : (found : List ℕ) → len ≤ after_end → front ≡ Ok found → after_told sum P page len readable (Ok bytes) ≡ Ok (after_end, found ++ drop (after_end - len - page * P) bytes)
+  after_found found le told =
+      after_is le ∙ ap (λ (r : Result (List ℕ) Error). ending_at after_end (joined r (Ok (drop (after_end - len - page * P) bytes)))) told
 
 -- ---- with the numbers that a program has
 
 -- a read gives as many bytes as were asked for
-pub read_len : (place size : ℕ) (old new : Life) (bytes : List ℕ) → ReadGoes place size old new (Ok bytes) → length bytes ≡ size
-read_len place size old new bytes goes =
-    ap (λ (l : List ℕ). length l) goes.1 ∙ length-take-le size (drop place old.present.readable) (omega (arith, goes.0, length-drop place old.present.readable))
+pub read_len : (page_start size : ℕ) (old new : Life) (bytes : List ℕ) → ReadGoes page_start size old new (Ok bytes) → length bytes ≡ size
+read_len page_start size old new bytes goes =
+    ap (λ (l : List ℕ). length l) goes.1 ∙ length-take-le size (drop page_start old.present.readable) (omega (arith, goes.0, length-drop page_start old.present.readable))
 
 -- what tells the value of a page that was read
 pub seen_active : (sum : List ℕ → ℕ) (P size : ℕ) (bytes seen : List ℕ) (slot : Option ActiveChecksum) → size ≡ P + 12 → length bytes ≡ size → seen ≡ bytes → slot ≡ active sum (length seen - 12) seen → active sum P bytes ≡ slot
@@ -364,18 +364,18 @@ module _ (sum : List ℕ → ℕ) (P page len start end offset before tail_len :
       ap (λ (n : ℕ). range_told sum P n (page * P - n) readable) begins_there
       ∙ ap (λ (n : ℕ). range_told sum P offset n readable) (let e : page * P - offset ≡ before = omega (arith, start_is, before_is) in e)
 
-  pub behind_refused : (e : Error) → range_told sum P offset before readable ≡ Err e → behind_told sum P page len readable (value_told sum P page readable) ≡ Err e
-  behind_refused e told =
-      ap (λ (r : Result (List ℕ) Error). behind_told sum P page len readable r) value
-      ∙ behind_fault sum P page len readable told_value e (omega (arith, le, ends_there)) (front_is ∙ told)
+  pub after_refused : (e : Error) → range_told sum P offset before readable ≡ Err e → after_told sum P page len readable (value_told sum P page readable) ≡ Err e
+  after_refused e told =
+      ap (λ (r : Result (List ℕ) Error). after_told sum P page len readable r) value
+      ∙ after_fault sum P page len readable told_value e (omega (arith, le, ends_there)) (front_is ∙ told)
 
-  pub behind_given : (skip : ℕ) (found : List ℕ) → skip ≡ offset - start → range_told sum P offset before readable ≡ Ok found
-      → behind_told sum P page len readable (value_told sum P page readable) ≡ Ok (end, found ++ slice_range tail skip tail_len)
-  behind_given skip found skip_is told =
+  pub after_given : (skip : ℕ) (found : List ℕ) → skip ≡ offset - start → range_told sum P offset before readable ≡ Ok found
+      → after_told sum P page len readable (value_told sum P page readable) ≡ Ok (end, found ++ slice_range tail skip tail_len)
+  after_given skip found skip_is told =
       let few : skip ≤ tail_len = omega (arith, skip_is, offset_is, end_is) in
       let same : page * P + length told_value - len - page * P ≡ skip = omega (arith, begins_there, start_is, skip_is) in
-      ap (λ (r : Result (List ℕ) Error). behind_told sum P page len readable r) value
-      ∙ behind_found sum P page len readable told_value found (omega (arith, le, ends_there)) (front_is ∙ told)
+      ap (λ (r : Result (List ℕ) Error). after_told sum P page len readable r) value
+      ∙ after_found sum P page len readable told_value found (omega (arith, le, ends_there)) (front_is ∙ told)
       ∙ ap (λ (n : ℕ). Ok (n, found ++ drop (page * P + length told_value - len - page * P) told_value)) ends_there
       ∙ ap (λ (l : List ℕ). Ok (end, found ++ l)) (ap (λ (n : ℕ). drop n told_value) same ∙ drop-take_less tail skip tail_len few)
 

@@ -15,7 +15,7 @@ use Rattle.bytes.proofs.Ranges.{drop-take_less}
 use Rattle.std.proofs.Math.Nat.{mul-le-mul_right}
 use Rattle.page.specs.Page.{value_len}
 use Rattle.paged_read.specs.Ranges.{page_at}
-use Rattle.paged_read.specs.ReadAhead.{AreFullPages, AreNext, FetchesBatch, Follow, IsBatch, batch_bytes, batch_range, behind, page_behind}
+use Rattle.paged_read.specs.ReadAhead.{AreFullPages, AreNext, FetchesBatch, Follow, IsBatch, batch_bytes, batch_range, after, page_after}
 use Rattle.paged_read.specs.declared.ahead.Ahead.{Ahead}
 
 -- a slice of pages that is one of them
@@ -33,44 +33,44 @@ full_more sum P end bytes so_far one = λ page above below. elim (cases_lt page 
 
 -- ---- batches that follow one another
 
--- the page behind them, one batch at a time
-pub behind_more : (batch full page : ℕ) (queue : List Ahead) → page ≤ full → page ≤ behind batch full page
-behind_more batch full page queue within = omega arith
+-- the page after them, one batch at a time
+pub after_more : (batch full page : ℕ) (queue : List Ahead) → page ≤ full → page ≤ after batch full page
+after_more batch full page queue within = omega arith
 
-pub behind_within : (batch full page : ℕ) → page ≤ full → behind batch full page ≤ full
-behind_within batch full page within = omega (arith, within)
+pub after_within : (batch full page : ℕ) → page ≤ full → after batch full page ≤ full
+after_within batch full page within = omega (arith, within)
 
-pub follow_within : (batch full page : ℕ) (queue : List Ahead) → Follow batch full page queue → page_behind batch full page queue ≤ full
+pub follow_within : (batch full page : ℕ) (queue : List Ahead) → Follow batch full page queue → page_after batch full page queue ≤ full
 follow_within batch full page [] follow = follow
-follow_within batch full page (a ∷ rest) follow = follow_within batch full (behind batch full page) rest follow.2
+follow_within batch full page (a ∷ rest) follow = follow_within batch full (after batch full page) rest follow.2
 
 -- one more at the end
-pub follow_more : (batch full page : ℕ) (queue : List Ahead) (a : Ahead) → Follow batch full page queue → a.page ≡ page_behind batch full page queue → page_behind batch full page queue < full
+pub follow_more : (batch full page : ℕ) (queue : List Ahead) (a : Ahead) → Follow batch full page queue → a.page ≡ page_after batch full page queue → page_after batch full page queue < full
     → Follow batch full page (queue ++ a ∷ [])
-follow_more batch full page [] a follow is below = (is, below, behind_within batch full page (omega (arith, below)))
-follow_more batch full page (b ∷ rest) a follow is below = (follow.0, follow.1, follow_more batch full (behind batch full page) rest a follow.2 is below)
+follow_more batch full page [] a follow is below = (is, below, after_within batch full page (omega (arith, below)))
+follow_more batch full page (b ∷ rest) a follow is below = (follow.0, follow.1, follow_more batch full (after batch full page) rest a follow.2 is below)
 
-pub page_behind_more : (batch full page : ℕ) (queue : List Ahead) (a : Ahead) → page_behind batch full page (queue ++ a ∷ []) ≡ behind batch full (page_behind batch full page queue)
-page_behind_more batch full page [] a = refl
-page_behind_more batch full page (b ∷ rest) a = page_behind_more batch full (behind batch full page) rest a
+pub page_after_more : (batch full page : ℕ) (queue : List Ahead) (a : Ahead) → page_after batch full page (queue ++ a ∷ []) ≡ after batch full (page_after batch full page queue)
+page_after_more batch full page [] a = refl
+page_after_more batch full page (b ∷ rest) a = page_after_more batch full (after batch full page) rest a
 
 -- so many, or all that there are, are the next
-pub are_next : (n batch full page : ℕ) (queue : List Ahead) → Follow batch full page queue → length queue ≤ n → (length queue ≡ n) ⊎ (full ≤ page_behind batch full page queue) → AreNext n batch full page queue
+pub are_next : (n batch full page : ℕ) (queue : List Ahead) → Follow batch full page queue → length queue ≤ n → (length queue ≡ n) ⊎ (full ≤ page_after batch full page queue) → AreNext n batch full page queue
 are_next zero batch full page [] follow few whole = refl
 are_next zero batch full page (a ∷ rest) follow few whole = absurd (omega (arith, few))
 are_next (suc n) batch full page [] follow few whole = elim whole [ inl same ↦ absurd (omega (arith, same)) | inr ends ↦ ends ]
 are_next (suc n) batch full page (a ∷ rest) follow few whole =
-    (follow.0, follow.1, are_next n batch full (behind batch full page) rest follow.2 (omega (arith, few)) (elim whole [ inl same ↦ inl (omega (arith, same)) | inr ends ↦ inr ends ]))
+    (follow.0, follow.1, are_next n batch full (after batch full page) rest follow.2 (omega (arith, few)) (elim whole [ inl same ↦ inl (omega (arith, same)) | inr ends ↦ inr ends ]))
 
--- the page behind them is that behind the last one
-pub behind_last : (batch full page : ℕ) (queue : List Ahead) (last : Ahead) → Follow batch full page queue → Some last ≡ slice_get queue (length queue - 1)
-    → (page_behind batch full page queue ≡ behind batch full last.page) × (last.page < full)
-behind_last batch full page [] last follow is = absurd (cc)
-behind_last batch full page (a ∷ []) last follow is =
+-- the page after them is that after the last one
+pub after_last : (batch full page : ℕ) (queue : List Ahead) (last : Ahead) → Follow batch full page queue → Some last ≡ slice_get queue (length queue - 1)
+    → (page_after batch full page queue ≡ after batch full last.page) × (last.page < full)
+after_last batch full page [] last follow is = absurd (cc)
+after_last batch full page (a ∷ []) last follow is =
     let one : last ≡ a = cc in
     let same : last.page ≡ page = ap (λ (x : Ahead). x.page) one ∙ follow.0 in
-    (ap (λ n. behind batch full n) (sym same), subst (λ n. n < full) (sym same) follow.1)
-behind_last batch full page (a ∷ b ∷ rest) last follow is = behind_last batch full (behind batch full page) (b ∷ rest) last follow.2
+    (ap (λ n. after batch full n) (sym same), subst (λ n. n < full) (sym same) follow.1)
+after_last batch full page (a ∷ b ∷ rest) last follow is = after_last batch full (after batch full page) (b ∷ rest) last follow.2
     (is ∙ ap (λ k. slice_get (a ∷ b ∷ rest) k) (let e : suc (suc (length rest)) - 1 ≡ suc (length rest) = omega arith in e)
     ∙ ap (λ k. slice_get (b ∷ rest) k) (let e : length rest ≡ suc (length rest) - 1 = omega arith in e))
 
@@ -130,11 +130,11 @@ pub taken_is : (P batch full page : ℕ) (d : Disk) (queue : List Ahead) (first 
     → Some first ≡ slice_get queue 0 → a ≡ slice_index_or queue 0 a → first.page ≡ page
     → ((bytes : List ℕ) → a.read ≡ Ok (bytes ∷ []) → result ≡ Ok bytes) → ((error : Error) → a.read ≡ Err error → result ≡ Err error) → answer ≡ result_ok result
     → IfSome answer (λ bytes. bytes ∷ [] ≡ batch_bytes P batch full page d.readable)
-taken_is P batch full page d [] first a result answer are is same place ok err gives = absurd (cc is)
-taken_is P batch full page d (b ∷ rest) first a result answer are is same place ok err gives = by result refl gives
+taken_is P batch full page d [] first a result answer are is same offset ok err gives = absurd (cc is)
+taken_is P batch full page d (b ∷ rest) first a result answer are is same offset ok err gives = by result refl gives
   where
     at : a.page ≡ page
-    at = let one : first ≡ b = cc is in ap (λ (x : Ahead). x.page) (same ∙ sym one) ∙ place
+    at = let one : first ≡ b = cc is in ap (λ (x : Ahead). x.page) (same ∙ sym one) ∙ offset
 
     want : List ℕ
     want = take (min batch (full - page) * (P + 12)) (drop (page * (P + 12)) d.readable)
@@ -203,11 +203,11 @@ batch_page P k page p readable run is below =
     let n = P + 12 in
     let from = drop (page * n) readable in
     let less : (p + 1) * n ≤ k * n = mul-le-mul_right n (omega (arith, below)) in
-    let place : page * n + p * n ≡ (page + p) * n = omega arith in
+    let offset : page * n + p * n ≡ (page + p) * n = omega arith in
     ap (λ (l : List ℕ). take n (drop (p * n) l)) is
     ∙ ap (λ (l : List ℕ). take n l) (drop-take_less from (p * n) (k * n) (omega (arith, less)))
     ∙ take-take n (k * n - p * n) (drop (p * n) from) (omega (arith, less))
-    ∙ ap (λ (l : List ℕ). take n l) (drop-drop (p * n) (page * n) readable ∙ ap (λ (m : ℕ). drop m readable) place)
+    ∙ ap (λ (l : List ℕ). take n l) (drop-drop (p * n) (page * n) readable ∙ ap (λ (m : ℕ). drop m readable) offset)
 
 module _ (sum : List ℕ → ℕ) (P k page : ℕ) (readable run : List ℕ) (is : run ≡ take (k * (P + 12)) (drop (page * (P + 12)) readable)) where
   pub full_of_run : AreFullPages sum P 0 k run → AreFullPages sum P page (page + k) readable

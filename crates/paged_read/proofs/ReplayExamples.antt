@@ -2,7 +2,7 @@
 use Rattle.std.proofs.Common.{◌≡◌, ℕ, List, [], ◌∷◌, ◌++◌, refl, arith, Ok}
 use Rattle.paged_read.specs.declared.ahead.Ahead.{Ahead}
 use Rattle.paged_read.specs.Hand.{payloads, payloads_from}
-use Rattle.paged_read.specs.ReadAhead.{AreNext, batch_of, batch_range, behind}
+use Rattle.paged_read.specs.ReadAhead.{AreNext, batch_of, batch_range, after}
 use Rattle.paged_read.specs.Replay.{advanced, end_of, new_replay, ReplayState}
 use Rattle.paged_read.specs.Tail.{Tail}
 
@@ -19,9 +19,9 @@ a_payload_without_a_footer : payloads 4 (1 ∷ 2 ∷ []) ≡ 1 ∷ 2 ∷ []
 a_payload_without_a_footer = refl
 
 -- from the third byte of the first page on, of which two are left
-from_a_place : payloads_from 4 ((page 1 2 3 4 ++ page 5 6 7 8) ∷ (9 ∷ []) ∷ []) 2 2
+from_an_offset : payloads_from 4 ((page 1 2 3 4 ++ page 5 6 7 8) ∷ (9 ∷ []) ∷ []) 2 2
     ≡ 3 ∷ 4 ∷ 5 ∷ 6 ∷ 7 ∷ 8 ∷ 9 ∷ []
-from_a_place = refl
+from_an_offset = refl
 
 -- for buffers of 1, 3, 4, 5, 7, 9 and 64 pages of 76 bytes, and for one of a byte
 batches_of_buffers : batch_of 64 76 ∷ batch_of 64 228 ∷ batch_of 64 304 ∷ batch_of 64 380
@@ -30,7 +30,7 @@ batches_of_buffers : batch_of 64 76 ∷ batch_of 64 228 ∷ batch_of 64 304 ∷ 
 batches_of_buffers = refl
 
 -- of five pages, by two
-the_last_batch : behind 2 5 0 ∷ behind 2 5 2 ∷ behind 2 5 4 ∷ [] ≡ 2 ∷ 4 ∷ 5 ∷ []
+the_last_batch : after 2 5 0 ∷ after 2 5 2 ∷ after 2 5 4 ∷ [] ≡ 2 ∷ 4 ∷ 5 ∷ []
 the_last_batch = refl
 
 the_range_of_a_batch : batch_range 64 16 80 16 ≡ (1216, 1216)

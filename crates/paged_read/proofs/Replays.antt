@@ -1,4 +1,4 @@
--- Fills of a replay: what a batch, and the bytes behind the full pages, add to what is at hand.
+-- Fills of a replay: what a batch, and the bytes after the full pages, add to what is at hand.
 use Rattle.std.proofs.Common.{◌≡◌, ◌⊎◌, inl, inr, ℕ, zero, suc, ◌+◌, ◌*◌, ◌-◌, ◌/◌, ◌%◌, ◌<◌, ◌≤◌, min, max, List, [], ◌∷◌, ◌++◌, length, take, drop, ◌^◌, refl, sym, ap, ◌∙◌, subst, arith, All, true, false, true≢false, Result, Ok, Err, length-append, length-drop}
 use Rattle.std.proofs.lemmas.Bool.{cases_lt, le-leb, lt-leb}
 use Rattle.std.proofs.lemmas.Nat.{div_below, mod_below, div-add-mod', le-div}
@@ -13,12 +13,12 @@ use Rattle.disk.proofs.Logs.{failed_later}
 use Rattle.page.specs.Page.{pages}
 use Rattle.crash.specs.Full.{AreFull}
 use Rattle.crash.specs.Looks.{Looked, looked_joins, looked_start}
-use Rattle.crash.specs.Sound.{stored}
+use Rattle.crash.specs.Contents.{stored}
 use Rattle.crash.proofs.LookLaws.{looked_readable}
 use Rattle.crash.proofs.Pages.{drop-stored, fewer_fit, length-stored, stored_same, stored_suc, take-stored}
 use Rattle.crash.proofs.Texts.{AreFull_page}
 use Rattle.paged_read.specs.Hand.{payloads}
-use Rattle.paged_read.specs.ReadAhead.{AddsBatch, AreFullPages, AreNext, behind, Follow, IsBatch, IsQueue, ReadsBatch}
+use Rattle.paged_read.specs.ReadAhead.{AddsBatch, AreFullPages, AreNext, after, Follow, IsBatch, IsQueue, ReadsBatch}
 use Rattle.paged_read.specs.Replay.{IsHad, advanced, CanReplay, end_of, Ensures, FillFault, Fills, FillsOnce, HasFilled, IsAhead, IsReplay, IsReplayOf, IsToppedUp, new_replay, ReplaysOn, ReplaysThrough, ReplayState}
 use Rattle.paged_read.specs.Snapshots.{IsTailOf}
 use Rattle.paged_read.specs.Tail.{HasFullPages, size_of, Tail, told}
@@ -81,7 +81,7 @@ module _ (t : Tail) (readable : List ℕ) (reach : t.full_pages * (t.page_size +
       ∙ sym (take-append-le (k * P) (drop (page * P) all) t.bytes (omega (arith, size, more, length-drop (page * P) all)))
       ∙ ap (λ (l : List ℕ). take (k * P) l) (sym (drop-append-le (page * P) all t.bytes (omega (arith, size, more))))
 
-  -- and from a place in the first page on
+  -- and from an offset in the first page on
   pub batch_more : (skip : ℕ) → skip ≤ k * t.page_size → drop skip (payloads t.page_size run) ≡ take (k * t.page_size - skip) (drop (page * t.page_size + skip) (told t readable))
   batch_more skip less =
       let P = t.page_size in
@@ -115,7 +115,7 @@ hand_more told hand more position so_far next =
 
 -- ---- pages
 
--- full pages are full by their places
+-- full pages are full by their offsets
 pub full_each : (sum : List ℕ → ℕ) (t : Tail) (d : Disk) (first end : ℕ) → t.full_pages * (t.page_size + 12) ≤ length d.readable → HasFullPages sum t d → end ≤ t.full_pages → AreFullPages sum t.page_size first end d.readable
 full_each sum t d first end reach full within = λ page above below. AreFull_page sum t.page_size t.full_pages page d.readable full reach (omega (arith, below, within))
 
@@ -126,7 +126,7 @@ next_follow zero batch full page queue within next =
     (subst (λ (l : List Ahead). Follow batch full page l) (sym next) within, omega (arith, ap (λ (l : List Ahead). length l) next))
 next_follow (suc n) batch full page [] within next = (within, omega arith)
 next_follow (suc n) batch full page (a ∷ rest) within next =
-    let more = next_follow n batch full (behind batch full page) rest (omega (arith, next.1)) next.2 in
+    let more = next_follow n batch full (after batch full page) rest (omega (arith, next.1)) next.2 in
     ((next.0, next.1, more.0), omega (arith, more.1))
 
 pub next_queue : (batch full page : ℕ) (queue : List Ahead) → page ≤ full → AreNext 3 batch full page queue → IsQueue batch full queue
@@ -159,9 +159,9 @@ module _ (sum : List ℕ → ℕ) (r : ReplayState) (is : IsReplay r) (more : en
       let less : end_of r / r.tail.page_size < r.tail.full_pages + 1 = div_below (end_of r) r.tail.page_size (r.tail.full_pages + 1) some (omega (arith, more, is.short)) in
       omega (arith, less)
 
-  -- where it begins behind the full pages it is of none
-  pub page_behind : r.tail.full_pages * r.tail.page_size ≤ end_of r → r.tail.full_pages ≤ end_of r / r.tail.page_size
-  page_behind behind = (le-div_iff_mul-le {x = r.tail.full_pages} some).1 behind
+  -- where it begins after the full pages it is of none
+  pub page_after : r.tail.full_pages * r.tail.page_size ≤ end_of r → r.tail.full_pages ≤ end_of r / r.tail.page_size
+  page_after after = (le-div_iff_mul-le {x = r.tail.full_pages} some).1 after
 
   -- the first page is passed over in part only where nothing is at hand
   pub skips_none : 0 < length r.hand → end_of r % r.tail.page_size ≡ 0
@@ -170,7 +170,7 @@ module _ (sum : List ℕ → ℕ) (r : ReplayState) (is : IsReplay r) (more : en
     | inr ends ↦ absurd (omega (arith, ends, more))
   ]
 
-  -- a place is left for each byte of the pages that follow
+  -- an offset is left for each byte of the pages that follow
   pub grows : length r.hand + (r.tail.full_pages - end_of r / r.tail.page_size) * (r.tail.page_size + 12) < 2 ^ 64
   grows = elim (cases_lt 0 (length r.hand)) [
     | inl there ↦
@@ -204,7 +204,7 @@ module _ (sum : List ℕ → ℕ) (r : ReplayState) (is : IsReplay r) (more : en
         is = record {
           batch = is.batch;
           within = is.within;
-          places = is.places;
+          addressable = is.addressable;
           pages = is.pages;
           short = is.short;
           whole = is.whole;
@@ -213,7 +213,7 @@ module _ (sum : List ℕ → ℕ) (r : ReplayState) (is : IsReplay r) (more : en
         };
       }
 
-  -- the bytes behind the full pages
+  -- the bytes after the full pages
   rest_filled : (old : Life) (hand : List ℕ) → CanReplay r old.present → end_of r / r.tail.page_size ≡ r.tail.full_pages
       → hand ≡ r.hand ++ drop (end_of r % r.tail.page_size) (payloads r.tail.page_size r.tail.bytes) → Filled sum r (record r { hand = hand }) old old (Ok (tt {0}))
   rest_filled old hand can last made =
@@ -231,7 +231,7 @@ module _ (sum : List ℕ → ℕ) (r : ReplayState) (is : IsReplay r) (more : en
       let count : length added ≡ length t.bytes - skip = ap (λ (l : List ℕ). length (drop skip l)) rest ∙ length-drop skip t.bytes in
       let size : length hand ≡ length r.hand + (length t.bytes - skip) = ap (λ (l : List ℕ). length l) made ∙ length-append r.hand added ∙ ap (λ (n : ℕ). length r.hand + n) count in
       let ends : r.position + length hand ≡ size_of t = omega (arith, size, at, more) in
-      let place : (r.position + length hand) / P ≡ t.full_pages =
+      let offset : (r.position + length hand) / P ≡ t.full_pages =
       let low = le-div t.full_pages (r.position + length hand) P some (omega (arith, ends)) in
       let high = div_below (r.position + length hand) P (t.full_pages + 1) some (omega (arith, ends, short)) in
       omega (arith, low, high) in
@@ -245,7 +245,7 @@ module _ (sum : List ℕ → ℕ) (r : ReplayState) (is : IsReplay r) (more : en
           omega (arith, size, at, more),
           omega (arith, size, short, big),
           (λ page above under. absurd (omega (arith, above, under, last))),
-          inr (refl, refl, place ∙ sym last),
+          inr (refl, refl, offset ∙ sym last),
         );
         can = record {
           there = can.there;
@@ -255,7 +255,7 @@ module _ (sum : List ℕ → ℕ) (r : ReplayState) (is : IsReplay r) (more : en
         is = record {
           batch = is.batch;
           within = omega (arith, ends);
-          places = is.places;
+          addressable = is.addressable;
           pages = is.pages;
           short = is.short;
           whole = λ _. inr ends;
@@ -278,7 +278,7 @@ module _ (sum : List ℕ → ℕ) (r : ReplayState) (is : IsReplay r) (more : en
       → ReadsBatch sum r.tail.page_size r.batch r.tail.full_pages (end_of r / r.tail.page_size) old new (Ok run)
       → hand ≡ r.hand ++ drop (end_of r % r.tail.page_size) (payloads r.tail.page_size run)
       → Looked old new
-      → AreNext 3 r.batch r.tail.full_pages (behind r.batch r.tail.full_pages (end_of r / r.tail.page_size)) queue
+      → AreNext 3 r.batch r.tail.full_pages (after r.batch r.tail.full_pages (end_of r / r.tail.page_size)) queue
       → All (IsBatch r.tail.page_size r.batch r.tail.full_pages new.present) queue
       → Filled sum r (record r { hand = hand; queue = queue }) old new (Ok (tt {0}))
   batch_filled old new run hand queue can under reads made looked next batches =
@@ -300,7 +300,7 @@ module _ (sum : List ℕ → ℕ) (r : ReplayState) (is : IsReplay r) (more : en
       let size : length hand ≡ length r.hand + (k * P - skip) = ap (λ (l : List ℕ). length l) made ∙ length-append r.hand added ∙ ap (λ (n : ℕ). length r.hand + n) count in
       let ends : r.position + length hand ≡ (page + k) * P = omega (arith, size, end_is, less) in
       let up : (page + k) * P ≤ t.full_pages * P = mul-le-mul_right P within in
-      let place : (r.position + length hand) / P ≡ page + k = ap (λ (n : ℕ). n / P) ends ∙ mul-div_cancel (page + k) some in
+      let offset : (r.position + length hand) / P ≡ page + k = ap (λ (n : ℕ). n / P) ends ∙ mul-div_cancel (page + k) some in
       let given : added ≡ take (length added) (drop e all) =
       batch_more t old.present.readable can.there page k within run is_run skip less
       ∙ ap (λ (n : ℕ). take n (drop (page * P + skip) all)) (sym count) ∙ ap (λ (n : ℕ). take (length added) (drop n all)) (sym end_is) in
@@ -311,8 +311,8 @@ module _ (sum : List ℕ → ℕ) (r : ReplayState) (is : IsReplay r) (more : en
           refl,
           omega (arith, size, skip_less, one_page),
           omega (arith, size, few_pages),
-          (λ p above below. reads.1 p above (omega (arith, below, place))),
-          inl (subst (λ (n : ℕ). AreNext 3 r.batch t.full_pages n queue) (sym place) next),
+          (λ p above below. reads.1 p above (omega (arith, below, offset))),
+          inl (subst (λ (n : ℕ). AreNext 3 r.batch t.full_pages n queue) (sym offset) next),
         );
         can = record {
           there = omega (arith, can.there, ap (λ (l : List ℕ). length l) same);
@@ -323,7 +323,7 @@ module _ (sum : List ℕ → ℕ) (r : ReplayState) (is : IsReplay r) (more : en
         is = record {
           batch = is.batch;
           within = omega (arith, ends, up);
-          places = is.places;
+          addressable = is.addressable;
           pages = is.pages;
           short = is.short;
           whole = λ _. inl (ap (λ (n : ℕ). n % P) ends ∙ mul-mod_left (page + k) P);
@@ -336,7 +336,7 @@ module _ (sum : List ℕ → ℕ) (r : ReplayState) (is : IsReplay r) (more : en
   why : (old new : Life) (e : Error) → CanReplay r old.present → ReadsBatch sum r.tail.page_size r.batch r.tail.full_pages (end_of r / r.tail.page_size) old new (Err e) → FillFault sum r.tail old new e
   why old new ReadFailed can failed = failed
   why old new InvalidChecksum can not_full = λ full.
-      not_full (full_each sum r.tail old.present (end_of r / r.tail.page_size) (behind r.batch r.tail.full_pages (end_of r / r.tail.page_size)) can.there full (omega (arith, page_within)))
+      not_full (full_each sum r.tail old.present (end_of r / r.tail.page_size) (after r.batch r.tail.full_pages (end_of r / r.tail.page_size)) can.there full (omega (arith, page_within)))
   why old new OutOfMemory can failed = tt {0}
   why old new _ can failed = absurd failed
 
@@ -404,8 +404,8 @@ pub reach_idle : (sum : List ℕ → ℕ) (r : ReplayState) (count : ℕ) (mid :
 reach_idle sum r count mid old between new so_far less idle had = elim had [
   | inl enough ↦ absurd (omega (arith, enough, less, so_far.fills.hand))
   | inr rest ↦
-      let behind : r.tail.full_pages * r.tail.page_size ≤ end_of mid = omega (arith, rest, so_far.fills.position, so_far.fills.hand) in
-      idle (subst (λ (u : Tail). u.full_pages * u.page_size ≤ end_of mid) (sym so_far.fills.tail) behind) ∙ so_far.idle (inr rest)
+      let after : r.tail.full_pages * r.tail.page_size ≤ end_of mid = omega (arith, rest, so_far.fills.position, so_far.fills.hand) in
+      idle (subst (λ (u : Tail). u.full_pages * u.page_size ≤ end_of mid) (sym so_far.fills.tail) after) ∙ so_far.idle (inr rest)
 ]
 
 -- a fill more
@@ -415,7 +415,7 @@ reach_more sum r count mid now old between new so_far is less filled idle can lo
     let t = r.tail in
     let P = t.page_size in
     let fills = filled.0 in
-    let place : end_of mid / P ≤ t.full_pages = subst (λ (u : Tail). end_of mid / u.page_size ≤ u.full_pages) so_far.fills.tail (end_within mid is) in
+    let offset : end_of mid / P ≤ t.full_pages = subst (λ (u : Tail). end_of mid / u.page_size ≤ u.full_pages) so_far.fills.tail (end_within mid is) in
     let step : mid.batch * mid.tail.page_size ≡ r.batch * P = ap (λ (n : ℕ). n * mid.tail.page_size) so_far.fills.batch ∙ ap (λ (u : Tail). r.batch * u.page_size) so_far.fills.tail in
     let next : AreFullPages sum P (end_of mid / P) (min t.full_pages (end_of now / P)) old.present.readable =
     subst (λ (l : List ℕ). AreFullPages sum P (end_of mid / P) (min t.full_pages (end_of now / P)) l) (looked_readable old between so_far.looked)
@@ -430,8 +430,8 @@ reach_more sum r count mid now old between new so_far is less filled idle can lo
       exhausted = filled.1 ∙ so_far.exhausted;
       few = omega (arith, filled.3, step, less, so_far.few);
       filled = λ page above below. elim (cases_lt page (end_of mid / P)) [
-        | inl before ↦ so_far.filled page above (omega (arith, before, place))
-        | inr behind ↦ next page (omega (arith, behind)) below
+        | inl before ↦ so_far.filled page above (omega (arith, before, offset))
+        | inr after ↦ next page (omega (arith, after)) below
       ];
       ahead = goes_ahead filled.5 so_far.ahead;
       idle = λ had. reach_idle sum r count mid old between new so_far less idle had;
@@ -505,12 +505,12 @@ passed_over told hand position count is = elim (cases_lt (length hand) count) [
   | inr some ↦
       let n = length hand - count in
       let size : n ≡ length (drop count hand) = omega (arith, length-drop count hand) in
-      let place : position + count ≡ position + min count (length hand) = omega (arith, some) in
+      let offset : position + count ≡ position + min count (length hand) = omega (arith, some) in
       let whole : length hand ≡ count + n = omega (arith, some) in
       ap (λ (l : List ℕ). drop count l) (is ∙ ap (λ (k : ℕ). take k (drop position told)) whole)
       ∙ drop-take count n (drop position told)
       ∙ ap (λ (l : List ℕ). take n l) (drop-drop count position told)
-      ∙ ap (λ (k : ℕ). take n (drop k told)) place
+      ∙ ap (λ (k : ℕ). take n (drop k told)) offset
       ∙ ap (λ (k : ℕ). take k (drop (position + min count (length hand)) told)) size
 ]
 

@@ -16,7 +16,7 @@ use Rattle.crash.specs.Full.{AreFull}
 use Rattle.crash.proofs.Pages.{length-pieces, pieces-add, take-pieces}
 use Rattle.crash.proofs.Texts.{AreFull-take, active_is, active_none, text_full, text_of_full, text_part, value_len_le}
 use Rattle.paged_read.specs.declared.prefix.Prefix.{Prefix}
-use Rattle.paged_read.specs.Prefix.{behind, prefix_of, prefix_size, tip_of, value_and_slot}
+use Rattle.paged_read.specs.Prefix.{after, prefix_of, prefix_size, tip_of, value_and_slot}
 use Rattle.paged_read.specs.Scans.{counted, IsProven, pages_from, prefix_from, scan_end, scan_start, scan_to, text_of_first}
 use Rattle.paged_read.proofs.Prefixes.{prefix_full, prefix_part}
 
@@ -72,7 +72,7 @@ module _ (sum : List ℕ → ℕ) (P : ℕ) where
         )
   ]
 
-  -- so is one behind pages that count as full
+  -- so is one after pages that count as full
   pub prefix_from_counts : (first pages : ℕ) (readable : List ℕ) → prefix_size P (prefix_from sum P first pages readable) ≡ first * P + counted sum P (pages - first) first readable
   prefix_from_counts first pages readable =
       omega (arith, prefix_counts (pages_from P (pages - first) first readable))
@@ -95,9 +95,9 @@ module _ (sum : List ℕ → ℕ) (P : ℕ) where
         inl (text_part sum P page (front ++ back) less ∙ sym (text_part sum P page front less))
   ]
 
-  -- how long a text behind full pages is
-  text_behind : (front back : List (List ℕ)) → AreFull sum P front → length (text_of_pages sum P (front ++ back)) ≡ length front * P + length (text_of_pages sum P back)
-  text_behind front back full = omega (
+  -- how long a text after full pages is
+  text_after : (front back : List (List ℕ)) → AreFull sum P front → length (text_of_pages sum P (front ++ back)) ≡ length front * P + length (text_of_pages sum P back)
+  text_after front back full = omega (
     arith,
     ap (λ (l : List ℕ). length l) (text_of_full sum P front back full),
     length-append (flat_map (take P) front) (text_of_pages sum P back),
@@ -118,7 +118,7 @@ module _ (sum : List ℕ → ℕ) (P : ℕ) where
       omega (
         arith,
         ap (λ (l : List (List ℕ)). length (text_of_pages sum P l)) (split_at start end readable (omega arith)),
-        text_behind front (pages_from P (end - start) start readable) few,
+        text_after front (pages_from P (end - start) start readable) few,
         ap (λ (n : ℕ). n * P) (length-pieces start (P + 12) readable),
       )
 
@@ -136,8 +136,8 @@ module _ (sum : List ℕ → ℕ) (P : ℕ) where
           | inr full ↦
               let size : length front ≡ met = length-pieces end (P + 12) readable ∙ (let e : min flushed met ≡ met = omega (arith, less) in e) in
               let many : length front * P ≡ met * P = ap (λ (n : ℕ). n * P) size in
-              let all = text_behind front back full in
-              let alone = text_behind front [] full in
+              let all = text_after front back full in
+              let alone = text_after front [] full in
               omega (
                 arith,
                 (div_ceil_times most P some).0,

@@ -7,7 +7,7 @@ use Rattle.std.proofs.lemmas.Grind.{div_ceil_times}
 use Rattle.std.specs.Int.{div_ceil}
 use Rattle.paged_read.specs.Pieces.{page_count}
 
--- the first page of some places, and how many pages they lie in
+-- the first page of some offsets, and how many pages they lie in
 pub record Spans (P offset len first count : ℕ) : Type 0 where
   pub begins : first * P ≤ offset
   pub next : offset < (first + 1) * P
@@ -29,7 +29,7 @@ spans_of P offset len some =
       last = omega (arith, whole, joined, reach.1);
     }
 
--- a page among them begins before the end of the range, and ends behind its beginning
+-- a page among them begins before the end of the range, and ends after its beginning
 pub spans_begin : (P offset len first count page : ℕ) → Spans P offset len first count → page < first + count → page * P < offset + len
 spans_begin P offset len first count page spans below =
     let h : (page + 1) * P ≤ (first + count) * P = mul-le-mul_right P (omega arith) in
@@ -42,8 +42,8 @@ spans_end P offset len first count page spans above =
 
 -- a page that does is among them
 pub spans_from : (P offset len first count page : ℕ) → Spans P offset len first count → offset < (page + 1) * P → first ≤ page
-spans_from P offset len first count page spans behind = elim (cases_lt page first) [
-  | inl less ↦ absurd (let h : (page + 1) * P ≤ first * P = mul-le-mul_right P (omega arith) in omega (arith, h, behind, spans.begins))
+spans_from P offset len first count page spans after = elim (cases_lt page first) [
+  | inl less ↦ absurd (let h : (page + 1) * P ≤ first * P = mul-le-mul_right P (omega arith) in omega (arith, h, after, spans.begins))
   | inr above ↦ above
 ]
 
@@ -53,7 +53,7 @@ spans_to P offset len first count page spans before = elim (cases_lt page (first
   | inr above ↦ absurd (let h : (first + count) * P ≤ page * P = mul-le-mul_right P above in omega (arith, h, before, spans.ends))
 ]
 
--- all of them are numbers of 64 bits, where the places are
+-- all of them are numbers of 64 bits, where the offsets are
 pub spans_fit : (P offset len first count : ℕ) → 0 < P → 0 < len → Spans P offset len first count → first + count ≤ offset + len
 spans_fit P offset len first count some more spans = elim (cases_lt (offset + len) (first + count)) [
   | inl above ↦
@@ -70,7 +70,7 @@ page_count_is P offset len some = grind (arith, nat_tests)
 pub page_count_none : (P offset len : ℕ) → len ≡ 0 → page_count P (offset, len) ≡ 0
 page_count_none P offset len none = grind (arith, nat_tests)
 
--- a range below some pages has bytes of none behind them
+-- a range below some pages has bytes of none after them
 pub spans_within : (P offset len first n full : ℕ) → Spans P offset len first n → offset + len ≤ full * P → first + n ≤ full
 spans_within P offset len first n full spans below = elim (cases_lt full (first + n)) [
   | inl above ↦ absurd (let h : (full + 1) * P ≤ (first + n) * P = mul-le-mul_right P (omega (arith, above)) in omega (arith, h, suc-mul full P, spans.last, below))

@@ -1,4 +1,4 @@
--- Reads of what a tail tells: below it and behind it.
+-- Reads of what a tail tells: below it and after it.
 use Rattle.std.proofs.Common.{◌≡◌, inl, inr, ℕ, ◌+◌, ◌*◌, ◌-◌, ◌≤◌, List, [], ◌∷◌, ◌++◌, length, take, drop, min, refl, sym, ap, ◌∙◌, arith, Ok, Err, length-append, length-drop, append-nil, Bool, true, false, ◌&&◌}
 use Rattle.std.specs.Prelude.{nat_eq, nat_le, Vec}
 use Rattle.std.specs.declared.alloc.Global.{Global}
@@ -54,13 +54,13 @@ module _ (t : Tail) (cache : CacheState) (offset len below : ℕ) (is : below �
   pub part_full : (sum : List ℕ → ℕ) (readable : List ℕ) → AreMissingFull sum cache t ((offset, below) ∷ []) readable → AreMissingFull sum cache t ((offset, len) ∷ []) readable
   part_full sum readable full = full_missing sum cache t ((offset, len) ∷ []) (missing cache t ((offset, below) ∷ [])) readable part_missing full
 
-  -- the part below and the part behind are the range
+  -- the part below and the part after are the range
   pub parts_join : (d : Disk) (front back : List ℕ) → CanRead t cache d → front ≡ slice (told t d.readable) (offset, below) → back ≡ take (len - below) (drop (offset + below - t.full_pages * t.page_size) t.bytes)
       → front ++ back ≡ slice (told t d.readable) (offset, len)
   parts_join d front back can front_is back_is =
       let content = told t d.readable in
       let whole : below + (len - below) ≡ len = omega (arith, is) in
-      let behind : take (len - below) (drop (offset + below - t.full_pages * t.page_size) t.bytes) ≡ slice content (offset + below, len - below) =
+      let after : take (len - below) (drop (offset + below - t.full_pages * t.page_size) t.bytes) ≡ slice content (offset + below, len - below) =
       elim (cases_lt below len) [
         | inl more ↦
             let at : t.full_pages * t.page_size + (offset + below - t.full_pages * t.page_size) ≡ offset + below = omega (arith, is, more) in
@@ -69,7 +69,7 @@ module _ (t : Tail) (cache : CacheState) (offset len below : ℕ) (is : below �
             let zero_len : len - below ≡ 0 = omega (arith, none) in
             ap (λ n. take n (drop (offset + below - t.full_pages * t.page_size) t.bytes)) zero_len ∙ sym (ap (λ n. take n (drop (offset + below) content)) zero_len)
       ] in
-      ap (λ (l : List ℕ). l ++ back) front_is ∙ ap (λ (l : List ℕ). slice content (offset, below) ++ l) (back_is ∙ behind)
+      ap (λ (l : List ℕ). l ++ back) front_is ∙ ap (λ (l : List ℕ). slice content (offset, below) ++ l) (back_is ∙ after)
       ∙ sym (slice_two content offset below (len - below)) ∙ ap (λ n. slice content (offset, n)) whole
 
 -- a buffer whose two parts were written one after the other holds both

@@ -43,7 +43,7 @@ range_split first (suc m) n =
 -- a test that passes nothing but some of those in a window
 pub filter_window : (f g : ℕ → Bool) (first n all : ℕ) → first + n ≤ all → ((p : ℕ) → first ≤ p → p < first + n → f p ≡ g p)
     → ((p : ℕ) → p < first → f p ≡ false) → ((p : ℕ) → first + n ≤ p → f p ≡ false) → filter f (range_with_len 0 all) ≡ filter g (range_with_len first n)
-filter_window f g first n all fits same before behind =
+filter_window f g first n all fits same before after =
     let whole : all ≡ first + (n + (all - (first + n))) = omega (arith, fits) in
     let front = range_with_len 0 first in
     let window = range_with_len first n in
@@ -54,7 +54,7 @@ filter_window f g first n all fits same before behind =
     ∙ ap (λ k. front ++ range_with_len k (n + (all - (first + n)))) start
     ∙ ap (λ (l : List ℕ). front ++ l) (range_split first n (all - (first + n))) in
     let none : filter f front ≡ [] = filter_none f 0 first (λ p above below. before p (omega (arith, below))) in
-    let last : filter f rest ≡ [] = filter_none f (first + n) (all - (first + n)) (λ p above below. behind p above) in
+    let last : filter f rest ≡ [] = filter_none f (first + n) (all - (first + n)) (λ p above below. after p above) in
     ap (λ (l : List ℕ). filter f l) split
     ∙ filter-append f front (window ++ rest)
     ∙ ap (λ (l : List ℕ). l ++ filter f (window ++ rest)) none
@@ -67,14 +67,14 @@ filter_window f g first n all fits same before behind =
 
 -- a range has bytes of a page
 pub touches_yes : (P offset len page : ℕ) → 0 < len → page * P < offset + len → offset < (page + 1) * P → touches P (offset, len) page ≡ true
-touches_yes P offset len page some before behind = grind (arith, nat_tests)
+touches_yes P offset len page some before after = grind (arith, nat_tests)
 
 -- or not
 pub touches_none : (P offset len page : ℕ) → len ≡ 0 → touches P (offset, len) page ≡ false
 touches_none P offset len page none = grind (arith, nat_tests)
 
-pub touches_behind : (P offset len page : ℕ) → offset + len ≤ page * P → touches P (offset, len) page ≡ false
-touches_behind P offset len page behind = grind (arith, nat_tests)
+pub touches_after : (P offset len page : ℕ) → offset + len ≤ page * P → touches P (offset, len) page ≡ false
+touches_after P offset len page after = grind (arith, nat_tests)
 
 pub touches_before : (P offset len page : ℕ) → (page + 1) * P ≤ offset → touches P (offset, len) page ≡ false
 touches_before P offset len page before = grind (arith, nat_tests)
@@ -106,13 +106,13 @@ missing_same cache t one other same = filter_same (needs cache t one) (needs cac
 ])
 
 -- the pieces of a range whose pages aren't held have just these pages
-left_pages : (cache : CacheState) (id P : ℕ) (range : ℕ × ℕ) (place first n : ℕ)
-    → pages_of (pieces_left cache id (map (piece_of P range place) (range_with_len first n))) ≡ filter (λ page. not (is_some (held cache (id, page)))) (range_with_len first n)
-left_pages cache id P range place first zero = refl
-left_pages cache id P range place first (suc n) = by_test (not (is_some (held cache (id, first)))) (left_pages cache id P range place (first + 1) n)
+left_pages : (cache : CacheState) (id P : ℕ) (range : ℕ × ℕ) (buf_offset first n : ℕ)
+    → pages_of (pieces_left cache id (map (piece_of P range buf_offset) (range_with_len first n))) ≡ filter (λ page. not (is_some (held cache (id, page)))) (range_with_len first n)
+left_pages cache id P range buf_offset first zero = refl
+left_pages cache id P range buf_offset first (suc n) = by_test (not (is_some (held cache (id, first)))) (left_pages cache id P range buf_offset (first + 1) n)
   where
-    by_test : (b : Bool) → pages_of (pieces_left cache id (map (piece_of P range place) (range_with_len (first + 1) n))) ≡ filter (λ page. not (is_some (held cache (id, page)))) (range_with_len (first + 1) n)
-        → pages_of (cond b (piece_of P range place first ∷ pieces_left cache id (map (piece_of P range place) (range_with_len (first + 1) n))) (pieces_left cache id (map (piece_of P range place) (range_with_len (first + 1) n))))
+    by_test : (b : Bool) → pages_of (pieces_left cache id (map (piece_of P range buf_offset) (range_with_len (first + 1) n))) ≡ filter (λ page. not (is_some (held cache (id, page)))) (range_with_len (first + 1) n)
+        → pages_of (cond b (piece_of P range buf_offset first ∷ pieces_left cache id (map (piece_of P range buf_offset) (range_with_len (first + 1) n))) (pieces_left cache id (map (piece_of P range buf_offset) (range_with_len (first + 1) n))))
         ≡ cond b (first ∷ filter (λ page. not (is_some (held cache (id, page)))) (range_with_len (first + 1) n)) (filter (λ page. not (is_some (held cache (id, page)))) (range_with_len (first + 1) n))
     by_test true rest = ap (λ (l : List ℕ). first ∷ l) rest
     by_test false rest = rest
@@ -123,9 +123,9 @@ missing_none cache t offset len none =
     filter_none (needs cache t (offset, len)) 0 t.full_pages (λ page above below. needs_as cache t (offset, len) page false (touches_none t.page_size offset len page none) ∙ and_false (not (is_some (held cache (t.id, page)))))
 
 -- the pages that a range below the tail finds missing are those of the pieces that the cache leaves
-pub missing_pages : (cache : CacheState) (t : Tail) (offset len place : ℕ) → 0 < t.page_size → offset + len ≤ t.full_pages * t.page_size
-    → missing cache t ((offset, len) ∷ []) ≡ pages_of (pieces_left cache t.id (pieces_of t.page_size (offset, len) place))
-missing_pages cache t offset len place some below = elim (cases_lt 0 len) [
+pub missing_pages : (cache : CacheState) (t : Tail) (offset len buf_offset : ℕ) → 0 < t.page_size → offset + len ≤ t.full_pages * t.page_size
+    → missing cache t ((offset, len) ∷ []) ≡ pages_of (pieces_left cache t.id (pieces_of t.page_size (offset, len) buf_offset))
+missing_pages cache t offset len buf_offset some below = elim (cases_lt 0 len) [
   | inl more ↦
       let P = t.page_size in
       let first = offset / P in
@@ -135,20 +135,20 @@ missing_pages cache t offset len place some below = elim (cases_lt 0 len) [
       filter_window (needs cache t (offset, len)) (λ page. not (is_some (held cache (t.id, page)))) first n t.full_pages within
       (λ page above under. needs_as cache t (offset, len) page true (touches_yes P offset len page more (spans_begin P offset len first n page spans under) (spans_end P offset len first n page spans above)) ∙ and_true (not (is_some (held cache (t.id, page)))))
       (λ page less. needs_as cache t (offset, len) page false (touches_before P offset len page (before P page first offset spans.begins less)) ∙ and_false (not (is_some (held cache (t.id, page)))))
-      (λ page over. needs_as cache t (offset, len) page false (touches_behind P offset len page (behind P page (first + n) (offset + len) spans.ends over)) ∙ and_false (not (is_some (held cache (t.id, page)))))
-      ∙ sym (left_pages cache t.id P (offset, len) place first n)
-      ∙ ap (λ k. pages_of (pieces_left cache t.id (map (piece_of P (offset, len) place) (range_with_len first k)))) (sym (page_count_is P offset len more))
+      (λ page over. needs_as cache t (offset, len) page false (touches_after P offset len page (after P page (first + n) (offset + len) spans.ends over)) ∙ and_false (not (is_some (held cache (t.id, page)))))
+      ∙ sym (left_pages cache t.id P (offset, len) buf_offset first n)
+      ∙ ap (λ k. pages_of (pieces_left cache t.id (map (piece_of P (offset, len) buf_offset) (range_with_len first k)))) (sym (page_count_is P offset len more))
   | inr none ↦
       let zero_len : len ≡ 0 = omega (arith, none) in
       missing_none cache t offset len zero_len
-      ∙ ap (λ k. pages_of (pieces_left cache t.id (map (piece_of t.page_size (offset, len) place) (range_with_len (offset / t.page_size) k)))) (sym (page_count_none t.page_size offset len zero_len))
+      ∙ ap (λ k. pages_of (pieces_left cache t.id (map (piece_of t.page_size (offset, len) buf_offset) (range_with_len (offset / t.page_size) k)))) (sym (page_count_none t.page_size offset len zero_len))
 ]
   where
-    before : (P page first place : ℕ) → first * P ≤ place → page < first → (page + 1) * P ≤ place
-    before P page first place begins less = let h : (page + 1) * P ≤ first * P = mul-le-mul_right P (omega (arith, less)) in omega (arith, h, begins)
+    before : (P page first buf_offset : ℕ) → first * P ≤ buf_offset → page < first → (page + 1) * P ≤ buf_offset
+    before P page first buf_offset begins less = let h : (page + 1) * P ≤ first * P = mul-le-mul_right P (omega (arith, less)) in omega (arith, h, begins)
 
-    behind : (P page end place : ℕ) → place ≤ end * P → end ≤ page → place ≤ page * P
-    behind P page end place ends over = let h : end * P ≤ page * P = mul-le-mul_right P over in omega (arith, h, ends)
+    after : (P page end buf_offset : ℕ) → buf_offset ≤ end * P → end ≤ page → buf_offset ≤ page * P
+    after P page end buf_offset ends over = let h : end * P ≤ page * P = mul-le-mul_right P over in omega (arith, h, ends)
 
 -- what a range has below the tail finds missing what the range does
 pub missing_below : (cache : CacheState) (t : Tail) (offset len : ℕ) → missing cache t ((offset, len) ∷ []) ≡ missing cache t ((offset, min len (t.full_pages * t.page_size - offset)) ∷ [])

@@ -13,7 +13,7 @@ use Rattle.cache.specs.CacheState.{CacheState, Puts}
 use Rattle.cache.specs.Pages.{page_of_content}
 use Rattle.cache.specs.declared.piece.Piece.{Piece}
 use Rattle.paged_read.specs.Tail.{Tail, told, CanRead}
-use Rattle.paged_read.specs.Ranges.{missing, slice, places}
+use Rattle.paged_read.specs.Ranges.{missing, slice, page_ranges}
 use Rattle.paged_read.specs.Parts.{with_told, ArePagesFull, PagesFault}
 use Rattle.paged_read.specs.declared.lack.Lack.{Lack}
 
@@ -31,27 +31,27 @@ with_page page pages =
 pub record IsLack (P : ℕ) (pages : List ℕ) (room : ℕ) (lack : Lack) : Type 0 where
   pub page : slice_get pages lack.number ≡ Some lack.piece.page
   pub within : lack.piece.skip + lack.piece.len ≤ P
-  pub fits : lack.piece.place + lack.piece.len ≤ room
+  pub fits : lack.piece.buf_offset + lack.piece.len ≤ room
 
 -- the pieces
 abbrev pub pieces_in : List Lack → List Piece
 pieces_in lacks = map (λ lack. lack.piece) lacks
 
--- up to this place a buffer holds these ranges, but for the pieces that are lacking; these are of
+-- up to this offset a buffer holds these ranges, but for the pieces that are lacking; these are of
 -- just the pages that the cache lacks
-pub record Gathered (cache : CacheState) (t : Tail) (ranges : List (ℕ × ℕ)) (place : ℕ)
+pub record Gathered (cache : CacheState) (t : Tail) (ranges : List (ℕ × ℕ)) (buf_offset : ℕ)
     (pages : List ℕ) (lacks : List Lack) (buf : List ℕ) : Type 0 where
   pub wanted : pages ≡ missing cache t ranges
-  pub each : All (IsLack t.page_size pages place) lacks
+  pub each : All (IsLack t.page_size pages buf_offset) lacks
   pub bytes : (d : Disk) → CanRead t cache d
-      → with_told t.page_size (told t d.readable) (pieces_in lacks) (take place buf)
+      → with_told t.page_size (told t d.readable) (pieces_in lacks) (take buf_offset buf)
       ≡ flat_map (slice (told t d.readable)) ranges
 
 -- these pages are delivered, each by its number; or the device failed, or memory was refused
 abbrev pub DeliversPages : (P : ℕ) → List ℕ → Life → Life
     → Result (Vec (ℕ × List ℕ) Global) Error → Type 0
 DeliversPages P pages old new (Ok out) =
-    Delivers (places P pages) old.present.readable out.items
+    Delivers (page_ranges P pages) old.present.readable out.items
 DeliversPages P pages old new (Err ReadFailed) = HasFailed ReadFailed old.present new.present
 DeliversPages P pages old new (Err OutOfMemory) = Unit {0}
 DeliversPages P pages old new (Err _) = ⊥
@@ -94,7 +94,7 @@ pub record IsReady (at : List ℕ) (out : List (ℕ × List ℕ)) (room : ℕ) (
   pub number : lack.number < length at
   pub found : slice_index_or at lack.number 0 < length out
   pub within : lack.piece.skip + lack.piece.len ≤ length (bytes_found at out lack.number)
-  pub fits : lack.piece.place + lack.piece.len ≤ room
+  pub fits : lack.piece.buf_offset + lack.piece.len ≤ room
 
 -- they are the content's
 abbrev pub IsTold : (P : ℕ) → List ℕ → (at : List ℕ) → List (ℕ × List ℕ) → Lack → Type 0
@@ -102,13 +102,13 @@ IsTold P content at out lack =
     take lack.piece.len (drop lack.piece.skip (bytes_found at out lack.number))
     ≡ take lack.piece.len (drop lack.piece.skip (page_of_content P content lack.piece.page))
 
--- the pages are read, and the pieces of them copied to their places
+-- the pages are read, and the pieces of them copied to their offsets
 abbrev pub ReadsLacks : (List ℕ → ℕ) → Tail → List ℕ → List Lack → List ℕ → List ℕ → Life → Life
     → Result (Unit {0}) Error → Type 0
-ReadsLacks sum t pages lacks buf behind old new (Ok _) =
-    (behind ≡ with_told t.page_size (told t old.present.readable) (pieces_in lacks) buf)
+ReadsLacks sum t pages lacks buf after old new (Ok _) =
+    (after ≡ with_told t.page_size (told t old.present.readable) (pieces_in lacks) buf)
     × ArePagesFull sum t.page_size pages old.present.readable
-ReadsLacks sum t pages lacks buf behind old new (Err e) =
+ReadsLacks sum t pages lacks buf after old new (Err e) =
     PagesFault sum t.page_size pages old new e
 
 -- ranges of one length

@@ -5,33 +5,33 @@ use Rattle.std.specs.Prelude.{All}
 use Rattle.std.specs.List.{flat_map}
 use Rattle.page.specs.Page.{pieces}
 
--- the payloads of physical pages, one behind the other; fewer bytes than a page has, behind the
+-- the payloads of physical pages, one after the other; fewer bytes than a page has, after the
 -- last one, are a payload alone
 abbrev pub payloads : (P : ℕ) → List ℕ → List ℕ
 payloads P bytes = flat_map (take P) (pieces (length bytes / (P + 12) + 1) (P + 12) bytes)
 
 -- the payloads of runs of pages from a page of the first one on, of which so many bytes are left,
--- from this place on
+-- from this cursor on
 abbrev pub payloads_from : (P : ℕ) → List (List ℕ) → (start left : ℕ) → List ℕ
 payloads_from P [] start left = []
 payloads_from P (first ∷ runs) start left =
     let others = payloads P (drop (start + left + 12) first) ++ flat_map (payloads P) runs in
     take left (drop start first) ++ others
 
--- those from a place on that is in a later run
+-- those from a cursor on that is in a later run
 abbrev pub payloads_at : (P : ℕ) → List (List ℕ) → (run start left : ℕ) → List ℕ
 payloads_at P runs run start left = payloads_from P (drop run runs) start left
 
--- such a place: some bytes of its page are left, but where there is no page
-abbrev pub IsPlace : List (List ℕ) → (start left : ℕ) → Type 0
-IsPlace [] start left = left ≡ 0
-IsPlace (first ∷ runs) start left = (0 < left) × (start + left ≤ length first)
+-- such a cursor: some bytes of its page are left, but where there is no page
+abbrev pub IsCursor : List (List ℕ) → (start left : ℕ) → Type 0
+IsCursor [] start left = left ≡ 0
+IsCursor (first ∷ runs) start left = (0 < left) × (start + left ≤ length first)
 
 -- what the fields of the bytes at hand say of one another: no run is empty
 pub record IsHand (P : ℕ) (all : List (List ℕ)) (start left remaining : ℕ) : Type 0 where
   pub some : 0 < P
   pub runs : All (λ run. 0 < length run) all
-  pub place : IsPlace all start left
+  pub cursor : IsCursor all start left
   pub fits : start + left < 2 ^ 64
   pub count : remaining ≡ length (payloads_from P all start left)
 

@@ -5,6 +5,7 @@ pub mod Parts
 pub mod Batch
 pub mod Prefix
 pub mod Searches
+pub mod Backward
 pub mod Snapshots
 pub mod Hand
 pub mod ReadAhead

@@ -51,15 +51,15 @@ abbrev pub with_told : (P : ℕ) → List ℕ → List Piece → List ℕ → Li
 with_told P content [] buf = buf
 with_told P content (piece ∷ pieces) buf =
     let bytes = take piece.len (drop piece.skip (page_of_content P content piece.page)) in
-    with_told P content pieces (put_at piece.place bytes buf)
+    with_told P content pieces (put_at piece.buf_offset bytes buf)
 
 -- these pieces are read: each is put in its place, and its page is full
 abbrev pub ReadsPieces : (List ℕ → ℕ) → Tail → List Piece → List ℕ → List ℕ → Life → Life
     → Result (Unit {0}) Error → Type 0
-ReadsPieces sum t pieces bytes bytes_behind old new (Ok _) =
-    (bytes_behind ≡ with_told t.page_size (told t old.present.readable) pieces bytes)
+ReadsPieces sum t pieces bytes bytes_after old new (Ok _) =
+    (bytes_after ≡ with_told t.page_size (told t old.present.readable) pieces bytes)
     × ArePagesFull sum t.page_size (pages_of pieces) old.present.readable
-ReadsPieces sum t pieces bytes bytes_behind old new (Err e) =
+ReadsPieces sum t pieces bytes bytes_after old new (Err e) =
     PagesFault sum t.page_size (pages_of pieces) old new e
 
 -- a range below the tail is read

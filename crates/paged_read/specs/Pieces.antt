@@ -5,16 +5,16 @@ use Rattle.std.specs.Int.{div_ceil}
 use Rattle.std.specs.List.{range_with_len}
 use Rattle.cache.specs.declared.piece.Piece.{Piece}
 
--- the bytes that a range, a place and a length, has of a page, for a buffer in which the range
--- begins at this place
-abbrev pub piece_of : (P : ℕ) → ℕ × ℕ → (place page : ℕ) → Piece
-piece_of P range place page =
+-- the bytes that a range, an offset and a length, has of a page, for a buffer in which the range
+-- begins at this offset
+abbrev pub piece_of : (P : ℕ) → ℕ × ℕ → (buf_offset page : ℕ) → Piece
+piece_of P range buf_offset page =
     let from : ℕ = max range.0 (page * P) in
     let end : ℕ = min (range.0 + range.1) ((page + 1) * P) in
     record {
       page = page;
       skip = from - page * P;
-      place = place + (from - range.0);
+      buf_offset = buf_offset + (from - range.0);
       len = end - from;
     }
 
@@ -23,6 +23,6 @@ abbrev pub page_count : (P : ℕ) → ℕ × ℕ → ℕ
 page_count P range = if nat_eq range.1 0 then 0 else div_ceil (range.0 % P + range.1) P
 
 -- those bytes, page by page
-abbrev pub pieces_of : (P : ℕ) → ℕ × ℕ → (place : ℕ) → List Piece
-pieces_of P range place =
-    map (piece_of P range place) (range_with_len (range.0 / P) (page_count P range))
+abbrev pub pieces_of : (P : ℕ) → ℕ × ℕ → (buf_offset : ℕ) → List Piece
+pieces_of P range buf_offset =
+    map (piece_of P range buf_offset) (range_with_len (range.0 / P) (page_count P range))

@@ -7,20 +7,20 @@ use Rattle.paged_read.specs.declared.prefix.Prefix.{Prefix}
 use Rattle.paged_read.specs.Ranges.{page_at}
 
 -- so many full pages more in front
-abbrev pub behind : ℕ → Prefix → Prefix
-behind n p = record p { full_pages = n + p.full_pages }
+abbrev pub after : ℕ → Prefix → Prefix
+after n p = record p { full_pages = n + p.full_pages }
 
 -- a page's value and the slot that tells it
 abbrev pub value_and_slot : Option ActiveChecksum → List ℕ → Option (List ℕ × ActiveChecksum)
 value_and_slot None page = None
 value_and_slot (Some slot) page = Some (take slot.len page, slot)
 
--- the full pages at the front of some pages, and the value of the page behind them, if it has one
+-- the full pages at the front of some pages, and the value of the page after them, if it has one
 abbrev pub prefix_of : (List ℕ → ℕ) → ℕ → List (List ℕ) → Prefix
 prefix_of sum P [] = record { full_pages = 0; partial = None }
 prefix_of sum P (page ∷ rest) =
     if value_len sum P page == P
-    then behind 1 (prefix_of sum P rest)
+    then after 1 (prefix_of sum P rest)
     else record { full_pages = 0; partial = value_and_slot (active sum P page) page }
 
 -- the first pages of a blob up to the last that has a value; those before that one count as full

@@ -16,11 +16,11 @@ use Rattle.cache.specs.Pages.{CachesOnly, IsFresh}
 use Rattle.crash.specs.Looks.{Looked}
 use Rattle.paged_read.specs.Tail.{Tail, told, size_of, CanRead}
 
--- a physical page by its place
+-- a physical page by its offset
 abbrev pub page_at : ℕ → ℕ → List ℕ → List ℕ
 page_at P p bytes = take (P + 12) (drop (p * (P + 12)) bytes)
 
--- a range, a place and a length, has bytes of this page
+-- a range, an offset and a length, has bytes of this page
 abbrev pub touches : (P : ℕ) → ℕ × ℕ → (page : ℕ) → Bool
 touches P range page =
     nat_lt 0 range.1 && nat_lt (page * P) (range.0 + range.1) && nat_lt range.0 ((page + 1) * P)
@@ -71,11 +71,11 @@ ReadFault sum cache t ranges old new _ = ⊥
 
 -- what a read leaves: the disk but for its log, and the cache but for full pages of the content
 -- that were put, and such as went for them; and reads go on
-pub record LeavesAll (t : Tail) (cache cache_behind : CacheState) (old new : Life) : Type 0 where
+pub record LeavesAll (t : Tail) (cache cache_after : CacheState) (old new : Life) : Type 0 where
   pub looked : Looked old new
-  pub cached : CachesOnly t.id 0 (told t old.present.readable) cache cache_behind
-  pub can : CanRead t cache_behind new.present
-  pub fresh : IsFresh cache → IsFresh cache_behind
+  pub cached : CachesOnly t.id 0 (told t old.present.readable) cache cache_after
+  pub can : CanRead t cache_after new.present
+  pub fresh : IsFresh cache → IsFresh cache_after
 
 -- ---- one range
 
@@ -143,8 +143,8 @@ ReadsMany sum t cache ranges bytes old new (Err e) =
     EndWithin (size_of t) ranges × ReadFault sum cache t ranges old new e
 
 -- where these pages are
-abbrev pub places : (P : ℕ) → List ℕ → List (ℕ × ℕ)
-places P pages = map (λ page. (page * (P + 12), P + 12)) pages
+abbrev pub page_ranges : (P : ℕ) → List ℕ → List (ℕ × ℕ)
+page_ranges P pages = map (λ page. (page * (P + 12), P + 12)) pages
 
 -- the device is asked for all of them in one call, at most once, and for none where there is none
 abbrev pub AsksTogether : List (ℕ × ℕ) → Life → Life → Type 0
@@ -154,7 +154,8 @@ AsksTogether (range ∷ ranges) old new =
 
 -- a read of many ranges asks for the missing pages alone
 abbrev pub AsksOnce : CacheState → Tail → List (ℕ × ℕ) → Life → Life → Type 0
-AsksOnce cache t ranges old new = AsksTogether (places t.page_size (missing cache t ranges)) old new
+AsksOnce cache t ranges old new =
+    AsksTogether (page_ranges t.page_size (missing cache t ranges)) old new
 
 -- which ranges would need the device: all where one can't be read
 abbrev pub Misses : Tail → List (ℕ × ℕ) → CacheState → List ℕ → Type 0
@@ -162,7 +163,7 @@ Misses t ranges cache indices =
     (EndWithin (size_of t) ranges × (indices ≡ missed_from 0 cache t ranges))
     ⊎ ((EndWithin (size_of t) ranges → ⊥) × (indices ≡ range_with_len 0 (length ranges)))
 
--- the bytes of the others stand in their places, over each disk with which the cache agrees
+-- the bytes of the others stand in their offsets, over each disk with which the cache agrees
 abbrev pub HasServed : CacheState → Tail → List (ℕ × ℕ) → List ℕ → List ℕ → Type 0
 HasServed cache t [] content buf = Unit {0}
 HasServed cache t (range ∷ ranges) content buf =

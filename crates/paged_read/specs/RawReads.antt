@@ -10,7 +10,7 @@ use Rattle.page.specs.Page.{value, value_len}
 use Rattle.crash.specs.Looks.{Looked}
 use Rattle.paged_read.specs.Ranges.{page_at}
 
--- a page's value, or why it tells none: its place passes the greatest, or the blob ends before it
+-- a page's value, or why it tells none: its offset passes the greatest, or the blob ends before it
 -- does, or no slot of it verifies
 abbrev pub value_told : (List ℕ → ℕ) → (P page : ℕ) → List ℕ → Result (List ℕ) Error
 value_told sum P page readable =
@@ -23,12 +23,12 @@ value_told sum P page readable =
 abbrev pub some_of : List ℕ → Result (List ℕ) Error
 some_of bytes = if length bytes == 0 then Err BlobInsufficientLength else Ok bytes
 
--- those of a page's value that lie at or behind one logical place and before another
+-- those of a page's value that lie at or after one logical offset and before another
 abbrev pub part_of : (P from to page : ℕ) → Result (List ℕ) Error → Result (List ℕ) Error
 part_of P from to page (Ok bytes) = some_of (drop (from - page * P) (take (to - page * P) bytes))
 part_of P from to page (Err e) = Err e
 
--- one behind the other; the first that is refused decides
+-- one after the other; the first that is refused decides
 abbrev pub joined : Result (List ℕ) Error → Result (List ℕ) Error → Result (List ℕ) Error
 joined (Ok front) (Ok back) = Ok (front ++ back)
 joined (Ok front) (Err e) = Err e
@@ -59,17 +59,17 @@ range_told sum P offset len readable =
     else all_of len (parts_told sum P offset (offset + len)
     (range_end P offset len - offset / P) (offset / P) readable))
 
--- behind which place, with the bytes
+-- after which offset, with the bytes
 abbrev pub ending_at : ℕ → Result (List ℕ) Error → Result (ℕ × List ℕ) Error
 ending_at end (Ok bytes) = Ok (end, bytes)
 ending_at end (Err e) = Err e
 
 -- the last bytes, where the last page tells this: those before that page as a range of their own,
 -- and then those of its value; and where that ends
-abbrev pub behind_told : (List ℕ → ℕ) → (P page len : ℕ) → List ℕ → Result (List ℕ) Error
+abbrev pub after_told : (List ℕ → ℕ) → (P page len : ℕ) → List ℕ → Result (List ℕ) Error
     → Result (ℕ × List ℕ) Error
-behind_told sum P page len readable (Err e) = Err e
-behind_told sum P page len readable (Ok bytes) =
+after_told sum P page len readable (Err e) = Err e
+after_told sum P page len readable (Ok bytes) =
     let end = page * P + length bytes in let from = end - len in
     if nat_lt end len then Err BlobInsufficientLength
     else ending_at end (joined (range_told sum P from (page * P - from) readable)
@@ -82,7 +82,7 @@ tail_told sum P size len readable =
     if size % (P + 12) == 0
     then (if size == 0
     then (if len == 0 then Ok (0, []) else Err BlobInsufficientLength)
-    else behind_told sum P page len readable (value_told sum P page readable))
+    else after_told sum P page len readable (value_told sum P page readable))
     else Err BlobInsufficientLength
 
 -- a read gives what is told, or is refused as that is, unless the device failed in the call or

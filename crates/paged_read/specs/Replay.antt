@@ -33,7 +33,7 @@ new_replay t buffer_size = record {
   exhausted = false;
 }
 
--- the place behind the bytes at hand
+-- the offset after the bytes at hand
 abbrev pub end_of : ReplayState → ℕ
 end_of r = r.position + length r.hand
 
@@ -41,7 +41,7 @@ end_of r = r.position + length r.hand
 pub record IsReplay (r : ReplayState) : Type 0 where
   pub batch : 0 < r.batch
   pub within : end_of r ≤ size_of r.tail
-  pub places : size_of r.tail < 2 ^ 64
+  pub addressable : size_of r.tail < 2 ^ 64
   pub pages : r.tail.full_pages * (r.tail.page_size + 12) < 2 ^ 64
   pub short : length r.tail.bytes < r.tail.page_size
   -- pages come to hand whole
@@ -64,7 +64,7 @@ pub record IsReplayOf (sum : List ℕ → ℕ) (r : ReplayState) (content : List
   pub can : CanReplay r d
   pub hand : r.hand ≡ take (length r.hand) (drop r.position content)
 
--- so many bytes are at hand, or all that is left is of the bytes behind the full pages: no device
+-- so many bytes are at hand, or all that is left is of the bytes after the full pages: no device
 -- is needed
 abbrev pub IsHad : ReplayState → (count : ℕ) → Type 0
 IsHad r count = (count ≤ length r.hand) ⊎ (r.tail.full_pages * r.tail.page_size ≤ end_of r)
@@ -82,7 +82,7 @@ ReplaysOn r now =
     × ((sum : List ℕ → ℕ) (content : List ℕ) (d : Disk)
     → IsReplayOf sum r content d → IsReplayOf sum now content d)
 
--- so it does behind a call that asked the device
+-- so it does after a call that asked the device
 abbrev pub ReplaysThrough : ReplayState → ReplayState → Life → Life → Type 0
 ReplaysThrough r now old new =
     (sum : List ℕ → ℕ) (content : List ℕ)
@@ -131,7 +131,7 @@ IsToppedUp r = AreNext 3 r.batch r.tail.full_pages (end_of r / r.tail.page_size)
 abbrev pub IsAhead : ReplayState → ReplayState → Life → Life → Type 0
 IsAhead r now old new = ((new ≡ old) × (now.queue ≡ r.queue)) ⊎ IsToppedUp now
 
--- one batch more is at hand, or the bytes behind the full pages; or nothing is
+-- one batch more is at hand, or the bytes after the full pages; or nothing is
 abbrev pub FillsOnce : (List ℕ → ℕ) → ReplayState → ReplayState → Life → Life
     → Result (Unit {0}) Error → Type 0
 FillsOnce sum r now old new (Ok _) =
@@ -163,7 +163,7 @@ advanced count r = record r {
   hand = drop count r.hand;
 }
 
--- it goes to a place; what is queued stays
+-- it goes to an offset; what is queued stays
 abbrev pub Seeks : ReplayState → (offset : ℕ) → ReplayState → Result (Unit {0}) Error → Type 0
 Seeks r offset now (Ok _) =
     (offset ≤ size_of r.tail) × (now ≡ record r {

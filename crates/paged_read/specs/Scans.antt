@@ -10,19 +10,19 @@ use Rattle.page.specs.Page.{pieces, text_of_pages}
 use Rattle.crash.specs.Full.{AreFull}
 use Rattle.crash.specs.Looks.{Looked}
 use Rattle.paged_read.specs.declared.prefix.Prefix.{Prefix}
-use Rattle.paged_read.specs.Prefix.{behind, prefix_of}
+use Rattle.paged_read.specs.Prefix.{after, prefix_of}
 use Rattle.paged_read.specs.Searches.{Gained}
 
 -- so many physical pages of a blob, from this one on
 abbrev pub pages_from : (P count page : ℕ) → List ℕ → List (List ℕ)
 pages_from P count page readable = pieces count (P + 12) (drop (page * (P + 12)) readable)
 
--- before which page a scan ends: behind those that were flushed, as far as the first most bytes
+-- before which page a scan ends: after those that were flushed, as far as the first most bytes
 -- meet them
 abbrev pub scan_end : (P flushed most : ℕ) → ℕ
 scan_end P flushed most = min flushed (div_ceil most P)
 
--- where it begins: at the page that holds the proven bytes' end, at most behind the full pages
+-- where it begins: at the page that holds the proven bytes' end, at most after the full pages
 abbrev pub scan_start : (P full end proven : ℕ) → ℕ
 scan_start P full end proven = min (proven / P) (min full end)
 
@@ -55,14 +55,14 @@ text_of_first sum P flushed readable = text_of_pages sum P (pieces flushed (P + 
 -- the prefix of the pages from one to before another, where those in front count as full
 abbrev pub prefix_from : (List ℕ → ℕ) → (P first pages : ℕ) → List ℕ → Prefix
 prefix_from sum P first pages readable =
-    behind first (prefix_of sum P (pages_from P (pages - first) first readable))
+    after first (prefix_of sum P (pages_from P (pages - first) first readable))
 
 -- each that reads is a read of at most so many bytes, which begins where the one before it ended,
--- the first at this place, and all end at or before that one
+-- the first at this offset, and all end at or before that one
 abbrev pub AreForward : (most from to : ℕ) → List Request → Type 0
 AreForward most from to [] = Unit {0}
-AreForward most from to (ReadAt place len ∷ rest) =
-    (place ≡ from) × (len ≤ most) × (place + len ≤ to) × AreForward most (place + len) to rest
+AreForward most from to (ReadAt offset len ∷ rest) =
+    (offset ≡ from) × (len ≤ most) × (offset + len ≤ to) × AreForward most (offset + len) to rest
 AreForward most from to (ReadMany ranges ∷ rest) = ⊥
 AreForward most from to (StartReadMany ranges ∷ rest) = ⊥
 AreForward most from to (_ ∷ rest) = AreForward most from to rest
@@ -71,8 +71,8 @@ AreForward most from to (_ ∷ rest) = AreForward most from to rest
 abbrev pub ReadsForward : (most from to : ℕ) → Life → Life → Type 0
 ReadsForward most from to old new = Gained (AreForward most from to) old new
 
--- a look through pages that end at this place: it gives this, and only reads; where the blob is too
--- short for them, a read of what isn't there may end it
+-- a look through pages that end at this offset: it gives this, and only reads; where the blob is
+-- too short for them, a read of what isn't there may end it
 abbrev pub LooksThrough : {A : Type 0} (reach : ℕ) (a : A) → Life → Life → Result A Error → Type 0
 LooksThrough reach a old new (Ok found) = (found ≡ a) × Looked old new
 LooksThrough reach a old new (Err ReadFailed) =
@@ -82,12 +82,12 @@ LooksThrough reach a old new (Err BlobInsufficientLength) =
 LooksThrough reach a old new (Err OutOfMemory) = Looked old new
 LooksThrough reach a old new (Err _) = ⊥
 
--- a scan: the same, unless a place in its pages passes the greatest
+-- a scan: the same, unless an offset in its pages passes the greatest
 abbrev pub Scans : (reach answer : ℕ) → Life → Life → Result ℕ Error → Type 0
 Scans reach answer old new (Err OffsetOverflow) = (2 ^ 64 ≤ reach) × (new ≡ old)
 Scans reach answer old new result = LooksThrough reach answer old new result
 
--- it isn't refused for a place: nothing passes the greatest, and all that it is to read is there
+-- it isn't refused for an offset: nothing passes the greatest, and all that it is to read is there
 abbrev pub IsWithinBlob : {A : Type 0} → Result A Error → Type 0
 IsWithinBlob (Err OffsetOverflow) = ⊥
 IsWithinBlob (Err BlobInsufficientLength) = ⊥

@@ -16,28 +16,14 @@ Gained Q old new =
 -- each that reads is a read of one range, of at most so many bytes
 abbrev pub AreWithin : ℕ → List Request → Type 0
 AreWithin most [] = Unit {0}
-AreWithin most (ReadAt place len ∷ rest) = (len ≤ most) × AreWithin most rest
+AreWithin most (ReadAt offset len ∷ rest) = (len ≤ most) × AreWithin most rest
 AreWithin most (ReadMany ranges ∷ rest) = ⊥
 AreWithin most (StartReadMany ranges ∷ rest) = ⊥
 AreWithin most (_ ∷ rest) = AreWithin most rest
 
--- each that reads is a read of so many bytes, which end at or before the place of the read before;
--- the first at or before this place
-abbrev pub FallFrom : (size top : ℕ) → List Request → Type 0
-FallFrom size top [] = Unit {0}
-FallFrom size top (ReadAt place len ∷ rest) =
-    (len ≡ size) × (place + size ≤ top) × FallFrom size place rest
-FallFrom size top (ReadMany ranges ∷ rest) = ⊥
-FallFrom size top (StartReadMany ranges ∷ rest) = ⊥
-FallFrom size top (_ ∷ rest) = FallFrom size top rest
-
 -- each read since is of at most so many bytes
 abbrev pub ReadsWithin : ℕ → Life → Life → Type 0
 ReadsWithin most old new = Gained (AreWithin most) old new
-
--- each read since is of a page of this size, from the blob's end back, and none is read twice
-abbrev pub ReadsBack : ℕ → Life → Life → Type 0
-ReadsBack size old new = Gained (FallFrom size (length old.present.readable)) old new
 
 -- the bytes of a scan's longest read: the pages that fit so many bytes, and at least one
 abbrev pub scan_bytes : (P buffer_size : ℕ) → ℕ

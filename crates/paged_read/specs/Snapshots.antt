@@ -4,19 +4,19 @@ use Rattle.std.specs.Prelude.{◌≡◌, ◌≢◌, ◌≤◌, ◌<◌, ◌^◌,
 use Rattle.disk.specs.Disk.{Disk, Life}
 use Rattle.page.specs.Tip.{Tip, tip_size}
 use Rattle.cache.specs.CacheState.{CacheState}
-use Rattle.crash.specs.WriterState.{WriterState}
-use Rattle.crash.specs.Sound.{IsSound, content}
+use Rattle.writer_state.specs.WriterState.{WriterState}
+use Rattle.writer_state.specs.Sound.{IsSound, content}
 use Rattle.crash.specs.Started.{CoversThrough}
 use Rattle.crash.specs.Stays.{StaysThrough}
 use Rattle.paged_read.specs.Tail.{Tail, told, IsView, HasPages, HasFullPages, CanRead}
 
--- what holds of a snapshot's own bytes: they begin behind whole pages, are less than one, and have
--- places
+-- what holds of a snapshot's own bytes: they begin after whole pages, are less than one, and have
+-- offsets
 pub record IsSealed (P : ℕ) (tip : Tip) : Type 0 where
   pub page_size : tip.page_size ≡ P
   pub view : IsView P tip
   pub short : length tip.bytes < P
-  pub places : tip_size tip < 2 ^ 64
+  pub addressable : tip_size tip < 2 ^ 64
 
 -- these are the logical bytes; all the pages are in the blob, and full
 pub record IsTailOf (sum : List ℕ → ℕ) (t : Tail) (content : List ℕ) (d : Disk) : Type 0 where
@@ -34,30 +34,30 @@ pub record StandsOn (sum : List ℕ → ℕ) (t : Tail) (content : List ℕ) (ca
 -- a call of a blob leaves each snapshot that stands on at most so many of its pages
 abbrev pub LeavesTails : (List ℕ → ℕ) → (full_pages : ℕ) → CacheState → CacheState → Life → Life
     → Type 0
-LeavesTails sum full_pages cache behind old new =
+LeavesTails sum full_pages cache after old new =
     (t : Tail) (content : List ℕ) → t.full_pages ≤ full_pages
-    → StandsOn sum t content cache old.present → StandsOn sum t content behind new.present
+    → StandsOn sum t content cache old.present → StandsOn sum t content after new.present
 
 -- a read leaves all
 abbrev pub LeavesAllTails : (List ℕ → ℕ) → CacheState → CacheState → Life → Life → Type 0
-LeavesAllTails sum cache behind old new =
+LeavesAllTails sum cache after old new =
     (t : Tail) (content : List ℕ)
-    → StandsOn sum t content cache old.present → StandsOn sum t content behind new.present
+    → StandsOn sum t content cache old.present → StandsOn sum t content after new.present
 
 -- and whatever reads of the blob stand on, its writer's among them
 abbrev pub LeavesAllReads : CacheState → CacheState → Life → Life → Type 0
-LeavesAllReads cache behind old new =
-    (t : Tail) → CanRead t cache old.present → CanRead t behind new.present
+LeavesAllReads cache after old new =
+    (t : Tail) → CanRead t cache old.present → CanRead t after new.present
 
 -- a call of the blob of this id leaves whatever reads of another blob stand on, which has a disk of
 -- its own
 abbrev pub LeavesOthers : (id : ℕ) → CacheState → CacheState → Type 0
-LeavesOthers id cache behind =
-    (t : Tail) (d : Disk) → t.id ≢ id → CanRead t cache d → CanRead t behind d
+LeavesOthers id cache after =
+    (t : Tail) (d : Disk) → t.id ≢ id → CanRead t cache d → CanRead t after d
 
 -- a call that takes an id of its own leaves what reads of each blob stand on
 abbrev pub LeavesReads : CacheState → CacheState → Type 0
-LeavesReads cache behind = (t : Tail) (d : Disk) → CanRead t cache d → CanRead t behind d
+LeavesReads cache after = (t : Tail) (d : Disk) → CanRead t cache d → CanRead t after d
 
 -- a call behind the back of a blob's writer: it stays sound, the pages below its tip stay there,
 -- and each moment owes to it what it would in a call of its own

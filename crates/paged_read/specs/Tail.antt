@@ -1,4 +1,4 @@
--- What reads stand on: the full pages of a blob, and the bytes behind them, in memory.
+-- What reads stand on: the full pages of a blob, and the bytes after them, in memory.
 use Rattle.std.specs.Prelude.{◌≡◌, ◌≤◌, ◌<◌, ◌+◌, ◌*◌, ◌/◌, ◌^◌, ◌++◌, ℕ, List, length, take}
 use Rattle.std.specs.Int.NonZero.{non_zero_u16_get}
 use Rattle.std.specs.declared.num.NonZeroU16.{NonZeroU16}
@@ -6,11 +6,11 @@ use Rattle.disk.specs.Disk.{Disk}
 use Rattle.page.specs.Page.{pages}
 use Rattle.page.specs.Tip.{Tip}
 use Rattle.crash.specs.Full.{AreFull}
-use Rattle.crash.specs.Sound.{stored}
+use Rattle.crash.specs.Contents.{stored}
 use Rattle.cache.specs.CacheState.{CacheState}
 use Rattle.cache.specs.Pages.{IsTrueFor}
 
--- full pages of a blob of this id, and the bytes behind them
+-- full pages of a blob of this id, and the bytes after them
 pub record Tail : Type 0 where
   pub page_size : ℕ
   pub id : ℕ
@@ -26,12 +26,12 @@ tail_at page_size id tip = record {
   bytes = tip.bytes;
 }
 
--- the tip begins behind whole pages of this size, for which a blob has places
+-- the tip begins after whole pages of this size, for which a blob has room
 pub record IsView (P : ℕ) (tip : Tip) : Type 0 where
   pub whole : tip.offset ≡ tip.offset / P * P
   pub fits : tip.offset / P * (P + 12) < 2 ^ 64
 
--- the logical bytes: the pages' payloads, and the bytes behind them
+-- the logical bytes: the pages' payloads, and the bytes after them
 abbrev pub told : Tail → List ℕ → List ℕ
 told t readable = stored t.page_size t.full_pages readable ++ t.bytes
 

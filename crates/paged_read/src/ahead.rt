@@ -5,13 +5,13 @@ ghost use Rattle.std.specs.Prelude.{All, IfSome, IsTrue, ◌↔◌, Ok, Err, vec
 ghost use Rattle.std.specs.Int.NonZero.{non_zero_u16_get};
 ghost use Rattle.crash.specs.Looks.{Looked};
 ghost use Rattle.disk.specs.Disk.{Disk, StartReadGoes, Life};
-ghost use Rattle.paged_read.specs.ReadAhead.{batch_range, behind, batch_bytes, AreFullPages};
+ghost use Rattle.paged_read.specs.ReadAhead.{batch_range, after, batch_bytes, AreFullPages};
 ghost use Rattle.paged_read.specs.ReadAhead.{AddsBatch, AreNext, FetchesBatch, Follow, IsBatch};
-ghost use Rattle.paged_read.specs.ReadAhead.{IsQueue, page_behind, ReadsBatch};
+ghost use Rattle.paged_read.specs.ReadAhead.{IsQueue, page_after, ReadsBatch};
 
 use crate::full::is_full;
 use crate::hand::Hand;
-use crate::search::physical_size;
+use crate::search::physical_page_size;
 use disk::{Blob, Error, IoBuf, ReadOptions, StartedRead};
 use page::Sum;
 use std::alloc::Global;
@@ -54,7 +54,7 @@ fn are_full<H: Sum>(page_size: NonZeroU16, bytes: &[u8], pages: u64) -> bool
     ensures { let P = non_zero_u16_get page_size in
         IsTrue result ↔ AreFullPages H.sum_of P 0 pages bytes.now }
 {
-    let size = physical_size(page_size) as usize;
+    let size = physical_page_size(page_size) as usize;
     for page in 0..pages as usize {
         if !is_full::<H>(page_size, &bytes[page * size..page * size + size]) {
             return false;
@@ -64,23 +64,23 @@ fn are_full<H: Sum>(page_size: NonZeroU16, bytes: &[u8], pages: u64) -> bool
 }
 
 impl Batches {
-    /// The page behind the batch that begins at this one.
-    fn behind(self, page: u64) -> u64
+    /// The page after the batch that begins at this one.
+    fn after(self, page: u64) -> u64
         requires { page ≤ self.full_pages }
-        ensures { result ≡ behind self.batch self.full_pages page }
+        ensures { result ≡ after self.batch self.full_pages page }
     {
         page + self.batch.min(self.full_pages - page)
     }
 
-    /// The page behind these batches, which follow one another from a page on.
-    fn behind_queue(self, queue: &[Ahead], page: u64) -> u64
+    /// The page after these batches, which follow one another from a page on.
+    fn after_queue(self, queue: &[Ahead], page: u64) -> u64
         requires { Follow self.batch self.full_pages page queue.now }
-        ensures next { result ≡ page_behind self.batch self.full_pages page queue.now }
+        ensures next { result ≡ page_after self.batch self.full_pages page queue.now }
         ensures within { result ≤ self.full_pages }
     {
         match queue.last() {
             None => page,
-            Some(last) => self.behind(last.page),
+            Some(last) => self.after(last.page),
         }
     }
 
@@ -95,7 +95,7 @@ impl Batches {
             let range = batch_range P self.batch self.full_pages page in
             StartReadGoes (range ∷ []) (B.life blob.old) (B.life blob.new) result.read }
     {
-        let size = physical_size(self.page_size);
+        let size = physical_page_size(self.page_size);
         let pages = self.batch.min(self.full_pages - page);
         let ranges = [(page * size, (pages * size) as usize)];
         Ahead {
@@ -121,10 +121,10 @@ impl Batches {
         ensures room { vec_capacity queue.new ≡ vec_capacity queue.old }
         ensures looked { Looked (B.life blob.old) (B.life blob.new) }
     {
-        let mut next = self.behind_queue(queue, page);
+        let mut next = self.after_queue(queue, page);
         while queue.len() < MAX_READ_AHEAD && next < self.full_pages {
             queue.push_reserved(self.start(blob, next));
-            next = self.behind(next);
+            next = self.after(next);
         }
     }
 
@@ -139,7 +139,7 @@ impl Batches {
         ensures batches { let P = non_zero_u16_get self.page_size in (d : Disk)
             → All (IsBatch P self.batch self.full_pages d) queue.old.items
             → All (IsBatch P self.batch self.full_pages d) queue.new.items }
-        ensures follow { let next = behind self.batch self.full_pages page in
+        ensures follow { let next = after self.batch self.full_pages page in
             IfSome result (λ _. Follow self.batch self.full_pages next queue.new.items) }
         ensures queue { IsQueue self.batch self.full_pages queue.new.items }
         ensures room { vec_capacity queue.new ≡ vec_capacity queue.old }
@@ -177,7 +177,7 @@ impl Batches {
         ensures fetches { let P = non_zero_u16_get self.page_size in
             FetchesBatch P self.batch self.full_pages page (B.life blob.old) (B.life blob.new)
             result }
-        ensures follow { let next = behind self.batch self.full_pages page in
+        ensures follow { let next = after self.batch self.full_pages page in
             OnOk result (Follow self.batch self.full_pages next queue.new.items) }
         ensures queue { IsQueue self.batch self.full_pages queue.new.items }
         ensures batches { let P = non_zero_u16_get self.page_size in
@@ -212,7 +212,7 @@ impl Batches {
         ensures reads { let P = non_zero_u16_get self.page_size in
             ReadsBatch H.sum_of P self.batch self.full_pages page (B.life blob.old)
             (B.life blob.new) result }
-        ensures follow { let next = behind self.batch self.full_pages page in
+        ensures follow { let next = after self.batch self.full_pages page in
             OnOk result (Follow self.batch self.full_pages next queue.new.items) }
         ensures queue { IsQueue self.batch self.full_pages queue.new.items }
         ensures batches { let P = non_zero_u16_get self.page_size in
@@ -251,7 +251,7 @@ impl Batches {
             All (IsBatch P self.batch self.full_pages (B.life blob.old).present) queue.old.items }
         requires page_size { hand.old.page_size ≡ non_zero_u16_get self.page_size }
         requires skip { skip < hand.old.page_size }
-        requires behind { 0 < length hand.old.bytes → skip ≡ 0 }
+        requires after { 0 < length hand.old.bytes → skip ≡ 0 }
         requires fits { self.full_pages * (non_zero_u16_get self.page_size + 12) < 2 ^ 64 }
         requires grows { let size = non_zero_u16_get self.page_size + 12 in
             length hand.old.bytes + (self.full_pages - page) * size < 2 ^ 64 }
@@ -267,7 +267,7 @@ impl Batches {
     {
         let bytes = self.read::<B, H>(blob, queue, page)?;
         hand.push(bytes, skip)?;
-        let next = self.behind(page);
+        let next = self.after(page);
         self.top_up(blob, queue, next);
         Ok(())
     }

@@ -17,7 +17,7 @@ pub(crate) struct Batch {
     pub(crate) served: usize,
 }
 
-/// Adds a page behind rising ones, unless it is the last. `OutOfMemory` alone.
+/// Adds a page after rising ones, unless it is the last. `OutOfMemory` alone.
 fn add_page(pages: &mut Vec<u64>, page: u64) -> Result<(), Error>
     ensures ok { OnOk result (pages.new.items ≡ with_page page pages.old.items) }
     ensures some { OnOk result (0 < length pages.new.items) }
@@ -46,7 +46,7 @@ impl Batch {
         }
     }
 
-    /// Adds a piece of a page behind those that it has. `OutOfMemory` alone.
+    /// Adds a piece of a page after those that it has. `OutOfMemory` alone.
     pub(crate) fn add(&mut self, piece: Piece) -> Result<(), Error>
         ensures pages { OnOk result (self.new.pages.items
             ≡ with_page piece.page self.old.pages.items) }

@@ -13,7 +13,7 @@ use disk::{Blob, Error};
 use page::Sum;
 
 impl<B: Blob, H: Sum> View<'_, B, H> {
-    /// Reads the page of a piece, puts it in the cache, and copies the piece into its place.
+    /// Reads the page of a piece, puts it in the cache, and copies the piece to its offset.
     fn read_piece(
         self,
         blob: &mut B,
@@ -39,7 +39,7 @@ impl<B: Blob, H: Sum> View<'_, B, H> {
         let payload = &bytes.as_ref()[..usize::from(self.page_size.get())];
         cache.keep(self.id, piece.page, payload);
         let part = &payload[piece.skip..piece.skip + piece.len];
-        buf[piece.place..piece.place + piece.len].copy_from_slice(part);
+        buf[piece.buf_offset..piece.buf_offset + piece.len].copy_from_slice(part);
         Ok(())
     }
 

@@ -6,7 +6,7 @@ ghost use Rattle.disk.specs.Disk.{Life, Delivers};
 ghost use Rattle.page.specs.Page.{value_len};
 ghost use Rattle.crash.specs.Looks.{Looked};
 ghost use Rattle.paged_read.specs.Tail.{tail_at, IsView, CanRead};
-ghost use Rattle.paged_read.specs.Ranges.{AsksTogether, places, LeavesAll};
+ghost use Rattle.paged_read.specs.Ranges.{AsksTogether, page_ranges, LeavesAll};
 ghost use Rattle.paged_read.specs.Parts.{with_told};
 ghost use Rattle.paged_read.specs.Batch.{DeliversPages, KeepsPage, IsDelivered, AreMarked};
 ghost use Rattle.paged_read.specs.Batch.{KeepsFault, IsReady, IsTold, IsLack, ReadsLacks};
@@ -37,7 +37,7 @@ pub(crate) fn fetch<B: Blob>(
     ensures reads { let P = non_zero_u16_get page_size in
         DeliversPages P pages.now (B.life blob.old) (B.life blob.new) result }
     ensures asks { let P = non_zero_u16_get page_size in
-        AsksTogether (places P pages.now) (B.life blob.old) (B.life blob.new) }
+        AsksTogether (page_ranges P pages.now) (B.life blob.old) (B.life blob.new) }
     ensures looked { Looked (B.life blob.old) (B.life blob.new) }
 {
     let mut out = Vec::new(alloc);
@@ -91,7 +91,7 @@ impl<B, H: Sum> View<'_, B, H> {
             All (IsDelivered P (length pages.now)) out.now }
         ensures leaves { let t = tail_at self.entry.page_size self.entry.id self.entry.tip.now in
             (life : Life) → CanRead t cache.old life.present
-            → Delivers (places t.page_size pages.now) life.present.readable out.now
+            → Delivers (page_ranges t.page_size pages.now) life.present.readable out.now
             → LeavesAll t cache.old cache.new life life }
         ensures full { let P = non_zero_u16_get self.entry.page_size in
             OnOk result (All (λ page. value_len H.sum_of P page.1 ≡ P) out.now) }
@@ -122,13 +122,13 @@ fn fill(buf: &mut [u8], lacks: &[Lack], at: &[usize], out: &[(usize, IoBuf)])
         let piece = lack.piece;
         let (_, bytes) = &out[at[lack.number]];
         let part = &bytes.as_ref()[piece.skip..piece.skip + piece.len];
-        buf[piece.place..piece.place + piece.len].copy_from_slice(part);
+        buf[piece.buf_offset..piece.buf_offset + piece.len].copy_from_slice(part);
     }
 }
 
 impl<B: Blob, H: Sum> View<'_, B, H> {
     /// Reads the pages that a batch lacks, together, puts them in the cache, and copies their
-    /// pieces to their places. Where a page can't be read, those that came before it stay in the
+    /// pieces to their offsets. Where a page can't be read, those that came before it stay in the
     /// cache.
     pub(crate) fn read_lacks(
         self,
@@ -148,7 +148,7 @@ impl<B: Blob, H: Sum> View<'_, B, H> {
             ReadsLacks H.sum_of t batch.now.pages.items batch.now.lacks.items buf.old buf.new
             (B.life blob.old) (B.life blob.new) result }
         ensures asks { let P = non_zero_u16_get self.entry.page_size in
-            let asked = places P batch.now.pages.items in
+            let asked = page_ranges P batch.now.pages.items in
             AsksTogether asked (B.life blob.old) (B.life blob.new) }
         ensures leaves { let t = tail_at self.entry.page_size self.entry.id self.entry.tip.now in
             LeavesAll t cache.old cache.new (B.life blob.old) (B.life blob.new) }

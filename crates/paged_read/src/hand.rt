@@ -3,7 +3,7 @@ ghost use Rattle.std.specs.Prelude.{◌≡◌, ◌≤◌, ◌<◌, ◌+◌, ◌^
 ghost use Rattle.std.specs.Prelude.{IfErr, OnErr, OnOk, IsOkUnless, All, ℕ, List, min, ◌-◌, ◌≢◌};
 ghost use Rattle.std.specs.List.{flat_map};
 ghost use Rattle.std.specs.Int.NonZero.{non_zero_u16_get};
-ghost use Rattle.paged_read.specs.Hand.{payloads, payloads_from, payloads_at, IsPlace};
+ghost use Rattle.paged_read.specs.Hand.{payloads, payloads_from, payloads_at, IsCursor};
 
 use bytes::Bytes;
 use disk::{Error, IoBuf};
@@ -16,10 +16,10 @@ use std::num::NonZeroU16;
 /// The bytes of a footer.
 const FOOTER: usize = CHECKSUM_SIZE as usize;
 
-/// Why bytes aren't copied to a slice: fewer remain than it has places. Nothing was taken.
+/// Why bytes aren't copied to a slice: fewer remain than it has room for. Nothing was taken.
 #[derive(Clone, Copy, Debug, PartialEq, Eq)]
 pub struct TooFew {
-    /// The places of the slice.
+    /// The cursors of the slice.
     pub requested: usize,
     /// The bytes that remain.
     pub available: usize,
@@ -33,26 +33,26 @@ pub(crate) struct Hand {
     page_size: NonZeroU16,
     // Whole physical pages each, or the bytes of a page that has no footer; none is empty.
     runs: VecDeque<IoBuf>,
-    at: Place,
+    at: Cursor,
     remaining: usize,
 }
 
-/// A place in runs of pages: in which run, where in it the next byte stands, and how many bytes of
-/// its page are left from there on. Behind the last page none are.
+/// A cursor into runs of pages: in which run, where in it the next byte stands, and how many bytes
+/// of its page are left from there on. After the last page none are.
 #[derive(Clone, Copy)]
-struct Place {
+struct Cursor {
     run: usize,
     start: usize,
     left: usize,
 }
 
-impl Place {
+impl Cursor {
     /// The first byte of a run.
     fn first(runs: &VecDeque<IoBuf>, page_size: usize, run: usize) -> Self
         requires some { 0 < page_size }
         requires runs { All (λ run. 0 < length run) runs.now.items }
         ensures run { result.run ≡ run }
-        ensures place { IsPlace (drop run runs.now.items) result.start result.left }
+        ensures cursor { IsCursor (drop run runs.now.items) result.start result.left }
         ensures fits { result.start + result.left < 2 ^ 64 }
         ensures bytes { let rest = drop run runs.now.items in
             payloads_from page_size rest result.start result.left
@@ -62,21 +62,21 @@ impl Place {
             None => 0,
             Some(run) => run.len().min(page_size),
         };
-        Place {
+        Cursor {
             run,
             start: 0,
             left,
         }
     }
 
-    /// The first byte behind its page.
-    fn behind(self, runs: &VecDeque<IoBuf>, page_size: usize) -> Self
+    /// The first byte after its page.
+    fn after(self, runs: &VecDeque<IoBuf>, page_size: usize) -> Self
         requires some { 0 < page_size }
         requires runs { All (λ run. 0 < length run) runs.now.items }
-        requires place { IsPlace (drop self.run runs.now.items) self.start self.left }
+        requires cursor { IsCursor (drop self.run runs.now.items) self.start self.left }
         requires within { self.run < length runs.now.items }
         ensures run { (self.run ≤ result.run) × (result.run ≤ length runs.now.items) }
-        ensures place { IsPlace (drop result.run runs.now.items) result.start result.left }
+        ensures cursor { IsCursor (drop result.run runs.now.items) result.start result.left }
         ensures fits { result.start + result.left < 2 ^ 64 }
         ensures bytes { let P = page_size in let all = runs.now.items in
             drop self.left (payloads_at P all self.run self.start self.left)
@@ -84,21 +84,21 @@ impl Place {
     {
         let len = runs[self.run].len();
         let end = self.start + self.left;
-        let behind = len - end;
-        if behind <= FOOTER {
-            return Place::first(runs, page_size, self.run + 1);
+        let after = len - end;
+        if after <= FOOTER {
+            return Cursor::first(runs, page_size, self.run + 1);
         }
-        Place {
+        Cursor {
             run: self.run,
             start: end + FOOTER,
-            left: (behind - FOOTER).min(page_size),
+            left: (after - FOOTER).min(page_size),
         }
     }
 
     /// What is left of its page.
     fn chunk(self, runs: &VecDeque<IoBuf>) -> &[u8]
         requires run { self.run ≤ length runs.now.items }
-        requires place { IsPlace (drop self.run runs.now.items) self.start self.left }
+        requires cursor { IsCursor (drop self.run runs.now.items) self.start self.left }
         ensures len { length result.now ≡ self.left }
         ensures bytes { (P : ℕ) → let all = runs.now.items in
             result.now ≡ take self.left (payloads_at P all self.run self.start self.left) }
@@ -120,24 +120,24 @@ impl Place {
         if !runs.is_empty() {
             return self;
         }
-        Place {
+        Cursor {
             run: 0,
             start: skip,
             left: len.min(page_size) - skip,
         }
     }
 
-    /// The byte so many bytes behind it, which are there.
+    /// The byte so many bytes after it, which are there.
     fn passed(self, runs: &VecDeque<IoBuf>, page_size: usize, count: usize) -> Self
         requires some { 0 < page_size }
         requires runs { All (λ run. 0 < length run) runs.now.items }
         requires run { self.run ≤ length runs.now.items }
-        requires place { IsPlace (drop self.run runs.now.items) self.start self.left }
+        requires cursor { IsCursor (drop self.run runs.now.items) self.start self.left }
         requires fits { self.start + self.left < 2 ^ 64 }
         requires there { let P = page_size in let all = runs.now.items in
             count ≤ length (payloads_at P all self.run self.start self.left) }
         ensures run { result.run ≤ length runs.now.items }
-        ensures place { IsPlace (drop result.run runs.now.items) result.start result.left }
+        ensures cursor { IsCursor (drop result.run runs.now.items) result.start result.left }
         ensures fits { result.start + result.left < 2 ^ 64 }
         ensures bytes { let P = page_size in let all = runs.now.items in
             payloads_at P all result.run result.start result.left
@@ -147,9 +147,9 @@ impl Place {
         let mut more = count;
         while at.left > 0 && at.left <= more {
             more -= at.left;
-            at = at.behind(runs, page_size);
+            at = at.after(runs, page_size);
         }
-        Place {
+        Cursor {
             run: at.run,
             start: at.start + more,
             left: at.left - more,
@@ -157,18 +157,18 @@ impl Place {
     }
 }
 
-/// The bytes from a place on, copied. `OutOfMemory` alone.
+/// The bytes from a cursor on, copied. `OutOfMemory` alone.
 fn copied(
     alloc: Global,
     runs: &VecDeque<IoBuf>,
     page_size: usize,
-    from: Place,
+    from: Cursor,
     count: usize,
 ) -> Result<Vec<u8>, Error>
     requires some { 0 < page_size }
     requires runs { All (λ run. 0 < length run) runs.now.items }
     requires run { from.run ≤ length runs.now.items }
-    requires place { IsPlace (drop from.run runs.now.items) from.start from.left }
+    requires cursor { IsCursor (drop from.run runs.now.items) from.start from.left }
     requires there { let P = page_size in let all = runs.now.items in
         count ≤ length (payloads_at P all from.run from.start from.left) }
     ensures bytes { let P = page_size in let all = runs.now.items in
@@ -182,7 +182,7 @@ fn copied(
         let chunk = at.chunk(runs);
         let len = chunk.len().min(count - bytes.len());
         bytes.extend_from_slice(&chunk[..len])?;
-        at = at.behind(runs, page_size);
+        at = at.after(runs, page_size);
     }
     Ok(bytes)
 }
@@ -229,7 +229,7 @@ impl Hand {
             alloc,
             page_size,
             runs: VecDeque::new(alloc),
-            at: Place {
+            at: Cursor {
                 run: 0,
                 start: 0,
                 left: 0,
@@ -273,7 +273,7 @@ impl Hand {
         let page_size = usize::from(self.page_size.get());
         let at = self.at.passed(&self.runs, page_size, count);
         drop_front(&mut self.runs, at.run);
-        self.at = Place {
+        self.at = Cursor {
             run: 0,
             start: at.start,
             left: at.left,
@@ -285,7 +285,7 @@ impl Hand {
     /// alone, and then there is what there was.
     pub fn push(&mut self, run: IoBuf, skip: usize) -> Result<(), Error>
         requires skip { skip < self.old.page_size }
-        requires behind { 0 < length self.old.bytes → skip ≡ 0 }
+        requires after { 0 < length self.old.bytes → skip ≡ 0 }
         requires fits { length self.old.bytes + length run < 2 ^ 64 }
         ensures page_size { self.new.page_size ≡ self.old.page_size }
         ensures bytes { let more = drop skip (payloads self.old.page_size run) in
@@ -330,7 +330,7 @@ impl Hand {
         Ok(bytes)
     }
 
-    /// Takes as many bytes as the slice has places. Where fewer remain nothing changes.
+    /// Takes as many bytes as the slice has room for. Where fewer remain nothing changes.
     pub fn try_copy_to_slice(&mut self, out: &mut [u8]) -> Result<(), TooFew>
         ensures page_size { self.new.page_size ≡ self.old.page_size }
         ensures taken { OnOk result (out.new ≡ take (length out.old) self.old.bytes) }

@@ -14,7 +14,7 @@ use std::num::{NonZeroU16, NonZeroUsize};
 /// The logical bytes of a page.
 const PAGE: usize = 103;
 
-/// The logical bytes in full pages, and behind them.
+/// The logical bytes in full pages, and after them.
 const BELOW: usize = 309;
 
 const BEHIND: usize = 37;
@@ -22,7 +22,7 @@ const BEHIND: usize = 37;
 /// All the logical bytes.
 pub(crate) const SIZE: u64 = 346;
 
-/// A blob of three full pages and 37 bytes behind them, whose byte i is i modulo 251.
+/// A blob of three full pages and 37 bytes after them, whose byte i is i modulo 251.
 #[derive(Drop)]
 pub(crate) struct Kit {
     pub(crate) alloc: Global,
@@ -35,7 +35,7 @@ pub(crate) struct Kit {
     ghost can: { CanRead (tail_at page_size id tip) cache (life_of blob).present },
 }
 
-/// Bytes of the content from a place on.
+/// Bytes of the content from an offset on.
 pub(crate) fn content(alloc: Global, from: usize, len: usize) -> Result<Vec<u8>, Error> {
     let mut bytes = Vec::new(alloc);
     for index in 0..len {
@@ -55,7 +55,7 @@ fn pages(alloc: Global) -> Result<Vec<u8>, Error> {
     Ok(bytes)
 }
 
-/// The bytes behind them.
+/// The bytes after them.
 fn tip(alloc: Global) -> Result<Buffer, Error> {
     let mut tip = Buffer::from(alloc, BELOW as u64, &[], 2 * PAGE, PAGE)?;
     tip.append(&content(alloc, BELOW, BEHIND)?)?;
@@ -69,9 +69,9 @@ impl Kit {
     }
 
     /// The same with another value for a byte of the blob.
-    pub fn with_byte(alloc: Global, capacity: usize, place: usize) -> Result<Self, Error> {
+    pub fn with_byte(alloc: Global, capacity: usize, offset: usize) -> Result<Self, Error> {
         let mut bytes = pages(alloc)?;
-        if let Some(byte) = bytes.get_mut(place) {
+        if let Some(byte) = bytes.get_mut(offset) {
             *byte ^= 1;
         }
         Kit::of_blob(alloc, capacity, &bytes)
@@ -204,7 +204,7 @@ impl Kit {
 /// Whether a call read just one page.
 fn is_page(call: &Call) -> bool {
     match call {
-        Call::ReadAt(place, len) => *place % 115 == 0 && *len == 115,
+        Call::ReadAt(offset, len) => *offset % 115 == 0 && *len == 115,
         _ => false,
     }
 }

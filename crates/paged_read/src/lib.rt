@@ -23,7 +23,7 @@ pub use prefix::{Partial, Prefix};
 pub use raw::{read_range, read_tail};
 pub use replay::Replay;
 pub use sealed::Sealed;
-pub use search::{last_pages, pages_of, physical_size, scan, scan_from};
+pub use search::{last_pages, pages_of, physical_page_size, scan, scan_from};
 pub use view::View;
 
 #[cfg(test)]

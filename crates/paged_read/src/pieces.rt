@@ -8,13 +8,13 @@ use disk::Error;
 use std::num::NonZeroU16;
 
 /// The bytes that a range has of a page that it comes to, for a buffer in which it begins at
-/// `place`.
-fn piece_at(page_size: NonZeroU16, offset: u64, len: usize, place: usize, page: u64) -> Piece
-    requires places { offset + len < 2 ^ 64 }
-    requires room { place + len < 2 ^ 64 }
+/// `buf_offset`.
+fn piece_at(page_size: NonZeroU16, offset: u64, len: usize, buf_offset: usize, page: u64) -> Piece
+    requires addressable { offset + len < 2 ^ 64 }
+    requires room { buf_offset + len < 2 ^ 64 }
     requires begins { page * non_zero_u16_get page_size ≤ offset + len }
     requires ends { offset ≤ (page + 1) * non_zero_u16_get page_size }
-    ensures { result ≡ piece_of (non_zero_u16_get page_size) (offset, len) place page }
+    ensures { result ≡ piece_of (non_zero_u16_get page_size) (offset, len) buf_offset page }
 {
     let size = u64::from(page_size.get());
     let start = page * size;
@@ -23,23 +23,23 @@ fn piece_at(page_size: NonZeroU16, offset: u64, len: usize, place: usize, page: 
     Piece {
         page,
         skip: (from - start) as usize,
-        place: place + (from - offset) as usize,
+        buf_offset: buf_offset + (from - offset) as usize,
         len: (end - from) as usize,
     }
 }
 
-/// Adds the bytes of a range page by page, for a buffer in which it begins at `place`.
+/// Adds the bytes of a range page by page, for a buffer in which it begins at `buf_offset`.
 /// `OutOfMemory` alone.
 pub(crate) fn push_pieces(
     pieces: &mut Vec<Piece>,
     page_size: NonZeroU16,
     offset: u64,
     len: usize,
-    place: usize,
+    buf_offset: usize,
 ) -> Result<(), Error>
-    requires places { offset + len < 2 ^ 64 }
-    requires room { place + len < 2 ^ 64 }
-    ensures ok { let more = pieces_of (non_zero_u16_get page_size) (offset, len) place in
+    requires addressable { offset + len < 2 ^ 64 }
+    requires room { buf_offset + len < 2 ^ 64 }
+    ensures ok { let more = pieces_of (non_zero_u16_get page_size) (offset, len) buf_offset in
         OnOk result (pieces.new.items ≡ pieces.old.items ++ more) }
     ensures err { IsOkUnless result Error.OutOfMemory }
 {
@@ -50,7 +50,7 @@ pub(crate) fn push_pieces(
     let first = offset / size;
     let count = (offset % size + len as u64).div_ceil(size);
     for page in first..first + count {
-        pieces.push(piece_at(page_size, offset, len, place, page))?;
+        pieces.push(piece_at(page_size, offset, len, buf_offset, page))?;
     }
     Ok(())
 }

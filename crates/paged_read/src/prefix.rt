@@ -6,11 +6,11 @@ use page::ActiveChecksum;
 pub type Partial = Option<(IoBuf, ActiveChecksum)>;
 
 /// The pages at the front of a blob that are full or count as full, and the value of the page
-/// behind them, if it has one.
+/// after them, if it has one.
 #[derive(Drop)]
 pub struct Prefix {
     /// How many pages are or count as full.
     pub full_pages: u64,
-    /// The value of the page behind them.
+    /// The value of the page after them.
     pub partial: Partial,
 }

@@ -19,7 +19,7 @@ use std::alloc::Global;
 use std::num::NonZeroUsize;
 
 impl<B, H> View<'_, B, H> {
-    /// How many of the bytes from one place to before another lie in the first's page, where that
+    /// How many of the bytes from one offset to before another lie in the first's page, where that
     /// is below the tip; else all.
     fn part_len(self, at: u64, end: u64) -> usize
         requires { at < end }
@@ -35,21 +35,21 @@ impl<B, H> View<'_, B, H> {
         (page_size - at % page_size).min(end - at) as usize
     }
 
-    /// Copies some bytes of one page, or of the tip, to a place of the buffer, if memory or the
+    /// Copies some bytes of one page, or of the tip, to an offset of the buffer, if memory or the
     /// cache has them, and answers so. Else they are added to the batch. `OutOfMemory` alone.
     fn gather_part(
         self,
         cache: &CacheRef,
         batch: &mut Batch,
         buf: &mut [u8],
-        place: usize,
+        buf_offset: usize,
         offset: u64,
         len: usize,
     ) -> Result<bool, Error>
         requires view { IsView (non_zero_u16_get self.page_size) self.tip.now }
         requires page_size { cache.now.page_size ≡ non_zero_u16_get self.page_size }
         requires some { 0 < len }
-        requires room { place + len ≤ length buf.old }
+        requires room { buf_offset + len ≤ length buf.old }
         requires within { let t = tail_at self.page_size self.id self.tip.now in
             offset < t.full_pages * t.page_size → offset % t.page_size + len ≤ t.page_size }
         requires ends { offset + len ≤ size_of (tail_at self.page_size self.id self.tip.now) }
@@ -57,48 +57,50 @@ impl<B, H> View<'_, B, H> {
             IfOk result (λ answer. answer ≡ is_served cache.now t (offset, len)) }
         ensures gathered { let t = tail_at self.entry.page_size self.entry.id self.entry.tip.now in
             OnOk result ((ranges : List (ℕ × ℕ)) → EndWithin offset ranges
-            → Gathered cache.now t ranges place batch.old.pages.items batch.old.lacks.items buf.old
-            → Gathered cache.now t (ranges ++ (offset, len) ∷ []) (place + len)
+            → Gathered cache.now t ranges buf_offset batch.old.pages.items batch.old.lacks.items
+            buf.old
+            → Gathered cache.now t (ranges ++ (offset, len) ∷ []) (buf_offset + len)
             batch.new.pages.items batch.new.lacks.items buf.new) }
         ensures size { length buf.new ≡ length buf.old }
         ensures count { batch.new.served ≡ batch.old.served }
         ensures err { IsOkUnless result Error.OutOfMemory }
     {
-        if self.try_read_sync_into(cache, &mut buf[place..place + len], offset) {
+        if self.try_read_sync_into(cache, &mut buf[buf_offset..buf_offset + len], offset) {
             return Ok(true);
         }
         let page_size = u64::from(self.page_size.get());
         batch.add(Piece {
             page: offset / page_size,
             skip: (offset % page_size) as usize,
-            place,
+            buf_offset,
             len,
         })?;
         Ok(false)
     }
 
-    /// Copies what memory and the cache have of a range to a place of the buffer, and adds the rest
-    /// to the batch. `OutOfMemory` alone.
+    /// Copies what memory and the cache have of a range to an offset of the buffer, and adds the
+    /// rest to the batch. `OutOfMemory` alone.
     fn gather_range(
         self,
         cache: &CacheRef,
         batch: &mut Batch,
         buf: &mut [u8],
-        place: usize,
+        buf_offset: usize,
         offset: u64,
         len: usize,
     ) -> Result<bool, Error>
         requires view { IsView (non_zero_u16_get self.page_size) self.tip.now }
         requires page_size { cache.now.page_size ≡ non_zero_u16_get self.page_size }
-        requires room { place + len ≤ length buf.old }
-        requires places { size_of (tail_at self.page_size self.id self.tip.now) < 2 ^ 64 }
+        requires room { buf_offset + len ≤ length buf.old }
+        requires addressable { size_of (tail_at self.page_size self.id self.tip.now) < 2 ^ 64 }
         requires ends { offset + len ≤ size_of (tail_at self.page_size self.id self.tip.now) }
         ensures served { let t = tail_at self.entry.page_size self.entry.id self.entry.tip.now in
             IfOk result (λ answer. answer ≡ is_served cache.now t (offset, len)) }
         ensures gathered { let t = tail_at self.entry.page_size self.entry.id self.entry.tip.now in
             OnOk result ((ranges : List (ℕ × ℕ)) → EndWithin offset ranges
-            → Gathered cache.now t ranges place batch.old.pages.items batch.old.lacks.items buf.old
-            → Gathered cache.now t (ranges ++ (offset, len) ∷ []) (place + len)
+            → Gathered cache.now t ranges buf_offset batch.old.pages.items batch.old.lacks.items
+            buf.old
+            → Gathered cache.now t (ranges ++ (offset, len) ∷ []) (buf_offset + len)
             batch.new.pages.items batch.new.lacks.items buf.new) }
         ensures size { length buf.new ≡ length buf.old }
         ensures count { batch.new.served ≡ batch.old.served }
@@ -110,7 +112,7 @@ impl<B, H> View<'_, B, H> {
         while at < end {
             let part = self.part_len(at, end);
             let done = (at - offset) as usize;
-            served &= self.gather_part(cache, batch, buf, place + done, at, part)?;
+            served &= self.gather_part(cache, batch, buf, buf_offset + done, at, part)?;
             at += part as u64;
         }
         Ok(served)
@@ -128,7 +130,7 @@ impl<B, H> View<'_, B, H> {
         requires page_size { cache.now.page_size ≡ non_zero_u16_get self.page_size }
         requires in_order { AreInOrder ranges.now }
         requires filled { length buf.old ≡ sum_by (λ range. range.1) ranges.now }
-        requires places { size_of (tail_at self.page_size self.id self.tip.now) < 2 ^ 64 }
+        requires addressable { size_of (tail_at self.page_size self.id self.tip.now) < 2 ^ 64 }
         requires ends { EndWithin (size_of (tail_at self.page_size self.id self.tip.now))
             ranges.now }
         ensures gathered { let t = tail_at self.entry.page_size self.entry.id self.entry.tip.now in
@@ -140,11 +142,11 @@ impl<B, H> View<'_, B, H> {
         ensures err { IsOkUnless result Error.OutOfMemory }
     {
         let mut batch = Batch::new(self.alloc);
-        let mut place = 0;
+        let mut buf_offset = 0;
         for &(offset, len) in ranges {
-            let served = self.gather_range(cache, &mut batch, buf, place, offset, len)?;
+            let served = self.gather_range(cache, &mut batch, buf, buf_offset, offset, len)?;
             batch.count(served);
-            place += len;
+            buf_offset += len;
         }
         Ok(batch)
     }
@@ -174,7 +176,7 @@ fn note(missed: &mut Vec<usize>, index: usize, served: bool) -> Result<(), Error
     Ok(())
 }
 
-/// The ranges of one length at these places. `OutOfMemory` alone.
+/// The ranges of one length at these offsets. `OutOfMemory` alone.
 fn ranges_of(alloc: Global, offsets: &[u64], len: usize) -> Result<Vec<(u64, usize)>, Error>
     ensures items { IfOk result (λ ranges. ranges.items ≡ ranges_of len offsets.now) }
     ensures err { IsOkUnless result Error.OutOfMemory }
@@ -197,7 +199,7 @@ fn validate_offsets(offsets: &[u64], len: usize, size: u64) -> Result<(), Error>
 }
 
 impl<B, H> View<'_, B, H> {
-    /// Copies each of the ranges that needs no device to its place, and answers the numbers of the
+    /// Copies each of the ranges that needs no device to its offset, and answers the numbers of the
     /// others. `OutOfMemory` alone.
     fn try_each(
         self,
@@ -219,20 +221,24 @@ impl<B, H> View<'_, B, H> {
         ensures err { IsOkUnless result Error.OutOfMemory }
     {
         let mut missed = Vec::new(self.alloc);
-        let mut place = 0;
+        let mut buf_offset = 0;
         for index in 0..ranges.len() {
             let (offset, len) = ranges[index];
-            let served = self.try_read_sync_into(cache, &mut buf[place..place + len], offset);
+            let served = self.try_read_sync_into(
+                cache,
+                &mut buf[buf_offset..buf_offset + len],
+                offset,
+            );
             note(&mut missed, index, served)?;
-            place += len;
+            buf_offset += len;
         }
         Ok(missed)
     }
 
-    /// Copies, with no device, the bytes of the ranges, each a place and a length, to their places
-    /// in the buffer, one behind the other. It answers in rising order the numbers of the ranges
-    /// that would need the device, whose places then hold anything; of all where one of them can't
-    /// be read. `OutOfMemory` alone.
+    /// Copies, with no device, the bytes of the ranges, each an offset and a length, to their
+    /// offsets in the buffer, one after the other. It answers in rising order the numbers of the
+    /// ranges that would need the device, whose offsets then hold anything; of all where one of
+    /// them can't be read. `OutOfMemory` alone.
     ///
     /// The ranges are in order and don't overlap, and fill the buffer.
     pub fn try_read_ranges_sync_into(
@@ -259,7 +265,7 @@ impl<B, H> View<'_, B, H> {
         self.try_each(cache, buf, ranges)
     }
 
-    /// The same of ranges of `len` bytes at these places.
+    /// The same of ranges of `len` bytes at these offsets.
     pub fn try_read_many_sync_into(
         self,
         cache: &CacheRef,
@@ -287,10 +293,10 @@ impl<B, H> View<'_, B, H> {
 }
 
 impl<B: Blob, H: Sum> View<'_, B, H> {
-    /// Reads the ranges, each a place and a length, to their places in the buffer, one behind the
+    /// Reads the ranges, each an offset and a length, to their places in the buffer, one after the
     /// other, and answers how many of them needed no device.
     ///
-    /// The ranges are in order and don't overlap, and fill the buffer. Bytes behind the full pages
+    /// The ranges are in order and don't overlap, and fill the buffer. Bytes after the full pages
     /// come from memory, and those of pages that the cache holds from there; the other pages are
     /// read in one call of the device, each once, and put in the cache as they are delivered.
     ///
@@ -326,7 +332,7 @@ impl<B: Blob, H: Sum> View<'_, B, H> {
         Ok(batch.served)
     }
 
-    /// The same of ranges of `len` bytes at these places.
+    /// The same of ranges of `len` bytes at these offsets.
     pub fn read_many_into(
         self,
         blob: &mut B,

@@ -21,7 +21,7 @@ const RANGES: [(u64, usize); 7] = [
     (346, 0),
 ];
 
-/// Places of ranges of 4 bytes: of a page, of two, of a page, of the tip.
+/// Offsets of ranges of 4 bytes: of a page, of two, of a page, of the tip.
 const OFFSETS: [u64; 4] = [0, 100, 200, 309];
 
 impl Kit {
@@ -38,7 +38,7 @@ impl Kit {
         Ok(served)
     }
 
-    /// Reads ranges of 4 bytes at these places.
+    /// Reads ranges of 4 bytes at these offsets.
     fn read_fours(&mut self, offsets: &[u64], len: usize) -> Result<usize, Error>
         requires in_order { AreInOrder (ranges_of 4 offsets.now) }
         requires filled { len ≡ length offsets.now * 4 }
@@ -77,13 +77,13 @@ impl Kit {
     /// Whether this call of the device read just these pages together.
     fn asked(&self, call: usize, pages: &[u64]) -> bool {
         match self.blob.calls().get(call) {
-            Some(Call::ReadMany(ranges)) => are_places(ranges, pages),
+            Some(Call::ReadMany(ranges)) => are_offsets(ranges, pages),
             _ => false,
         }
     }
 }
 
-fn are_places(ranges: &[(u64, usize)], pages: &[u64]) -> bool {
+fn are_offsets(ranges: &[(u64, usize)], pages: &[u64]) -> bool {
     let mut all = ranges.len() == pages.len();
     for (range, page) in ranges.iter().zip(pages) {
         all = all && range.0 % 115 == 0 && range.0 / 115 == *page && range.1 == 115;

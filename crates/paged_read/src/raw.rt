@@ -4,7 +4,7 @@ ghost use Rattle.std.specs.Prelude.{IfOk};
 ghost use Rattle.std.specs.Int.NonZero.{non_zero_u16_get};
 ghost use Rattle.std.specs.List.{concat};
 ghost use Rattle.crash.specs.Looks.{Looked};
-ghost use Rattle.paged_read.specs.RawReads.{behind_told, part_of, range_end, range_told, ReadsTold};
+ghost use Rattle.paged_read.specs.RawReads.{after_told, part_of, range_end, range_told, ReadsTold};
 ghost use Rattle.paged_read.specs.RawReads.{tail_told, value_told};
 ghost use Rattle.paged_read.specs.Snapshots.{LeavesWriters};
 
@@ -16,7 +16,7 @@ use std::num::NonZeroU16;
 
 /// A physical page, in one read, and how many of its first bytes are its value.
 ///
-/// `OffsetOverflow` where its place passes the greatest, `BlobInsufficientLength` where the blob
+/// `OffsetOverflow` where its offset passes the greatest, `BlobInsufficientLength` where the blob
 /// ends before it does, `InvalidChecksum` where it has no value; `ReadFailed` where the device
 /// failed, `OutOfMemory`.
 fn read_value<B: Blob, H: Sum>(
@@ -32,17 +32,18 @@ fn read_value<B: Blob, H: Sum>(
         result }
     ensures within { IfOk result (λ r. r.1 ≤ length r.0) }
     ensures part { IfOk result (λ r. r.1 ≤ non_zero_u16_get page_size) }
-    ensures place { IfOk result (λ r. (page + 1) * (non_zero_u16_get page_size + 12) < 2 ^ 64) }
+    ensures offset { IfOk result (λ r.
+        (page + 1) * (non_zero_u16_get page_size + 12) < 2 ^ 64) }
 {
-    let (place, size) = physical_page(page, u64::from(page_size.get()))?;
-    let bytes = blob.read_at(alloc, place, size, options)?;
+    let (page_start, size) = physical_page(page, u64::from(page_size.get()))?;
+    let bytes = blob.read_at(alloc, page_start, size, options)?;
     match Checksum::validate_page::<H>(bytes.as_ref()) {
         None => Err(Error::InvalidChecksum),
         Some(slot) => Ok((bytes, slot.len)),
     }
 }
 
-/// The bytes of a page's value from one logical place to before another, behind which the page
+/// The bytes of a page's value from one logical offset to before another, after which the page
 /// doesn't begin.
 ///
 /// Errors are those of [`read_value`], and `BlobInsufficientLength` where there is no such byte.
@@ -71,14 +72,14 @@ fn read_part<B: Blob, H: Sum>(
     bytes.slice(skip as usize, stop as usize)
 }
 
-/// The `len` bytes from the logical place `offset` on, of a blob of pages of `page_size` logical
+/// The `len` bytes from the logical offset `offset` on, of a blob of pages of `page_size` logical
 /// bytes that nobody opened: of the values of its pages, each read by a read of its own, in rising
 /// order. Of no bytes no device is asked.
 ///
 /// `OffsetOverflow` where the range passes the greatest `u64`, before anything is asked for. Then
 /// the first page decides that gives nothing: `InvalidChecksum` where it has no value,
 /// `BlobInsufficientLength` where its value has no byte of the range, or the blob ends before the
-/// page does, `OffsetOverflow` where its place passes the greatest; and behind the last
+/// page does, `OffsetOverflow` where its offset passes the greatest; and after the last
 /// `BlobInsufficientLength` where fewer than `len` bytes were found. `ReadFailed` where the device
 /// failed, `OutOfMemory`.
 pub fn read_range<B: Blob, H: Sum>(
@@ -136,13 +137,13 @@ pub fn read_tail<B: Blob, H: Sum>(
     ensures looked { Looked (B.life blob.old) (B.life blob.new) }
     ensures writers { LeavesWriters H.sum_of (B.life blob.old) (B.life blob.new) }
 {
-    let size = search::physical_size(page_size);
+    let size = search::physical_page_size(page_size);
     if physical_size % size != 0 {
         return Err(Error::BlobInsufficientLength);
     }
     if physical_size > 0 {
         let last = physical_size / size - 1;
-        return read_behind::<B, H>(alloc, blob, page_size, last, len, options);
+        return read_after::<B, H>(alloc, blob, page_size, last, len, options);
     }
     if len > 0 {
         return Err(Error::BlobInsufficientLength);
@@ -150,8 +151,8 @@ pub fn read_tail<B: Blob, H: Sum>(
     Ok((0, IoBufs::new(alloc)))
 }
 
-/// Where the value of the page `last` ends, and the `len` bytes before that place.
-fn read_behind<B: Blob, H: Sum>(
+/// Where the value of the page `last` ends, and the `len` bytes before that offset.
+fn read_after<B: Blob, H: Sum>(
     alloc: Global,
     blob: &mut B,
     page_size: NonZeroU16,
@@ -162,7 +163,7 @@ fn read_behind<B: Blob, H: Sum>(
     ensures told { let old = B.life blob.old in let new = B.life blob.new in
         let P = non_zero_u16_get page_size in let readable = old.present.readable in
         ReadsTold (λ r. (r.0, concat r.1))
-        (behind_told H.sum_of P last len readable (value_told H.sum_of P last readable)) old new
+        (after_told H.sum_of P last len readable (value_told H.sum_of P last readable)) old new
         result }
 {
     let (tail, tail_len) = read_value::<B, H>(alloc, blob, page_size, last, options)?;

@@ -17,17 +17,17 @@ ghost use Rattle.paged_read.specs.Tail.{HasFullPages, size_of};
 use crate::ahead::{Ahead, Batches, MAX_READ_AHEAD};
 use crate::hand::{Hand, TooFew};
 use crate::sealed::Sealed;
-use crate::search::physical_size;
+use crate::search::physical_page_size;
 use disk::{Blob, Error, IoBuf, ReadOptions};
 use page::Sum;
 use std::marker::Model;
 use std::num::NonZeroUsize;
 
-/// The bytes of a blob of the type `B`, with pages under the checksum function `H`, from one place
+/// The bytes of a blob of the type `B`, with pages under the checksum function `H`, from one offset
 /// on: in order, and in batches that are read ahead of where the replay stands.
 ///
 /// A replay gives the bytes that there were when it began, whatever the blob's writer does
-/// meanwhile: it holds their number and a copy of those behind the full pages, and full pages are
+/// meanwhile: it holds their number and a copy of those after the full pages, and full pages are
 /// never written again. It ends with a crash, and with a recovery of the blob, which may cut it.
 /// The blob is lent to each call that may read; no cache is asked.
 ///
@@ -88,7 +88,7 @@ impl<B, H> Replay<B, H> {
         let alloc = sealed.alloc();
         let page_size = sealed.page_size();
         let full_pages = sealed.full_pages();
-        let pages = (buffer_size.get() as u64 / physical_size(page_size)).max(1);
+        let pages = (buffer_size.get() as u64 / physical_page_size(page_size)).max(1);
         let batches = Batches {
             alloc,
             page_size,
@@ -146,8 +146,8 @@ impl<B, H> Replay<B, H> {
         self.hand.advance(count);
     }
 
-    /// Goes to a place up to the size; nothing is at hand then. What is read ahead stays, for where
-    /// it is needed. `BlobInsufficientLength` past the size, and then nothing changed.
+    /// Goes to an offset up to the size; nothing is at hand then. What is read ahead stays, for
+    /// where it is needed. `BlobInsufficientLength` past the size, and then nothing changed.
     pub fn seek_to(&mut self, offset: u64) -> Result<(), Error>
         ensures seeks { Seeks self.old offset self.new result }
         ensures replays { ReplaysOn self.old self.new }
@@ -177,7 +177,7 @@ impl<B, H> Replay<B, H> {
         Ok(bytes)
     }
 
-    /// Takes as many of the bytes at hand as the slice has places. Where fewer remain nothing
+    /// Takes as many of the bytes at hand as the slice has room for. Where fewer remain nothing
     /// changes.
     pub fn try_copy_to_slice(&mut self, out: &mut [u8]) -> Result<(), TooFew>
         ensures bytes { OnOk result (out.new ≡ take (length out.old) self.old.hand) }
@@ -200,7 +200,7 @@ impl<B: Blob, H: Sum> Replay<B, H> {
     /// Reads on until so many bytes are at hand, and answers whether they are: where not, all is at
     /// hand that is left. Each batch is read ahead, in one read of the device, before it is needed,
     /// or on demand where that failed or the replay went elsewhere; what is at hand was found full,
-    /// page by page. Where they are at hand already, or all that is left is behind the full pages,
+    /// page by page. Where they are at hand already, or all that is left is after the full pages,
     /// the device isn't asked.
     ///
     /// `ReadFailed` where a read failed that was needed, `InvalidChecksum` where a page isn't full,
@@ -235,14 +235,14 @@ impl<B: Blob, H: Sum> Replay<B, H> {
         Ok(false)
     }
 
-    /// The place behind the bytes at hand.
+    /// The offset after the bytes at hand.
     fn end(&self) -> u64
         ensures { result ≡ end_of self.now }
     {
         self.position + self.hand.remaining() as u64
     }
 
-    /// Adds the next batch to what is at hand, or the bytes behind the full pages.
+    /// Adds the next batch to what is at hand, or the bytes after the full pages.
     fn fill(&mut self, blob: &mut B) -> Result<(), Error>
         requires can { CanReplay self.old (B.life blob.old).present }
         requires more { end_of self.old < size_of self.old.tail }
@@ -267,7 +267,7 @@ impl<B: Blob, H: Sum> Replay<B, H> {
 }
 
 impl<B: Blob, H: Sum> Sealed<B, H> {
-    /// A replay of what the snapshot tells, from its first byte on: it copies the bytes behind the
+    /// A replay of what the snapshot tells, from its first byte on: it copies the bytes after the
     /// full pages, and reads nothing yet. Pages are read in batches of a quarter of those that fit
     /// `buffer_size` bytes, and at least one, and three batches ahead. `OutOfMemory` alone.
     pub fn replay(

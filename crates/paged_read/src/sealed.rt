@@ -24,7 +24,7 @@ use std::marker::{Model, PhantomData};
 use std::num::{NonZeroU16, NonZeroUsize};
 
 /// A snapshot of a blob of the type `B`, with pages under the checksum function `H`: how many full
-/// pages the blob had, and a copy of the bytes behind them, less than a page.
+/// pages the blob had, and a copy of the bytes after them, less than a page.
 ///
 /// It doesn't move. Its reads give the content of the moment at which it was made, whatever the
 /// blob's writer does meanwhile and however that ends, until a crash, or a recovery of the blob
@@ -34,7 +34,7 @@ use std::num::{NonZeroU16, NonZeroUsize};
 pub struct Sealed<B, H> {
     alloc: Global,
     id: u64,
-    /// The bytes behind the full pages.
+    /// The bytes after the full pages.
     tip: Buffer,
     page_size: NonZeroU16,
     of: PhantomData<(B, H)>,
@@ -64,7 +64,7 @@ impl<B, H> Sealed<B, H> {
         }
     }
 
-    /// Another of the same: it copies the bytes behind the full pages. `OutOfMemory` alone.
+    /// Another of the same: it copies the bytes after the full pages. `OutOfMemory` alone.
     pub fn try_clone(&self) -> Result<Self, Error>
         ensures same { IfOk result (λ copy. copy ≡ self.now) }
         ensures err { IsOkUnless result Error.OutOfMemory }
@@ -99,17 +99,17 @@ impl<B, H> Sealed<B, H> {
         self.page_size
     }
 
-    /// How many full pages it has; a blob has places for them.
+    /// How many full pages it has; a blob has room for them.
     pub(crate) fn full_pages(&self) -> u64
         ensures pages { result ≡ self.now.full_pages }
         ensures fits { self.now.full_pages * (self.now.page_size + 12) < 2 ^ 64 }
-        ensures places { size_of self.now < 2 ^ 64 }
+        ensures addressable { size_of self.now < 2 ^ 64 }
         ensures short { length self.now.bytes < self.now.page_size }
     {
         self.tip.offset() / u64::from(self.page_size.get())
     }
 
-    /// The bytes behind them.
+    /// The bytes after them.
     pub(crate) fn bytes(&self) -> &[u8]
         ensures { result.now ≡ self.now.bytes }
     {
@@ -125,7 +125,7 @@ impl<B, H> Sealed<B, H> {
         View::new(self.alloc, self.page_size, self.id, &self.tip)
     }
 
-    /// Copies the bytes from `offset` on into `buf`, as many as it has places for, where that needs
+    /// Copies the bytes from `offset` on into `buf`, as many as it has room for, where that needs
     /// no device: where they are within the size, and the cache holds the pages of those below the
     /// tip. It answers whether it did; where it didn't, what `buf` holds says nothing. It takes no
     /// memory.
@@ -137,10 +137,10 @@ impl<B, H> Sealed<B, H> {
         self.view().try_read_sync_into(cache, buf, offset)
     }
 
-    /// Copies those of these ranges, each a place and a length, that need no device to their places
-    /// in `buf`, one range behind the other, and answers the numbers of the others, rising: of all
-    /// where one passes the end. The ranges are in order, don't overlap, and fill `buf`. Its only
-    /// error is `OutOfMemory`.
+    /// Copies those of these ranges, each an offset and a length, that need no device to their
+    /// offsets in `buf`, one range after the other, and answers the numbers of the others, rising:
+    /// of all where one passes the end. The ranges are in order, don't overlap, and fill `buf`. Its
+    /// only error is `OutOfMemory`.
     pub fn try_read_ranges_sync_into(
         &self,
         cache: &CacheRef,
@@ -161,7 +161,7 @@ impl<B, H> Sealed<B, H> {
         self.view().try_read_ranges_sync_into(cache, buf, ranges)
     }
 
-    /// The same of ranges of `len` bytes at these places.
+    /// The same of ranges of `len` bytes at these offsets.
     pub fn try_read_many_sync_into(
         &self,
         cache: &CacheRef,
@@ -187,10 +187,10 @@ impl<B, H> Sealed<B, H> {
 }
 
 impl<B: Blob, H: Sum> Sealed<B, H> {
-    /// Copies the bytes from `offset` on into `buf`, as many as it has places for: those of full
+    /// Copies the bytes from `offset` on into `buf`, as many as it has room for: those of full
     /// pages from the cache, else from the blob, one read for each page, and the others from
     /// memory. A read of held pages takes no memory and asks no device. Pages that are read are put
-    /// in the cache, also where the call fails behind them.
+    /// in the cache, also where the call fails after them.
     ///
     /// `OffsetOverflow` where the range passes the greatest `u64`, else `BlobInsufficientLength`
     /// where it passes the size: both before anything is asked for. `ReadFailed` where the device
@@ -273,9 +273,9 @@ impl<B: Blob, H: Sum> Sealed<B, H> {
     }
 
     /// As many bytes from `offset` on as there are, at most `len`, in place of what `bytes` held,
-    /// and how many: at least one, unless none is asked for, which is answered at any place.
+    /// and how many: at least one, unless none is asked for, which is answered at any offset.
     ///
-    /// `BlobInsufficientLength` at or behind the end, before anything is asked for; `ReadFailed`,
+    /// `BlobInsufficientLength` at or after the end, before anything is asked for; `ReadFailed`,
     /// `InvalidChecksum`, `OutOfMemory`, as [`Sealed::read_into`] answers them.
     pub fn read_up_to(
         &self,
@@ -313,7 +313,7 @@ impl<B: Blob, H: Sum> Sealed<B, H> {
         self.view().read_up_to(blob, cache, offset, len, bytes)
     }
 
-    /// Reads these ranges, each a place and a length, to their places in `buf`, one behind the
+    /// Reads these ranges, each an offset and a length, to their places in `buf`, one after the
     /// other, and answers how many of them needed no device: empty ones count. The ranges are in
     /// order, don't overlap, and fill `buf`. The pages that the cache lacks are read in one call of
     /// the device, each once, and put in the cache as they are delivered.
@@ -358,7 +358,7 @@ impl<B: Blob, H: Sum> Sealed<B, H> {
         self.view().read_ranges_into(blob, cache, buf, ranges)
     }
 
-    /// The same of ranges of `len` bytes at these places.
+    /// The same of ranges of `len` bytes at these offsets.
     pub fn read_many_into(
         &self,
         blob: &mut B,

@@ -7,7 +7,8 @@ ghost use Rattle.crash.specs.Built.{kept_len};
 ghost use Rattle.paged_read.specs.Prefix.{prefix_of, last_prefix, prefix_pages, value_and_slot};
 ghost use Rattle.paged_read.specs.Prefix.{HasBytes};
 ghost use Rattle.paged_read.specs.Scans.{LooksThrough, prefix_from, ReadsForward};
-ghost use Rattle.paged_read.specs.Searches.{Finds, ReadsBack, ReadsWithin, scan_bytes};
+ghost use Rattle.paged_read.specs.Searches.{Finds, ReadsWithin, scan_bytes};
+ghost use Rattle.paged_read.specs.Backward.{ReadsBack};
 
 use crate::prefix::{Partial, Prefix};
 use disk::{Blob, Error, IoBuf, ReadOptions};
@@ -16,7 +17,7 @@ use std::alloc::Global;
 use std::num::{NonZeroU16, NonZeroUsize};
 
 /// The bytes of a physical page: `page_size` logical bytes and a footer.
-pub fn physical_size(page_size: NonZeroU16) -> u64
+pub fn physical_page_size(page_size: NonZeroU16) -> u64
     ensures { result ≡ non_zero_u16_get page_size + 12 }
 {
     u64::from(page_size.get()) + CHECKSUM_SIZE
@@ -71,7 +72,7 @@ pub(crate) fn leading_pages<H: Sum>(page_size: NonZeroU16, bytes: &IoBuf) -> Res
         IfOk result (λ p. HasBytes P p.full_pages bytes.now p.partial) }
     ensures err { IsOkUnless result Error.OutOfMemory }
 {
-    let size = physical_size(page_size) as usize;
+    let size = physical_page_size(page_size) as usize;
     let count = bytes.len() / size;
     for page in 0..count {
         let slot = slot_at::<H>(bytes.as_ref(), page * size, size);
@@ -91,7 +92,7 @@ pub(crate) fn leading_pages<H: Sum>(page_size: NonZeroU16, bytes: &IoBuf) -> Res
 /// Looks through the first `pages` pages of a blob, which has them, from the first one on: how many
 /// are full, of `page_size` logical bytes, up to the first that isn't, and the value of that one.
 /// Each read is of at most as many whole pages as fit `buffer_size` bytes, and at least one; pages
-/// behind those of the read in which the search ends aren't read.
+/// after those of the read in which the search ends aren't read.
 ///
 /// `ReadFailed` where the device failed, `OutOfMemory`. The blob is only read, also where it fails.
 pub fn scan<B: Blob, H: Sum>(
@@ -146,7 +147,7 @@ pub fn scan_from<B: Blob, H: Sum>(
         → (result ≡ Ok (record { full_pages = pages; partial = None }))
         × (B.life blob.new ≡ B.life blob.old) }
 {
-    let size = physical_size(page_size);
+    let size = physical_page_size(page_size);
     let most = (buffer_size.get() as u64 / size).max(1);
     let mut done = first;
     while done < pages {
@@ -191,10 +192,10 @@ pub fn last_pages<B: Blob, H: Sum>(
         let P = non_zero_u16_get page_size in
         ReadsBack (P + 12) old new }
 {
-    let size = physical_size(page_size);
+    let size = physical_page_size(page_size);
     while pages > 0 {
-        let place = (pages - 1) * size;
-        let bytes = blob.read_at(alloc, place, size as usize, ReadOptions::default())?;
+        let offset = (pages - 1) * size;
+        let bytes = blob.read_at(alloc, offset, size as usize, ReadOptions::default())?;
         let slot = slot_at::<H>(bytes.as_ref(), 0, size as usize);
         if is_full(slot, page_size) {
             return Ok(Prefix {

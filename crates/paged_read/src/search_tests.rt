@@ -3,7 +3,7 @@ ghost use Rattle.std.specs.Prelude.{◌≤◌, ◌<◌, ◌+◌, ◌*◌, ◌^�
 ghost use Rattle.std.specs.Int.NonZero.{non_zero_u16_get};
 ghost use Rattle.disk.specs.History.{life_of};
 
-use crate::{Prefix, last_pages, pages_of, physical_size, scan};
+use crate::{Prefix, last_pages, pages_of, physical_page_size, scan};
 use disk::{Call, Error, MemBlob};
 use page::{ActiveChecksum, AddSum, Slot};
 use std::alloc::Global;
@@ -18,7 +18,7 @@ const PART: [u8; 16] = [101, 102, 0, 0, 0, 2, 0, 0, 0, 203, 0, 0, 0, 0, 0, 0];
 /// A page with no value.
 const NONE: [u8; 16] = [0; 16];
 
-/// The places and lengths of reads.
+/// The offsets and lengths of reads.
 type Reads = &'static [(u64, usize)];
 
 /// A blob of these pages.
@@ -40,7 +40,7 @@ fn count(blob: &MemBlob, page_size: NonZeroU16) -> Result<u64, Error>
         ≤ length (life_of blob.now).present.readable) }
     ensures fits { IfOk result (λ pages. pages * (non_zero_u16_get page_size + 12) < 2 ^ 64) }
 {
-    let size = physical_size(page_size);
+    let size = physical_page_size(page_size);
     let pages = blob.len() / size;
     let end = pages.checked_mul(size).ok_or(Error::OffsetOverflow)?;
     if end > blob.len() {
@@ -77,8 +77,8 @@ fn tells_ef(prefix: &Prefix) -> bool {
 /// Whether these reads are all the device calls.
 fn asked_for(blob: &MemBlob, reads: Reads) -> bool {
     let mut same = blob.calls().len() == reads.len();
-    for (call, (place, len)) in blob.calls().iter().zip(reads) {
-        same = same && matches!(call, Call::ReadAt(at, many) if at == place && many == len);
+    for (call, (offset, len)) in blob.calls().iter().zip(reads) {
+        same = same && matches!(call, Call::ReadAt(at, many) if at == offset && many == len);
     }
     same
 }
@@ -140,6 +140,6 @@ fn a_failing_device_ends_a_search(rt: HostRuntime) -> Result<(), Error> {
 
 #[test]
 fn a_physical_page_has_twelve_bytes_more(rt: HostRuntime) {
-    assert_eq!(rt; physical_size(NonZeroU16::MIN), 13);
-    assert_eq!(rt; physical_size(NonZeroU16::MAX), 65547);
+    assert_eq!(rt; physical_page_size(NonZeroU16::MIN), 13);
+    assert_eq!(rt; physical_page_size(NonZeroU16::MAX), 65547);
 }

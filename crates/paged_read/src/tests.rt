@@ -110,12 +110,12 @@ fn a_read_with_no_device_needs_held_pages(rt: HostRuntime) -> Result<(), Error> 
 #[test]
 fn a_changed_byte_is_found(rt: HostRuntime) -> Result<(), Error> {
     // A byte of the second page's payload, of its checksum and of its length.
-    for place in [115, 217, 221, 219] {
-        let mut kit = Kit::with_byte(rt.alloc(), 4, place)?;
+    for offset in [115, 217, 221, 219] {
+        let mut kit = Kit::with_byte(rt.alloc(), 4, offset)?;
         assert_eq!(rt;
             kit.read_into(0, 309),
             Err(Error::InvalidChecksum),
-            "at {place}"
+            "at {offset}"
         );
         assert!(rt; kit.holds(0) && !kit.holds(1) && !kit.holds(2));
         assert_eq!(rt; kit.calls(), 2);

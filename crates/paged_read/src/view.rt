@@ -16,10 +16,10 @@ use std::marker::PhantomData;
 use std::num::NonZeroU16;
 
 /// What reads of a blob of the type `B` stand on, with pages under the checksum function `H`: its
-/// full pages, and the bytes behind them, in memory.
+/// full pages, and the bytes after them, in memory.
 ///
 /// The blob and the cache are lent to each call: always those of the blob's writer. A read leaves
-/// the blob as it is, and puts each page that it reads in the cache, also where it fails behind it.
+/// the blob as it is, and puts each page that it reads in the cache, also where it fails after it.
 /// A page that isn't full answers `InvalidChecksum`, which no page of a sound blob does.
 #[derive(Drop)]
 pub struct View<'a, B, H> {
@@ -79,7 +79,7 @@ impl<B, H> View<'_, B, H> {
 }
 
 impl<B: Blob, H: Sum> View<'_, B, H> {
-    /// Copies the bytes from `offset` on into `buf`, as many as it has places for: those below the
+    /// Copies the bytes from `offset` on into `buf`, as many as it has room for: those below the
     /// tip from pages that the cache holds, else from the blob, one read for each page, and the
     /// others from memory. A read of held pages takes no memory and asks no device.
     ///
@@ -162,9 +162,9 @@ impl<B: Blob, H: Sum> View<'_, B, H> {
     }
 
     /// As many bytes from `offset` on as there are, at most `len`, in place of what `bytes` held,
-    /// and how many: at least one, unless none is asked for, which is answered at any place.
+    /// and how many: at least one, unless none is asked for, which is answered at any offset.
     ///
-    /// `BlobInsufficientLength` at or behind the end, before anything is asked for; `ReadFailed`,
+    /// `BlobInsufficientLength` at or after the end, before anything is asked for; `ReadFailed`,
     /// `InvalidChecksum`, `OutOfMemory`.
     pub fn read_up_to(
         self,
@@ -204,10 +204,10 @@ impl<B: Blob, H: Sum> View<'_, B, H> {
 }
 
 impl<B, H> View<'_, B, H> {
-    /// Copies the bytes from `offset` on, all behind the full pages, if there are any.
+    /// Copies the bytes from `offset` on, all after the full pages, if there are any.
     pub(crate) fn copy_tip(self, buf: &mut [u8], offset: u64)
         requires view { IsView (non_zero_u16_get self.page_size) self.tip.now }
-        requires behind { let t = tail_at self.page_size self.id self.tip.now in
+        requires after { let t = tail_at self.page_size self.id self.tip.now in
             0 < length buf.old → t.full_pages * t.page_size ≤ offset }
         requires within { let t = tail_at self.page_size self.id self.tip.now in
             offset + length buf.old ≤ size_of t }
@@ -234,7 +234,7 @@ impl<B, H> View<'_, B, H> {
         cache.read_cached(self.id, buf, offset) == buf.len()
     }
 
-    /// Copies the bytes from `offset` on into `buf`, as many as it has places for, where that needs
+    /// Copies the bytes from `offset` on into `buf`, as many as it has room for, where that needs
     /// no device: where they are within the size, and the cache holds the pages of those below the
     /// tip. It answers whether it did; where it didn't, what `buf` holds says nothing. It takes no
     /// memory.

@@ -12,7 +12,7 @@ use Rattle.hex.proofs.HexLemmas.{decode_of-encode_lower, decode_of-ok, decode_of
 use Rattle.std.specs.Prelude.{IsErrAnd}
 use Rattle.pagedctl.specs.declared.word.ReadError.{ReadError}
 use Rattle.pagedctl.specs.Text.{hex_digits, hex_of}
-use Rattle.pagedctl.specs.Script.{AreBytes, Reads, hex_refused}
+use Rattle.pagedctl.specs.Script.{AreBytes, IsReadAs, hex_refused}
 
 -- ---- digits
 
@@ -152,7 +152,7 @@ not_refused word e bytes (inr refused) decoded other = let no : Err e ≡ Ok byt
 
 -- where decoding is refused, but for memory, the word is that of no bytes
 pub hex_refused-reads : (word : List ℕ) (e : FromHexError) → (e ≡ hex.OutOfMemory) ⊎ (decode_of word ≡ Err e) → word ≢ codes "-"
-    → Reads (λ (bytes : Vec ℕ Global). hex_of bytes.items) (λ bytes. AreBytes bytes.items) word (Err (hex_refused e))
+    → IsReadAs (λ (bytes : Vec ℕ Global). hex_of bytes.items) (λ bytes. AreBytes bytes.items) word (Err (hex_refused e))
 hex_refused-reads word hex.OutOfMemory refused other = tt
 hex_refused-reads word (hex.InvalidHexCharacter c i) refused other = λ v all same. not_refused word _ v.items refused (hex_of-decoded word v.items all same other) (λ memory. cc)
 hex_refused-reads word hex.OddLength refused other = λ v all same. not_refused word _ v.items refused (hex_of-decoded word v.items all same other) (λ memory. cc)
@@ -160,6 +160,6 @@ hex_refused-reads word hex.InvalidStringLength refused other = λ v all same. no
 
 -- the same of what the conversion of the error gave
 pub converted-reads : (word : List ℕ) (r : Result (Vec ℕ Global) ReadError) (e : FromHexError) → IsErrAnd r (λ x. x ≡ hex_refused e) → (e ≡ hex.OutOfMemory) ⊎ (decode_of word ≡ Err e) → word ≢ codes "-"
-    → Reads (λ (bytes : Vec ℕ Global). hex_of bytes.items) (λ bytes. AreBytes bytes.items) word r
+    → IsReadAs (λ (bytes : Vec ℕ Global). hex_of bytes.items) (λ bytes. AreBytes bytes.items) word r
 converted-reads word (Ok bytes) e gives refused other = absurd gives
 converted-reads word (Err x) e gives refused other = rw gives (hex_refused-reads word e refused other)

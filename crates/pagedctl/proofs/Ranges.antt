@@ -9,7 +9,7 @@ use Rattle.std.proofs.lemmas.List.{get_or_append_left, get_or-map, length-append
 use Rattle.std.proofs.lemmas.Str.Parse.{digit_at}
 use Rattle.pagedctl.specs.declared.word.ReadError.{ReadError}
 use Rattle.pagedctl.specs.declared.word.ReadError.TheVariants.{Unreadable, OutOfMemory}
-use Rattle.pagedctl.specs.Script.{Reads, IsU64, IsRange, AreRanges, range_word, ranges_words}
+use Rattle.pagedctl.specs.Script.{IsReadAs, IsU64, IsRange, AreRanges, range_word, ranges_words}
 use Rattle.pagedctl.proofs.Numbers.{numerals}
 
 -- ---- one range
@@ -19,11 +19,11 @@ decimal-no_colon : (n i : ℕ) → n < 2 ^ 64 → i < length (decimal n) → get
 decimal-no_colon n i small below same =
     let digit = digit_at (decimal n) i (digits_decimal numerals n small) below in absurd (omega (arith, digit.0, digit.1))
 
--- the bytes before this place have no colon, and it has one
+-- the bytes before this offset have no colon, and it has one
 abbrev pub IsFirstColon : List ℕ → ℕ → Type 0
 IsFirstColon word at = (at < length word) × (get_or word at 0 ≡ 58) × ((k : ℕ) → k < at → get_or word k 0 ≢ 58)
 
--- the first colon of a range stands behind its place
+-- the first colon of a range stands after its offset
 colon-at : (word : List ℕ) (at : ℕ) (range : ℕ × ℕ) → IsFirstColon word at → IsRange range → word ≡ range_word range → at ≡ length (decimal range.0)
 colon-at word at range first is same =
     elim (cases_lt at (length (decimal range.0))) [
@@ -31,7 +31,7 @@ colon-at word at range first is same =
           let here = get_or_append_left (decimal range.0) (58 ∷ decimal range.1) 0 at before in
           let there = ap (λ (w : List ℕ). get_or w at 0) same in
           absurd (decimal-no_colon range.0 at is.0 before (sym here ∙ sym there ∙ first.1))
-      | inr behind ↦
+      | inr after ↦
           elim (cases_lt (length (decimal range.0)) at) [
             | inl later ↦
                 let seam = get_or-append_seam (decimal range.0) 58 (decimal range.1) 0 in
@@ -41,9 +41,9 @@ colon-at word at range first is same =
           ]
     ]
 
--- so what stands before it is the place, and what stands behind it the length
-place-of : (word : List ℕ) (at : ℕ) (range : ℕ × ℕ) → IsFirstColon word at → IsRange range → word ≡ range_word range → take at word ≡ decimal range.0
-place-of word at range first is same =
+-- so what stands before it is the offset, and what stands after it the length
+offset-of : (word : List ℕ) (at : ℕ) (range : ℕ × ℕ) → IsFirstColon word at → IsRange range → word ≡ range_word range → take at word ≡ decimal range.0
+offset-of word at range first is same =
     let e = colon-at word at range first is same in
     rw (e, same) (take-append_seam (decimal range.0) (58 ∷ decimal range.1))
 
@@ -53,12 +53,12 @@ length-of word at range first is same =
     rw (e, same) (drop-append-add (decimal range.0) (58 ∷ decimal range.1) 1)
 
 -- a word is no range where what stands before its first colon is no number
-pub place-unread : (word : List ℕ) (at : ℕ) (e : ReadError) → IsFirstColon word at → Reads decimal IsU64 (take at word) (Err e) → Reads range_word IsRange word (Err e)
-place-unread word at Unreadable first unread = λ range is same. unread range.0 is.0 (place-of word at range first is same)
-place-unread word at OutOfMemory first unread = tt
+pub offset-unread : (word : List ℕ) (at : ℕ) (e : ReadError) → IsFirstColon word at → IsReadAs decimal IsU64 (take at word) (Err e) → IsReadAs range_word IsRange word (Err e)
+offset-unread word at Unreadable first unread = λ range is same. unread range.0 is.0 (offset-of word at range first is same)
+offset-unread word at OutOfMemory first unread = tt
 
--- nor where what stands behind it is none
-pub length-unread : (word : List ℕ) (at : ℕ) (e : ReadError) → IsFirstColon word at → Reads decimal IsU64 (take (length word - (at + 1)) (drop (at + 1) word)) (Err e) → Reads range_word IsRange word (Err e)
+-- nor where what stands after it is none
+pub length-unread : (word : List ℕ) (at : ℕ) (e : ReadError) → IsFirstColon word at → IsReadAs decimal IsU64 (take (length word - (at + 1)) (drop (at + 1) word)) (Err e) → IsReadAs range_word IsRange word (Err e)
 length-unread word at Unreadable first unread = λ range is same.
     let all = take_all (length word - (at + 1)) (drop (at + 1) word) (omega (arith, length-drop (at + 1) word)) in
     unread range.1 is.1 (all ∙ length-of word at range first is same)
@@ -75,7 +75,7 @@ no_colon-unread word none range is same =
 -- ---- what a `?` passes on
 
 -- an error is passed on as it is
-pub passed-on : {V T : Type 0} (text : V → T) (IsOne : V → Type 0) (word : T) (r : Result V ReadError) (e : ReadError) → IsErrAnd r (λ x. x ≡ e) → Reads text IsOne word (Err e) → Reads text IsOne word r
+pub passed-on : {V T : Type 0} (text : V → T) (IsOne : V → Type 0) (word : T) (r : Result V ReadError) (e : ReadError) → IsErrAnd r (λ x. x ≡ e) → IsReadAs text IsOne word (Err e) → IsReadAs text IsOne word r
 passed-on text IsOne word (Ok v) e gives unread = absurd gives
 passed-on text IsOne word (Err x) e gives unread = rw gives unread
 
@@ -92,8 +92,8 @@ one_range_more read words i range d below so_far this =
     map-append range_word read (range ∷ []) ∙ rw (so_far, take_more nows i [] there, item, this) refl
 
 -- no ranges have words of which one is no range
-pub ranges-unread : (words : List (Bor (List ℕ))) (i : ℕ) (e : ReadError) (d : Bor (List ℕ)) → i < length words → Reads range_word IsRange (get_or words i d).now (Err e)
-    → Reads (λ (ranges : Vec (ℕ × ℕ) Global). ranges_words ranges.items) (λ ranges. AreRanges ranges.items) (map (λ (w : Bor (List ℕ)). w.now) words) (Err e)
+pub ranges-unread : (words : List (Bor (List ℕ))) (i : ℕ) (e : ReadError) (d : Bor (List ℕ)) → i < length words → IsReadAs range_word IsRange (get_or words i d).now (Err e)
+    → IsReadAs (λ (ranges : Vec (ℕ × ℕ) Global). ranges_words ranges.items) (λ ranges. AreRanges ranges.items) (map (λ (w : Bor (List ℕ)). w.now) words) (Err e)
 ranges-unread words i Unreadable d below unread = λ v are same.
     let nows = map (λ (w : Bor (List ℕ)). w.now) words in
     let item : get_or nows i [] ≡ (get_or words i d).now = get_or-map (λ (w : Bor (List ℕ)). w.now) words i d [] below in

@@ -9,7 +9,7 @@ use Rattle.std.specs.Prelude.{IfSome}
 use Rattle.pagedctl.specs.declared.script.Script.{Script}
 use Rattle.pagedctl.specs.declared.script.Start.{Start}
 use Rattle.pagedctl.specs.Stop.{error_at}
-use Rattle.pagedctl.specs.Script.{Reads, ReadsScript, IsLine, IsStart, IsReadable, words_of, line_words, start_words, lines_of}
+use Rattle.pagedctl.specs.Script.{IsReadAs, ReadsScript, IsLine, IsStart, IsReadable, words_of, line_words, start_words, lines_of}
 use Rattle.pagedctl.specs.Play.{IsScript}
 
 -- one line more was read
@@ -31,32 +31,32 @@ read-length read others i within so_far =
     omega (arith, counts, length-map read line_words, length-map (take i others) words_of, length-take-le i others within)
 
 -- each line so far was read
-line_read : (read : List Line) (others : List (List ℕ)) (i place : ℕ) → i ≤ length others → map line_words read ≡ map words_of (take i others) → place < i
-    → words_of (get_or others place []) ≡ line_words (get_or read place Recover)
-line_read read others i place within so_far before =
+line_read : (read : List Line) (others : List (List ℕ)) (i offset : ℕ) → i ≤ length others → map line_words read ≡ map words_of (take i others) → offset < i
+    → words_of (get_or others offset []) ≡ line_words (get_or read offset Recover)
+line_read read others i offset within so_far before =
     let count = read-length read others i within so_far in
-    let front : get_or (map line_words read) place [] ≡ line_words (get_or read place Recover) = get_or-map line_words read place Recover [] (omega arith) in
+    let front : get_or (map line_words read) offset [] ≡ line_words (get_or read offset Recover) = get_or-map line_words read offset Recover [] (omega arith) in
     let length_there : length (take i others) ≡ i = length-take-le i others within in
-    let back : get_or (map words_of (take i others)) place [] ≡ words_of (get_or (take i others) place []) = get_or-map words_of (take i others) place [] [] (omega arith) in
-    let same : get_or (take i others) place [] ≡ get_or others place [] = get_or-take i others place [] before in
-    sym (ap words_of same) ∙ sym back ∙ ap (λ (l : List (List (List ℕ))). get_or l place []) (sym so_far) ∙ front
+    let back : get_or (map words_of (take i others)) offset [] ≡ words_of (get_or (take i others) offset []) = get_or-map words_of (take i others) offset [] [] (omega arith) in
+    let same : get_or (take i others) offset [] ≡ get_or others offset [] = get_or-take i others offset [] before in
+    sym (ap words_of same) ∙ sym back ∙ ap (λ (l : List (List (List ℕ))). get_or l offset []) (sym so_far) ∙ front
 
 -- so is each line of the script before this one
-readable_before : (first : List ℕ) (others : List (List ℕ)) (start : Start) (read : List Line) (i place : ℕ) → i ≤ length others
-    → (words_of first ≡ start_words start) × IsStart start → map line_words read ≡ map words_of (take i others) → place < suc i → IsReadable place (get_or (first ∷ others) place [])
+readable_before : (first : List ℕ) (others : List (List ℕ)) (start : Start) (read : List Line) (i offset : ℕ) → i ≤ length others
+    → (words_of first ≡ start_words start) × IsStart start → map line_words read ≡ map words_of (take i others) → offset < suc i → IsReadable offset (get_or (first ∷ others) offset [])
 readable_before first others start read i zero within begins so_far before = (start, begins.0, begins.1)
-readable_before first others start read i (suc place) within begins so_far before =
-    (get_or read place Recover, line_read read others i place within so_far (omega arith))
+readable_before first others start read i (suc offset) within begins so_far before =
+    (get_or read offset Recover, line_read read others i offset within so_far (omega arith))
 
--- a line that isn't read, behind those that were
+-- a line that isn't read, after those that were
 pub stops : (first : List ℕ) (others : List (List ℕ)) (start : Start) (read : List Line) (i : ℕ) (e : ReadError) → i < length others
     → (words_of first ≡ start_words start) × IsStart start → map line_words read ≡ map words_of (take i others)
-    → Reads line_words IsLine (words_of (get_or others i [])) (Err e) → ReadsScript (first ∷ others) (Err (error_at (i + 2) e))
+    → IsReadAs line_words IsLine (words_of (get_or others i [])) (Err e) → ReadsScript (first ∷ others) (Err (error_at (i + 2) e))
 stops first others start read i Unreadable below begins so_far this =
-    let place : i + 2 - 1 ≡ suc i = omega arith in (
+    let offset : i + 2 - 1 ≡ suc i = omega arith in (
       omega arith,
       omega arith,
-      rw place this,
+      rw offset this,
       λ p before. readable_before first others start read i p (omega arith) begins so_far (omega arith),
     )
 stops first others start read i OutOfMemory below begins so_far this = tt
@@ -64,12 +64,12 @@ stops first others start read i OutOfMemory below begins so_far this = tt
 -- the same of lines that are lent
 pub stops_at : (first : List ℕ) (lines : List (Bor (List ℕ))) (start : Start) (read : List Line) (i : ℕ) (e : ReadError) (d : Bor (List ℕ)) → i < length lines
     → (words_of first ≡ start_words start) × IsStart start → map line_words read ≡ map words_of (take i (map (λ (l : Bor (List ℕ)). l.now) lines))
-    → Reads line_words IsLine (words_of (get_or lines i d).now) (Err e) → ReadsScript (first ∷ map (λ (l : Bor (List ℕ)). l.now) lines) (Err (error_at (i + 2) e))
+    → IsReadAs line_words IsLine (words_of (get_or lines i d).now) (Err e) → ReadsScript (first ∷ map (λ (l : Bor (List ℕ)). l.now) lines) (Err (error_at (i + 2) e))
 stops_at first lines start read i e d below begins so_far this =
     let nows = map (λ (l : Bor (List ℕ)). l.now) lines in
     let item : get_or nows i [] ≡ (get_or lines i d).now = get_or-map (λ (l : Bor (List ℕ)). l.now) lines i d [] below in
     stops first nows start read i e (omega (arith, length-map lines (λ (l : Bor (List ℕ)). l.now))) begins so_far
-    (subst (λ (line : List ℕ). Reads line_words IsLine (words_of line) (Err e)) (sym item) this)
+    (subst (λ (line : List ℕ). IsReadAs line_words IsLine (words_of line) (Err e)) (sym item) this)
 
 -- what was read to the end is a script
 pub read_script : (input : Option (List ℕ)) (text : List ℕ) (read : Script) → IfSome input (λ bytes. text ≡ bytes) → ReadsScript (lines_of text) (Ok read) → IfSome input IsScript

@@ -28,10 +28,10 @@ use Rattle.pagedctl.specs.Text.{hex_of}
 
 -- what reading answers, where each value has a text: the value of which this is the text, or that
 -- it is the text of none
-abbrev pub Reads : {V T : Type 0} → (V → T) → (V → Type 0) → T → Result V ReadError → Type 0
-Reads text IsOne read (Ok v) = (read ≡ text v) × IsOne v
-Reads {V} text IsOne read (Err Unreadable) = (v : V) → IsOne v → read ≢ text v
-Reads text IsOne read (Err OutOfMemory) = Unit {0}
+abbrev pub IsReadAs : {V T : Type 0} → (V → T) → (V → Type 0) → T → Result V ReadError → Type 0
+IsReadAs text IsOne read (Ok v) = (read ≡ text v) × IsOne v
+IsReadAs {V} text IsOne read (Err Unreadable) = (v : V) → IsOne v → read ≢ text v
+IsReadAs text IsOne read (Err OutOfMemory) = Unit {0}
 
 -- why a word isn't read where it isn't decoded
 abbrev pub hex_refused : FromHexError → ReadError
@@ -89,7 +89,7 @@ start_words start =
     codes "start" ∷ decimal (non_zero_u16_get start.page_size) ∷ decimal start.capacity
     ∷ decimal (non_zero_usize_get start.pages) ∷ sum_word start.sum ∷ []
 
--- a range of bytes as a word: its place, a colon and its length
+-- a range of bytes as a word: its index, a colon and its length
 abbrev pub range_word : ℕ × ℕ → List ℕ
 range_word range = decimal range.0 ++ 58 ∷ decimal range.1
 
@@ -127,7 +127,7 @@ step_words (Scan proven most size) =
     codes "scan" ∷ decimal proven ∷ decimal most ∷ decimal (non_zero_usize_get size) ∷ []
 step_words Seal = codes "seal" ∷ []
 
--- the words of a line behind the first
+-- the words of a line after the first
 abbrev pub line_words : Line → List (List ℕ)
 line_words (Step step) = step_words step
 line_words (Fail number) = codes "fail" ∷ decimal (non_zero_u64_get number) ∷ []
@@ -183,15 +183,15 @@ IsStart start =
     IsPageSize (non_zero_u16_get start.page_size) × IsU64 start.capacity
     × IsPages (non_zero_usize_get start.pages)
 
--- the line at this place can be read: place 0 has the first line
+-- the line at this index can be read: index 0 has the first line
 abbrev pub IsReadable : ℕ → List ℕ → Type 0
 IsReadable zero line = (start : Start) × (words_of line ≡ start_words start) × IsStart start
-IsReadable (suc place) line = (read : Line) × (words_of line ≡ line_words read)
+IsReadable (suc index) line = (read : Line) × (words_of line ≡ line_words read)
 
--- the line at this place is one of no script
+-- the line at this index is one of no script
 abbrev pub IsUnreadable : ℕ → List ℕ → Type 0
 IsUnreadable zero line = (start : Start) → IsStart start → words_of line ≢ start_words start
-IsUnreadable (suc place) line = (read : Line) → IsLine read → words_of line ≢ line_words read
+IsUnreadable (suc index) line = (read : Line) → IsLine read → words_of line ≢ line_words read
 
 -- what reading these lines answers: the script whose lines they are, or the number of the first
 -- that can't be read, from 1
@@ -202,5 +202,5 @@ ReadsScript lines (Ok script) =
 ReadsScript lines (Err (stop.Unreadable number)) =
     (0 < number) × (number ≤ length lines)
     × IsUnreadable (number - 1) (slice_index_or lines (number - 1) [])
-    × ((place : ℕ) → place + 1 < number → IsReadable place (slice_index_or lines place []))
+    × ((index : ℕ) → index + 1 < number → IsReadable index (slice_index_or lines index []))
 ReadsScript lines (Err stop.Failed) = Unit {0}

@@ -20,7 +20,7 @@ abbrev pub hex_of : List ℕ → List ℕ
 hex_of [] = codes "-"
 hex_of (byte ∷ bytes) = flat_map hex_digits (byte ∷ bytes)
 
--- a number behind a space
+-- a number after a space
 abbrev pub spaced : ℕ → List ℕ
 spaced number = codes " " ++ decimal number
 
@@ -31,7 +31,7 @@ numbers_text (number ∷ numbers) = flat_map spaced (number ∷ numbers)
 
 -- a reply as it is printed
 abbrev pub reply_text : Reply → List ℕ
-reply_text (At place) = codes "at " ++ decimal place
+reply_text (At offset) = codes "at " ++ decimal offset
 reply_text Nothing = codes "none"
 reply_text Done = codes "ok"
 reply_text (Started AllDone) = codes "done"

@@ -6,10 +6,11 @@
 //! the output failed or there was no memory for the script.
 #![tactic(auto)]
 
-ghost use Rattle.std.specs.Prelude.{◌≡◌, ◌<◌, ℕ, IfSome, IfOk};
+ghost use Rattle.std.specs.Prelude.{◌≡◌, ◌<◌, [], ℕ, IfSome, IfOk};
 ghost use Rattle.std.specs.Io.KnownBytes.{Keeps};
 ghost use Rattle.pagedctl.specs.Play.{Plays, IsScript, IsNoScript};
 
+mod explain;
 mod script;
 mod stage;
 mod stop;
@@ -18,6 +19,7 @@ mod tests;
 mod text;
 mod word;
 
+use crate::explain::explain;
 use crate::script::{Script, SumName, parse};
 use crate::stage::Stage;
 use crate::stop::Stop;
@@ -28,7 +30,8 @@ use std::io::{BufWriter, Read, Write};
 use std::process::ExitCode;
 
 /// Plays the script that `input` holds, writes its replies to `out`, and answers the exit status.
-/// Where that isn't 0, `err` gets one line that says why.
+/// Where that isn't 0, `err` gets a line that says why, and where a line can't be read a second one
+/// that says what was expected there.
 pub fn play_on<R: Read, W: Write, E: Write>(
     alloc: Global,
     input: &mut R,
@@ -41,10 +44,11 @@ pub fn play_on<R: Read, W: Write, E: Write>(
         → IfSome (R.remaining input.old) (λ bytes. (number : ℕ) × IsNoScript number bytes) }
     ensures nothing { result ≡ 2 → Keeps (W.contents out.old) (W.contents out.new) }
 {
-    match play_input(alloc, input, out) {
+    let mut text = Vec::new(alloc);
+    match play_input(alloc, input, &mut text, out) {
         Ok(()) => 0,
         Err(stop) => {
-            let _ = writeln!(err, "{stop}");
+            let _ = say(alloc, stop, &text, err);
             stop.status()
         }
     }
@@ -65,12 +69,28 @@ pub fn play<R: Read + Drop, W: Write + Drop, E: Write + Drop>(
     play_on(alloc, &mut input, &mut out, &mut err)
 }
 
-fn play_input<R: Read, W: Write>(alloc: Global, input: &mut R, out: &mut W) -> Result<(), Stop>
+// Says why a script stops, whose text this is; and where a line of it can't be read, in a line
+// below, what is wrong with that.
+fn say<E: Write>(alloc: Global, stop: Stop, text: &[u8], err: &mut E) -> io::Result<()> {
+    writeln!(err, "{stop}")?;
+    match stop {
+        Stop::Unreadable(number) => explain(alloc, text, number, err),
+        Stop::Failed => Ok(()),
+    }
+}
+
+// The input is put in `text`.
+fn play_input<R: Read, W: Write>(
+    alloc: Global,
+    input: &mut R,
+    text: &mut Vec<u8>,
+    out: &mut W,
+) -> Result<(), Stop>
+    requires { text.old.items ≡ [] }
     ensures { Plays (R.remaining input.old) (W.contents out.old) (W.contents out.new) result }
 {
-    let mut text = Vec::new(alloc);
-    input.read_to_end(&mut text)?;
-    let script = parse(alloc, &text)?;
+    input.read_to_end(text)?;
+    let script = parse(alloc, text)?;
     play_script(alloc, script, out)?;
     Ok(())
 }

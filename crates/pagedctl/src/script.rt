@@ -2,7 +2,8 @@
 ghost use Rattle.std.specs.Prelude.{◌≡◌, ◌≢◌, ◌<◌, [], ◌∷◌, vec_len, codes, map, IfOk, ⊤};
 ghost use Rattle.std.specs.Fmt.{decimal};
 ghost use Rattle.std.specs.Int.NonZero.{non_zero_u16_get, non_zero_usize_get};
-ghost use Rattle.pagedctl.specs.Script.{Reads, ReadsScript, IsLine, IsStart, IsPageSize, IsPages};
+ghost use Rattle.pagedctl.specs.Script.{IsReadAs, ReadsScript, IsLine, IsStart, IsPageSize};
+ghost use Rattle.pagedctl.specs.Script.{IsPages};
 ghost use Rattle.pagedctl.specs.Script.{IsBufferSize};
 ghost use Rattle.pagedctl.specs.Script.{parts_of, lines_of, words_of, without_last_feed};
 ghost use Rattle.pagedctl.specs.Script.{line_words, start_words, sum_word};
@@ -21,7 +22,7 @@ const MOST_PAGES: u64 = 4096;
 pub struct Script {
     /// Its first line.
     pub start: Start,
-    /// The lines behind it.
+    /// The lines after it.
     pub lines: Vec<Line>,
 }
 
@@ -47,7 +48,7 @@ pub enum SumName {
     Const,
 }
 
-/// A line behind the first.
+/// A line after the first.
 #[derive(Debug, PartialEq, Eq, Drop)]
 pub enum Line {
     /// A step of the session.
@@ -62,7 +63,7 @@ pub enum Line {
     Dump,
 }
 
-/// Reads a whole script. Its lines end in a line feed, which the last may lack.
+/// IsReadAs a whole script. Its lines end in a line feed, which the last may lack.
 pub fn parse(alloc: Global, input: &[u8]) -> Result<Script, Stop>
     ensures reads { ReadsScript (lines_of input.now) result }
 {
@@ -74,14 +75,14 @@ pub fn parse(alloc: Global, input: &[u8]) -> Result<Script, Stop>
     }
 }
 
-fn without_last_feed(input: &[u8]) -> &[u8]
+pub fn without_last_feed(input: &[u8]) -> &[u8]
     ensures { result.now ≡ without_last_feed input.now }
 {
     input.strip_suffix(b"\n").unwrap_or(input)
 }
 
 // The parts of some bytes between those that are this one.
-fn parts<'a>(alloc: Global, bytes: &'a [u8], at: u8) -> Result<Vec<&'a [u8]>, AllocError>
+pub fn parts<'a>(alloc: Global, bytes: &'a [u8], at: u8) -> Result<Vec<&'a [u8]>, AllocError>
     ensures parts { IfOk result (λ parts.
         map (λ part. part.now) parts.items ≡ parts_of at bytes.now) }
     ensures some { IfOk result (λ parts. 0 < vec_len parts) }
@@ -107,7 +108,7 @@ fn parse_lines(alloc: Global, first: &[u8], others: &[&[u8]]) -> Result<Script, 
 }
 
 fn parse_start(alloc: Global, line: &[u8]) -> Result<Start, ReadError>
-    ensures reads { Reads start_words IsStart (words_of line.now) result }
+    ensures reads { IsReadAs start_words IsStart (words_of line.now) result }
 {
     let words = parts(alloc, line, b' ')?;
     match words.as_slice() {
@@ -118,14 +119,14 @@ fn parse_start(alloc: Global, line: &[u8]) -> Result<Start, ReadError>
     }
 }
 
-// What a script runs over, by the words behind the name of its first line.
+// What a script runs over, by the words after the name of its first line.
 fn parse_settings(
     page_size: &[u8],
     capacity: &[u8],
     pages: &[u8],
     sum: &[u8],
 ) -> Result<Start, ReadError>
-    ensures reads { Reads start_words IsStart
+    ensures reads { IsReadAs start_words IsStart
         (codes "start" ∷ page_size.now ∷ capacity.now ∷ pages.now ∷ sum.now ∷ []) result }
 {
     let page_size = parse_page_size(page_size)?;
@@ -140,8 +141,8 @@ fn parse_settings(
     })
 }
 
-fn parse_page_size(word: &[u8]) -> Result<NonZeroU16, ReadError>
-    ensures reads { Reads (λ size. decimal (non_zero_u16_get size))
+pub fn parse_page_size(word: &[u8]) -> Result<NonZeroU16, ReadError>
+    ensures reads { IsReadAs (λ size. decimal (non_zero_u16_get size))
         (λ size. IsPageSize (non_zero_u16_get size)) word.now result }
 {
     let Ok(size) = u16::try_from(parse_number(word)?) else {
@@ -153,8 +154,8 @@ fn parse_page_size(word: &[u8]) -> Result<NonZeroU16, ReadError>
     }
 }
 
-fn parse_pages(word: &[u8]) -> Result<NonZeroUsize, ReadError>
-    ensures reads { Reads (λ pages. decimal (non_zero_usize_get pages))
+pub fn parse_pages(word: &[u8]) -> Result<NonZeroUsize, ReadError>
+    ensures reads { IsReadAs (λ pages. decimal (non_zero_usize_get pages))
         (λ pages. IsPages (non_zero_usize_get pages)) word.now result }
 {
     let pages = parse_number(word)?;
@@ -167,8 +168,8 @@ fn parse_pages(word: &[u8]) -> Result<NonZeroUsize, ReadError>
     }
 }
 
-fn parse_sum(word: &[u8]) -> Result<SumName, ReadError>
-    ensures reads { Reads sum_word (λ _. ⊤) word.now result }
+pub fn parse_sum(word: &[u8]) -> Result<SumName, ReadError>
+    ensures reads { IsReadAs sum_word (λ _. ⊤) word.now result }
 {
     match word {
         b"add" => Ok(SumName::Add),
@@ -178,14 +179,14 @@ fn parse_sum(word: &[u8]) -> Result<SumName, ReadError>
 }
 
 fn parse_line(alloc: Global, line: &[u8]) -> Result<Line, ReadError>
-    ensures reads { Reads line_words IsLine (words_of line.now) result }
+    ensures reads { IsReadAs line_words IsLine (words_of line.now) result }
 {
     let words = parts(alloc, line, b' ')?;
     parse_words(alloc, &words)
 }
 
 fn parse_words(alloc: Global, words: &[&[u8]]) -> Result<Line, ReadError>
-    ensures reads { Reads line_words IsLine (map (λ word. word.now) words.now) result }
+    ensures reads { IsReadAs line_words IsLine (map (λ word. word.now) words.now) result }
 {
     match words {
         [name, others @ ..] => parse_named(alloc, name, others),
@@ -195,7 +196,7 @@ fn parse_words(alloc: Global, words: &[&[u8]]) -> Result<Line, ReadError>
 
 // A line by its first word, which names what it asks for, and the others.
 fn parse_named(alloc: Global, name: &[u8], others: &[&[u8]]) -> Result<Line, ReadError>
-    ensures reads { Reads line_words IsLine
+    ensures reads { IsReadAs line_words IsLine
         (name.now ∷ map (λ word. word.now) others.now) result }
 {
     match name {
@@ -209,7 +210,7 @@ fn parse_named(alloc: Global, name: &[u8], others: &[&[u8]]) -> Result<Line, Rea
 fn parse_few_words(alloc: Global, name: &[u8], others: &[&[u8]]) -> Result<Line, ReadError>
     requires read { name.now ≢ codes "ranges" }
     requires cached { name.now ≢ codes "cached-ranges" }
-    ensures reads { Reads line_words IsLine
+    ensures reads { IsReadAs line_words IsLine
         (name.now ∷ map (λ word. word.now) others.now) result }
 {
     match others {
@@ -223,7 +224,7 @@ fn parse_few_words(alloc: Global, name: &[u8], others: &[&[u8]]) -> Result<Line,
 
 // A line of one word.
 fn parse_one_word(name: &[u8]) -> Result<Line, ReadError>
-    ensures reads { Reads line_words IsLine (name.now ∷ []) result }
+    ensures reads { IsReadAs line_words IsLine (name.now ∷ []) result }
 {
     match name {
         b"sync" => Ok(Line::Step(Step::Sync)),
@@ -245,7 +246,7 @@ fn parse_one_word(name: &[u8]) -> Result<Line, ReadError>
 fn parse_two_words(alloc: Global, name: &[u8], word: &[u8]) -> Result<Line, ReadError>
     requires read { name.now ≢ codes "ranges" }
     requires cached { name.now ≢ codes "cached-ranges" }
-    ensures reads { Reads line_words IsLine (name.now ∷ word.now ∷ []) result }
+    ensures reads { IsReadAs line_words IsLine (name.now ∷ word.now ∷ []) result }
 {
     match name {
         b"append" => parse_append(alloc, word),
@@ -264,7 +265,7 @@ fn parse_two_words(alloc: Global, name: &[u8], word: &[u8]) -> Result<Line, Read
 fn parse_three_words(name: &[u8], first: &[u8], second: &[u8]) -> Result<Line, ReadError>
     requires read { name.now ≢ codes "ranges" }
     requires cached { name.now ≢ codes "cached-ranges" }
-    ensures reads { Reads line_words IsLine (name.now ∷ first.now ∷ second.now ∷ []) result }
+    ensures reads { IsReadAs line_words IsLine (name.now ∷ first.now ∷ second.now ∷ []) result }
 {
     match name {
         b"read" => parse_read(first, second),
@@ -286,7 +287,7 @@ fn parse_four_words(
 ) -> Result<Line, ReadError>
     requires read { name.now ≢ codes "ranges" }
     requires cached { name.now ≢ codes "cached-ranges" }
-    ensures reads { Reads line_words IsLine
+    ensures reads { IsReadAs line_words IsLine
         (name.now ∷ first.now ∷ second.now ∷ third.now ∷ []) result }
 {
     match name {
@@ -297,42 +298,42 @@ fn parse_four_words(
 }
 
 fn parse_append(alloc: Global, word: &[u8]) -> Result<Line, ReadError>
-    ensures reads { Reads line_words IsLine (codes "append" ∷ word.now ∷ []) result }
+    ensures reads { IsReadAs line_words IsLine (codes "append" ∷ word.now ∷ []) result }
 {
     let bytes = parse_hex(alloc, word)?;
     Ok(Line::Step(Step::Append(bytes)))
 }
 
 fn parse_owned(alloc: Global, word: &[u8]) -> Result<Line, ReadError>
-    ensures reads { Reads line_words IsLine (codes "owned" ∷ word.now ∷ []) result }
+    ensures reads { IsReadAs line_words IsLine (codes "owned" ∷ word.now ∷ []) result }
 {
     let bytes = parse_hex(alloc, word)?;
     Ok(Line::Step(Step::Owned(bytes)))
 }
 
 fn parse_wait_sync(word: &[u8]) -> Result<Line, ReadError>
-    ensures reads { Reads line_words IsLine (codes "wait-sync" ∷ word.now ∷ []) result }
+    ensures reads { IsReadAs line_words IsLine (codes "wait-sync" ∷ word.now ∷ []) result }
 {
     let name = parse_number(word)?;
     Ok(Line::Step(Step::WaitSync(name)))
 }
 
 fn parse_truncate(word: &[u8]) -> Result<Line, ReadError>
-    ensures reads { Reads line_words IsLine (codes "truncate" ∷ word.now ∷ []) result }
+    ensures reads { IsReadAs line_words IsLine (codes "truncate" ∷ word.now ∷ []) result }
 {
     let size = parse_number(word)?;
     Ok(Line::Step(Step::Truncate(size)))
 }
 
 fn parse_replay(word: &[u8]) -> Result<Line, ReadError>
-    ensures reads { Reads line_words IsLine (codes "replay" ∷ word.now ∷ []) result }
+    ensures reads { IsReadAs line_words IsLine (codes "replay" ∷ word.now ∷ []) result }
 {
     let buffer_size = parse_buffer_size(word)?;
     Ok(Line::Step(Step::Replay(buffer_size)))
 }
 
 fn parse_buffer_size(word: &[u8]) -> Result<NonZeroUsize, ReadError>
-    ensures reads { Reads (λ size. decimal (non_zero_usize_get size))
+    ensures reads { IsReadAs (λ size. decimal (non_zero_usize_get size))
         (λ size. IsBufferSize (non_zero_usize_get size)) word.now result }
 {
     match NonZeroUsize::new(parse_number(word)? as usize) {
@@ -342,14 +343,14 @@ fn parse_buffer_size(word: &[u8]) -> Result<NonZeroUsize, ReadError>
 }
 
 fn parse_try(alloc: Global, word: &[u8]) -> Result<Line, ReadError>
-    ensures reads { Reads line_words IsLine (codes "try" ∷ word.now ∷ []) result }
+    ensures reads { IsReadAs line_words IsLine (codes "try" ∷ word.now ∷ []) result }
 {
     let bytes = parse_hex(alloc, word)?;
     Ok(Line::Step(Step::TryAppend(bytes)))
 }
 
 fn parse_fail(word: &[u8]) -> Result<Line, ReadError>
-    ensures reads { Reads line_words IsLine (codes "fail" ∷ word.now ∷ []) result }
+    ensures reads { IsReadAs line_words IsLine (codes "fail" ∷ word.now ∷ []) result }
 {
     match NonZeroU64::new(parse_number(word)?) {
         Some(number) => Ok(Line::Fail(number)),
@@ -358,14 +359,14 @@ fn parse_fail(word: &[u8]) -> Result<Line, ReadError>
 }
 
 fn parse_crash(alloc: Global, word: &[u8]) -> Result<Line, ReadError>
-    ensures reads { Reads line_words IsLine (codes "crash" ∷ word.now ∷ []) result }
+    ensures reads { IsReadAs line_words IsLine (codes "crash" ∷ word.now ∷ []) result }
 {
     let keep = parse_flags(alloc, word)?;
     Ok(Line::Crash(keep))
 }
 
 fn parse_read(offset: &[u8], len: &[u8]) -> Result<Line, ReadError>
-    ensures reads { Reads line_words IsLine (codes "read" ∷ offset.now ∷ len.now ∷ []) result }
+    ensures reads { IsReadAs line_words IsLine (codes "read" ∷ offset.now ∷ len.now ∷ []) result }
 {
     let offset = parse_number(offset)?;
     let len = parse_number(len)? as usize;
@@ -373,7 +374,7 @@ fn parse_read(offset: &[u8], len: &[u8]) -> Result<Line, ReadError>
 }
 
 fn parse_read_up_to(offset: &[u8], len: &[u8]) -> Result<Line, ReadError>
-    ensures reads { Reads line_words IsLine (codes "upto" ∷ offset.now ∷ len.now ∷ []) result }
+    ensures reads { IsReadAs line_words IsLine (codes "upto" ∷ offset.now ∷ len.now ∷ []) result }
 {
     let offset = parse_number(offset)?;
     let len = parse_number(len)? as usize;
@@ -381,7 +382,7 @@ fn parse_read_up_to(offset: &[u8], len: &[u8]) -> Result<Line, ReadError>
 }
 
 fn parse_try_read(offset: &[u8], len: &[u8]) -> Result<Line, ReadError>
-    ensures reads { Reads line_words IsLine (codes "cached" ∷ offset.now ∷ len.now ∷ []) result }
+    ensures reads { IsReadAs line_words IsLine (codes "cached" ∷ offset.now ∷ len.now ∷ []) result }
 {
     let offset = parse_number(offset)?;
     let len = parse_number(len)? as usize;
@@ -389,7 +390,8 @@ fn parse_try_read(offset: &[u8], len: &[u8]) -> Result<Line, ReadError>
 }
 
 fn parse_ensure(index: &[u8], count: &[u8]) -> Result<Line, ReadError>
-    ensures reads { Reads line_words IsLine (codes "ensure" ∷ index.now ∷ count.now ∷ []) result }
+    ensures reads { IsReadAs line_words IsLine (codes "ensure" ∷ index.now ∷ count.now ∷ [])
+        result }
 {
     let index = parse_number(index)? as usize;
     let count = parse_number(count)? as usize;
@@ -397,7 +399,7 @@ fn parse_ensure(index: &[u8], count: &[u8]) -> Result<Line, ReadError>
 }
 
 fn parse_take(index: &[u8], count: &[u8]) -> Result<Line, ReadError>
-    ensures reads { Reads line_words IsLine (codes "take" ∷ index.now ∷ count.now ∷ []) result }
+    ensures reads { IsReadAs line_words IsLine (codes "take" ∷ index.now ∷ count.now ∷ []) result }
 {
     let index = parse_number(index)? as usize;
     let count = parse_number(count)? as usize;
@@ -405,7 +407,7 @@ fn parse_take(index: &[u8], count: &[u8]) -> Result<Line, ReadError>
 }
 
 fn parse_seek(index: &[u8], offset: &[u8]) -> Result<Line, ReadError>
-    ensures reads { Reads line_words IsLine (codes "seek" ∷ index.now ∷ offset.now ∷ []) result }
+    ensures reads { IsReadAs line_words IsLine (codes "seek" ∷ index.now ∷ offset.now ∷ []) result }
 {
     let index = parse_number(index)? as usize;
     let offset = parse_number(offset)?;
@@ -413,7 +415,7 @@ fn parse_seek(index: &[u8], offset: &[u8]) -> Result<Line, ReadError>
 }
 
 fn parse_snap(index: &[u8], offset: &[u8], len: &[u8]) -> Result<Line, ReadError>
-    ensures reads { Reads line_words IsLine
+    ensures reads { IsReadAs line_words IsLine
         (codes "snap" ∷ index.now ∷ offset.now ∷ len.now ∷ []) result }
 {
     let index = parse_number(index)? as usize;
@@ -423,7 +425,7 @@ fn parse_snap(index: &[u8], offset: &[u8], len: &[u8]) -> Result<Line, ReadError
 }
 
 fn parse_scan(proven: &[u8], most: &[u8], buffer_size: &[u8]) -> Result<Line, ReadError>
-    ensures reads { Reads line_words IsLine
+    ensures reads { IsReadAs line_words IsLine
         (codes "scan" ∷ proven.now ∷ most.now ∷ buffer_size.now ∷ []) result }
 {
     let proven = parse_number(proven)?;
@@ -433,7 +435,7 @@ fn parse_scan(proven: &[u8], most: &[u8], buffer_size: &[u8]) -> Result<Line, Re
 }
 
 fn parse_read_ranges(alloc: Global, words: &[&[u8]]) -> Result<Line, ReadError>
-    ensures reads { Reads line_words IsLine
+    ensures reads { IsReadAs line_words IsLine
         (codes "ranges" ∷ map (λ word. word.now) words.now) result }
 {
     let ranges = parse_ranges(alloc, words)?;
@@ -441,7 +443,7 @@ fn parse_read_ranges(alloc: Global, words: &[&[u8]]) -> Result<Line, ReadError>
 }
 
 fn parse_try_read_ranges(alloc: Global, words: &[&[u8]]) -> Result<Line, ReadError>
-    ensures reads { Reads line_words IsLine
+    ensures reads { IsReadAs line_words IsLine
         (codes "cached-ranges" ∷ map (λ word. word.now) words.now) result }
 {
     let ranges = parse_ranges(alloc, words)?;

@@ -1,4 +1,7 @@
 // Scripts, and what the program writes for them.
+mod lines;
+mod scripts;
+
 use crate::play;
 use std::alloc::Global;
 use std::io;
@@ -30,10 +33,18 @@ fn plays(rt: &impl Abort, alloc: Global, script: &str, out: &str) -> Result<(), 
     expect(rt, alloc, script.as_bytes(), out.as_bytes(), b"", 0)
 }
 
-// A script whose first bad line is this one.
+// A script whose first bad line is this one: it is named, and a line below says what is wrong.
 fn names_line(rt: &impl Abort, alloc: Global, script: &[u8], number: u64) -> Result<(), Fail> {
-    let error = format!(in alloc; "unreadable line {number}\n")?;
-    expect(rt, alloc, script, b"", error.as_bytes(), 2)
+    let mut written = Vec::new(alloc);
+    let mut errors = Vec::new(alloc);
+    let ended = play(alloc, script, &mut written, &mut errors);
+    let errors = str::from_utf8(&errors)?;
+    let name = format!(in alloc; "unreadable line {number}\n")?;
+    assert!(rt; errors.starts_with(name.as_str()), "{errors}");
+    assert_eq!(rt; errors.lines().count(), 2, "{errors}");
+    assert!(rt; written.is_empty(), "{errors}");
+    assert_eq!(rt; ended, 2, "{errors}");
+    Ok(())
 }
 
 #[test]
@@ -251,7 +262,7 @@ no-such
 }
 
 #[test]
-fn a_page_is_written_again_behind_a_started_sync(rt: HostRuntime) -> Result<(), Fail> {
+fn a_page_is_written_again_after_a_started_sync(rt: HostRuntime) -> Result<(), Fail> {
     let script = "\
 start 4 8 4 add
 owned 6162
@@ -532,7 +543,7 @@ fn a_bad_first_line_is_named(rt: HostRuntime) -> Result<(), Fail> {
     Ok(())
 }
 
-// Lines that can't be read, also behind a first one that can.
+// Lines that can't be read, also after a first one that can.
 const BAD_LINES: [&[u8]; 94] = [
     b"",
     b" ",

@@ -51,7 +51,7 @@ impl fmt::Display for Said<'_> {
 
     fn fmt<W: fmt::Write>(&self, f: &mut fmt::Formatter<W>) -> fmt::Result {
         match self.0 {
-            Reply::At(place) => write!(f, "at {place}"),
+            Reply::At(offset) => write!(f, "at {offset}"),
             Reply::Nothing => write!(f, "none"),
             Reply::Done => write!(f, "ok"),
             Reply::Started(StartedSync::Done) => write!(f, "done"),

@@ -5,7 +5,7 @@ ghost use Rattle.std.specs.Fmt.{decimal};
 ghost use Rattle.std.specs.List.{list_any};
 ghost use Rattle.std.specs.Char.{is_ascii_uppercase};
 ghost use Rattle.pagedctl.specs.Text.{hex_of};
-ghost use Rattle.pagedctl.specs.Script.{Reads, IsU64, HasLead, AreBytes, flag_digit, flags_text};
+ghost use Rattle.pagedctl.specs.Script.{IsReadAs, IsU64, HasLead, AreBytes, flag_digit, flags_text};
 ghost use Rattle.pagedctl.specs.Script.{IsRange, AreRanges, range_word, ranges_words};
 
 use hex::FromHexError;
@@ -58,7 +58,7 @@ impl From<FromHexError> for ReadError {
 
 /// A number in decimal digits, with no zero in front of another digit.
 pub fn parse_number(word: &[u8]) -> Result<u64, ReadError>
-    ensures reads { Reads decimal IsU64 word.now result }
+    ensures reads { IsReadAs decimal IsU64 word.now result }
 {
     number(word).ok_or(ReadError::Unreadable)
 }
@@ -89,7 +89,7 @@ fn has_lead(word: &[u8]) -> bool
 
 /// Bytes in lower-case hexadecimal digits, two a byte, or `-` for none.
 pub fn parse_hex(alloc: Global, word: &[u8]) -> Result<Vec<u8>, ReadError>
-    ensures reads { Reads (λ bytes. hex_of bytes.items) (λ bytes. AreBytes bytes.items) word.now
+    ensures reads { IsReadAs (λ bytes. hex_of bytes.items) (λ bytes. AreBytes bytes.items) word.now
         result }
 {
     if is_none(word) {
@@ -114,9 +114,9 @@ fn has_upper(word: &[u8]) -> bool
     word.iter().any(u8::is_ascii_uppercase)
 }
 
-// A range of bytes: a place and a length, with a colon between.
-fn parse_range(word: &[u8]) -> Result<(u64, usize), ReadError>
-    ensures reads { Reads range_word IsRange word.now result }
+// A range of bytes: an offset and a length, with a colon between.
+pub fn parse_range(word: &[u8]) -> Result<(u64, usize), ReadError>
+    ensures reads { IsReadAs range_word IsRange word.now result }
 {
     let Some(colon) = word.iter().position(|byte| *byte == b':') else {
         return Err(ReadError::Unreadable);
@@ -128,7 +128,7 @@ fn parse_range(word: &[u8]) -> Result<(u64, usize), ReadError>
 
 /// Ranges of bytes, at least one, each a word.
 pub fn parse_ranges(alloc: Global, words: &[&[u8]]) -> Result<Vec<(u64, usize)>, ReadError>
-    ensures reads { Reads (λ ranges. ranges_words ranges.items)
+    ensures reads { IsReadAs (λ ranges. ranges_words ranges.items)
         (λ ranges. AreRanges ranges.items) (map (λ word. word.now) words.now) result }
 {
     if words.is_empty() {
@@ -143,7 +143,7 @@ pub fn parse_ranges(alloc: Global, words: &[&[u8]]) -> Result<Vec<(u64, usize)>,
 
 /// Flags in digits 0 and 1, or `-` for none.
 pub fn parse_flags(alloc: Global, word: &[u8]) -> Result<Vec<bool>, ReadError>
-    ensures reads { Reads (λ flags. flags_text flags.items) (λ _. ⊤) word.now result }
+    ensures reads { IsReadAs (λ flags. flags_text flags.items) (λ _. ⊤) word.now result }
 {
     if is_none(word) {
         return Ok(Vec::new(alloc));

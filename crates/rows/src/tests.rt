@@ -5,6 +5,7 @@ mod cuts;
 mod direct;
 mod kit;
 mod layout;
+mod looks;
 mod memory;
 mod openings;
 mod ranges;

@@ -1,7 +1,7 @@
 -- What a step does to a session but for its snapshots and its replays.
 use Rattle.std.proofs.Common.{◌≡◌, ◌⊎◌, ℕ, ◌≤◌, List, [], length, Bool, true, false}
 use Rattle.std.specs.Prelude.{All, map, Option, None, option_map}
-use Rattle.disk.specs.Disk.{Disk, Life, after}
+use Rattle.disk.specs.Disk.{Disk, Life, life_after}
 use Rattle.crash.specs.Kept.{AllKeep, AllOnly}
 use Rattle.crash.specs.Started.{StartsStand}
 use Rattle.paged_read.specs.Tail.{told}
@@ -30,12 +30,12 @@ pub record IsReadyApart (sum : List ℕ → ℕ) (session : SessionState) (d : D
 -- replays are these
 pub record SteppedApart (sum : List ℕ → ℕ) (P : ℕ) (step : Step) (reply : Reply) (session : SessionState) (old new : Life) (before : Standing) (snapshots : List (List ℕ)) (replays : List (Option Replayed)) : Type 0 where
   pub moments : List Disk
-  pub goes : new ≡ after old moments
-  pub behind : Standing
-  pub did : Did sum P step reply old.present moments before behind
-  pub stands : StandsApart sum P session behind new.present
-  pub same : behind.snapshots ≡ snapshots
-  pub alike : behind.replays ≡ replays
+  pub goes : new ≡ life_after old moments
+  pub after : Standing
+  pub did : Did sum P step reply old.present moments before after
+  pub stands : StandsApart sum P session after new.present
+  pub same : after.snapshots ≡ snapshots
+  pub alike : after.replays ≡ replays
 
 -- the replays as they were, or all forgotten
 abbrev pub left_replays : (cuts : Bool) → List (Option Replayed) → List (Option Replayed)
@@ -112,5 +112,5 @@ steps_with cuts sum step reply was now replays old new steps = record {
   ready = record { writer = steps.ready.writer; starts = steps.ready.starts };
   always = λ P before stands.
       let a = steps.always P before stands in
-      record { moments = a.moments; goes = a.goes; behind = a.behind; did = a.did; stands = stands_with sum P now replays a.behind new.present a.stands; same = a.same; alike = a.alike };
+      record { moments = a.moments; goes = a.goes; after = a.after; did = a.did; stands = stands_with sum P now replays a.after new.present a.stands; same = a.same; alike = a.alike };
 }

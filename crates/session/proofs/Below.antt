@@ -7,8 +7,8 @@ use Rattle.std.proofs.lemmas.Bool.Decides.{nat_tests}
 use Rattle.std.proofs.lemmas.Option.{get_or_from_slice_get, slice_get_within, slice_get_read}
 use Rattle.std.specs.List.{slice_get}
 use Rattle.disk.specs.Disk.{Disk, Life}
-use Rattle.crash.specs.WriterState.{WriterState}
-use Rattle.crash.specs.Sound.{IsSound}
+use Rattle.writer_state.specs.WriterState.{WriterState}
+use Rattle.writer_state.specs.Sound.{IsSound}
 use Rattle.cache.specs.CacheState.{CacheState}
 use Rattle.paged_read.specs.Tail.{Tail, told, CanRead}
 use Rattle.paged_read.specs.Replay.{ReplayState, IsReplayOf, LeavesAllReplays, LeavesReplays}
@@ -44,9 +44,9 @@ in_appending true recovery appending is = absurd (false≢true (sym is))
 -- ---- what a call of the writer leaves
 
 -- what is of its full pages is of those of the writer that goes on
-pub leaves_on : (sum : List ℕ → ℕ) (o : Option WriterState) (w v : WriterState) (cache behind : CacheState) (old new : Life) → o ≡ Some w → IsSameWriter w v → LeavesTails sum w.full_pages cache behind old new → LeavesReplays w.page_size w.full_pages old new
-    → LeavesTaken sum o (Some v) cache behind old new
-leaves_on sum o w v cache behind old new at same tails replays = record {
+pub leaves_on : (sum : List ℕ → ℕ) (o : Option WriterState) (w v : WriterState) (cache after : CacheState) (old new : Life) → o ≡ Some w → IsSameWriter w v → LeavesTails sum w.full_pages cache after old new → LeavesReplays w.page_size w.full_pages old new
+    → LeavesTaken sum o (Some v) cache after old new
+leaves_on sum o w v cache after old new at same tails replays = record {
   snapshots = λ t content below stands.
       let under : IsBelow (Some w) t = subst (λ (x : Option WriterState). IsBelow x t) at below in
       let more : t.full_pages ≤ v.full_pages = omega (arith, under.1, same.full_pages) in
@@ -58,9 +58,9 @@ leaves_on sum o w v cache behind old new at same tails replays = record {
 }
 
 -- and of none
-pub leaves_gone : (sum : List ℕ → ℕ) (o now : Option WriterState) (w : WriterState) (cache behind : CacheState) (old new : Life) → o ≡ Some w → now ≡ None → LeavesTails sum w.full_pages cache behind old new → LeavesReplays w.page_size w.full_pages old new
-    → LeavesTaken sum o now cache behind old new
-leaves_gone sum o now w cache behind old new at none tails replays = record {
+pub leaves_gone : (sum : List ℕ → ℕ) (o now : Option WriterState) (w : WriterState) (cache after : CacheState) (old new : Life) → o ≡ Some w → now ≡ None → LeavesTails sum w.full_pages cache after old new → LeavesReplays w.page_size w.full_pages old new
+    → LeavesTaken sum o now cache after old new
+leaves_gone sum o now w cache after old new at none tails replays = record {
   snapshots = λ t content below stands.
       let under : IsBelow (Some w) t = subst (λ (x : Option WriterState). IsBelow x t) at below in
       (tails t content under.1 stands, subst (λ (x : Option WriterState). IsBelow x t) (sym none) tt);
@@ -70,8 +70,8 @@ leaves_gone sum o now w cache behind old new at none tails replays = record {
 }
 
 -- and of one that stays as it is
-pub leaves_same : (sum : List ℕ → ℕ) (o : Option WriterState) (w : WriterState) (cache behind : CacheState) (old new : Life) → o ≡ Some w → LeavesTails sum w.full_pages cache behind old new → LeavesAllReplays old new → LeavesTaken sum o o cache behind old new
-leaves_same sum o w cache behind old new at tails replays = record {
+pub leaves_same : (sum : List ℕ → ℕ) (o : Option WriterState) (w : WriterState) (cache after : CacheState) (old new : Life) → o ≡ Some w → LeavesTails sum w.full_pages cache after old new → LeavesAllReplays old new → LeavesTaken sum o o cache after old new
+leaves_same sum o w cache after old new at tails replays = record {
   snapshots = λ t content below stands.
       let under : IsBelow (Some w) t = subst (λ (x : Option WriterState). IsBelow x t) at below in
       (tails t content under.1 stands, below);
@@ -86,8 +86,8 @@ leaves_here sum o cache life = record {
 }
 
 -- one that leaves all of them
-pub leaves_all : (sum : List ℕ → ℕ) (o : Option WriterState) (cache behind : CacheState) (old new : Life) → LeavesAllTails sum cache behind old new → LeavesAllReplays old new → LeavesTaken sum o o cache behind old new
-leaves_all sum o cache behind old new tails replays = record {
+pub leaves_all : (sum : List ℕ → ℕ) (o : Option WriterState) (cache after : CacheState) (old new : Life) → LeavesAllTails sum cache after old new → LeavesAllReplays old new → LeavesTaken sum o o cache after old new
+leaves_all sum o cache after old new tails replays = record {
   snapshots = λ t content below stands. (tails t content stands, below);
   replays = λ r content below gives. (replays sum content r gives, below);
 }
@@ -95,9 +95,9 @@ leaves_all sum o cache behind old new tails replays = record {
 -- ---- what a step leaves of one snapshot, and of one replay
 
 -- it is one still, can be read, and tells what it told
-pub record Left (sum : List ℕ → ℕ) (now : Option WriterState) (behind : CacheState) (old new : Disk) (t : Tail) : Type 0 where
+pub record Left (sum : List ℕ → ℕ) (now : Option WriterState) (after : CacheState) (old new : Disk) (t : Tail) : Type 0 where
   pub snapshot : IsSnapshot sum now t new
-  pub can : CanRead t behind new
+  pub can : CanRead t after new
   pub tells : told t new.readable ≡ told t old.readable
 
 -- it is one still, and tells what it told
@@ -106,14 +106,14 @@ pub record LeftReplay (sum : List ℕ → ℕ) (now : Option WriterState) (old n
   pub tells : option_map (replayed new.readable) o ≡ option_map (replayed old.readable) o
 
 -- of all
-pub record LeftAll (sum : List ℕ → ℕ) (was : SessionState) (now : Option WriterState) (behind : CacheState) (old new : Disk) : Type 0 where
-  pub snapshots : All (Left sum now behind old new) was.snapshots
+pub record LeftAll (sum : List ℕ → ℕ) (was : SessionState) (now : Option WriterState) (after : CacheState) (old new : Disk) : Type 0 where
+  pub snapshots : All (Left sum now after old new) was.snapshots
   pub replays : All (LeftReplay sum now old new) was.replays
 
 -- of one replay
-replay_left : (sum : List ℕ → ℕ) (was now : Option WriterState) (cache behind : CacheState) (old new : Life) (o : Option ReplayState) → LeavesTaken sum was now cache behind old new → IsReplayIn sum was old.present o → LeftReplay sum now old.present new.present o
-replay_left sum was now cache behind old new None leaves is = record { replay = tt; tells = refl }
-replay_left sum was now cache behind old new (Some r) leaves (gives, below) =
+replay_left : (sum : List ℕ → ℕ) (was now : Option WriterState) (cache after : CacheState) (old new : Life) (o : Option ReplayState) → LeavesTaken sum was now cache after old new → IsReplayIn sum was old.present o → LeftReplay sum now old.present new.present o
+replay_left sum was now cache after old new None leaves is = record { replay = tt; tells = refl }
+replay_left sum was now cache after old new (Some r) leaves (gives, below) =
     let after_it = leaves.replays r (told r.tail old.present.readable) below gives in
     let tells : told r.tail new.present.readable ≡ told r.tail old.present.readable = after_it.0.tail.is in
     record {
@@ -121,24 +121,24 @@ replay_left sum was now cache behind old new (Some r) leaves (gives, below) =
       tells = ap (λ (content : List ℕ). Some (record (replayed old.present.readable r) { content = content })) tells;
     }
 
-pub left_by : (sum : List ℕ → ℕ) (was : SessionState) (now : Option WriterState) (cache behind : CacheState) (old new : Life) → IsReady sum was old.present → CacheFits was cache old.present → LeavesTaken sum was.writer now cache behind old new
-    → LeftAll sum was now behind old.present new.present
-left_by sum was now cache behind old new ready fits leaves = record {
+pub left_by : (sum : List ℕ → ℕ) (was : SessionState) (now : Option WriterState) (cache after : CacheState) (old new : Life) → IsReady sum was old.present → CacheFits was cache old.present → LeavesTaken sum was.writer now cache after old new
+    → LeftAll sum was now after old.present new.present
+left_by sum was now cache after old new ready fits leaves = record {
   snapshots = λ k t lt.
       let s = ready.snapshots k t lt in
       let after_it = leaves.snapshots _ _ s.below (record { tail = record { there = s.there; full = s.full; is = refl }; can = fits.snapshots k t lt }) in
       let tail = after_it.0.tail in
       record { snapshot = record { there = tail.there; full = tail.full; below = after_it.1 }; can = after_it.0.can; tells = tail.is };
-  replays = λ k o lt. replay_left sum was.writer now cache behind old new (get_or was.replays k o) leaves (ready.replays k o lt);
+  replays = λ k o lt. replay_left sum was.writer now cache after old new (get_or was.replays k o) leaves (ready.replays k o lt);
 }
 
 -- by a step that asks nothing of the device
 pub replays_same : (sum : List ℕ → ℕ) (was : SessionState) (now : Option WriterState) (old new : Life) → IsReady sum was old.present → now ≡ was.writer → new ≡ old → All (LeftReplay sum now old.present new.present) was.replays
 replays_same sum was now old new ready writer life = rw (writer, life) (λ k o lt. record { replay = ready.replays k o lt; tells = refl })
 
-pub left_same : (sum : List ℕ → ℕ) (was : SessionState) (now : Option WriterState) (cache behind : CacheState) (old new : Life) → IsReady sum was old.present → CacheFits was cache old.present → now ≡ was.writer → behind ≡ cache → new ≡ old
-    → LeftAll sum was now behind old.present new.present
-left_same sum was now cache behind old new ready fits writer same life = record {
+pub left_same : (sum : List ℕ → ℕ) (was : SessionState) (now : Option WriterState) (cache after : CacheState) (old new : Life) → IsReady sum was old.present → CacheFits was cache old.present → now ≡ was.writer → after ≡ cache → new ≡ old
+    → LeftAll sum was now after old.present new.present
+left_same sum was now cache after old new ready fits writer same life = record {
   snapshots = rw (writer, same, life) (λ k t lt. record { snapshot = ready.snapshots k t lt; can = fits.snapshots k t lt; tells = refl });
   replays = replays_same sum was now old new ready writer life;
 }
@@ -147,8 +147,8 @@ left_same sum was now cache behind old new ready fits writer same life = record 
 pub of_each : {X : Type 0} (Q : X → Type 0) (xs : List X) (i : ℕ) (x : X) → slice_get xs i ≡ Some x → All Q xs → Q x
 of_each Q xs i x at all = subst Q (get_or_from_slice_get xs i x x at) (all i x (slice_get_within xs i x at))
 
-pub at_place : {X : Type 0} (xs ys : List X) (i : ℕ) (x : X) → xs ≡ ys → true ≡ nat_lt i (length xs) → x ≡ get_or xs i x → slice_get ys i ≡ Some x
-at_place xs ys i x same within is =
+pub at_offset : {X : Type 0} (xs ys : List X) (i : ℕ) (x : X) → xs ≡ ys → true ≡ nat_lt i (length xs) → x ≡ get_or xs i x → slice_get ys i ≡ Some x
+at_offset xs ys i x same within is =
     let less : i < length xs = grind (arith, nat_tests, within) in
     subst (λ (l : List _). slice_get l i ≡ Some x) same (slice_get_read xs (length xs) i x refl less is)
 
@@ -167,9 +167,9 @@ map_both f [] more = refl
 map_both f (x ∷ xs) more = ap (λ (l : List _). f x ∷ l) (map_both f xs more)
 
 -- a snapshot that was made
-pub record Made (sum : List ℕ → ℕ) (now : Option WriterState) (behind : CacheState) (new : Disk) (t : Tail) : Type 0 where
+pub record Made (sum : List ℕ → ℕ) (now : Option WriterState) (after : CacheState) (new : Disk) (t : Tail) : Type 0 where
   pub snapshot : IsSnapshot sum now t new
-  pub can : CanRead t behind new
+  pub can : CanRead t after new
 
 -- a step that makes these snapshots, and leaves these replays, whatever the session stood for
 abbrev pub AlwaysLeaves : (List ℕ → ℕ) → Step → Reply → SessionState → SessionState → Life → Life → (more : List Tail) → (replays : (P : ℕ) → Standing → List (Option Replayed)) → Type 0
@@ -186,14 +186,14 @@ pub record HasReplays (sum : List ℕ → ℕ) (was now : SessionState) (old new
   pub gives : (P : ℕ) (before : Standing) → StandsFor sum P was before old → replays P before ≡ map (option_map (replayed new.readable)) now.replays
 
 -- the whole of what it did
-pub framed_by : (sum : List ℕ → ℕ) (step : Step) (reply : Reply) (was now : SessionState) (behind : CacheState) (old new : Life) (more : List Tail) (replays : (P : ℕ) → Standing → List (Option Replayed)) → now.snapshots ≡ was.snapshots ++ more → (now.recovering ≡ true → now.snapshots ≡ [])
-    → IsReadyApart sum now new.present → FitsWriter now.writer behind new.present → All (Left sum now.writer behind old.present new.present) was.snapshots → HasReplays sum was now old.present new.present replays → All (Made sum now.writer behind new.present) more
-    → AlwaysLeaves sum step reply was now old new more replays → Steps sum step reply was now old new × CacheFits now behind new.present
-framed_by sum step reply was now behind old new more replays is begun ready fits left has made always =
+pub framed_by : (sum : List ℕ → ℕ) (step : Step) (reply : Reply) (was now : SessionState) (after : CacheState) (old new : Life) (more : List Tail) (replays : (P : ℕ) → Standing → List (Option Replayed)) → now.snapshots ≡ was.snapshots ++ more → (now.recovering ≡ true → now.snapshots ≡ [])
+    → IsReadyApart sum now new.present → FitsWriter now.writer after new.present → All (Left sum now.writer after old.present new.present) was.snapshots → HasReplays sum was now old.present new.present replays → All (Made sum now.writer after new.present) more
+    → AlwaysLeaves sum step reply was now old new more replays → Steps sum step reply was now old new × CacheFits now after new.present
+framed_by sum step reply was now after old new more replays is begun ready fits left has made always =
     let ts = was.snapshots in
     let snapshots : All (λ t. IsSnapshot sum now.writer t new.present) (ts ++ more) =
     All-append (λ t. IsSnapshot sum now.writer t new.present) ts more (λ k t lt. (left k t lt).snapshot) (λ k t lt. (made k t lt).snapshot) in
-    let can : All (λ t. CanRead t behind new.present) (ts ++ more) = All-append (λ t. CanRead t behind new.present) ts more (λ k t lt. (left k t lt).can) (λ k t lt. (made k t lt).can) in
+    let can : All (λ t. CanRead t after new.present) (ts ++ more) = All-append (λ t. CanRead t after new.present) ts more (λ k t lt. (left k t lt).can) (λ k t lt. (made k t lt).can) in
     let tells : map (λ t. told t new.present.readable) ts ≡ map (λ t. told t old.present.readable) ts =
     maps_alike (λ (t : Tail). told t new.present.readable) (λ (t : Tail). told t old.present.readable) ts (λ k t lt. (left k t lt).tells) in (
       record {
@@ -206,17 +206,17 @@ framed_by sum step reply was now behind old new more replays is begun ready fits
         };
         always = λ P before stands.
             let a = always P before stands in
-            let all : a.behind.snapshots ≡ map (λ t. told t new.present.readable) now.snapshots =
+            let all : a.after.snapshots ≡ map (λ t. told t new.present.readable) now.snapshots =
             a.same ∙ ap (λ (l : List (List ℕ)). l ++ map (λ t. told t new.present.readable) more) (stands.snapshots ∙ sym tells)
             ∙ sym (map_both (λ (t : Tail). told t new.present.readable) ts more) ∙ ap (λ (l : List Tail). map (λ t. told t new.present.readable) l) (sym is) in
-            record { moments = a.moments; goes = a.goes; behind = a.behind; did = a.did; stands = whole sum P now a.behind new.present all (a.alike ∙ has.gives P before stands) a.stands };
+            record { moments = a.moments; goes = a.goes; after = a.after; did = a.did; stands = whole sum P now a.after new.present all (a.alike ∙ has.gives P before stands) a.stands };
       },
-      record { writer = fits; snapshots = subst (λ (l : List Tail). All (λ t. CanRead t behind new.present) l) (sym is) can },
+      record { writer = fits; snapshots = subst (λ (l : List Tail). All (λ t. CanRead t after new.present) l) (sym is) can },
     )
 
 -- replays that are left are as they were
-same_replays : (sum : List ℕ → ℕ) (was now : SessionState) (behind : CacheState) (old new : Disk) → now.replays ≡ was.replays → LeftAll sum was now.writer behind old new → HasReplays sum was now old new (λ P s. s.replays)
-same_replays sum was now behind old new is left = record {
+same_replays : (sum : List ℕ → ℕ) (was now : SessionState) (after : CacheState) (old new : Disk) → now.replays ≡ was.replays → LeftAll sum was now.writer after old new → HasReplays sum was now old new (λ P s. s.replays)
+same_replays sum was now after old new is left = record {
   ready = subst (λ (l : List (Option ReplayState)). All (IsReplayIn sum now.writer new) l) (sym is) (λ k o lt. (left.replays k o lt).replay);
   gives = λ P before stands.
       let tells : map (option_map (replayed new.readable)) was.replays ≡ map (option_map (replayed old.readable)) was.replays =
@@ -225,27 +225,27 @@ same_replays sum was now behind old new is left = record {
 }
 
 -- of one that leaves the replays
-pub framed : (sum : List ℕ → ℕ) (step : Step) (reply : Reply) (was now : SessionState) (behind : CacheState) (old new : Life) (more : List Tail) → now.snapshots ≡ was.snapshots ++ more → now.replays ≡ was.replays → (now.recovering ≡ true → now.snapshots ≡ [])
-    → IsReadyApart sum now new.present → FitsWriter now.writer behind new.present → LeftAll sum was now.writer behind old.present new.present → All (Made sum now.writer behind new.present) more → AlwaysMakes sum step reply was now old new more
-    → Steps sum step reply was now old new × CacheFits now behind new.present
-framed sum step reply was now behind old new more is kept begun ready fits left made always =
-    framed_by sum step reply was now behind old new more (λ P s. s.replays) is begun ready fits left.snapshots (same_replays sum was now behind old.present new.present kept left) made always
+pub framed : (sum : List ℕ → ℕ) (step : Step) (reply : Reply) (was now : SessionState) (after : CacheState) (old new : Life) (more : List Tail) → now.snapshots ≡ was.snapshots ++ more → now.replays ≡ was.replays → (now.recovering ≡ true → now.snapshots ≡ [])
+    → IsReadyApart sum now new.present → FitsWriter now.writer after new.present → LeftAll sum was now.writer after old.present new.present → All (Made sum now.writer after new.present) more → AlwaysMakes sum step reply was now old new more
+    → Steps sum step reply was now old new × CacheFits now after new.present
+framed sum step reply was now after old new more is kept begun ready fits left made always =
+    framed_by sum step reply was now after old new more (λ P s. s.replays) is begun ready fits left.snapshots (same_replays sum was now after old.present new.present kept left) made always
 
 -- of one that makes no snapshot, by what it leaves of the replays
-framed_alone : (cuts : Bool) (sum : List ℕ → ℕ) (step : Step) (reply : Reply) (was now : SessionState) (behind : CacheState) (old new : Life) → now.snapshots ≡ was.snapshots → (now.recovering ≡ true → now.snapshots ≡ []) → FitsWriter now.writer behind new.present
-    → All (Left sum now.writer behind old.present new.present) was.snapshots → HasReplays sum was now old.present new.present (λ P s. left_replays cuts s.replays) → StepsBy cuts sum step reply was now old new
-    → Steps sum step reply was now old new × CacheFits now behind new.present
-framed_alone cuts sum step reply was now behind old new is begun fits left has apart =
-    framed_by sum step reply was now behind old new [] (λ P s. left_replays cuts s.replays) (is ∙ sym (append-nil was.snapshots)) begun apart.ready fits left has (λ k t lt. absurd (omega (arith, lt)))
+framed_alone : (cuts : Bool) (sum : List ℕ → ℕ) (step : Step) (reply : Reply) (was now : SessionState) (after : CacheState) (old new : Life) → now.snapshots ≡ was.snapshots → (now.recovering ≡ true → now.snapshots ≡ []) → FitsWriter now.writer after new.present
+    → All (Left sum now.writer after old.present new.present) was.snapshots → HasReplays sum was now old.present new.present (λ P s. left_replays cuts s.replays) → StepsBy cuts sum step reply was now old new
+    → Steps sum step reply was now old new × CacheFits now after new.present
+framed_alone cuts sum step reply was now after old new is begun fits left has apart =
+    framed_by sum step reply was now after old new [] (λ P s. left_replays cuts s.replays) (is ∙ sym (append-nil was.snapshots)) begun apart.ready fits left has (λ k t lt. absurd (omega (arith, lt)))
     (λ P before stands.
     subst (λ (l : List (List ℕ)). SteppedApart sum P step reply now old new before l (left_replays cuts before.replays)) (sym (append-nil before.snapshots))
     (apart.always P before (stands_apart sum P was before old.present stands)))
 
 -- of one that leaves both
-pub framed_same : (sum : List ℕ → ℕ) (step : Step) (reply : Reply) (was now : SessionState) (behind : CacheState) (old new : Life) → now.snapshots ≡ was.snapshots → now.replays ≡ was.replays → (now.recovering ≡ true → now.snapshots ≡ [])
-    → FitsWriter now.writer behind new.present → LeftAll sum was now.writer behind old.present new.present → StepsApart sum step reply was now old new → Steps sum step reply was now old new × CacheFits now behind new.present
-framed_same sum step reply was now behind old new is kept begun fits left apart =
-    framed_alone false sum step reply was now behind old new is begun fits left.snapshots (same_replays sum was now behind old.present new.present kept left) apart
+pub framed_same : (sum : List ℕ → ℕ) (step : Step) (reply : Reply) (was now : SessionState) (after : CacheState) (old new : Life) → now.snapshots ≡ was.snapshots → now.replays ≡ was.replays → (now.recovering ≡ true → now.snapshots ≡ [])
+    → FitsWriter now.writer after new.present → LeftAll sum was now.writer after old.present new.present → StepsApart sum step reply was now old new → Steps sum step reply was now old new × CacheFits now after new.present
+framed_same sum step reply was now after old new is kept begun fits left apart =
+    framed_alone false sum step reply was now after old new is begun fits left.snapshots (same_replays sum was now after old.present new.present kept left) apart
 
 -- of one that forgets the replays
 none_left : (sum : List ℕ → ℕ) (writer : Option WriterState) (d : Disk) (os : List (Option ReplayState)) → All (IsReplayIn sum writer d) (map (λ o. None) os)
@@ -253,10 +253,10 @@ none_left sum writer d [] k o lt = absurd (omega (arith, lt))
 none_left sum writer d (p ∷ os) zero o lt = tt
 none_left sum writer d (p ∷ os) (suc k) o lt = none_left sum writer d os k o (omega (arith, lt))
 
-pub framed_cut : (sum : List ℕ → ℕ) (step : Step) (reply : Reply) (was now : SessionState) (behind : CacheState) (old new : Life) → now.snapshots ≡ was.snapshots → now.replays ≡ map (λ o. None) was.replays → (now.recovering ≡ true → now.snapshots ≡ [])
-    → FitsWriter now.writer behind new.present → All (Left sum now.writer behind old.present new.present) was.snapshots → StepsBy true sum step reply was now old new → Steps sum step reply was now old new × CacheFits now behind new.present
-framed_cut sum step reply was now behind old new is forgot begun fits left apart =
-    framed_alone true sum step reply was now behind old new is begun fits left
+pub framed_cut : (sum : List ℕ → ℕ) (step : Step) (reply : Reply) (was now : SessionState) (after : CacheState) (old new : Life) → now.snapshots ≡ was.snapshots → now.replays ≡ map (λ o. None) was.replays → (now.recovering ≡ true → now.snapshots ≡ [])
+    → FitsWriter now.writer after new.present → All (Left sum now.writer after old.present new.present) was.snapshots → StepsBy true sum step reply was now old new → Steps sum step reply was now old new × CacheFits now after new.present
+framed_cut sum step reply was now after old new is forgot begun fits left apart =
+    framed_alone true sum step reply was now after old new is begun fits left
     (record {
       ready = subst (λ (l : List (Option ReplayState)). All (IsReplayIn sum now.writer new.present) l) (sym forgot) (none_left sum now.writer new.present was.replays);
       gives = λ P before stands.

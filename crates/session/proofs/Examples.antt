@@ -16,12 +16,12 @@ use Rattle.crash.specs.Kept.{AllOnly}
 use Rattle.crash.proofs.CutLaws.{rest_only}
 use Rattle.crash.proofs.Disks.{base_is_image, base_is_whole}
 use Rattle.crash.proofs.Promise.{whole_is_chance_free}
-use Rattle.crash.proofs.Examples.{durable, six, all_keep}
+use Rattle.writer_state.proofs.Examples.{durable, six, all_keep}
 use Rattle.std.specs.declared.num.NonZeroUsize.{NonZeroUsize}
 use Rattle.session.specs.declared.steps.Step.{Step}
 use Rattle.session.specs.declared.steps.Step.TheVariants.{Append, Owned, TryAppend, Sync, StartSync, Wait, WaitSync, Needs, Size, Read, ReadUpTo, TryRead, ReadRanges, TryReadRanges, Begin, Truncate, Snapshot, TrySnapshot, Snap, Seal, Replay, Ensure, Take, Seek, Scan}
 use Rattle.session.specs.declared.steps.Reply.TheVariants.{At, Nothing, Done, Length, Bytes, Fault, Closed, NotRecovering, NoSuch, Served, Missed, BadRanges, Taken, Sealed, NotAppending}
-use Rattle.session.specs.Run.{HasEnsured, is_had, PassesEnd, passed, Replayed, replaying, rewritten, Standing, buffered_after, awaited_after, appended, synced, starting, truncated, noted, flushed, left_by_seal, sealed_by, snapshot_at, waited, begun, needs_sync, raised, started_by, ended, fit_together, turned_away, Accepts, faults, HasCause, Allocates, waits_for, Refuses, Takes, Foretells, RiseBelow, Answers, touch, Ran}
+use Rattle.session.specs.Run.{HasEnsured, is_had, PassesEnd, passed, Replayed, replaying, rewritten, Standing, buffered_after, awaited_after, appended, synced, starting, truncated, noted, flushed, left_by_seal, sealed_by, snapshot_at, waited, begun, needs_sync, raised, started_by, ended, fit_together, turned_away, Accepts, faults, HasCause, Allocates, awaited_name, Refuses, Takes, Foretells, RiseBelow, Answers, touch, Ran}
 use Rattle.session.specs.Run.Touch.{Leaves, Looks, Changes}
 use Rattle.session.specs.Promise.{Crashes, fresh}
 
@@ -54,7 +54,7 @@ six_started = starting 4 (Named 0) none_synced
 pub a_fresh_session : fresh 4 8 six ≡ six_stand
 a_fresh_session = refl
 
--- after a sync all of it is kept, and what is left behind the full page is buffered
+-- after a sync all of it is kept, and what is left after the full page is buffered
 pub a_sync_step : synced 4 none_synced ≡ six_stand
 a_sync_step = refl
 
@@ -86,7 +86,7 @@ no_other_name = refl
 pub a_full_buffer : buffered_after 4 six_stand 6 ≡ 8
 a_full_buffer = refl
 
--- seven don't, and one is left behind the two pages that are written
+-- seven don't, and one is left after the two pages that are written
 pub a_drained_buffer : buffered_after 4 six_stand 7 ≡ 1
 a_drained_buffer = refl
 
@@ -166,10 +166,10 @@ no_wait_to_buffer = refl
 pub a_wait_to_flush : awaited_after six_started 7 ≡ None
 a_wait_to_flush = refl
 
-pub nothing_awaited : (bytes : Vec ℕ Global) → bytes.items ≡ 103 ∷ [] → waits_for 4 (Append bytes) six_started ≡ None
+pub nothing_awaited : (bytes : Vec ℕ Global) → bytes.items ≡ 103 ∷ [] → awaited_name 4 (Append bytes) six_started ≡ None
 nothing_awaited bytes is = rw is refl
 
-pub a_name_awaited : waits_for 4 (WaitSync 0) six_stand ≡ Some 0
+pub a_name_awaited : awaited_name 4 (WaitSync 0) six_stand ≡ Some 0
 a_name_awaited = refl
 
 -- before it has completed the floor is as it was, and then it is what it covers
@@ -219,8 +219,8 @@ pub a_truncate : truncated 4 2 six_stand ≡ two_stand
 a_truncate = refl
 
 -- the same by the steps: six bytes, a sync, and a truncate
-pub a_truncate_behind_a_sync : truncated 4 2 (begun (Truncate 2) (synced 4 (appended 4 six (fresh 4 8 [])))) ≡ two_stand
-a_truncate_behind_a_sync = refl
+pub a_truncate_after_a_sync : truncated 4 2 (begun (Truncate 2) (synced 4 (appended 4 six (fresh 4 8 [])))) ≡ two_stand
+a_truncate_after_a_sync = refl
 
 -- as it begins the floor is lowered, and what a started sync covers
 pub a_floor_is_lowered : begun (Truncate 2) six_stand ≡ record six_stand { floor = 2 }
@@ -247,7 +247,7 @@ a_truncate_above = (refl, refl)
 pub no_size_before : Takes add_sum 4 (Truncate 2) (Length 6) durable durable six_stand two_stand → ⊥
 no_size_before takes = omega (arith, takes.0)
 
--- behind a sync and a truncate a started sync that completes raises no floor past what is left
+-- after a sync and a truncate a started sync that completes raises no floor past what is left
 pub a_cut_cover : (raised (record pending { settled = 2 }) (truncated 4 2 (begun (Truncate 2) six_started))).floor ≡ 2
 a_cut_cover = refl
 
@@ -290,7 +290,7 @@ no_end_within cause = omega (arith, cause.1)
 pub the_end_is_told : Answers add_sum 4 (Read 4 3) (Fault OutOfMemory) durable durable six_stand six_stand → ⊥
 the_end_is_told answers = let is : Fault OutOfMemory ≡ Fault BlobInsufficientLength = answers.1.1 a_read_past_the_end in cc
 
--- bytes that fit what is buffered stand behind the content
+-- bytes that fit what is buffered stand after the content
 pub a_try : (bytes : Vec ℕ Global) → length bytes.items ≡ 6 → Accepts add_sum 4 (TryAppend bytes) (At 6) durable durable six_stand (appended 4 bytes.items six_stand)
 a_try bytes long = (le-leb (2 + length bytes.items) 8 (omega (arith, long)), refl, refl)
 
@@ -299,37 +299,37 @@ pub a_try_that_does_not_fit : (bytes : Vec ℕ Global) → length bytes.items �
 a_try_that_does_not_fit bytes long = let passes : 8 < 2 + length bytes.items = omega (arith, long) in (grind (arith, nat_tests, passes), refl)
 
 -- and those that fit aren't answered so
-pub no_nothing_that_fits : (bytes : Vec ℕ Global) (behind : Standing) → length bytes.items ≡ 6 → Accepts add_sum 4 (TryAppend bytes) Nothing durable durable six_stand behind → ⊥
-no_nothing_that_fits bytes behind long accepts = absurd (false≢true (sym accepts.0 ∙ le-leb (2 + length bytes.items) 8 (omega (arith, long))))
+pub no_nothing_that_fits : (bytes : Vec ℕ Global) (after : Standing) → length bytes.items ≡ 6 → Accepts add_sum 4 (TryAppend bytes) Nothing durable durable six_stand after → ⊥
+no_nothing_that_fits bytes after long accepts = absurd (false≢true (sym accepts.0 ∙ le-leb (2 + length bytes.items) 8 (omega (arith, long))))
 
 -- no other step is answered so, but a read that asks no device, and a snapshot that writes nothing
-pub nothing_is_of_a_try : (sum : List ℕ → ℕ) (P : ℕ) (step : Step) (from to : Disk) (before behind : Standing) → Accepts sum P step Nothing from to before behind
+pub nothing_is_of_a_try : (sum : List ℕ → ℕ) (P : ℕ) (step : Step) (from to : Disk) (before after : Standing) → Accepts sum P step Nothing from to before after
     → ((bytes : Vec ℕ Global) × (step ≡ TryAppend bytes)) ⊎ (((offset len : ℕ) × (step ≡ TryRead offset len)) ⊎ (step ≡ TrySnapshot))
-nothing_is_of_a_try sum P (TryAppend bytes) from to before behind accepts = inl (bytes, refl)
-nothing_is_of_a_try sum P (TryRead offset len) from to before behind accepts = inr (inl (offset, len, refl))
-nothing_is_of_a_try sum P TrySnapshot from to before behind accepts = inr (inr refl)
-nothing_is_of_a_try sum P Snapshot from to before behind accepts = absurd accepts
-nothing_is_of_a_try sum P (Snap index offset len) from to before behind accepts = absurd accepts
-nothing_is_of_a_try sum P Seal from to before behind accepts = absurd accepts
-nothing_is_of_a_try sum P (Replay buffer_size) from to before behind accepts = absurd accepts
-nothing_is_of_a_try sum P (Ensure index count) from to before behind accepts = absurd accepts
-nothing_is_of_a_try sum P (Take index count) from to before behind accepts = absurd accepts
-nothing_is_of_a_try sum P (Seek index offset) from to before behind accepts = absurd accepts
-nothing_is_of_a_try sum P (Scan proven most buffer_size) from to before behind accepts = absurd accepts
-nothing_is_of_a_try sum P (Append bytes) from to before behind accepts = absurd accepts
-nothing_is_of_a_try sum P (Owned bytes) from to before behind accepts = absurd accepts
-nothing_is_of_a_try sum P Sync from to before behind accepts = absurd accepts
-nothing_is_of_a_try sum P StartSync from to before behind accepts = absurd accepts
-nothing_is_of_a_try sum P Wait from to before behind accepts = absurd accepts
-nothing_is_of_a_try sum P (WaitSync name) from to before behind accepts = absurd accepts
-nothing_is_of_a_try sum P Needs from to before behind accepts = absurd accepts
-nothing_is_of_a_try sum P Size from to before behind accepts = absurd accepts
-nothing_is_of_a_try sum P (Read offset len) from to before behind accepts = absurd accepts
-nothing_is_of_a_try sum P (ReadUpTo offset len) from to before behind accepts = absurd accepts
-nothing_is_of_a_try sum P (ReadRanges ranges) from to before behind accepts = absurd accepts
-nothing_is_of_a_try sum P (TryReadRanges ranges) from to before behind accepts = absurd accepts
-nothing_is_of_a_try sum P Begin from to before behind accepts = absurd accepts
-nothing_is_of_a_try sum P (Truncate n) from to before behind accepts = absurd accepts
+nothing_is_of_a_try sum P (TryAppend bytes) from to before after accepts = inl (bytes, refl)
+nothing_is_of_a_try sum P (TryRead offset len) from to before after accepts = inr (inl (offset, len, refl))
+nothing_is_of_a_try sum P TrySnapshot from to before after accepts = inr (inr refl)
+nothing_is_of_a_try sum P Snapshot from to before after accepts = absurd accepts
+nothing_is_of_a_try sum P (Snap index offset len) from to before after accepts = absurd accepts
+nothing_is_of_a_try sum P Seal from to before after accepts = absurd accepts
+nothing_is_of_a_try sum P (Replay buffer_size) from to before after accepts = absurd accepts
+nothing_is_of_a_try sum P (Ensure index count) from to before after accepts = absurd accepts
+nothing_is_of_a_try sum P (Take index count) from to before after accepts = absurd accepts
+nothing_is_of_a_try sum P (Seek index offset) from to before after accepts = absurd accepts
+nothing_is_of_a_try sum P (Scan proven most buffer_size) from to before after accepts = absurd accepts
+nothing_is_of_a_try sum P (Append bytes) from to before after accepts = absurd accepts
+nothing_is_of_a_try sum P (Owned bytes) from to before after accepts = absurd accepts
+nothing_is_of_a_try sum P Sync from to before after accepts = absurd accepts
+nothing_is_of_a_try sum P StartSync from to before after accepts = absurd accepts
+nothing_is_of_a_try sum P Wait from to before after accepts = absurd accepts
+nothing_is_of_a_try sum P (WaitSync name) from to before after accepts = absurd accepts
+nothing_is_of_a_try sum P Needs from to before after accepts = absurd accepts
+nothing_is_of_a_try sum P Size from to before after accepts = absurd accepts
+nothing_is_of_a_try sum P (Read offset len) from to before after accepts = absurd accepts
+nothing_is_of_a_try sum P (ReadUpTo offset len) from to before after accepts = absurd accepts
+nothing_is_of_a_try sum P (ReadRanges ranges) from to before after accepts = absurd accepts
+nothing_is_of_a_try sum P (TryReadRanges ranges) from to before after accepts = absurd accepts
+nothing_is_of_a_try sum P Begin from to before after accepts = absurd accepts
+nothing_is_of_a_try sum P (Truncate n) from to before after accepts = absurd accepts
 
 -- of ten bytes from the fifth on the two that there are
 pub up_to_the_end : (bytes : Vec ℕ Global) → bytes.items ≡ 101 ∷ 102 ∷ [] → Accepts add_sum 4 (ReadUpTo 4 10) (Bytes bytes) durable durable six_stand six_stand
@@ -357,7 +357,7 @@ overlapping_ranges = refl
 pub ranges_out_of_order : fit_together ((4, 4) ∷ (0, 4) ∷ []) ≡ false
 ranges_out_of_order = refl
 
--- also where the end of one passes the greatest place
+-- also where the end of one passes the greatest offset
 pub far_ranges : fit_together ((18446744073709551615, 2) ∷ (18446744073709551615, 0) ∷ []) ≡ false
 far_ranges = refl
 
@@ -521,7 +521,7 @@ a_snap_is_taken = refl
 pub no_such_snapshot : turned_away (Snap 1 3 2) six_noted ≡ Some NoSuch
 no_such_snapshot = refl
 
--- what is appended behind it isn't in it
+-- what is appended after it isn't in it
 pub it_does_not_move : snapshot_at (appended 4 (103 ∷ []) six_noted) 0 ≡ six
 it_does_not_move = refl
 
@@ -585,14 +585,14 @@ none_is_not_said now says = false≢true says.exact
 pub not_all_is_fetched : HasEnsured six_replayed 1 true (record six_replayed { hand = 6 }) → ⊥
 not_all_is_fetched says = absurd (omega (arith, says.most))
 
--- where all that is left is behind the full pages no device is asked
+-- where all that is left is after the full pages no device is asked
 pub the_rest_is_had : is_had (Some (record six_replayed { position = 4 })) 2 ≡ true
 the_rest_is_had = refl
 
 pub a_page_is_not : is_had (Some six_replayed) 1 ≡ false
 a_page_is_not = refl
 
--- a place past the end is refused, and the end is not
+-- an offset past the end is refused, and the end is not
 pub past_the_end : PassesEnd (Seek 0 7) (replaying 4 64 six_stand)
 past_the_end = lit< tt
 

@@ -1,6 +1,10 @@
 pub mod Apart
 pub mod Below
 pub mod StepLaws
+pub mod AppendLaws
+pub mod SyncLaws
+pub mod SizeLaws
+pub mod SessionLaws
 pub mod ReadLaws
 pub mod RangeLaws
 pub mod StartLaws
@@ -12,3 +16,4 @@ pub mod WholeLaws
 pub mod RunLaws
 pub mod PromiseLaws
 pub mod Examples
+pub mod Joined

@@ -25,7 +25,7 @@ numbered_there xs i x is = by_case (slice_get xs i) is
     by_case None none = absurd (cc none)
     by_case (Some y) some = ap Some some
 
--- the one at a place
+-- the one at an offset
 numbered_at : {A : Type 0} (xs : List (Option A)) (i : ℕ) (o : Option (Option A)) → slice_get xs i ≡ o → numbered xs i ≡ (elim o [ None ↦ None | Some y ↦ y ])
 numbered_at xs i o is = ap (λ (x : Option (Option _)). elim x [ None ↦ None | Some y ↦ y ]) is
 
@@ -37,7 +37,7 @@ put_back xs i x is = ap (λ (y : _). set xs i y) (sym (get_or_from_slice_get xs 
 abbrev pub AtOne : (index : ℕ) → (was now : List (Option ReplayState)) → Reply → (same : Type 0) → (goes : ReplayState → ReplayState → Type 0) → Option ReplayState → Type 0
 AtOne index was now reply same goes o = elim o [ None ↦ (reply ≡ NoSuch) × (now ≡ was) × same | Some r ↦ (q : ReplayState) × (now ≡ set was index (Some q)) × goes r q ]
 
--- a step of the one at a place
+-- a step of the one at an offset
 pub at_some : (index : ℕ) (was : List (Option ReplayState)) (o now : Option ReplayState) (reply : Reply) (same : Type 0) (goes : ReplayState → ReplayState → Type 0) → slice_get was index ≡ Some o → OfReplay o now reply same goes → AtReplay index was (set was index now) reply same goes
 at_some index was None now reply same goes at (replied, is, stays) =
     let kept : set was index now ≡ was = ap (λ (x : Option ReplayState). set was index x) is ∙ put_back was index None at in

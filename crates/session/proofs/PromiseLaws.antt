@@ -2,18 +2,18 @@
 use Rattle.std.proofs.Common.{◌≡◌, ℕ, ◌+◌, ◌<◌, ◌≤◌, List, [], ◌∷◌, ◌++◌, length, take, refl, sym, ap, ◌∙◌, subst, arith, inl, inr, Bool, true, false, length-take}
 use Rattle.std.specs.Prelude.{Ok, ◌⊎◌, ◌%◌, ◌*◌}
 use Rattle.std.proofs.lemmas.List.{take-take}
-use Rattle.disk.specs.Disk.{Disk, IsImage, Life, next, after}
+use Rattle.disk.specs.Disk.{Disk, IsImage, Life, next, life_after}
 use Rattle.page.specs.Page.{text}
 use Rattle.page.specs.Geometry.{adjusted}
 use Rattle.cache.specs.CacheState.{CacheState}
 use Rattle.crash.specs.Guard.{IsChanceFree}
 use Rattle.crash.specs.Kept.{AllKeep, AllOnly, Each, Through}
 use Rattle.crash.specs.Stays.{Stays, KeepsAll, KeepsAllFloors}
-use Rattle.crash.specs.WriterState.{WriterState}
-use Rattle.crash.specs.Sound.{IsSound, content as content_of}
+use Rattle.writer_state.specs.WriterState.{WriterState}
+use Rattle.writer_state.specs.Sound.{IsSound, content as content_of}
 use Rattle.crash.proofs.Disks.{base_is_whole}
 use Rattle.disk.specs.Images.{only_image}
-use Rattle.crash.specs.Moments.{each_last, through_end, after-append, each_then}
+use Rattle.crash.specs.Moments.{each_last, through_end, life_after-append, each_then}
 use Rattle.crash.proofs.Moments.{stays_itself}
 use Rattle.crash.proofs.Promise.{whole_is_chance_free}
 use Rattle.paged.specs.Calls.{HoldsWithin}
@@ -26,7 +26,8 @@ use Rattle.session.specs.Run.{Standing, SessionState, raised, begun as begun_wit
 use Rattle.session.specs.Promise.{IsMoment, HasCrashed, Crashes, Attempts, HasRecovered, ComesBack, Begins, Survives, Tells, Promises, session_of, fresh, KeepsFloor, LeavesContent, IsBegun, AttemptsThrough, opened, StandsWhereSound, RecoversFrom, GivesBack, GivesBackLeft, LeadsOn}
 use Rattle.session.specs.Promise.ComesBack.{recovered, crashed, attempted}
 use Rattle.session.proofs.Apart.{whole}
-use Rattle.session.proofs.StepLaws.{same_moments, begun_within, stands_now, settled_started, settled_awaits}
+use Rattle.session.proofs.StepLaws.{same_moments, begun_within, stands_now}
+use Rattle.session.proofs.AppendLaws.{settled_started, settled_awaits}
 use Rattle.paged.proofs.Flushes.{size_is_length}
 use Rattle.std.proofs.Math.Nat.{mul-add-mod_self_right, mod-eq_of_lt}
 use Rattle.std.proofs.lemmas.Bool.{false≢true}
@@ -41,17 +42,17 @@ each_front Q (d ∷ ds) es each = (each.0, each_front Q ds es each.1)
 -- what holds through a life holds at each moment of it
 pub through_moment : (Q : Disk → Type 0) (old new : Life) (d : Disk) → Through Q old new → IsMoment old new d → Q d
 unfolding Through
-through_moment Q old new d through (before, behind, goes, is) =
-    let same : through.moments ≡ before ++ behind = (same_moments old old through.moments (before ++ behind) refl (sym through.goes ∙ goes ∙ sym (after-append old before behind))).1 in
-    let each : Each Q before = each_front Q before behind (subst (λ (l : List Disk). Each Q l) same through.each) in
+through_moment Q old new d through (before, after, goes, is) =
+    let same : through.moments ≡ before ++ after = (same_moments old old through.moments (before ++ after) refl (sym through.goes ∙ goes ∙ sym (life_after-append old before after))).1 in
+    let each : Each Q before = each_front Q before after (subst (λ (l : List Disk). Each Q l) same through.each) in
     subst Q (sym is) (each_last Q old before through.start each)
 
 -- each moment of a life is one
-each_moment : (old new : Life) (before moments : List Disk) → new ≡ after (after old before) moments → Each (λ d. IsMoment old new d) moments
+each_moment : (old new : Life) (before moments : List Disk) → new ≡ life_after (life_after old before) moments → Each (λ d. IsMoment old new d) moments
 each_moment old new before [] goes = tt
 each_moment old new before (d ∷ ds) goes =
-    let joined : after old (before ++ d ∷ []) ≡ next (after old before) d = after-append old before (d ∷ []) in
-    let later : new ≡ after (after old (before ++ d ∷ [])) ds = goes ∙ ap (λ (l : Life). after l ds) (sym joined) in
+    let joined : life_after old (before ++ d ∷ []) ≡ next (life_after old before) d = life_after-append old before (d ∷ []) in
+    let later : new ≡ life_after (life_after old (before ++ d ∷ [])) ds = goes ∙ ap (λ (l : Life). life_after l ds) (sym joined) in
     ((before ++ d ∷ [], ds, later, ap (λ (l : Life). l.present) (sym joined)), each_moment old new (before ++ d ∷ []) ds later)
 
 -- ---- prefixes
@@ -146,10 +147,10 @@ survive_each sum P content other floor [] enough kept only = tt
 survive_each sum P content other floor (d ∷ ds) enough kept only = (survives sum P content other floor d enough kept.0 only.0, survive_each sum P content other floor ds enough kept.1 only.1)
 
 -- a run tells
-pub ran_tells : (sum : List ℕ → ℕ) (P : ℕ) (steps : List Step) (replies : List Reply) (from : Disk) (moments : List Disk) (s behind : Standing) → s.floor ≤ length s.content → Ran sum P steps replies from moments s behind
-    → Tells sum P steps replies from moments s behind
-ran_tells sum P [] [] from moments s behind enough (none, same, keeps, only) = (none, same, survives sum P s.content s.otherwise s.floor from enough keeps only)
-ran_tells sum P (step ∷ steps) (reply ∷ replies) from moments s behind enough (keeps, only, first, rest, is, mid, did, ran) = (
+pub ran_tells : (sum : List ℕ → ℕ) (P : ℕ) (steps : List Step) (replies : List Reply) (from : Disk) (moments : List Disk) (s after : Standing) → s.floor ≤ length s.content → Ran sum P steps replies from moments s after
+    → Tells sum P steps replies from moments s after
+ran_tells sum P [] [] from moments s after enough (none, same, keeps, only) = (none, same, survives sum P s.content s.otherwise s.floor from enough keeps only)
+ran_tells sum P (step ∷ steps) (reply ∷ replies) from moments s after enough (keeps, only, first, rest, is, mid, did, ran) = (
   survives sum P s.content s.otherwise s.floor from enough keeps only,
   first,
   rest,
@@ -157,10 +158,10 @@ ran_tells sum P (step ∷ steps) (reply ∷ replies) from moments s behind enoug
   mid,
   did.answer,
   survive_each sum P s.content (other_content step s) (begun_with step s).floor (from ∷ first) (begun_within step s (length s.content) enough) did.kept did.only,
-  ran_tells sum P steps replies (last from first) rest (raised (last from first) mid) behind did.within ran,
+  ran_tells sum P steps replies (last from first) rest (raised (last from first) mid) after did.within ran,
 )
-ran_tells sum P [] (reply ∷ replies) from moments s behind enough ran = absurd ran
-ran_tells sum P (step ∷ steps) [] from moments s behind enough ran = absurd ran
+ran_tells sum P [] (reply ∷ replies) from moments s after enough ran = absurd ran
+ran_tells sum P (step ∷ steps) [] from moments s after enough ran = absurd ran
 
 -- the promise of a run
 pub promises : (sum : List ℕ → ℕ) (steps : List Step) (was now : SessionState) (old new : Life) (earlier replies : List Reply) → RunsAlways sum steps was now old new earlier replies → Promises sum steps was now old new earlier replies
@@ -171,8 +172,8 @@ promises sum steps was now old new earlier replies always = λ P before stands.
       adds = always.adds;
       moments = runs.moments;
       goes = runs.goes;
-      behind = runs.behind;
-      tells = ran_tells sum P steps always.added old.present runs.moments before runs.behind stands.floor runs.ran;
+      after = runs.after;
+      tells = ran_tells sum P steps always.added old.present runs.moments before runs.after stands.floor runs.ran;
       stands = runs.stands;
     }
 
@@ -304,7 +305,7 @@ attempts_through sum P old new image kept only = λ fair durable.
       each = each_then (IsMoment old new) (Attempts sum P fair old.present) through.moments at (each_moment old new [] through.moments through.goes);
     }
 
--- ---- a crash, and a recovery behind it
+-- ---- a crash, and a recovery after it
 
 -- what came back keeps the floor
 pub crashed_keeps : (sum : List ℕ → ℕ) (P : ℕ) (d e : Disk) (left : List ℕ) → HasCrashed d e → e.readable ≡ left → RecoversFrom sum P e → KeepsFloor sum P d (text sum P left)

@@ -12,11 +12,11 @@ use Rattle.page.specs.Geometry.{AreInOrderFrom, AreInOrder, EndWithin, RangesGo}
 use Rattle.crash.specs.Kept.{AllOnly, Through}
 use Rattle.crash.specs.Looks.{Looked, looked_start}
 use Rattle.crash.specs.Started.{StartsStand}
-use Rattle.crash.specs.WriterState.{WriterState}
-use Rattle.crash.specs.Sound.{IsSound}
+use Rattle.writer_state.specs.WriterState.{WriterState}
+use Rattle.writer_state.specs.Sound.{IsSound}
 use Rattle.cache.specs.CacheState.{CacheState}
 use Rattle.paged_read.specs.Tail.{Tail}
-use Rattle.paged_read.specs.Ranges.{missing, is_served, missed_from, places, ReadsMany, AsksOnce, AsksTogether, Misses}
+use Rattle.paged_read.specs.Ranges.{missing, is_served, missed_from, page_ranges, ReadsMany, AsksOnce, AsksTogether, Misses}
 use Rattle.paged_read.proofs.RangedLists.{refused_not}
 use Rattle.paged.specs.Caches.{tail_of}
 use Rattle.paged.specs.Reads.{size_of}
@@ -28,7 +28,9 @@ use Rattle.session.specs.declared.steps.Reply.{Reply}
 use Rattle.session.specs.declared.steps.Reply.TheVariants.{At, Nothing, Done, Started, Answer, Length, Bytes, Fault, Closed, NotRecovering, NoSuch, Served, Missed, BadRanges, Taken, Sealed, NotAppending, Replaying}
 use Rattle.session.specs.Run.{Standing, SessionState, in_order_from, fit_together, turned_away, content_after, faults, HasCause, Takes, Foretells, RiseBelow, NumbersSome, touch}
 use Rattle.session.specs.Calls.{ReadsRanges, ReadRangesSays, DidReadRanges, TriedRanges, DidTryReadRanges}
-use Rattle.session.proofs.StepLaws.{held, answers_away, leaves, begun_keeps, begun_covers, only_there, raised_within, unasked, looked_steps, alike_stays_started, closed_takes, held_takes, sound_of, same_rest}
+use Rattle.session.proofs.StepLaws.{held, answers_away, leaves, begun_keeps, begun_covers, only_there, raised_within, unasked}
+use Rattle.session.proofs.SizeLaws.{looked_steps, alike_stays_started}
+use Rattle.session.proofs.SessionLaws.{closed_takes, held_takes, sound_of, same_rest}
 use Rattle.session.proofs.Apart.{AlwaysApart, IsReadyApart, StandsApart, StepsApart}
 
 -- ---- ranges that one call can take
@@ -49,41 +51,41 @@ all_fit ranges total order is small =
     sym (ap (λ (b : Bool). b && nat_lt (sum_by (λ range. range.1) ranges) (2 ^ 64)) order ∙ few)
 
 -- ranges are in order where they are tested to be
-in_order : (place : ℕ) (ranges : List (ℕ × ℕ)) → in_order_from place ranges ≡ true → AreInOrderFrom place ranges
-in_order place [] is = tt
-in_order place (range ∷ ranges) is =
-    let parts = and_parts (nat_le place range.0) (in_order_from (range.0 + range.1) ranges) is in
-    (leb-true place range.0 parts.0, in_order (range.0 + range.1) ranges parts.1)
+in_order : (offset : ℕ) (ranges : List (ℕ × ℕ)) → in_order_from offset ranges ≡ true → AreInOrderFrom offset ranges
+in_order offset [] is = tt
+in_order offset (range ∷ ranges) is =
+    let parts = and_parts (nat_le offset range.0) (in_order_from (range.0 + range.1) ranges) is in
+    (leb-true offset range.0 parts.0, in_order (range.0 + range.1) ranges parts.1)
 
 -- once all were gone over
-pub fit_behind : (ranges : List (ℕ × ℕ)) (i end total : ℕ) → length ranges ≤ i → in_order_from end (drop i ranges) ≡ in_order_from 0 ranges → total + sum_by (λ range. range.1) (drop i ranges) ≡ sum_by (λ range. range.1) ranges → total < 2 ^ 64
+pub fit_after : (ranges : List (ℕ × ℕ)) (i end total : ℕ) → length ranges ≤ i → in_order_from end (drop i ranges) ≡ in_order_from 0 ranges → total + sum_by (λ range. range.1) (drop i ranges) ≡ sum_by (λ range. range.1) ranges → total < 2 ^ 64
     → true ≡ fit_together ranges
-fit_behind ranges i end total all order sum small = all_fit ranges total (order_all ranges i end all order) (total_all ranges i total all sum) small
+fit_after ranges i end total all order sum small = all_fit ranges total (order_all ranges i end all order) (total_all ranges i total all sum) small
 
-pub in_order_behind : (ranges : List (ℕ × ℕ)) (i end : ℕ) → length ranges ≤ i → in_order_from end (drop i ranges) ≡ in_order_from 0 ranges → AreInOrder ranges
-in_order_behind ranges i end all order = in_order 0 ranges (order_all ranges i end all order)
+pub in_order_after : (ranges : List (ℕ × ℕ)) (i end : ℕ) → length ranges ≤ i → in_order_from end (drop i ranges) ≡ in_order_from 0 ranges → AreInOrder ranges
+in_order_after ranges i end all order = in_order 0 ranges (order_all ranges i end all order)
 
 -- ---- the first range that can't be read
 
 -- there is one alone
-one_first : (size : ℕ) (before before_it behind behind_it : List (ℕ × ℕ)) (range other : ℕ × ℕ) → before ++ range ∷ behind ≡ before_it ++ other ∷ behind_it → EndWithin size before → EndWithin size before_it → size < range.0 + range.1 → size < other.0 + other.1 → range ≡ other
-one_first size [] [] behind behind_it range other is ends ends_it passes passes_it = cc is
-one_first size [] (first ∷ before_it) behind behind_it range other is ends ends_it passes passes_it =
+one_first : (size : ℕ) (before before_it after after_it : List (ℕ × ℕ)) (range other : ℕ × ℕ) → before ++ range ∷ after ≡ before_it ++ other ∷ after_it → EndWithin size before → EndWithin size before_it → size < range.0 + range.1 → size < other.0 + other.1 → range ≡ other
+one_first size [] [] after after_it range other is ends ends_it passes passes_it = cc is
+one_first size [] (first ∷ before_it) after after_it range other is ends ends_it passes passes_it =
     let same : range ≡ first = cc is in
     let within : first.0 + first.1 ≤ size = ends_it 0 first (omega arith) in
     absurd (omega (arith, passes, within, ap (λ (r : ℕ × ℕ). r.0 + r.1) same))
-one_first size (first ∷ before) [] behind behind_it range other is ends ends_it passes passes_it =
+one_first size (first ∷ before) [] after after_it range other is ends ends_it passes passes_it =
     let same : first ≡ other = cc is in
     let within : first.0 + first.1 ≤ size = ends 0 first (omega arith) in
     absurd (omega (arith, passes_it, within, ap (λ (r : ℕ × ℕ). r.0 + r.1) same))
-one_first size (first ∷ before) (first_it ∷ before_it) behind behind_it range other is ends ends_it passes passes_it =
-    let rest : before ++ range ∷ behind ≡ before_it ++ other ∷ behind_it = cc is in
-    one_first size before before_it behind behind_it range other rest (λ k d less. ends (suc k) d (omega (arith, less))) (λ k d less. ends_it (suc k) d (omega (arith, less))) passes passes_it
+one_first size (first ∷ before) (first_it ∷ before_it) after after_it range other is ends ends_it passes passes_it =
+    let rest : before ++ range ∷ after ≡ before_it ++ other ∷ after_it = cc is in
+    one_first size before before_it after after_it range other rest (λ k d less. ends (suc k) d (omega (arith, less))) (λ k d less. ends_it (suc k) d (omega (arith, less))) passes passes_it
 
 -- so it doesn't pass both the greatest number and only the end
 not_both : (size : ℕ) (ranges : List (ℕ × ℕ)) → size < 2 ^ 64 → RangesGo size ranges (Err OffsetOverflow) → RangesGo size ranges (Err BlobInsufficientLength) → ⊥
-not_both size ranges small (before, behind, (range, is, ends, goes)) (before_it, behind_it, (other, is_it, ends_it, goes_it)) =
-    let same = one_first size before before_it behind behind_it range other (sym is ∙ is_it) ends ends_it (omega (arith, goes, small)) goes_it.1 in
+not_both size ranges small (before, after, (range, is, ends, goes)) (before_it, after_it, (other, is_it, ends_it, goes_it)) =
+    let same = one_first size before before_it after after_it range other (sym is ∙ is_it) ends ends_it (omega (arith, goes, small)) goes_it.1 in
     omega (arith, goes, goes_it.0, ap (λ (r : ℕ × ℕ). r.0 + r.1) same)
 
 -- what it decides is told
@@ -158,21 +160,21 @@ says_by sum w cache ranges old new reply small reads full asks looked = record {
 }
 
 -- nothing is asked for where the blob stayed
-asks_none : (places : List (ℕ × ℕ)) (life : Life) → AsksTogether places life life
+asks_none : (ranges : List (ℕ × ℕ)) (life : Life) → AsksTogether ranges life life
 asks_none [] life = refl
-asks_none (place ∷ places) life = inl refl
+asks_none (range ∷ ranges) life = inl refl
 
 -- the first that can't be read decides
 refused_reads : (sum : List ℕ → ℕ) (w : WriterState) (cache : CacheState) (ranges : List (ℕ × ℕ)) (life : Life) (e : Error) → RangesGo (size_of w) ranges (Err e) → ReadsMany sum (tail_of w) cache ranges [] life life (Err e)
 refused_reads sum w cache ranges life OffsetOverflow goes = (refl, goes)
 refused_reads sum w cache ranges life BlobInsufficientLength goes = (refl, goes)
-refused_reads sum w cache ranges life ReadFailed (before, behind, (range, is, ends, goes)) = absurd goes
-refused_reads sum w cache ranges life WriteFailed (before, behind, (range, is, ends, goes)) = absurd goes
-refused_reads sum w cache ranges life ResizeFailed (before, behind, (range, is, ends, goes)) = absurd goes
-refused_reads sum w cache ranges life SyncFailed (before, behind, (range, is, ends, goes)) = absurd goes
-refused_reads sum w cache ranges life InvalidChecksum (before, behind, (range, is, ends, goes)) = absurd goes
-refused_reads sum w cache ranges life OutOfMemory (before, behind, (range, is, ends, goes)) = absurd goes
-refused_reads sum w cache ranges life IdsExhausted (before, behind, (range, is, ends, goes)) = absurd goes
+refused_reads sum w cache ranges life ReadFailed (before, after, (range, is, ends, goes)) = absurd goes
+refused_reads sum w cache ranges life WriteFailed (before, after, (range, is, ends, goes)) = absurd goes
+refused_reads sum w cache ranges life ResizeFailed (before, after, (range, is, ends, goes)) = absurd goes
+refused_reads sum w cache ranges life SyncFailed (before, after, (range, is, ends, goes)) = absurd goes
+refused_reads sum w cache ranges life InvalidChecksum (before, after, (range, is, ends, goes)) = absurd goes
+refused_reads sum w cache ranges life OutOfMemory (before, after, (range, is, ends, goes)) = absurd goes
+refused_reads sum w cache ranges life IdsExhausted (before, after, (range, is, ends, goes)) = absurd goes
 
 refused_full : (size : ℕ) (ranges : List (ℕ × ℕ)) (e : Error) → RangesGo size ranges (Err e) → Fault e ≡ Fault InvalidChecksum → ⊥
 refused_full size ranges OffsetOverflow goes is = cc is
@@ -181,14 +183,14 @@ refused_full size ranges ReadFailed goes is = cc is
 refused_full size ranges WriteFailed goes is = cc is
 refused_full size ranges ResizeFailed goes is = cc is
 refused_full size ranges SyncFailed goes is = cc is
-refused_full size ranges InvalidChecksum (before, behind, (range, at, ends, goes)) is = goes
+refused_full size ranges InvalidChecksum (before, after, (range, at, ends, goes)) is = goes
 refused_full size ranges OutOfMemory goes is = cc is
 refused_full size ranges IdsExhausted goes is = cc is
 
 pub refused_says : (sum : List ℕ → ℕ) (w : WriterState) (cache : CacheState) (ranges : List (ℕ × ℕ)) (life : Life) (e : Error) (size : ℕ) → size ≡ size_of w → size < 2 ^ 64 → RangesGo size ranges (Err e) → ReadRangesSays sum w cache ranges life life (Fault e)
 refused_says sum w cache ranges life e size is small goes =
     let here : RangesGo (size_of w) ranges (Err e) = subst (λ (n : ℕ). RangesGo n ranges (Err e)) is goes in
-    says_by sum w cache ranges life life (Fault e) (omega (arith, is, small)) (refused_reads sum w cache ranges life e here) (refused_full (size_of w) ranges e here) (asks_none (places w.page_size (missing cache (tail_of w) ranges)) life) (looked_start life)
+    says_by sum w cache ranges life life (Fault e) (omega (arith, is, small)) (refused_reads sum w cache ranges life e here) (refused_full (size_of w) ranges e here) (asks_none (page_ranges w.page_size (missing cache (tail_of w) ranges)) life) (looked_start life)
 
 -- where none was refused they can be read
 none_refused : (size : ℕ) (ranges : List (ℕ × ℕ)) (result : Result (Unit {0}) Error) → ((e : Error) → result ≡ Err e → ⊥) → RangesGo size ranges result → EndWithin size ranges
@@ -201,7 +203,7 @@ pub no_room_says : (sum : List ℕ → ℕ) (w : WriterState) (cache : CacheStat
 no_room_says sum w cache ranges life e size result same small is not_err goes =
     let ends : EndWithin (size_of w) ranges = subst (λ (n : ℕ). EndWithin n ranges) same (none_refused size ranges result not_err goes) in
     subst (λ (x : Error). ReadRangesSays sum w cache ranges life life (Fault x)) (sym is)
-    (says_by sum w cache ranges life life (Fault OutOfMemory) (omega (arith, same, small)) (ends, tt) (λ other. cc other) (asks_none (places w.page_size (missing cache (tail_of w) ranges)) life) (looked_start life))
+    (says_by sum w cache ranges life life (Fault OutOfMemory) (omega (arith, same, small)) (ends, tt) (λ other. cc other) (asks_none (page_ranges w.page_size (missing cache (tail_of w) ranges)) life) (looked_start life))
 
 -- bytes were read
 pub served_says : (sum : List ℕ → ℕ) (w : WriterState) (cache : CacheState) (ranges : List (ℕ × ℕ)) (buf : List ℕ) (old new : Life) (count : ℕ) (bytes : Vec ℕ Global) → size_of w < 2 ^ 64 → bytes.items ≡ buf → ReadsMany sum (tail_of w) cache ranges buf old new (Ok count) → AsksOnce cache (tail_of w) ranges old new
@@ -251,7 +253,7 @@ away_steps sum step reply was w life away same = λ P before stands.
     record {
       moments = [];
       goes = refl;
-      behind = before;
+      after = before;
       did = record {
         answer = answers_away sum P step reply life.present life.present before (away before stands.fits.has_writer stands.phase);
         touches = leaves (touch P step before) life.present;

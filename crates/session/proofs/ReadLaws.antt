@@ -10,8 +10,8 @@ use Rattle.disk.specs.declared.error.Error.{Error}
 use Rattle.disk.specs.declared.error.Error.TheVariants.{ReadFailed, WriteFailed, ResizeFailed, SyncFailed, InvalidChecksum, BlobInsufficientLength, OffsetOverflow, OutOfMemory, IdsExhausted}
 use Rattle.crash.specs.Kept.{Through}
 use Rattle.crash.specs.Started.{StartsStand}
-use Rattle.crash.specs.WriterState.{WriterState}
-use Rattle.crash.specs.Sound.{IsSound}
+use Rattle.writer_state.specs.WriterState.{WriterState}
+use Rattle.writer_state.specs.Sound.{IsSound}
 use Rattle.cache.specs.CacheState.{CacheState}
 use Rattle.paged_read.specs.Tail.{CanRead}
 use Rattle.paged_read.specs.Ranges.{ReadsUpTo, is_served}
@@ -28,7 +28,9 @@ use Rattle.session.specs.declared.steps.Reply.TheVariants.{At, Nothing, Done, St
 use Rattle.session.specs.Run.{Standing, SessionState, faults, HasCause, Takes, Touches, Foretells, FitsWriter}
 use Rattle.session.specs.Run.Touch.{Leaves, Looks}
 use Rattle.session.specs.Calls.{ReadsBytesUpTo, ReadUpToSays, DidReadUpTo, TriedBytes, DidTryRead, Counts, ScanSays, DidScan}
-use Rattle.session.proofs.StepLaws.{no_moments, held, turned_here, turned_closed, unasked, looked_steps, alike_stays_started, closed_takes, held_takes, sound_of, can_of, same_rest}
+use Rattle.session.proofs.StepLaws.{no_moments, held, turned_here, turned_closed, unasked}
+use Rattle.session.proofs.SizeLaws.{looked_steps, alike_stays_started}
+use Rattle.session.proofs.SessionLaws.{closed_takes, held_takes, sound_of, can_of, same_rest}
 use Rattle.session.proofs.Apart.{AlwaysApart, IsReadyApart, StandsApart, StepsApart}
 
 -- ---- at most so many bytes

@@ -8,19 +8,19 @@ use Rattle.std.proofs.Math.ListN.{set}
 use Rattle.std.proofs.Math.Nat.{div-add-mod'}
 use Rattle.std.proofs.lemmas.Bool.{false≢true}
 use Rattle.std.proofs.lemmas.Bool.Decides.{nat_tests}
-use Rattle.std.proofs.lemmas.List.{length-map, map-set, length-drop}
+use Rattle.std.proofs.lemmas.List.{length-map, map-set, length-drop, take-take}
 use Rattle.std.proofs.lemmas.List.Elements.{All-append, All-set}
-use Rattle.std.proofs.lemmas.List.{take-take}
-use Rattle.disk.specs.Disk.{Disk, Life, after}
+use Rattle.disk.specs.Disk.{Disk, Life, life_after}
 use Rattle.disk.specs.declared.error.Error.{Error}
 use Rattle.disk.specs.declared.error.Error.TheVariants.{ReadFailed, WriteFailed, ResizeFailed, SyncFailed, InvalidChecksum, BlobInsufficientLength, OffsetOverflow, OutOfMemory, IdsExhausted}
 use Rattle.crash.specs.Kept.{AllKeep, AllOnly, Each, Moments, Through}
 use Rattle.crash.specs.Looks.{Looked, SameButLog, looked_start}
 use Rattle.crash.specs.Moments.{each_then}
 use Rattle.crash.specs.Started.{StartsStand}
-use Rattle.crash.specs.WriterState.{WriterState, SyncState}
-use Rattle.crash.specs.WriterState.SyncState.{Clean, Dirty, Pending}
-use Rattle.crash.specs.Sound.{IsSound, content as content_of}
+use Rattle.writer_state.specs.WriterState.{WriterState}
+use Rattle.writer_state.specs.declared.sync_state.SyncState.{SyncState}
+use Rattle.writer_state.specs.declared.sync_state.SyncState.TheVariants.{Clean, Dirty, Pending}
+use Rattle.writer_state.specs.Sound.{IsSound, content as content_of}
 use Rattle.cache.specs.CacheState.{CacheState}
 use Rattle.paged_read.specs.Tail.{Tail, told, HasFullPages, size_of as size_of_tail}
 use Rattle.paged_read.specs.ReadAhead.{batch_of}
@@ -29,7 +29,7 @@ use Rattle.paged_read.proofs.Leaving.{length-told}
 use Rattle.paged_read.proofs.Outliving.{look_leaves_reads, look_leaves_tails, look_leaves_writers}
 use Rattle.paged_read.proofs.OutlivingReplays.{look_leaves_replays}
 use Rattle.paged.specs.Caches.{tail_of}
-use Rattle.paged.specs.Calls.{GoesOn as CallGoesOn, HasCause as CallCause, AsksAtMost, start_calls, wait_calls, unstarted_calls}
+use Rattle.paged.specs.Calls.{GoesOn as CallGoesOn, CallCause, AsksAtMost, start_calls, wait_calls, unstarted_calls}
 use Rattle.paged.specs.Flush.{has_work}
 use Rattle.paged.specs.Replays.{BeginsAtOnce, replay_calls}
 use Rattle.session.specs.declared.steps.Step.{Step}
@@ -42,7 +42,11 @@ use Rattle.session.specs.Calls.{AtReplay, CanGoOn, EnsureSays, KeepsAllButReplay
 use Rattle.session.proofs.Apart.{AlwaysApart, IsReadyApart, ready_apart, StandsApart, stands_apart, SteppedApart, StepsApart}
 use Rattle.session.proofs.Below.{AlwaysLeaves, AlwaysMakes, framed, framed_by, framed_same, HasReplays, leaves_all, LeftAll, LeftReplay, left_by, of_each, map_both, maps_alike, sound_in}
 use Rattle.session.proofs.Numbered.{AtOne, numbered-map, numbered_there, put_back}
-use Rattle.session.proofs.StepLaws.{begun_covers, begun_keeps, answers_away, answers_here, closed_takes, each_end, few_calls, had_failed_as, had_without_room, held, held_same, last_is, leaves, left_buffered, no_moments, not_turned_away, only_there, owed_starts, raised_within, same_halves, stands_ended, stands_now, start_dirty, start_work, stepped, alike_stays_started, turned_closed, turned_here, unasked}
+use Rattle.session.proofs.StepLaws.{begun_covers, begun_keeps, answers_away, answers_here, each_end, few_calls, held, held_same, last_is, leaves, no_moments, not_turned_away, only_there, raised_within, stands_ended, stands_now, stepped, turned_closed, turned_here, unasked}
+use Rattle.session.proofs.SessionLaws.{closed_takes}
+use Rattle.session.proofs.AppendLaws.{had_failed_as, had_without_room, owed_starts, start_dirty, start_work}
+use Rattle.session.proofs.SyncLaws.{left_buffered, same_halves}
+use Rattle.session.proofs.SizeLaws.{alike_stays_started}
 use Rattle.session.proofs.PromiseLaws.{tip_is}
 use Rattle.session.proofs.StartLaws.{goes_through, refused_through}
 use Rattle.session.proofs.SnapshotLaws.{fits_on, looked_stands, same_takes, snapshot_few, sound_on, stands_held}
@@ -66,17 +70,17 @@ awaits_on Clean awaited is = is
 awaits_on Dirty awaited is = refl
 awaits_on (Pending name) awaited is = is
 
--- whether all is written, and what is awaited, behind a replay
-record Behind (before : Standing) (v : WriterState) : Type 0 where
+-- whether all is written, and what is awaited, after a replay
+record After (before : Standing) (v : WriterState) : Type 0 where
   written : before.written ≡ nat_eq (start_calls v) 0
   awaited : (if before.written then before.awaited else None) ≡ pending_in v.sync
 
-behind_by : (P : ℕ) (w v : WriterState) (before : Standing) (d : Disk) (work : Bool) → has_work w true ≡ work → WriterStandsFor P w before d → (work ≡ false → v ≡ w) → (work ≡ true → v.sync ≡ Dirty) → Behind before v
-behind_by P w v before d false none fits idle dirty =
+after_by : (P : ℕ) (w v : WriterState) (before : Standing) (d : Disk) (work : Bool) → has_work w true ≡ work → WriterStandsFor P w before d → (work ≡ false → v ≡ w) → (work ≡ true → v.sync ≡ Dirty) → After before v
+after_by P w v before d false none fits idle dirty =
     let starts : before.written ≡ nat_eq (unstarted_calls w.sync) 0 = fits.written ∙ ap (λ (b : Bool). nat_eq (if b then wait_calls w.sync + 2 else unstarted_calls w.sync) 0) none in
-    subst (λ (x : WriterState). Behind before x) (sym (idle refl))
+    subst (λ (x : WriterState). After before x) (sym (idle refl))
     (record { written = fits.written; awaited = ap (λ (b : Bool). if b then before.awaited else None) starts ∙ awaits_on w.sync before.awaited fits.awaited })
-behind_by P w v before d true some fits idle dirty =
+after_by P w v before d true some fits idle dirty =
     let starts : before.written ≡ false = fits.written ∙ start_work (has_work w true) w.sync some in
     record {
       written = starts ∙ sym (start_dirty (has_work v true) v.sync (dirty refl));
@@ -84,7 +88,7 @@ behind_by P w v before d true some fits idle dirty =
     }
 
 -- the device calls of one
-replay_touch : (P : ℕ) (w : WriterState) (before : Standing) (old new : Life) (moments : List Disk) → WriterStandsFor P w before old.present → new ≡ after old moments → AsksAtMost (replay_calls w) old new → (has_work w true ≡ false → new ≡ old)
+replay_touch : (P : ℕ) (w : WriterState) (before : Standing) (old new : Life) (moments : List Disk) → WriterStandsFor P w before old.present → new ≡ life_after old moments → AsksAtMost (replay_calls w) old new → (has_work w true ≡ false → new ≡ old)
     → Touches (if before.written then Leaves else Changes 2) old.present moments
 replay_touch P w before old new moments fits goes few idle = by_written before.written fits.written
   where
@@ -106,17 +110,17 @@ replay_steps sum was w v r buffer_size old new at sound says = λ P before all.
     let fits = stands.fits in
     let goes = says.begins.0 in
     let now = with_replays was (Some v) (was.replays ++ Some r ∷ []) in
-    let behind = replaying P size (rewritten P before) in
+    let after = replaying P size (rewritten P before) in
     let through = goes_through sum P was w v old new before stands goes in
     let h = same_halves sum was P w old new before stands through (owed_starts sum P was w old new before stands says.owes) in
     let buffered : length v.tip ≡ before.buffered % P = left_buffered sum was P w v old new before sound stands goes says.begins.1.short in
-    let state = behind_by P w v before old.present (has_work w true) refl fits (λ none. (says.idle none).0.0) (λ some. says.dirty some) in
+    let state = after_by P w v before old.present (has_work w true) refl fits (λ none. (says.idle none).0.0) (λ some. says.dirty some) in
     let number : length was.replays ≡ length before.replays = number_of sum P was before old.present all in
-    subst (λ (l : List (List ℕ)). SteppedApart sum P (Replay buffer_size) (Replaying (length was.replays)) now old new before l behind.replays) (sym (append-nil before.snapshots))
-    (stepped sum P (Replay buffer_size) (Replaying (length was.replays)) now old new before behind through.moments fits.has_writer (turned_here before.has_writer fits.has_writer) h
+    subst (λ (l : List (List ℕ)). SteppedApart sum P (Replay buffer_size) (Replaying (length was.replays)) now old new before l after.replays) (sym (append-nil before.snapshots))
+    (stepped sum P (Replay buffer_size) (Replaying (length was.replays)) now old new before after through.moments fits.has_writer (turned_here before.has_writer fits.has_writer) h
     (replay_touch P w before old new through.moments fits h.goes says.calls (λ none. (says.idle none).1))
     (number, refl) (λ none. absurd none, λ none. absurd none)
-    (stands_now sum P (record was { replays = was.replays ++ Some r ∷ [] }) v old new behind
+    (stands_now sum P (record was { replays = was.replays ++ Some r ∷ [] }) v old new after
     (record {
       page_size = goes.same.page_size ∙ fits.page_size;
       has_writer = fits.has_writer;
@@ -214,9 +218,9 @@ more_replays sum was w v r size old new at left page is whole gives = record {
     one (suc k) o lt = absurd (omega (arith, lt))
 
 -- a replay by a session
-pub replay_takes : (sum : List ℕ → ℕ) (was now : SessionState) (cache behind : CacheState) (buffer_size : NonZeroUsize) (old new : Life) (reply : Reply) → IsReady sum was old.present → CacheFits was cache old.present → FitsWriter now.writer behind new.present
-    → LeavesTaken sum was.writer now.writer cache behind old new → KeepsButReplays was now → TakesReplay sum was.writer now.writer was.replays now.replays (non_zero_usize_get buffer_size) old new reply → Steps sum (Replay buffer_size) reply was now old new × CacheFits now behind new.present
-replay_takes sum was now cache behind buffer_size old new reply ready fits writer stay rest goes = by_writer was.writer refl reply goes
+pub replay_takes : (sum : List ℕ → ℕ) (was now : SessionState) (cache after : CacheState) (buffer_size : NonZeroUsize) (old new : Life) (reply : Reply) → IsReady sum was old.present → CacheFits was cache old.present → FitsWriter now.writer after new.present
+    → LeavesTaken sum was.writer now.writer cache after old new → KeepsButReplays was now → TakesReplay sum was.writer now.writer was.replays now.replays (non_zero_usize_get buffer_size) old new reply → Steps sum (Replay buffer_size) reply was now old new × CacheFits now after new.present
+replay_takes sum was now cache after buffer_size old new reply ready fits writer stay rest goes = by_writer was.writer refl reply goes
   where
     size : ℕ
     size = non_zero_usize_get buffer_size
@@ -235,28 +239,28 @@ replay_takes sum was now cache behind buffer_size old new reply ready fits write
     same_session : now.writer ≡ was.writer → now.replays ≡ was.replays → now ≡ was
     same_session writes holds = is_with was.writer was.replays writes holds
 
-    by_writer : (o : Option WriterState) → was.writer ≡ o → (r : Reply) → TakesReplay sum o now.writer was.replays now.replays (non_zero_usize_get buffer_size) old new r → Steps sum (Replay buffer_size) r was now old new × CacheFits now behind new.present
+    by_writer : (o : Option WriterState) → was.writer ≡ o → (r : Reply) → TakesReplay sum o now.writer was.replays now.replays (non_zero_usize_get buffer_size) old new r → Steps sum (Replay buffer_size) r was now old new × CacheFits now after new.present
     by_writer None at r (closed, kept) =
         let is = same_session (closed.writer ∙ sym at) kept in
-        same_takes sum (Replay buffer_size) r was now cache behind old new ready fits writer stay is
+        same_takes sum (Replay buffer_size) r was now cache after old new ready fits writer stay is
         (closed_takes sum (Replay buffer_size) was now old new r (λ before none. turned_closed before.has_writer none) at (ready_apart sum was old.present ready) closed.replied is closed.life)
     by_writer (Some w) at (Replaying index) (v, r, writes, number, holds, says, gives) =
         let sound = sound_in sum was.writer w old.present at ready.writer in
         let begins = says.begins.0 in
         let next = with_replays was (Some v) (was.replays ++ Some r ∷ []) in
         let is : now ≡ next = is_with (Some v) (was.replays ++ Some r ∷ []) writes holds in
-        let left = left_by sum was (Some v) cache behind old new ready fits (subst (λ (o : Option WriterState). LeavesTaken sum was.writer o cache behind old new) writes stay) in
+        let left = left_by sum was (Some v) cache after old new ready fits (subst (λ (o : Option WriterState). LeavesTaken sum was.writer o cache after old new) writes stay) in
         let begun_next : next.recovering ≡ true → next.snapshots ≡ [] = ready.begun in
-        let all : Steps sum (Replay buffer_size) (Replaying (length was.replays)) was next old new × CacheFits next behind new.present =
-        framed_by sum (Replay buffer_size) (Replaying (length was.replays)) was next behind old new [] (λ P s. (replaying P size s).replays) (sym (append-nil was.snapshots)) begun_next (record { writer = begins.sound; starts = inr says.owes.starts })
-        (subst (λ (o : Option WriterState). FitsWriter o behind new.present) writes writer) left.snapshots (more_replays sum was w v r size old new at left.replays begins.same.page_size says.begins.2 (whole_written sum w v old new begins says.begins.1.short) gives) (λ k t lt. absurd (omega (arith, lt)))
+        let all : Steps sum (Replay buffer_size) (Replaying (length was.replays)) was next old new × CacheFits next after new.present =
+        framed_by sum (Replay buffer_size) (Replaying (length was.replays)) was next after old new [] (λ P s. (replaying P size s).replays) (sym (append-nil was.snapshots)) begun_next (record { writer = begins.sound; starts = inr says.owes.starts })
+        (subst (λ (o : Option WriterState). FitsWriter o after new.present) writes writer) left.snapshots (more_replays sum was w v r size old new at left.replays begins.same.page_size says.begins.2 (whole_written sum w v old new begins says.begins.1.short) gives) (λ k t lt. absurd (omega (arith, lt)))
         (replay_steps sum was w v r buffer_size old new at sound says) in
-        subst (λ (n : ℕ). Steps sum (Replay buffer_size) (Replaying n) was now old new × CacheFits now behind new.present) (sym number)
-        (subst (λ (s : SessionState). Steps sum (Replay buffer_size) (Replaying (length was.replays)) was s old new × CacheFits s behind new.present) (sym is) all)
+        subst (λ (n : ℕ). Steps sum (Replay buffer_size) (Replaying n) was now old new × CacheFits now after new.present) (sym number)
+        (subst (λ (s : SessionState). Steps sum (Replay buffer_size) (Replaying (length was.replays)) was s old new × CacheFits s after new.present) (sym is) all)
     by_writer (Some w) at (Fault e) faulted = elim faulted [
       | inl (none, holds, says) ↦
           let is : now ≡ held was None = is_with None was.replays none holds in
-          framed_same sum (Replay buffer_size) (Fault e) was now behind old new snapshots holds begun_with writer (left_by sum was now.writer cache behind old new ready fits stay)
+          framed_same sum (Replay buffer_size) (Fault e) was now after old new snapshots holds begun_with writer (left_by sum was now.writer cache after old new ready fits stay)
           (subst (λ (s : SessionState). StepsApart sum (Replay buffer_size) (Fault e) was s old new) (sym is)
           (record {
             ready = record { writer = tt; starts = inr says.owes.starts };
@@ -264,7 +268,7 @@ replay_takes sum was now cache behind buffer_size old new reply ready fits write
           }))
       | inr room ↦
           let is = same_session (room.writer ∙ sym at) room.given in
-          same_takes sum (Replay buffer_size) (Fault e) was now cache behind old new ready fits writer stay is
+          same_takes sum (Replay buffer_size) (Fault e) was now cache after old new ready fits writer stay is
           (subst (λ (x : Error). StepsApart sum (Replay buffer_size) (Fault x) was now old new) (sym room.fault)
           (subst (λ (s : SessionState). StepsApart sum (Replay buffer_size) (Fault OutOfMemory) was s old new) (sym is)
           (subst (λ (life : Life). StepsApart sum (Replay buffer_size) (Fault OutOfMemory) was was old life) (sym room.life)
@@ -330,9 +334,9 @@ module _ (sum : List ℕ → ℕ) (step : Step) (index : ℕ) (was : SessionStat
   readable = ap (λ (x : Disk). x.readable) looked.same
 
   -- what stands of the content, at each moment
-  step_did : (P : ℕ) (before behind : Standing) (reply : Reply) → StandsFor sum P was before old.present → Answers sum P step reply old.present (last old.present seen.moments) before behind → Touches (touch P step before) old.present seen.moments
-      → (is_some (turned_away step before) ≡ true → seen.moments ≡ []) → (raised (last old.present seen.moments) behind).floor ≤ length behind.content → Did sum P step reply old.present seen.moments before behind
-  step_did P before behind reply all answer touched stopped within =
+  step_did : (P : ℕ) (before after : Standing) (reply : Reply) → StandsFor sum P was before old.present → Answers sum P step reply old.present (last old.present seen.moments) before after → Touches (touch P step before) old.present seen.moments
+      → (is_some (turned_away step before) ≡ true → seen.moments ≡ []) → (raised (last old.present seen.moments) after).floor ≤ length after.content → Did sum P step reply old.present seen.moments before after
+  step_did P before after reply all answer touched stopped within =
       let stands = stands_apart sum P was before old.present all in
       let at_each : (d : Disk) → SameButLog old.present d → StandsApart sum P was before d = λ d alike. looked_stands sum P was before old.present d alike stands in
       record {
@@ -378,7 +382,7 @@ module _ (sum : List ℕ → ℕ) (step : Step) (index : ℕ) (was : SessionStat
           (record {
             moments = [];
             goes = refl;
-            behind = before;
+            after = before;
             did = record {
               answer = answers_away sum P step NoSuch old.present old.present before gone;
               touches = leaves (touch P step before) old.present;
@@ -424,17 +428,17 @@ module _ (sum : List ℕ → ℕ) (step : Step) (index : ℕ) (was : SessionStat
       always P before all =
           let here = found sum P was index r before old.present at all in
           let some : turned_away step before ≡ None = away before ∙ ap (λ (o : Option Replayed). if is_some o then None else Some NoSuch) here in
-          let behind = moved index (replayed old.present.readable q) before in
+          let after = moved index (replayed old.present.readable q) before in
           let after_it = moved_stands sum P was (set was.replays index (Some q)) index (replayed old.present.readable q) before new.present (looked_stands sum P was before old.present new.present looked.same (stands_apart sum P was before old.present all)) in
           let end : new.present ≡ last old.present seen.moments = ap (λ (life : Life). life.present) seen.goes ∙ last_is old seen.moments in
-          subst (λ (l : List (List ℕ)). SteppedApart sum P step reply next old new before l behind.replays) (sym (append-nil before.snapshots))
+          subst (λ (l : List (List ℕ)). SteppedApart sum P step reply next old new before l after.replays) (sym (append-nil before.snapshots))
           (record {
             moments = seen.moments;
             goes = seen.goes;
-            behind = behind;
-            did = step_did P before behind reply all
-                (subst (λ (to : Disk). Answers sum P step reply old.present to before behind) end (answers_here sum P step reply old.present new.present before behind some (goes.takes P before here) (goes.foretells P before here)))
-                (goes.touched P before here) (not_turned_away step before seen.moments some) (raised_within sum P next old new behind seen.moments seen.goes after_it);
+            after = after;
+            did = step_did P before after reply all
+                (subst (λ (to : Disk). Answers sum P step reply old.present to before after) end (answers_here sum P step reply old.present new.present before after some (goes.takes P before here) (goes.foretells P before here)))
+                (goes.touched P before here) (not_turned_away step before seen.moments some) (raised_within sum P next old new after seen.moments seen.goes after_it);
             stands = after_it;
             same = refl;
             alike = refl;
@@ -577,9 +581,9 @@ take_goes sum index count was life moments none r q gives (Bytes bytes) (takes, 
     left : replayed life.present.readable (advanced (min count (length r.hand)) r) ≡ passed count (replayed life.present.readable r)
     left =
         let one : ℕ → ℕ → Replayed = λ p h. record { content = told r.tail life.present.readable; whole = r.tail.full_pages * r.tail.page_size; position = p; hand = h; batch = r.batch * r.tail.page_size } in
-        let place : r.position + min (min count (length r.hand)) (length r.hand) ≡ r.position + min count (length r.hand) = omega arith in
+        let position_is : r.position + min (min count (length r.hand)) (length r.hand) ≡ r.position + min count (length r.hand) = omega arith in
         let rest : length (drop (min count (length r.hand)) r.hand) ≡ length r.hand - count = length-drop (min count (length r.hand)) r.hand ∙ omega arith in
-        ap (λ (p : ℕ). one p (length (drop (min count (length r.hand)) r.hand))) place ∙ ap (λ (h : ℕ). one (r.position + min count (length r.hand)) h) rest
+        ap (λ (p : ℕ). one p (length (drop (min count (length r.hand)) r.hand))) position_is ∙ ap (λ (h : ℕ). one (r.position + min count (length r.hand)) h) rest
 take_goes sum index count was life moments none r q gives (Fault e) (fault, is) on = record {
   tail = ap (λ (x : ReplayState). x.tail) is;
   through = λ content g. on.1 sum content life.present g;

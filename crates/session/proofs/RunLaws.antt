@@ -1,19 +1,18 @@
 -- A run goes on by one step.
-use Rattle.std.proofs.Common.{◌≡◌, ℕ, ◌+◌, List, [], ◌∷◌, ◌++◌, length, refl, sym, ap, ◌∙◌, subst, append-nil, append_assoc, length-append}
-use Rattle.std.proofs.Common.{inl, inr, suc, ◌≤◌, arith, slice_get, Bool, true, false}
+use Rattle.std.proofs.Common.{◌≡◌, ℕ, ◌+◌, List, [], ◌∷◌, ◌++◌, length, refl, sym, ap, ◌∙◌, subst, append-nil, append_assoc, length-append, inl, inr, suc, ◌≤◌, arith, slice_get, Bool, true, false}
 use Rattle.std.specs.Prelude.{Option, Some, None, nat_le, max, if◌then◌else◌}
 use Rattle.std.proofs.lemmas.Bool.{cases_lt}
 use Rattle.std.proofs.lemmas.Bool.Decides.{nat_tests}
 use Rattle.std.proofs.lemmas.Option.{same_Some}
-use Rattle.disk.specs.Disk.{Disk, Life, after, coverings}
+use Rattle.disk.specs.Disk.{Disk, Life, life_after, coverings}
 use Rattle.crash.specs.Kept.{AllKeep, AllOnly}
 use Rattle.crash.specs.Started.{WouldKeep}
-use Rattle.crash.specs.WriterState.{WriterState}
-use Rattle.crash.proofs.StartedLaws.{settled_already}
-use Rattle.crash.specs.Moments.{after-append}
+use Rattle.writer_state.specs.WriterState.{WriterState}
+use Rattle.writer_state.proofs.StartedLaws.{settled_already}
+use Rattle.crash.specs.Moments.{life_after-append}
 use Rattle.session.specs.declared.steps.Step.{Step}
 use Rattle.session.specs.declared.steps.Reply.{Reply}
-use Rattle.session.specs.Run.{Standing, SessionState, is_complete, raise, raised, AllCover, StandsFor, last, Did, Ran, RunsAlways, WriterFits}
+use Rattle.session.specs.Run.{Standing, SessionState, is_complete, raised_floor, raised, AllCover, StandsFor, last, Did, Ran, RunsAlways, WriterFits}
 use Rattle.session.specs.Calls.{Steps}
 use Rattle.session.proofs.StepLaws.{last_is, raise_within}
 
@@ -42,7 +41,7 @@ raised_once sum P content name cover floor d would keeps = by_cover (slice_get (
         subst (λ (x : ℕ × List ℕ). AllKeep sum P content (if nat_le x.0 d.settled then max cover floor else floor) d) (sym (same_Some c would.covers is)) (by_test (nat_le would.covers.0 d.settled) refl)
 
 -- all of them
-raised_keeps : (sum : List ℕ → ℕ) (P : ℕ) (content : List ℕ) (covers : List (ℕ × ℕ)) (floor : ℕ) (d : Disk) → AllCover sum P content covers d → AllKeep sum P content floor d → AllKeep sum P content (raise d covers floor) d
+raised_keeps : (sum : List ℕ → ℕ) (P : ℕ) (content : List ℕ) (covers : List (ℕ × ℕ)) (floor : ℕ) (d : Disk) → AllCover sum P content covers d → AllKeep sum P content floor d → AllKeep sum P content (raised_floor d covers floor) d
 raised_keeps sum P content [] floor d would keeps = keeps
 raised_keeps sum P content (c ∷ covers) floor d would keeps =
     raised_keeps sum P content covers (if is_complete d c.0 then max c.1 floor else floor) d (λ k x lt. would (suc k) x (omega (arith, lt)))
@@ -86,20 +85,20 @@ last-append d [] ys = refl
 last-append d (x ∷ xs) ys = last-append x xs ys
 
 -- one step more
-pub ran_more : (sum : List ℕ → ℕ) (P : ℕ) (steps : List Step) (replies : List Reply) (step : Step) (reply : Reply) (from to : Disk) (moments more : List Disk) (before mid behind : Standing)
-    → Ran sum P steps replies from moments before mid → to ≡ last from moments → Did sum P step reply to more mid behind
-    → AllKeep sum P behind.content (raised (last to more) behind).floor (last to more) → AllOnly sum P behind.content behind.otherwise (last to more)
-    → Ran sum P (steps ++ step ∷ []) (replies ++ reply ∷ []) from (moments ++ more) before (raised (last to more) behind)
-ran_more sum P [] [] step reply from to moments more before mid behind (none, same, keeps, has) reaches did kept only =
+pub ran_more : (sum : List ℕ → ℕ) (P : ℕ) (steps : List Step) (replies : List Reply) (step : Step) (reply : Reply) (from to : Disk) (moments more : List Disk) (before mid after : Standing)
+    → Ran sum P steps replies from moments before mid → to ≡ last from moments → Did sum P step reply to more mid after
+    → AllKeep sum P after.content (raised (last to more) after).floor (last to more) → AllOnly sum P after.content after.otherwise (last to more)
+    → Ran sum P (steps ++ step ∷ []) (replies ++ reply ∷ []) from (moments ++ more) before (raised (last to more) after)
+ran_more sum P [] [] step reply from to moments more before mid after (none, same, keeps, has) reaches did kept only =
     let at : to ≡ from = reaches ∙ ap (λ (ds : List Disk). last from ds) none in
     let stood : AllKeep sum P mid.content mid.floor to × AllOnly sum P mid.content mid.otherwise to =
     subst (λ (s : Standing). AllKeep sum P s.content s.floor to × AllOnly sum P s.content s.otherwise to) (sym same)
     (subst (λ (d : Disk). AllKeep sum P before.content before.floor d × AllOnly sum P before.content before.otherwise d) (sym at) (keeps, has)) in
-    let one : Ran sum P (step ∷ []) (reply ∷ []) to more mid (raised (last to more) behind) = (stood.0, stood.1, more, [], sym (append-nil more), behind, did, (refl, refl, kept, only)) in
-    subst (λ (ds : List Disk). Ran sum P (step ∷ []) (reply ∷ []) from (ds ++ more) before (raised (last to more) behind)) (sym none)
-    (subst (λ (s : Standing). Ran sum P (step ∷ []) (reply ∷ []) from more s (raised (last to more) behind)) same
-    (subst (λ (d : Disk). Ran sum P (step ∷ []) (reply ∷ []) d more mid (raised (last to more) behind)) at one))
-ran_more sum P (x ∷ xs) (r ∷ rs) step reply from to moments more before mid behind (keeps, has, first, rest, is, between, one, others) reaches did kept only = (
+    let one : Ran sum P (step ∷ []) (reply ∷ []) to more mid (raised (last to more) after) = (stood.0, stood.1, more, [], sym (append-nil more), after, did, (refl, refl, kept, only)) in
+    subst (λ (ds : List Disk). Ran sum P (step ∷ []) (reply ∷ []) from (ds ++ more) before (raised (last to more) after)) (sym none)
+    (subst (λ (s : Standing). Ran sum P (step ∷ []) (reply ∷ []) from more s (raised (last to more) after)) same
+    (subst (λ (d : Disk). Ran sum P (step ∷ []) (reply ∷ []) d more mid (raised (last to more) after)) at one))
+ran_more sum P (x ∷ xs) (r ∷ rs) step reply from to moments more before mid after (keeps, has, first, rest, is, between, one, others) reaches did kept only = (
   keeps,
   has,
   first,
@@ -107,10 +106,10 @@ ran_more sum P (x ∷ xs) (r ∷ rs) step reply from to moments more before mid 
   ap (λ (ds : List Disk). ds ++ more) is ∙ append_assoc first rest more,
   between,
   one,
-  ran_more sum P xs rs step reply (last from first) to rest more (raised (last from first) between) mid behind others (reaches ∙ ap (λ (ds : List Disk). last from ds) is ∙ last-append from first rest) did kept only,
+  ran_more sum P xs rs step reply (last from first) to rest more (raised (last from first) between) mid after others (reaches ∙ ap (λ (ds : List Disk). last from ds) is ∙ last-append from first rest) did kept only,
 )
-ran_more sum P [] (r ∷ rs) step reply from to moments more before mid behind ran reaches did kept only = absurd ran
-ran_more sum P (x ∷ xs) [] step reply from to moments more before mid behind ran reaches did kept only = absurd ran
+ran_more sum P [] (r ∷ rs) step reply from to moments more before mid after ran reaches did kept only = absurd ran
+ran_more sum P (x ∷ xs) [] step reply from to moments more before mid after ran reaches did kept only = absurd ran
 
 -- a run of no step
 pub runs_none : (sum : List ℕ → ℕ) (was : SessionState) (life : Life) (replies : List Reply) → RunsAlways sum [] was was life life replies replies
@@ -118,7 +117,7 @@ runs_none sum was life replies = record {
   added = [];
   adds = sym (append-nil replies);
   count = refl;
-  runs = λ P before stands. record { moments = []; goes = refl; behind = before; ran = (refl, refl, stands.kept, stands.only); stands = stands };
+  runs = λ P before stands. record { moments = []; goes = refl; after = before; ran = (refl, refl, stands.kept, stands.only); stands = stands };
 }
 
 -- and one step more
@@ -130,15 +129,15 @@ runs_more sum steps step reply was mid now old between new earlier replies more 
   count = length-append ran.added (reply ∷ []) ∙ ap (λ (n : ℕ). n + 1) ran.count ∙ sym (length-append steps (step ∷ []));
   runs = λ P before stands.
       let a = ran.runs P before stands in
-      let b = takes.always P a.behind a.stands in
+      let b = takes.always P a.after a.stands in
       let end : new.present ≡ last between.present b.moments = ap (λ (life : Life). life.present) b.goes ∙ last_is between b.moments in
-      let final : StandsFor sum P now (raised (last between.present b.moments) b.behind) (last between.present b.moments) =
-      raised_stands sum P now b.behind (last between.present b.moments) (subst (λ (d : Disk). StandsFor sum P now b.behind d) end b.stands) in
+      let final : StandsFor sum P now (raised (last between.present b.moments) b.after) (last between.present b.moments) =
+      raised_stands sum P now b.after (last between.present b.moments) (subst (λ (d : Disk). StandsFor sum P now b.after d) end b.stands) in
       record {
         moments = a.moments ++ b.moments;
-        goes = b.goes ∙ ap (λ (life : Life). after life b.moments) a.goes ∙ sym (after-append old a.moments b.moments);
-        behind = raised (last between.present b.moments) b.behind;
-        ran = ran_more sum P steps ran.added step reply old.present between.present a.moments b.moments before a.behind b.behind a.ran (ap (λ (life : Life). life.present) a.goes ∙ last_is old a.moments) b.did final.kept final.only;
-        stands = subst (λ (d : Disk). StandsFor sum P now (raised (last between.present b.moments) b.behind) d) (sym end) final;
+        goes = b.goes ∙ ap (λ (life : Life). life_after life b.moments) a.goes ∙ sym (life_after-append old a.moments b.moments);
+        after = raised (last between.present b.moments) b.after;
+        ran = ran_more sum P steps ran.added step reply old.present between.present a.moments b.moments before a.after b.after a.ran (ap (λ (life : Life). life.present) a.goes ∙ last_is old a.moments) b.did final.kept final.only;
+        stands = subst (λ (d : Disk). StandsFor sum P now (raised (last between.present b.moments) b.after) d) (sym end) final;
       };
 }

@@ -7,7 +7,7 @@ use Rattle.std.proofs.lemmas.Bool.{false≢true}
 use Rattle.std.proofs.lemmas.Bool.Decides.{nat_tests}
 use Rattle.std.proofs.lemmas.List.{length-map}
 use Rattle.std.proofs.lemmas.Option.{slice_get-map, slice_get_cases, slice_get_within}
-use Rattle.disk.specs.Disk.{Disk, Life, after, coverings}
+use Rattle.disk.specs.Disk.{Disk, Life, life_after, coverings}
 use Rattle.disk.specs.declared.started_sync.StartedSync.{StartedSync}
 use Rattle.disk.specs.declared.started_sync.StartedSync.TheVariants.{Done as AllDone, Named}
 use Rattle.disk.specs.declared.error.Error.{Error}
@@ -16,12 +16,13 @@ use Rattle.crash.specs.Kept.{AllKeep, AllOnly, Through}
 use Rattle.crash.specs.Looks.{SameButLog}
 use Rattle.crash.specs.Moments.{each_then}
 use Rattle.crash.specs.Started.{WouldKeep, StartsStand}
-use Rattle.crash.specs.WriterState.{WriterState, SyncState}
-use Rattle.crash.specs.WriterState.SyncState.{Clean, Dirty, Pending}
-use Rattle.crash.specs.Sound.{IsSound, content as content_of}
+use Rattle.writer_state.specs.WriterState.{WriterState}
+use Rattle.writer_state.specs.declared.sync_state.SyncState.{SyncState}
+use Rattle.writer_state.specs.declared.sync_state.SyncState.TheVariants.{Clean, Dirty, Pending}
+use Rattle.writer_state.specs.Sound.{IsSound, content as content_of}
 use Rattle.crash.proofs.Disks.{image_alike}
 use Rattle.crash.proofs.Moments.{chance_free_alike, keeps_alike}
-use Rattle.crash.proofs.StartedLaws.{alike_would}
+use Rattle.writer_state.proofs.StartedLaws.{alike_would}
 use Rattle.cache.specs.CacheState.{CacheState}
 use Rattle.paged_read.specs.Tail.{Tail, told, HasPages, CanRead, size_of as size_of_tail}
 use Rattle.paged_read.specs.Ranges.{Reads}
@@ -29,7 +30,7 @@ use Rattle.paged_read.specs.Replay.{LeavesAllReplays}
 use Rattle.paged_read.specs.Snapshots.{LeavesAllReads, LeavesAllTails, LeavesWriters, StandsOn}
 use Rattle.paged_read.proofs.Leaving.{length-told}
 use Rattle.paged.specs.Caches.{tail_of}
-use Rattle.paged.specs.Calls.{HasCause as CallCause, AsksAtMost, start_calls, wait_calls, unstarted_calls}
+use Rattle.paged.specs.Calls.{CallCause, AsksAtMost, start_calls, wait_calls, unstarted_calls}
 use Rattle.paged.specs.Flush.{has_work}
 use Rattle.paged.specs.Snapshots.{CopiesTail, seal_calls}
 use Rattle.paged.proofs.Serves.{sound_there, sound_full}
@@ -42,7 +43,11 @@ use Rattle.session.specs.Run.Touch.{Leaves, Looks, Changes}
 use Rattle.session.specs.Calls.{IfAppending, SnapshotSays, with_snapshot, TakesSnapshot, TriesSnapshot, SealSays, sealed_with, SealsSession, DidSnapshot, DidTrySnapshot, DidSeal, DidSnap, ReadsBytes, ReadSays, LeavesTaken, Steps}
 use Rattle.session.proofs.Apart.{AlwaysApart, IsReadyApart, StandsApart, SteppedApart, StepsApart, stands_apart, ready_apart}
 use Rattle.session.proofs.Below.{AlwaysMakes, Made, can_in, framed, framed_same, leaves_all, leaves_here, LeftAll, left_by, left_same, of_each, sound_in}
-use Rattle.session.proofs.StepLaws.{held, held_same, last_is, no_moments, answers_away, answers_here, leaves, few_calls, raised_within, only_there, Halves, each_end, stepped, unasked, unasked_over, stands_now, stands_ended, full_work, start_work, start_dirty, had_without_room, had_failed_as, wait_none, wait_one, owed_starts, same_halves, left_buffered, alike_stays_started, closed_takes}
+use Rattle.session.proofs.StepLaws.{held, held_same, last_is, no_moments, answers_away, answers_here, leaves, few_calls, raised_within, only_there, Halves, each_end, stepped, unasked, unasked_over, stands_now, stands_ended}
+use Rattle.session.proofs.AppendLaws.{full_work, start_work, start_dirty, had_without_room, had_failed_as, wait_none, wait_one, owed_starts}
+use Rattle.session.proofs.SyncLaws.{same_halves, left_buffered}
+use Rattle.session.proofs.SizeLaws.{alike_stays_started}
+use Rattle.session.proofs.SessionLaws.{closed_takes}
 use Rattle.session.proofs.RangeLaws.{away_steps}
 use Rattle.session.proofs.StartLaws.{starting_keeps, goes_through, refused_through, name_more, waited_fits, all_more}
 
@@ -63,10 +68,10 @@ gone false b none = refl
 gone true b none = absurd (false≢true (sym none))
 
 -- a step that leaves the session
-pub same_takes : (sum : List ℕ → ℕ) (step : Step) (reply : Reply) (was now : SessionState) (cache behind : CacheState) (old new : Life) → IsReady sum was old.present → CacheFits was cache old.present → FitsWriter now.writer behind new.present
-    → LeavesTaken sum was.writer now.writer cache behind old new → now ≡ was → StepsApart sum step reply was now old new → Steps sum step reply was now old new × CacheFits now behind new.present
-same_takes sum step reply was now cache behind old new ready fits writer stay is apart =
-    framed_same sum step reply was now behind old new (ap (λ (s : SessionState). s.snapshots) is) (ap (λ (s : SessionState). s.replays) is) (subst (λ (s : SessionState). s.recovering ≡ true → s.snapshots ≡ []) (sym is) ready.begun) writer (left_by sum was now.writer cache behind old new ready fits stay) apart
+pub same_takes : (sum : List ℕ → ℕ) (step : Step) (reply : Reply) (was now : SessionState) (cache after : CacheState) (old new : Life) → IsReady sum was old.present → CacheFits was cache old.present → FitsWriter now.writer after new.present
+    → LeavesTaken sum was.writer now.writer cache after old new → now ≡ was → StepsApart sum step reply was now old new → Steps sum step reply was now old new × CacheFits now after new.present
+same_takes sum step reply was now cache after old new ready fits writer stay is apart =
+    framed_same sum step reply was now after old new (ap (λ (s : SessionState). s.snapshots) is) (ap (λ (s : SessionState). s.replays) is) (subst (λ (s : SessionState). s.recovering ≡ true → s.snapshots ≡ []) (sym is) ready.begun) writer (left_by sum was now.writer cache after old new ready fits stay) apart
 
 -- one of a writer that appends, by a session in recovery, or closed
 module _ (sum : List ℕ → ℕ) (step : Step) (was now : SessionState) (old new : Life) (ready : IsReady sum was old.present) (appends : (s : Standing) → turned_away step s ≡ (if s.has_writer then (if s.recovering then Some NotAppending else None) else Some Closed)) where
@@ -154,10 +159,10 @@ snapshot_few true (Pending name) = lit≤ tt
 snapshot_few false state = lit≤ tt
 
 -- a snapshot that is made
-snapshot_steps : (sum : List ℕ → ℕ) (was : SessionState) (w v : WriterState) (t : Tail) (behind : CacheState) (old new : Life) → was.writer ≡ Some w → was.recovering ≡ false → IsSound sum w old.present → SnapshotSays sum w old new (Ok (v, t))
-    → StandsOn sum t (content_of w old.present.readable) behind new.present → AlwaysMakes sum Snapshot (Taken (length was.snapshots)) was (with_snapshot was (Some v) t) old new (t ∷ [])
+snapshot_steps : (sum : List ℕ → ℕ) (was : SessionState) (w v : WriterState) (t : Tail) (after : CacheState) (old new : Life) → was.writer ≡ Some w → was.recovering ≡ false → IsSound sum w old.present → SnapshotSays sum w old new (Ok (v, t))
+    → StandsOn sum t (content_of w old.present.readable) after new.present → AlwaysMakes sum Snapshot (Taken (length was.snapshots)) was (with_snapshot was (Some v) t) old new (t ∷ [])
 unfolding Through
-snapshot_steps sum was w v t behind old new at phase sound says on = λ P before all.
+snapshot_steps sum was w v t after old new at phase sound says on = λ P before all.
     let stands = stands_held sum P was w before old.present at all in
     one_more sum Snapshot P (Taken (length was.snapshots)) (with_snapshot was (Some v) t) old new before t (on.tail.is ∙ sym stands.fits.content) (by_work P before all stands (has_work w false) refl)
   where
@@ -239,7 +244,7 @@ snapshot_refused_steps sum was w e old new phase says = λ P before stands.
         by_work true some = false≢true (sym (full_of w P before fits.buffered fits.page_size some) ∙ short)
         by_work false none = subst (λ (x : Error). CopiesTail w (Err x)) fault (says.idle none).0
 
-    touched : (P : ℕ) (before : Standing) → WriterStandsFor P w before old.present → (moments : List Disk) → new ≡ after old moments → (work : Bool) → has_work w false ≡ work → Touches (if nat_lt before.buffered P then Leaves else Changes 2) old.present moments
+    touched : (P : ℕ) (before : Standing) → WriterStandsFor P w before old.present → (moments : List Disk) → new ≡ life_after old moments → (work : Bool) → has_work w false ≡ work → Touches (if nat_lt before.buffered P then Leaves else Changes 2) old.present moments
     touched P before fits moments goes false none =
         subst (λ (b : Bool). Touches (if b then Leaves else Changes 2) old.present moments) (sym (short_of w P before fits.buffered fits.page_size none)) (no_moments old new moments goes (says.idle none).1)
     touched P before fits moments goes true some =
@@ -253,35 +258,35 @@ no_room_for_one sum was w life phase = λ P before stands.
     (λ none. absurd none, λ none. absurd none) stands
 
 -- a snapshot by a session
-pub snapshot_takes : (sum : List ℕ → ℕ) (was now : SessionState) (cache behind : CacheState) (old new : Life) (reply : Reply) → IsReady sum was old.present → CacheFits was cache old.present → FitsWriter now.writer behind new.present
-    → LeavesTaken sum was.writer now.writer cache behind old new → DidSnapshot sum was now behind old new reply → Steps sum Snapshot reply was now old new × CacheFits now behind new.present
-snapshot_takes sum was now cache behind old new reply ready fits writer stay did = by_state was.recovering was.writer refl refl did
+pub snapshot_takes : (sum : List ℕ → ℕ) (was now : SessionState) (cache after : CacheState) (old new : Life) (reply : Reply) → IsReady sum was old.present → CacheFits was cache old.present → FitsWriter now.writer after new.present
+    → LeavesTaken sum was.writer now.writer cache after old new → DidSnapshot sum was now after old new reply → Steps sum Snapshot reply was now old new × CacheFits now after new.present
+snapshot_takes sum was now cache after old new reply ready fits writer stay did = by_state was.recovering was.writer refl refl did
   where
-    made : (w : WriterState) → was.writer ≡ Some w → was.recovering ≡ false → (r : Reply) → TakesSnapshot sum w was now behind old new r → Steps sum Snapshot r was now old new × CacheFits now behind new.present
+    made : (w : WriterState) → was.writer ≡ Some w → was.recovering ≡ false → (r : Reply) → TakesSnapshot sum w was now after old new r → Steps sum Snapshot r was now old new × CacheFits now after new.present
     made w at phase (Taken index) (v, t, number, is, says, on) =
         let sound = sound_in sum was.writer w old.present at ready.writer in
         let goes = says.makes.0 in
         let below : IsBelow (Some v) t = subst (λ (u : Tail). IsBelow (Some v) u) (sym says.makes.2) (refl, omega arith) in
-        subst (λ (n : ℕ). Steps sum Snapshot (Taken n) was now old new × CacheFits now behind new.present) (sym number)
-        (framed sum Snapshot (Taken (length was.snapshots)) was now behind old new (t ∷ []) (ap (λ (s : SessionState). s.snapshots) is) (ap (λ (s : SessionState). s.replays) is) (λ other. absurd (false≢true (sym phase ∙ sym (ap (λ (s : SessionState). s.recovering) is) ∙ other)))
-        (subst (λ (s : SessionState). IsReadyApart sum s new.present) (sym is) (record { writer = goes.sound; starts = inr says.owes.starts })) writer (left_by sum was now.writer cache behind old new ready fits stay)
-        (subst (λ (s : SessionState). All (Made sum s.writer behind new.present) (t ∷ [])) (sym is) (one_made (Some v) t below on))
-        (subst (λ (s : SessionState). AlwaysMakes sum Snapshot (Taken (length was.snapshots)) was s old new (t ∷ [])) (sym is) (snapshot_steps sum was w v t behind old new at phase sound says on)))
+        subst (λ (n : ℕ). Steps sum Snapshot (Taken n) was now old new × CacheFits now after new.present) (sym number)
+        (framed sum Snapshot (Taken (length was.snapshots)) was now after old new (t ∷ []) (ap (λ (s : SessionState). s.snapshots) is) (ap (λ (s : SessionState). s.replays) is) (λ other. absurd (false≢true (sym phase ∙ sym (ap (λ (s : SessionState). s.recovering) is) ∙ other)))
+        (subst (λ (s : SessionState). IsReadyApart sum s new.present) (sym is) (record { writer = goes.sound; starts = inr says.owes.starts })) writer (left_by sum was now.writer cache after old new ready fits stay)
+        (subst (λ (s : SessionState). All (Made sum s.writer after new.present) (t ∷ [])) (sym is) (one_made (Some v) t below on))
+        (subst (λ (s : SessionState). AlwaysMakes sum Snapshot (Taken (length was.snapshots)) was s old new (t ∷ [])) (sym is) (snapshot_steps sum was w v t after old new at phase sound says on)))
       where
-        one_made : (o : Option WriterState) (t : Tail) → IsBelow o t → StandsOn sum t (content_of w old.present.readable) behind new.present → All (Made sum o behind new.present) (t ∷ [])
+        one_made : (o : Option WriterState) (t : Tail) → IsBelow o t → StandsOn sum t (content_of w old.present.readable) after new.present → All (Made sum o after new.present) (t ∷ [])
         one_made o t below on zero d lt = record { snapshot = record { there = on.tail.there; full = on.tail.full; below = below }; can = on.can }
         one_made o t below on (suc k) d lt = absurd (omega (arith, lt))
     made w at phase (Fault e) goes = elim goes [
       | inl (is, says) ↦
-          framed_same sum Snapshot (Fault e) was now behind old new (ap (λ (s : SessionState). s.snapshots) is) (ap (λ (s : SessionState). s.replays) is) (λ other. absurd (false≢true (sym phase ∙ sym (ap (λ (s : SessionState). s.recovering) is) ∙ other))) writer
-          (left_by sum was now.writer cache behind old new ready fits stay)
+          framed_same sum Snapshot (Fault e) was now after old new (ap (λ (s : SessionState). s.snapshots) is) (ap (λ (s : SessionState). s.replays) is) (λ other. absurd (false≢true (sym phase ∙ sym (ap (λ (s : SessionState). s.recovering) is) ∙ other))) writer
+          (left_by sum was now.writer cache after old new ready fits stay)
           (subst (λ (s : SessionState). StepsApart sum Snapshot (Fault e) was s old new) (sym is)
           (record {
             ready = record { writer = tt; starts = inr says.owes.starts };
             always = subst (λ (s : SessionState). AlwaysApart sum Snapshot (Fault e) s (held was None) old new) (sym (held_same was (Some w) at)) (snapshot_refused_steps sum was w e old new phase says);
           }))
       | inr (fault, is, same) ↦
-          same_takes sum Snapshot (Fault e) was now cache behind old new ready fits writer stay is
+          same_takes sum Snapshot (Fault e) was now cache after old new ready fits writer stay is
           (subst (λ (x : Error). StepsApart sum Snapshot (Fault x) was now old new) (sym fault)
           (subst (λ (s : SessionState). StepsApart sum Snapshot (Fault OutOfMemory) was s old new) (sym is)
           (subst (λ (life : Life). StepsApart sum Snapshot (Fault OutOfMemory) was was old life) (sym same)
@@ -292,12 +297,12 @@ snapshot_takes sum was now cache behind old new reply ready fits writer stay did
     ]
     made w at phase r goes = absurd goes
 
-    by_state : (phase : Bool) (o : Option WriterState) → was.recovering ≡ phase → was.writer ≡ o → IfAppending phase o reply ((now ≡ was) × (new ≡ old)) (λ w. TakesSnapshot sum w was now behind old new reply)
-        → Steps sum Snapshot reply was now old new × CacheFits now behind new.present
-    by_state true None phase at (replied, (is, same)) = same_takes sum Snapshot reply was now cache behind old new ready fits writer stay is (closed_apart sum Snapshot was now old new ready (λ s. refl) reply at replied is same)
-    by_state false None phase at (replied, (is, same)) = same_takes sum Snapshot reply was now cache behind old new ready fits writer stay is (closed_apart sum Snapshot was now old new ready (λ s. refl) reply at replied is same)
+    by_state : (phase : Bool) (o : Option WriterState) → was.recovering ≡ phase → was.writer ≡ o → IfAppending phase o reply ((now ≡ was) × (new ≡ old)) (λ w. TakesSnapshot sum w was now after old new reply)
+        → Steps sum Snapshot reply was now old new × CacheFits now after new.present
+    by_state true None phase at (replied, (is, same)) = same_takes sum Snapshot reply was now cache after old new ready fits writer stay is (closed_apart sum Snapshot was now old new ready (λ s. refl) reply at replied is same)
+    by_state false None phase at (replied, (is, same)) = same_takes sum Snapshot reply was now cache after old new ready fits writer stay is (closed_apart sum Snapshot was now old new ready (λ s. refl) reply at replied is same)
     by_state true (Some w) phase at (replied, (is, same)) =
-        same_takes sum Snapshot reply was now cache behind old new ready fits writer stay is (recovering_apart sum Snapshot was now old new ready (λ s. refl) reply w at phase (λ content. refl) replied is same)
+        same_takes sum Snapshot reply was now cache after old new ready fits writer stay is (recovering_apart sum Snapshot was now old new ready (λ s. refl) reply w at phase (λ content. refl) replied is same)
     by_state false (Some w) phase at goes = made w at phase reply goes
 
 -- ---- snapshots for which nothing is written
@@ -388,7 +393,7 @@ seal_written false Clean is = refl
 seal_written false Dirty is = absurd (false≢true (sym is))
 seal_written false (Pending name) is = refl
 
-seal_touch : (w : WriterState) (P : ℕ) (before : Standing) (old new : Life) (moments : List Disk) → WriterStandsFor P w before old.present → new ≡ after old moments → AsksAtMost (seal_calls w) old new → (seal_calls w ≡ 0 → new ≡ old)
+seal_touch : (w : WriterState) (P : ℕ) (before : Standing) (old new : Life) (moments : List Disk) → WriterStandsFor P w before old.present → new ≡ life_after old moments → AsksAtMost (seal_calls w) old new → (seal_calls w ≡ 0 → new ≡ old)
     → Touches (if before.written then wait_touch before.awaited else Changes 3) old.present moments
 seal_touch w P before old new moments fits goes few idle = by_written before.written before.awaited fits.written fits.awaited
   where
@@ -433,10 +438,10 @@ sealed_stands sum P was w t (Named name) old new before moments stands starts h 
     }
 
 -- a writer that is sealed
-seal_steps : (sum : List ℕ → ℕ) (was : SessionState) (w : WriterState) (t : Tail) (sync : StartedSync) (behind : CacheState) (old new : Life) → was.writer ≡ Some w → was.recovering ≡ false → SealSays sum w old new (Ok (t, sync))
-    → StandsOn sum t (content_of w old.present.readable) behind new.present → AlwaysMakes sum Seal (Sealed (length was.snapshots) sync) was (sealed_with was t sync) old new (t ∷ [])
+seal_steps : (sum : List ℕ → ℕ) (was : SessionState) (w : WriterState) (t : Tail) (sync : StartedSync) (after : CacheState) (old new : Life) → was.writer ≡ Some w → was.recovering ≡ false → SealSays sum w old new (Ok (t, sync))
+    → StandsOn sum t (content_of w old.present.readable) after new.present → AlwaysMakes sum Seal (Sealed (length was.snapshots) sync) was (sealed_with was t sync) old new (t ∷ [])
 unfolding Through
-seal_steps sum was w t sync behind old new at phase says on = λ P before all.
+seal_steps sum was w t sync after old new at phase says on = λ P before all.
     let stands = stands_held sum P was w before old.present at all in
     let fits = stands.fits in
     let v = says.seals.0 in
@@ -481,33 +486,33 @@ no_room_to_seal sum was w life phase = λ P before stands.
     unasked sum P was w Seal (Fault OutOfMemory) (held was (Some w)) life before before (here before.has_writer before.recovering stands.fits.has_writer (sym stands.phase ∙ phase)) stands ((2, lit< tt, refl), tt, inr (refl, refl, refl))
     (λ none. absurd none, λ none. absurd none) stands
 
-pub seal_takes : (sum : List ℕ → ℕ) (was now : SessionState) (cache behind : CacheState) (old new : Life) (reply : Reply) → IsReady sum was old.present → CacheFits was cache old.present → FitsWriter now.writer behind new.present
-    → LeavesTaken sum was.writer now.writer cache behind old new → DidSeal sum was now behind old new reply → Steps sum Seal reply was now old new × CacheFits now behind new.present
-seal_takes sum was now cache behind old new reply ready fits writer stay did = by_state was.recovering was.writer refl refl did
+pub seal_takes : (sum : List ℕ → ℕ) (was now : SessionState) (cache after : CacheState) (old new : Life) (reply : Reply) → IsReady sum was old.present → CacheFits was cache old.present → FitsWriter now.writer after new.present
+    → LeavesTaken sum was.writer now.writer cache after old new → DidSeal sum was now after old new reply → Steps sum Seal reply was now old new × CacheFits now after new.present
+seal_takes sum was now cache after old new reply ready fits writer stay did = by_state was.recovering was.writer refl refl did
   where
-    one_made : (t : Tail) (content : List ℕ) → StandsOn sum t content behind new.present → All (Made sum None behind new.present) (t ∷ [])
+    one_made : (t : Tail) (content : List ℕ) → StandsOn sum t content after new.present → All (Made sum None after new.present) (t ∷ [])
     one_made t content on zero d lt = record { snapshot = record { there = on.tail.there; full = on.tail.full; below = tt }; can = on.can }
     one_made t content on (suc k) d lt = absurd (omega (arith, lt))
 
-    seals : (w : WriterState) → was.writer ≡ Some w → was.recovering ≡ false → (r : Reply) → SealsSession sum w was now behind old new r → Steps sum Seal r was now old new × CacheFits now behind new.present
+    seals : (w : WriterState) → was.writer ≡ Some w → was.recovering ≡ false → (r : Reply) → SealsSession sum w was now after old new r → Steps sum Seal r was now old new × CacheFits now after new.present
     seals w at phase (Sealed index sync) (t, number, is, says, on) =
         let next = sealed_with was t sync in
-        subst (λ (n : ℕ). Steps sum Seal (Sealed n sync) was now old new × CacheFits now behind new.present) (sym number)
-        (framed sum Seal (Sealed (length was.snapshots) sync) was now behind old new (t ∷ []) (ap (λ (s : SessionState). s.snapshots) is) (ap (λ (s : SessionState). s.replays) is) (λ other. absurd (false≢true (sym phase ∙ sym (ap (λ (s : SessionState). s.recovering) is) ∙ other)))
-        (subst (λ (s : SessionState). IsReadyApart sum s new.present) (sym is) (record { writer = tt; starts = inr says.owes.starts })) writer (left_by sum was now.writer cache behind old new ready fits stay)
-        (subst (λ (s : SessionState). All (Made sum s.writer behind new.present) (t ∷ [])) (sym is) (one_made t (content_of w old.present.readable) on))
-        (subst (λ (s : SessionState). AlwaysMakes sum Seal (Sealed (length was.snapshots) sync) was s old new (t ∷ [])) (sym is) (seal_steps sum was w t sync behind old new at phase says on)))
+        subst (λ (n : ℕ). Steps sum Seal (Sealed n sync) was now old new × CacheFits now after new.present) (sym number)
+        (framed sum Seal (Sealed (length was.snapshots) sync) was now after old new (t ∷ []) (ap (λ (s : SessionState). s.snapshots) is) (ap (λ (s : SessionState). s.replays) is) (λ other. absurd (false≢true (sym phase ∙ sym (ap (λ (s : SessionState). s.recovering) is) ∙ other)))
+        (subst (λ (s : SessionState). IsReadyApart sum s new.present) (sym is) (record { writer = tt; starts = inr says.owes.starts })) writer (left_by sum was now.writer cache after old new ready fits stay)
+        (subst (λ (s : SessionState). All (Made sum s.writer after new.present) (t ∷ [])) (sym is) (one_made t (content_of w old.present.readable) on))
+        (subst (λ (s : SessionState). AlwaysMakes sum Seal (Sealed (length was.snapshots) sync) was s old new (t ∷ [])) (sym is) (seal_steps sum was w t sync after old new at phase says on)))
     seals w at phase (Fault e) goes = elim goes [
       | inl (is, says) ↦
-          framed_same sum Seal (Fault e) was now behind old new (ap (λ (s : SessionState). s.snapshots) is) (ap (λ (s : SessionState). s.replays) is) (λ other. absurd (false≢true (sym phase ∙ sym (ap (λ (s : SessionState). s.recovering) is) ∙ other))) writer
-          (left_by sum was now.writer cache behind old new ready fits stay)
+          framed_same sum Seal (Fault e) was now after old new (ap (λ (s : SessionState). s.snapshots) is) (ap (λ (s : SessionState). s.replays) is) (λ other. absurd (false≢true (sym phase ∙ sym (ap (λ (s : SessionState). s.recovering) is) ∙ other))) writer
+          (left_by sum was now.writer cache after old new ready fits stay)
           (subst (λ (s : SessionState). StepsApart sum Seal (Fault e) was s old new) (sym is)
           (record {
             ready = record { writer = tt; starts = inr says.owes.starts };
             always = subst (λ (s : SessionState). AlwaysApart sum Seal (Fault e) s (held was None) old new) (sym (held_same was (Some w) at)) (seal_refused_steps sum was w e old new phase says);
           }))
       | inr (fault, is, same) ↦
-          same_takes sum Seal (Fault e) was now cache behind old new ready fits writer stay is
+          same_takes sum Seal (Fault e) was now cache after old new ready fits writer stay is
           (subst (λ (x : Error). StepsApart sum Seal (Fault x) was now old new) (sym fault)
           (subst (λ (s : SessionState). StepsApart sum Seal (Fault OutOfMemory) was s old new) (sym is)
           (subst (λ (life : Life). StepsApart sum Seal (Fault OutOfMemory) was was old life) (sym same)
@@ -518,12 +523,12 @@ seal_takes sum was now cache behind old new reply ready fits writer stay did = b
     ]
     seals w at phase r goes = absurd goes
 
-    by_state : (phase : Bool) (o : Option WriterState) → was.recovering ≡ phase → was.writer ≡ o → IfAppending phase o reply ((now ≡ was) × (new ≡ old)) (λ w. SealsSession sum w was now behind old new reply)
-        → Steps sum Seal reply was now old new × CacheFits now behind new.present
-    by_state true None phase at (replied, (is, same)) = same_takes sum Seal reply was now cache behind old new ready fits writer stay is (closed_apart sum Seal was now old new ready (λ s. refl) reply at replied is same)
-    by_state false None phase at (replied, (is, same)) = same_takes sum Seal reply was now cache behind old new ready fits writer stay is (closed_apart sum Seal was now old new ready (λ s. refl) reply at replied is same)
+    by_state : (phase : Bool) (o : Option WriterState) → was.recovering ≡ phase → was.writer ≡ o → IfAppending phase o reply ((now ≡ was) × (new ≡ old)) (λ w. SealsSession sum w was now after old new reply)
+        → Steps sum Seal reply was now old new × CacheFits now after new.present
+    by_state true None phase at (replied, (is, same)) = same_takes sum Seal reply was now cache after old new ready fits writer stay is (closed_apart sum Seal was now old new ready (λ s. refl) reply at replied is same)
+    by_state false None phase at (replied, (is, same)) = same_takes sum Seal reply was now cache after old new ready fits writer stay is (closed_apart sum Seal was now old new ready (λ s. refl) reply at replied is same)
     by_state true (Some w) phase at (replied, (is, same)) =
-        same_takes sum Seal reply was now cache behind old new ready fits writer stay is (recovering_apart sum Seal was now old new ready (λ s. refl) reply w at phase (λ content. refl) replied is same)
+        same_takes sum Seal reply was now cache after old new ready fits writer stay is (recovering_apart sum Seal was now old new ready (λ s. refl) reply w at phase (λ content. refl) replied is same)
     by_state false (Some w) phase at goes = seals w at phase reply goes
 
 -- ---- reads of snapshots
@@ -587,7 +592,7 @@ snap_steps sum was t cache index offset len old new reply at there says = λ P b
     (record {
       moments = seen.moments;
       goes = seen.goes;
-      behind = before;
+      after = before;
       did = record {
         answer = subst (λ (to : Disk). Answers sum P (Snap index offset len) reply old.present to before before) end
             (answers_here sum P (Snap index offset len) reply old.present new.present before before known (snap_taken sum P t cache index offset len before old new reply tells size says.full says.reads) foretold);
@@ -617,7 +622,7 @@ no_snap_steps sum was index offset len life past = λ P before all.
     (record {
       moments = [];
       goes = refl;
-      behind = before;
+      after = before;
       did = record {
         answer = answers_away sum P (Snap index offset len) NoSuch life.present life.present before (ap (λ (b : Bool). if b then None else Some NoSuch) none);
         touches = leaves Looks life.present;
@@ -637,33 +642,33 @@ pub sound_on : (sum : List ℕ → ℕ) (o : Option WriterState) (old new : Life
 sound_on sum None old new stay sound = tt
 sound_on sum (Some w) old new stay sound = (stay w sound).sound
 
-pub fits_on : (o : Option WriterState) (cache behind : CacheState) (old new : Life) → LeavesAllReads cache behind old new → FitsWriter o cache old.present → FitsWriter o behind new.present
-fits_on None cache behind old new stay fits = tt
-fits_on (Some w) cache behind old new stay fits = stay (tail_of w) fits
+pub fits_on : (o : Option WriterState) (cache after : CacheState) (old new : Life) → LeavesAllReads cache after old new → FitsWriter o cache old.present → FitsWriter o after new.present
+fits_on None cache after old new stay fits = tt
+fits_on (Some w) cache after old new stay fits = stay (tail_of w) fits
 
-pub snap_takes : (sum : List ℕ → ℕ) (was : SessionState) (cache behind : CacheState) (index offset len : ℕ) (old new : Life) (reply : Reply) → IsReady sum was old.present → CacheFits was cache old.present
-    → DidSnap sum (slice_get was.snapshots index) cache offset len old new reply → LeavesWriters sum old new → LeavesAllTails sum cache behind old new → LeavesAllReplays old new → LeavesAllReads cache behind old new
-    → Steps sum (Snap index offset len) reply was was old new × CacheFits was behind new.present
-snap_takes sum was cache behind index offset len old new reply ready fits did writers tails replays reads = by_place (slice_get was.snapshots index) refl did
+pub snap_takes : (sum : List ℕ → ℕ) (was : SessionState) (cache after : CacheState) (index offset len : ℕ) (old new : Life) (reply : Reply) → IsReady sum was old.present → CacheFits was cache old.present
+    → DidSnap sum (slice_get was.snapshots index) cache offset len old new reply → LeavesWriters sum old new → LeavesAllTails sum cache after old new → LeavesAllReplays old new → LeavesAllReads cache after old new
+    → Steps sum (Snap index offset len) reply was was old new × CacheFits was after new.present
+snap_takes sum was cache after index offset len old new reply ready fits did writers tails replays reads = by_offset (slice_get was.snapshots index) refl did
   where
-    left : LeftAll sum was was.writer behind old.present new.present
-    left = left_by sum was was.writer cache behind old new ready fits (leaves_all sum was.writer cache behind old new tails replays)
+    left : LeftAll sum was was.writer after old.present new.present
+    left = left_by sum was was.writer cache after old new ready fits (leaves_all sum was.writer cache after old new tails replays)
 
-    whole_of : (r : Reply) → (was.names ≡ []) ⊎ StartsStand new.present → AlwaysMakes sum (Snap index offset len) r was was old new [] → Steps sum (Snap index offset len) r was was old new × CacheFits was behind new.present
+    whole_of : (r : Reply) → (was.names ≡ []) ⊎ StartsStand new.present → AlwaysMakes sum (Snap index offset len) r was was old new [] → Steps sum (Snap index offset len) r was was old new × CacheFits was after new.present
     whole_of r starts always =
-        framed sum (Snap index offset len) r was was behind old new [] (sym (append-nil was.snapshots)) refl ready.begun (record { writer = sound_on sum was.writer old new writers ready.writer; starts = starts })
-        (fits_on was.writer cache behind old new reads fits.writer) left (λ k t lt. absurd (omega (arith, lt))) always
+        framed sum (Snap index offset len) r was was after old new [] (sym (append-nil was.snapshots)) refl ready.begun (record { writer = sound_on sum was.writer old new writers ready.writer; starts = starts })
+        (fits_on was.writer cache after old new reads fits.writer) left (λ k t lt. absurd (omega (arith, lt))) always
 
     past : slice_get was.snapshots index ≡ None → length was.snapshots ≤ index
     past none = elim (slice_get_cases was.snapshots index).1 [ inl (t, below, is, same) ↦ absurd (cc (sym none ∙ is)) | inr (all, is) ↦ all ]
 
-    by_place : (o : Option Tail) → slice_get was.snapshots index ≡ o → DidSnap sum o cache offset len old new reply → Steps sum (Snap index offset len) reply was was old new × CacheFits was behind new.present
-    by_place None none (replied, same) =
+    by_offset : (o : Option Tail) → slice_get was.snapshots index ≡ o → DidSnap sum o cache offset len old new reply → Steps sum (Snap index offset len) reply was was old new × CacheFits was after new.present
+    by_offset None none (replied, same) =
         let starts : (was.names ≡ []) ⊎ StartsStand new.present = subst (λ (life : Life). (was.names ≡ []) ⊎ StartsStand life.present) (sym same) ready.starts in
         whole_of reply starts
         (subst (λ (r : Reply). AlwaysMakes sum (Snap index offset len) r was was old new []) (sym replied)
         (subst (λ (life : Life). AlwaysMakes sum (Snap index offset len) NoSuch was was old life []) (sym same) (no_snap_steps sum was index offset len old (past none))))
-    by_place (Some t) at says =
+    by_offset (Some t) at says =
         let there = (of_each (λ u. IsSnapshot sum was.writer u old.present) was.snapshots index t at ready.snapshots).there in
         let starts : (was.names ≡ []) ⊎ StartsStand new.present = elim ready.starts [ inl none ↦ inl none | inr stand ↦ inr (alike_stays_started old.present new.present says.looked.same stand) ] in
         whole_of reply starts (snap_steps sum was t cache index offset len old new reply at there says)

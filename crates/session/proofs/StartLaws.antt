@@ -5,29 +5,33 @@ use Rattle.std.specs.List.{Contains, list_any}
 use Rattle.std.proofs.lemmas.Bool.{false≢true}
 use Rattle.std.proofs.lemmas.Bool.Decides.{nat_tests}
 use Rattle.std.proofs.lemmas.List.Folds.{list_any-append}
-use Rattle.disk.specs.Disk.{Disk, Life, WaitSync as WaitCall, next, after, logged, coverings, settle_to, failed_at, WaitGoes}
+use Rattle.disk.specs.Disk.{Disk, Life, WaitSync as WaitCall, next, life_after, logged, coverings, disk_settled_to, failed_at, WaitGoes}
 use Rattle.disk.specs.declared.started_sync.StartedSync.{StartedSync}
 use Rattle.disk.specs.declared.started_sync.StartedSync.TheVariants.{Done as AllDone, Named}
 use Rattle.disk.specs.declared.error.Error.{Error}
 use Rattle.disk.specs.declared.error.Error.TheVariants.{ReadFailed, WriteFailed, ResizeFailed, SyncFailed, InvalidChecksum, BlobInsufficientLength, OffsetOverflow, OutOfMemory, IdsExhausted}
 use Rattle.crash.specs.Kept.{AllKeep, AllOnly, Each, Through}
 use Rattle.crash.specs.Started.{WouldKeep, StartsStand}
-use Rattle.crash.specs.WriterState.{WriterState, SyncState}
-use Rattle.crash.specs.WriterState.SyncState.{Clean, Dirty, Pending}
-use Rattle.crash.specs.Sound.{IsSound, content as content_of}
+use Rattle.writer_state.specs.WriterState.{WriterState, started_state}
+use Rattle.writer_state.specs.declared.sync_state.SyncState.{SyncState}
+use Rattle.writer_state.specs.declared.sync_state.SyncState.TheVariants.{Clean, Dirty, Pending}
+use Rattle.writer_state.specs.Sound.{IsSound, content as content_of}
 use Rattle.crash.specs.Stays.{StaysThrough}
 use Rattle.crash.proofs.BuiltLaws.{IsSmall}
-use Rattle.crash.proofs.StartedLaws.{wait_leaves, covering_of}
-use Rattle.crash.proofs.StandLaws.{WaitKeeps, wait_keeps}
+use Rattle.writer_state.proofs.StartedLaws.{wait_leaves, covering_of}
+use Rattle.writer_state.proofs.StandLaws.{WaitKeeps, wait_keeps}
 use Rattle.paged.specs.Flush.{has_work}
-use Rattle.paged.specs.Calls.{HasCause as CallCause, GoesOn, Refuses as CallRefuses, IsSettled, started_already, started_state, sync_calls, start_calls, wait_calls, unstarted_calls, waited_state, waited as waited_writer, SettlesBy}
+use Rattle.paged.specs.Calls.{CallCause, GoesOn, Refuses as CallRefuses, IsSettled, started_already, sync_calls, start_calls, wait_calls, unstarted_calls, waited_state, waited as waited_writer, SettlesBy}
 use Rattle.session.specs.declared.steps.Step.TheVariants.{StartSync, Wait, WaitSync, Needs, Begin}
 use Rattle.session.specs.declared.steps.Reply.{Reply}
 use Rattle.session.specs.declared.steps.Reply.TheVariants.{At, Nothing, Done, Started, Answer, Length, Bytes, Fault, Closed, NotRecovering, NoSuch, Served, Missed, BadRanges, Taken, Sealed, NotAppending, Replaying}
 use Rattle.session.specs.Run.{Replayed, Standing, SessionState, ended, starting, waited, started_by, is_complete, HasCompleted, turned_away, Answers, faults, HasCause, HadFailed, Takes, wait_touch, last, Touches, AllCover, pending_in, WriterStandsFor, WriterFits, NamesFit, HasSoundWriter}
 use Rattle.session.specs.Run.Touch.{Leaves, Changes}
 use Rattle.session.specs.Calls.{KeepsRest, StartSays, names_after, Starts, WaitSays, Waits, WaitsFor, is_given, NeedsSync as SaysNeeds, Begins, KeepsSnapshots}
-use Rattle.session.proofs.StepLaws.{held, held_same, last_is, no_moments, answers_away, answers_here, turned_here, turned_closed, leaves, few_calls, raised_within, only_there, Halves, each_end, stepped, unasked, stands_now, stands_ended, written_no_work, needs_is, had_failed_as, wait_none, wait_one, owed_starts, same_halves, left_buffered, synced_stands, closed_takes, held_takes, sound_of, same_rest}
+use Rattle.session.proofs.StepLaws.{held, held_same, last_is, no_moments, answers_away, answers_here, turned_here, turned_closed, leaves, few_calls, raised_within, only_there, Halves, each_end, stepped, unasked, stands_now, stands_ended}
+use Rattle.session.proofs.AppendLaws.{written_no_work, needs_is, had_failed_as, wait_none, wait_one, owed_starts}
+use Rattle.session.proofs.SyncLaws.{same_halves, left_buffered, synced_stands}
+use Rattle.session.proofs.SessionLaws.{closed_takes, held_takes, sound_of, same_rest}
 use Rattle.session.proofs.Apart.{AlwaysApart, IsReadyApart, StandsApart, SteppedApart, StepsApart}
 
 -- ---- what the calls owe
@@ -85,7 +89,7 @@ name_more names covers name cover fits = λ asked. list_any-append (λ (n : ℕ)
     turned false false = refl
 
 -- the touch of starting a sync
-start_touch : (w : WriterState) (P : ℕ) (before : Standing) (old new : Life) (moments : List Disk) → WriterStandsFor P w before old.present → new ≡ after old moments → length new.present.log ≤ length old.present.log + start_calls w
+start_touch : (w : WriterState) (P : ℕ) (before : Standing) (old new : Life) (moments : List Disk) → WriterStandsFor P w before old.present → new ≡ life_after old moments → length new.present.log ≤ length old.present.log + start_calls w
     → (start_calls w ≡ 0 → new ≡ old) → Touches (if before.written then Leaves else Changes 3) old.present moments
 start_touch w P before old new moments fits goes few idle = by_written before.written fits.written
   where
@@ -212,10 +216,10 @@ no_room_steps sum was w life = λ P before stands.
 -- a wait that answers Ok leaves the sync complete
 complete : (name : ℕ) (old new : Life) (u : Unit {0}) → WaitGoes name old new (Ok u) → is_complete new.present name ≡ true
 complete name old new u (s, named, well, is) =
-    let at : new.present ≡ logged (WaitCall name) false (settle_to c d) = ap (λ (life : Life). life.present) is in
-    let there : slice_get (coverings (settle_to c d)) name ≡ Some c = same_covers (nat_lt d.settled c.0) ∙ covering_of name d s named in
-    let done : nat_le c.0 (settle_to c d).settled ≡ true = settles (nat_lt d.settled c.0) refl in
-    ap (λ (x : Disk). is_complete x name) at ∙ ap (λ (o : Option (ℕ × List ℕ)). elim o [ None ↦ false | Some x ↦ nat_le x.0 (settle_to c d).settled ]) there ∙ done
+    let at : new.present ≡ logged (WaitCall name) false (disk_settled_to c d) = ap (λ (life : Life). life.present) is in
+    let there : slice_get (coverings (disk_settled_to c d)) name ≡ Some c = same_covers (nat_lt d.settled c.0) ∙ covering_of name d s named in
+    let done : nat_le c.0 (disk_settled_to c d).settled ≡ true = settles (nat_lt d.settled c.0) refl in
+    ap (λ (x : Disk). is_complete x name) at ∙ ap (λ (o : Option (ℕ × List ℕ)). elim o [ None ↦ false | Some x ↦ nat_le x.0 (disk_settled_to c d).settled ]) there ∙ done
   where
     d : Disk
     d = old.present
@@ -259,7 +263,7 @@ waits_none Dirty = refl
 waits_none (Pending name) = refl
 
 -- the touch of a wait
-waits_touch : (w : WriterState) (P : ℕ) (before : Standing) (old new : Life) (moments : List Disk) → WriterStandsFor P w before old.present → new ≡ after old moments → length new.present.log ≤ length old.present.log + wait_calls w.sync
+waits_touch : (w : WriterState) (P : ℕ) (before : Standing) (old new : Life) (moments : List Disk) → WriterStandsFor P w before old.present → new ≡ life_after old moments → length new.present.log ≤ length old.present.log + wait_calls w.sync
     → (wait_calls w.sync ≡ 0 → new ≡ old) → Touches (wait_touch before.awaited) old.present moments
 waits_touch w P before old new moments fits goes few idle = by_awaited before.awaited fits.awaited
   where
@@ -326,7 +330,7 @@ wait_refused_steps sum was w e old new says = λ P before stands.
 -- ---- waits for a name
 
 -- a wait leaves what is readable
-settle_readable : (c : ℕ × List ℕ) (d : Disk) → (settle_to c d).readable ≡ d.readable
+settle_readable : (c : ℕ × List ℕ) (d : Disk) → (disk_settled_to c d).readable ≡ d.readable
 settle_readable c d = by_test (nat_lt d.settled c.0)
   where
     by_test : (later : Bool) → (if later then record d { base = c.1; since = drop (c.0 - d.settled) d.since; settled = c.0 } else d).readable ≡ d.readable
@@ -336,12 +340,12 @@ settle_readable c d = by_test (nat_lt d.settled c.0)
 -- it is one moment, or none
 record IsOneWait (name : ℕ) (old new : Life) : Type 0 where
   moments : List Disk
-  goes : new ≡ after old moments
+  goes : new ≡ life_after old moments
   one : (moments ≡ []) ⊎ (moments ≡ new.present ∷ [])
   few : length new.present.log ≤ length old.present.log + 1
   readable : new.present.readable ≡ old.present.readable
 
--- so what holds behind it holds at each of its moments
+-- so what holds after it holds at each of its moments
 each_wait : (Q : Disk → Type 0) (name : ℕ) (old new : Life) (one : IsOneWait name old new) → Q new.present → Each Q one.moments
 each_wait Q name old new one holds = elim one.one [
   | inl none ↦ subst (λ (l : List Disk). Each Q l) (sym none) tt
@@ -361,7 +365,7 @@ next_wait name old new failed e is readable log =
 
 one_wait : (name : ℕ) (old new : Life) (answer : Result (Unit {0}) Error) → WaitGoes name old new answer → IsOneWait name old new
 one_wait name old new (Ok u) (s, named, well, is) =
-    next_wait name old new false (settle_to (s.covers, s.bytes) old.present) is (settle_readable (s.covers, s.bytes) old.present) (same_log (nat_lt old.present.settled s.covers))
+    next_wait name old new false (disk_settled_to (s.covers, s.bytes) old.present) is (settle_readable (s.covers, s.bytes) old.present) (same_log (nat_lt old.present.settled s.covers))
   where
     same_log : (later : Bool) → (if later then record old.present { base = s.bytes; since = drop (s.covers - old.present.settled) old.present.since; settled = s.covers } else old.present).log ≡ old.present.log
     same_log true = refl
@@ -376,7 +380,7 @@ one_wait name old new (Err OutOfMemory) is = record {
 }
 one_wait name old new (Err e) goes = absurd goes
 
--- the session stands for the same behind it
+-- the session stands for the same after it
 pub waited_fits : (P : ℕ) (o : Option WriterState) (s : Standing) (d e : Disk) → e.readable ≡ d.readable → WriterFits P o s d → WriterFits P o s e
 waited_fits P None s d e same fits = fits
 waited_fits P (Some w) s d e same fits = record {
@@ -415,7 +419,7 @@ named_steps sum was name reply old new answer given stand goes takes = λ P befo
     record {
       moments = one.moments;
       goes = one.goes;
-      behind = before;
+      after = before;
       did = record {
         answer = subst (λ (to : Disk). Answers sum P (WaitSync name) reply old.present to before before) end (answers_here sum P (WaitSync name) reply old.present new.present before before here (takes P before) (λ none. absurd none, λ none. absurd none));
         touches = few_calls old new one.moments 1 one.goes one.few;
@@ -438,7 +442,7 @@ unnamed_steps : (sum : List ℕ → ℕ) (was : SessionState) (name : ℕ) (life
 unnamed_steps sum was name life given = λ P before stands. record {
   moments = [];
   goes = refl;
-  behind = before;
+  after = before;
   did = record {
     answer = answers_away sum P (WaitSync name) NoSuch life.present life.present before (ap (λ (b : Bool). if b then None else Some NoSuch) (sym (stands.names name) ∙ given));
     touches = leaves (Changes 1) life.present;
@@ -471,7 +475,7 @@ named_cause P name s old new BlobInsufficientLength goes = absurd goes
 named_cause P name s old new OffsetOverflow goes = absurd goes
 named_cause P name s old new IdsExhausted goes = absurd goes
 
--- the writer stays sound behind it
+-- the writer stays sound after it
 waited_sound : (sum : List ℕ → ℕ) (o : Option WriterState) (name : ℕ) (old new : Life) (answer : Result (Unit {0}) Error) → IsSmall sum → HasSoundWriter sum o old.present → WaitGoes name old new answer → HasSoundWriter sum o new.present
 unfolding IsSound
 waited_sound sum None name old new answer small sound goes = tt

@@ -6,17 +6,17 @@ use Rattle.std.specs.List.{Contains, list_any}
 use Rattle.std.proofs.Math.Seq.{take-length}
 use Rattle.std.proofs.lemmas.List.{take-take}
 use Rattle.std.proofs.lemmas.Bool.{false≢true}
-use Rattle.disk.specs.Disk.{Disk, Life, after}
+use Rattle.disk.specs.Disk.{Disk, Life, life_after}
 use Rattle.disk.specs.declared.error.Error.{Error}
 use Rattle.disk.specs.declared.error.Error.TheVariants.{ReadFailed, WriteFailed, ResizeFailed, SyncFailed, InvalidChecksum, BlobInsufficientLength, OffsetOverflow, OutOfMemory, IdsExhausted}
 use Rattle.crash.specs.Kept.{AllKeep, AllOnly, Each, Through, Moments}
 use Rattle.crash.specs.Stays.{LeavesOnly}
 use Rattle.crash.specs.Started.{WouldKeep, CoversStay, CoversThrough}
-use Rattle.crash.specs.WriterState.{WriterState}
-use Rattle.crash.specs.Sound.{IsSound, content as content_of}
+use Rattle.writer_state.specs.WriterState.{WriterState}
+use Rattle.writer_state.specs.Sound.{IsSound, content as content_of}
 use Rattle.crash.specs.Moments.{each_then}
 use Rattle.crash.proofs.Moments.{keeps_longer, keeps_shorter}
-use Rattle.crash.proofs.Soundness.{sound_leaves}
+use Rattle.writer_state.proofs.Soundness.{sound_leaves}
 use Rattle.page.specs.Page.{text}
 use Rattle.paged.specs.Calls.{settle_calls}
 use Rattle.paged.specs.Flush.{has_work}
@@ -29,7 +29,9 @@ use Rattle.session.specs.declared.steps.Reply.TheVariants.{At, Nothing, Done, St
 use Rattle.session.specs.Run.{Standing, SessionState, truncated, lowered, forgetting, begun, ended, turned_away, faults, HasCause, Takes, pending_in, AllCover, NamesFit}
 use Rattle.session.specs.Run.Touch.{Changes}
 use Rattle.session.specs.Calls.{IsClosed, KeepsRest, TruncateSays, Cuts, Truncated}
-use Rattle.session.proofs.StepLaws.{held, held_same, keeps_fewer, would_longer, cover_stays, all_lowered, begun_keeps, begun_covers, through_each, each_end, few_calls, raised_within, leaves, answers_away, stepped_by, had_failed_as, calls_few, settled_started, settled_awaits, closed_takes, held_by, held_takes, sound_of}
+use Rattle.session.proofs.StepLaws.{held, held_same, keeps_fewer, would_longer, cover_stays, all_lowered, begun_keeps, begun_covers, through_each, each_end, few_calls, raised_within, leaves, answers_away, stepped_by}
+use Rattle.session.proofs.AppendLaws.{had_failed_as, calls_few, settled_started, settled_awaits}
+use Rattle.session.proofs.SessionLaws.{closed_takes, held_by, held_takes, sound_of}
 use Rattle.session.proofs.PromiseLaws.{tip_is}
 use Rattle.session.proofs.Apart.{AlwaysApart, AlwaysBy, StepsBy, IsReadyApart, StandsApart, SteppedApart, StepsApart}
 
@@ -73,7 +75,7 @@ lowered_names n names s fits = λ asked. fits asked ∙ sym (lowered_any n asked
 
 -- what each moment of a truncate says, by the content and what stands lowered
 record CutHalves (sum : List ℕ → ℕ) (P n : ℕ) (s : Standing) (old new : Life) (moments : List Disk) : Type 0 where
-  goes : new ≡ after old moments
+  goes : new ≡ life_after old moments
   kept : Each (AllKeep sum P s.content (lowered n s).floor) (old.present ∷ moments)
   covered : Each (AllCover sum P s.content (lowered n s).covers) (old.present ∷ moments)
   first : Each (AllCover sum P (take n s.content) (lowered n s).covers) (old.present ∷ moments)
@@ -168,17 +170,17 @@ not_turned n s has phase = by_phase s.has_writer s.recovering has phase
     by_phase true false one two = absurd (false≢true two)
 
 -- by what each moment says
-cut_steps : (sum : List ℕ → ℕ) (P n : ℕ) (was : SessionState) (w : WriterState) (reply : Reply) (now : SessionState) (old new : Life) (before behind : Standing) (moments : List Disk) → was.recovering ≡ true → IsSound sum w old.present
+cut_steps : (sum : List ℕ → ℕ) (P n : ℕ) (was : SessionState) (w : WriterState) (reply : Reply) (now : SessionState) (old new : Life) (before after : Standing) (moments : List Disk) → was.recovering ≡ true → IsSound sum w old.present
     → StandsApart sum P (held was (Some w)) before old.present → CutHalves sum P n before old new moments → length new.present.log ≤ length old.present.log + truncate_calls w n
-    → ((s : Standing) → s ≡ forgetting (lowered n before) → begun (Truncate n) before ≡ s → Takes sum P (Truncate n) reply old.present new.present before behind)
-    → StandsApart sum P now behind new.present → SteppedApart sum P (Truncate n) reply now old new before behind.snapshots behind.replays
-cut_steps sum P n was w reply now old new before behind moments recovering sound stands h few takes after_it =
+    → ((s : Standing) → s ≡ forgetting (lowered n before) → begun (Truncate n) before ≡ s → Takes sum P (Truncate n) reply old.present new.present before after)
+    → StandsApart sum P now after new.present → SteppedApart sum P (Truncate n) reply now old new before after.snapshots after.replays
+cut_steps sum P n was w reply now old new before after moments recovering sound stands h few takes after_it =
     let has = stands.fits.has_writer in
     let phase : before.recovering ≡ true = sym stands.phase ∙ recovering in
     let lower = lowers n before has phase in
     let size : length before.content ≡ size_of w = ap length stands.fits.content ∙ sym (size_is_length sum w old sound) in
     let most = truncate_few w n (length before.content) size in
-    stepped_by sum P (Truncate n) reply now old new before behind moments has (not_turned n before has phase) h.goes (subst (λ (s : Standing). Each (AllKeep sum P before.content s.floor) (old.present ∷ moments)) (sym lower) h.kept)
+    stepped_by sum P (Truncate n) reply now old new before after moments has (not_turned n before has phase) h.goes (subst (λ (s : Standing). Each (AllKeep sum P before.content s.floor) (old.present ∷ moments)) (sym lower) h.kept)
     (subst (λ (s : Standing). Each (AllCover sum P before.content s.covers) (old.present ∷ moments)) (sym lower) h.covered) h.only
     (few_calls old new moments (if nat_lt n (length before.content) then 8 else 2) h.goes (omega (arith, few, most))) (takes (forgetting (lowered n before)) refl lower) (λ none. absurd none, λ none. absurd none) after_it
 
@@ -267,7 +269,7 @@ turned_steps sum was w n life ends = λ P before stands.
     record {
       moments = [];
       goes = refl;
-      behind = before;
+      after = before;
       did = record {
         answer = answers_away sum P (Truncate n) NotRecovering life.present life.present before (away before.has_writer before.recovering has (sym stands.phase ∙ ends));
         touches = leaves (Changes (if nat_lt n (length before.content) then 8 else 2)) life.present;

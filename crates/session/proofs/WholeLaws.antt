@@ -3,7 +3,7 @@ use Rattle.std.proofs.Common.{◌≡◌, ℕ, List, [], refl, sym, ap, ◌∙◌
 use Rattle.std.specs.Prelude.{All, Option, Some, None, is_some, map, ◌&&◌, if◌then◌else◌}
 use Rattle.std.proofs.lemmas.Bool.{false≢true}
 use Rattle.disk.specs.Disk.{Life}
-use Rattle.crash.specs.WriterState.{WriterState}
+use Rattle.writer_state.specs.WriterState.{WriterState}
 use Rattle.crash.proofs.BuiltLaws.{IsSmall}
 use Rattle.cache.specs.CacheState.{CacheState}
 use Rattle.paged_read.specs.Tail.{Tail, CanRead}
@@ -17,7 +17,7 @@ use Rattle.session.specs.Run.{SessionState, CacheFits, FitsWriter, IsReady}
 use Rattle.session.specs.Calls.{Begins, is_given, IsClosed, KeepsRest, KeepsSnapshots, KeepsUncut, LeavesTaken, LeavesWriterState, Steps, TakenBy, Truncated, WaitsFor}
 use Rattle.session.proofs.Apart.{IsReadyApart, ready_apart, StepsApart, StepsBy, steps_with}
 use Rattle.session.proofs.Below.{framed_cut, framed_same, leaves_all, Left, LeftAll, left_by, left_same, replays_same}
-use Rattle.session.proofs.StepLaws.{appended_takes, owned_steps, tried_takes, synced_takes, sized_takes, read_takes}
+use Rattle.session.proofs.SessionLaws.{appended_takes, owned_steps, tried_takes, synced_takes, sized_takes, read_takes}
 use Rattle.session.proofs.StartLaws.{started_takes, waited_takes, named_takes, needed_takes, begun_takes, both_same}
 use Rattle.session.proofs.ReadLaws.{read_up_to_takes, scan_takes, try_read_takes}
 use Rattle.session.proofs.RangeLaws.{read_ranges_takes, try_read_ranges_takes}
@@ -73,13 +73,13 @@ module _ (sum : List ℕ → ℕ) (was now : SessionState) (cache : CacheState) 
   taken_apart (Seek index offset) taken = absurd taken
 
 -- such a step, with the session's snapshots
-pub writer_takes : (sum : List ℕ → ℕ) (step : Step) (was now : SessionState) (cache behind : CacheState) (old new : Life) (reply : Reply) → IsReady sum was old.present → CacheFits was cache old.present
-    → TakenBy sum step was.writer now.writer was.names now.names cache old new reply → KeepsSnapshots was now → FitsWriter now.writer behind new.present → LeavesTaken sum was.writer now.writer cache behind old new
-    → Steps sum step reply was now old new × CacheFits now behind new.present
-writer_takes sum step was now cache behind old new reply ready fits taken rest writer stay =
+pub writer_takes : (sum : List ℕ → ℕ) (step : Step) (was now : SessionState) (cache after : CacheState) (old new : Life) (reply : Reply) → IsReady sum was old.present → CacheFits was cache old.present
+    → TakenBy sum step was.writer now.writer was.names now.names cache old new reply → KeepsSnapshots was now → FitsWriter now.writer after new.present → LeavesTaken sum was.writer now.writer cache after old new
+    → Steps sum step reply was now old new × CacheFits now after new.present
+writer_takes sum step was now cache after old new reply ready fits taken rest writer stay =
     let same : now.snapshots ≡ was.snapshots = ap (λ (s : SessionState). s.snapshots) rest in
     let phase : now.recovering ≡ was.recovering = ap (λ (s : SessionState). s.recovering) rest in
-    framed_same sum step reply was now behind old new same (ap (λ (s : SessionState). s.replays) rest) (λ is. same ∙ ready.begun (sym phase ∙ is)) writer (left_by sum was now.writer cache behind old new ready fits stay)
+    framed_same sum step reply was now after old new same (ap (λ (s : SessionState). s.replays) rest) (λ is. same ∙ ready.begun (sym phase ∙ is)) writer (left_by sum was now.writer cache after old new ready fits stay)
     (taken_apart sum was now cache old new reply (ready_apart sum was old.present ready) fits.writer rest step taken)
 
 -- ---- steps of the session
@@ -111,9 +111,9 @@ begin_takes sum was now cache life reply ready fits goes =
 
 -- a truncate, by a session in recovery, which has no snapshot, and no replay from then on; or turned
 -- away
-pub cut_takes : (sum : List ℕ → ℕ) (was now : SessionState) (cache behind : CacheState) (n : ℕ) (old new : Life) (reply : Reply) → IsReady sum was old.present → CacheFits was cache old.present → Truncated sum was.recovering was.writer now.writer n old new reply
-    → KeepsUncut was now → FitsWriter now.writer behind new.present → (was.recovering ≡ false → behind ≡ cache) → Steps sum (Truncate n) reply was now old new × CacheFits now behind new.present
-cut_takes sum was now cache behind n old new reply ready fits goes rest writer turned = by_state was.recovering was.writer refl refl goes
+pub cut_takes : (sum : List ℕ → ℕ) (was now : SessionState) (cache after : CacheState) (n : ℕ) (old new : Life) (reply : Reply) → IsReady sum was old.present → CacheFits was cache old.present → Truncated sum was.recovering was.writer now.writer n old new reply
+    → KeepsUncut was now → FitsWriter now.writer after new.present → (was.recovering ≡ false → after ≡ cache) → Steps sum (Truncate n) reply was now old new × CacheFits now after new.present
+cut_takes sum was now cache after n old new reply ready fits goes rest writer turned = by_state was.recovering was.writer refl refl goes
   where
     same : now.snapshots ≡ was.snapshots
     same = ap (λ (s : SessionState). s.snapshots) rest
@@ -128,18 +128,18 @@ cut_takes sum was now cache behind n old new reply ready fits goes rest writer t
     kept : (cuts : Bool) → (was.recovering && is_some was.writer) ≡ cuts → now.replays ≡ (if cuts then map (λ r. None) was.replays else was.replays)
     kept cuts is = ap (λ (s : SessionState). s.replays) rest ∙ ap (λ (b : Bool). if b then map (λ r. None) was.replays else was.replays) is
 
-    uncut : StepsApart sum (Truncate n) reply was (record was { writer = now.writer }) old new → (was.recovering && is_some was.writer) ≡ false → LeftAll sum was now.writer behind old.present new.present
-        → Steps sum (Truncate n) reply was now old new × CacheFits now behind new.present
-    uncut apart none left = framed_same sum (Truncate n) reply was now behind old new same (kept false none) begun writer left (steps false apart)
+    uncut : StepsApart sum (Truncate n) reply was (record was { writer = now.writer }) old new → (was.recovering && is_some was.writer) ≡ false → LeftAll sum was now.writer after old.present new.present
+        → Steps sum (Truncate n) reply was now old new × CacheFits now after new.present
+    uncut apart none left = framed_same sum (Truncate n) reply was now after old new same (kept false none) begun writer left (steps false apart)
 
-    closed_left : (phase : Bool) → was.recovering ≡ phase → was.writer ≡ None → IsClosed now.writer old new reply → LeftAll sum was now.writer behind old.present new.present
-    closed_left false in_phase at closed = left_same sum was now.writer cache behind old new ready fits (closed.writer ∙ sym at) (turned in_phase) closed.life
+    closed_left : (phase : Bool) → was.recovering ≡ phase → was.writer ≡ None → IsClosed now.writer old new reply → LeftAll sum was now.writer after old.present new.present
+    closed_left false in_phase at closed = left_same sum was now.writer cache after old new ready fits (closed.writer ∙ sym at) (turned in_phase) closed.life
     closed_left true in_phase at closed = record {
-      snapshots = subst (λ (ts : List Tail). All (Left sum now.writer behind old.present new.present) ts) (sym (ready.begun in_phase)) (λ k t lt. absurd (omega (arith, lt)));
+      snapshots = subst (λ (ts : List Tail). All (Left sum now.writer after old.present new.present) ts) (sym (ready.begun in_phase)) (λ k t lt. absurd (omega (arith, lt)));
       replays = replays_same sum was now.writer old new ready (closed.writer ∙ sym at) closed.life;
     }
 
-    by_state : (phase : Bool) (o : Option WriterState) → was.recovering ≡ phase → was.writer ≡ o → Truncated sum phase o now.writer n old new reply → Steps sum (Truncate n) reply was now old new × CacheFits now behind new.present
+    by_state : (phase : Bool) (o : Option WriterState) → was.recovering ≡ phase → was.writer ≡ o → Truncated sum phase o now.writer n old new reply → Steps sum (Truncate n) reply was now old new × CacheFits now after new.present
     by_state phase None in_phase at closed =
         let by_phase : (b : Bool) → (b && false) ≡ false = λ b. elim b as (λ x. (x && false) ≡ false) [ true ↦ refl | false ↦ refl ] in
         let none : (was.recovering && is_some was.writer) ≡ false = ap (λ (o : Option WriterState). was.recovering && is_some o) at ∙ by_phase was.recovering in
@@ -147,10 +147,10 @@ cut_takes sum was now cache behind n old new reply ready fits goes rest writer t
         (closed_left phase in_phase at closed)
     by_state true (Some w) in_phase at cuts =
         let both : (was.recovering && is_some was.writer) ≡ true = ap (λ (b : Bool). b && is_some was.writer) in_phase ∙ ap (λ (o : Option WriterState). is_some o) at in
-        framed_cut sum (Truncate n) reply was now behind old new same (kept true both) begun writer
-        (subst (λ (ts : List Tail). All (Left sum now.writer behind old.present new.present) ts) (sym (ready.begun in_phase)) (λ k t lt. absurd (omega (arith, lt))))
+        framed_cut sum (Truncate n) reply was now after old new same (kept true both) begun writer
+        (subst (λ (ts : List Tail). All (Left sum now.writer after old.present new.present) ts) (sym (ready.begun in_phase)) (λ k t lt. absurd (omega (arith, lt))))
         (steps true (truncated_cut sum was (record was { writer = now.writer }) w n old new reply (ready_apart sum was old.present ready) in_phase at refl cuts))
     by_state false (Some w) in_phase at turns =
         let none : (was.recovering && is_some was.writer) ≡ false = ap (λ (b : Bool). b && is_some was.writer) in_phase in
         uncut (truncated_turned sum was (record was { writer = now.writer }) w n old new reply (ready_apart sum was old.present ready) in_phase at refl turns) none
-        (left_same sum was now.writer cache behind old new ready fits (turns.1 ∙ sym at) (turned in_phase) turns.2)
+        (left_same sum was now.writer cache after old new ready fits (turns.1 ∙ sym at) (turned in_phase) turns.2)

@@ -1,11 +1,11 @@
--- What one step of a session does, and each call behind it.
+-- What one step of a session does, and each call after it.
 use Rattle.std.specs.Prelude.{◌≡◌, ◌≢◌, ◌⊎◌, ◌<◌, ◌≤◌, ◌+◌, ◌^◌, ◌++◌, ℕ, List, [], ◌∷◌}
 use Rattle.std.specs.Prelude.{length, Bool}
 use Rattle.std.specs.Prelude.{true, false, nat_eq, nat_lt, Option, Some, None, Result, Ok, Err}
 use Rattle.std.specs.Prelude.{IfOk, OnOk, take, min, nat_le, ◌&&◌, slice_set, map, is_some}
 use Rattle.std.specs.Prelude.{if◌then◌else◌}
 use Rattle.std.specs.List.{concat, list_any}
-use Rattle.disk.specs.Disk.{Disk, HasFailed, Life, after, WaitGoes}
+use Rattle.disk.specs.Disk.{Disk, HasFailed, Life, life_after, WaitGoes}
 use Rattle.disk.specs.declared.started_sync.StartedSync.{StartedSync}
 use Rattle.disk.specs.declared.started_sync.StartedSync.TheVariants.{Done as AllDone, Named}
 use Rattle.disk.specs.declared.error.Error.{Error}
@@ -13,13 +13,13 @@ use Rattle.disk.specs.declared.error.Error.TheVariants.{BlobInsufficientLength, 
 use Rattle.disk.specs.declared.error.Error.TheVariants.{InvalidChecksum, OutOfMemory, ReadFailed}
 use Rattle.page.specs.Geometry.{RangesGo}
 use Rattle.page.specs.Page.{text}
-use Rattle.crash.specs.WriterState.{WriterState}
-use Rattle.crash.specs.WriterState.SyncState.{Dirty}
+use Rattle.writer_state.specs.WriterState.{WriterState}
+use Rattle.writer_state.specs.declared.sync_state.SyncState.TheVariants.{Dirty}
 use Rattle.crash.specs.Looks.{Looked}
-use Rattle.crash.specs.Sound.{IsSound, content as content_of}
+use Rattle.writer_state.specs.Sound.{IsSound, content as content_of}
 use Rattle.crash.specs.Started.{CoversThrough, StartsStand}
 use Rattle.crash.specs.Stays.{KeepsAll, LeavesOnly}
-use Rattle.paged.specs.Writer.{physical_size}
+use Rattle.paged.specs.Writer.{physical_blob_size}
 use Rattle.paged.specs.Calls.{Appends, BuffersAll, TryAppends, BuffersOver, Syncs, HoldsWithin}
 use Rattle.paged.specs.Calls.{AsksAtMost, sync_calls, start_calls, wait_calls, StartsSync}
 use Rattle.paged.specs.Calls.{started_already, WaitsForSync, SettlesBy}
@@ -84,7 +84,7 @@ pub record IsClosed (now : Option WriterState) (old new : Life) (reply : Reply) 
 pub record AppendSays (sum : List ℕ → ℕ) (w : WriterState) (bytes : List ℕ) (old new : Life)
     (result : Result (WriterState × ℕ) Error) : Type 0 where
   pub appends : Appends sum w bytes old new result
-  pub overflow : 2 ^ 64 ≤ physical_size w.page_size w.full_pages (length w.tip + length bytes)
+  pub overflow : 2 ^ 64 ≤ physical_blob_size w.page_size w.full_pages (length w.tip + length bytes)
       → result ≡ Err OffsetOverflow
   pub within : IfOk result (λ r. HoldsWithin r.0)
   pub buffered : length w.tip + length bytes ≤ w.capacity → BuffersAll w bytes old new result
@@ -403,14 +403,14 @@ HadNoRoomFor e was now old new = (e ≡ OutOfMemory) × (now ≡ was) × (new �
 -- a snapshot by a session with a writer that appends: it tells the content, and can be read
 abbrev pub TakesSnapshot : (List ℕ → ℕ) → WriterState → (was now : SessionState) → CacheState → Life
     → Life → Reply → Type 0
-TakesSnapshot sum w was now behind old new (Taken index) =
+TakesSnapshot sum w was now after old new (Taken index) =
     (v : WriterState) × (t : Tail) × (index ≡ length was.snapshots)
     × (now ≡ with_snapshot was (Some v) t) × SnapshotSays sum w old new (Ok (v, t))
-    × StandsOn sum t (content_of w old.present.readable) behind new.present
-TakesSnapshot sum w was now behind old new (Fault e) =
+    × StandsOn sum t (content_of w old.present.readable) after new.present
+TakesSnapshot sum w was now after old new (Fault e) =
     ((now ≡ record was { writer = None }) × SnapshotSays sum w old new (Err e))
     ⊎ HadNoRoomFor e was now old new
-TakesSnapshot sum w was now behind old new _ = ⊥
+TakesSnapshot sum w was now after old new _ = ⊥
 
 -- one for which nothing is written
 abbrev pub TriesSnapshot : WriterState → (was now : SessionState) → Reply → Type 0
@@ -441,14 +441,14 @@ sealed_with was t sync = record was {
 -- the end of a writer that appends: the snapshot that it leaves tells the content, and can be read
 abbrev pub SealsSession : (List ℕ → ℕ) → WriterState → (was now : SessionState) → CacheState → Life
     → Life → Reply → Type 0
-SealsSession sum w was now behind old new (Sealed index sync) =
+SealsSession sum w was now after old new (Sealed index sync) =
     (t : Tail) × (index ≡ length was.snapshots) × (now ≡ sealed_with was t sync)
     × SealSays sum w old new (Ok (t, sync))
-    × StandsOn sum t (content_of w old.present.readable) behind new.present
-SealsSession sum w was now behind old new (Fault e) =
+    × StandsOn sum t (content_of w old.present.readable) after new.present
+SealsSession sum w was now after old new (Fault e) =
     ((now ≡ record was { writer = None }) × SealSays sum w old new (Err e))
     ⊎ HadNoRoomFor e was now old new
-SealsSession sum w was now behind old new _ = ⊥
+SealsSession sum w was now after old new _ = ⊥
 
 -- the reply to a step of a writer that appends, by one in recovery
 abbrev pub RefusesAppending : Option WriterState → Reply → Type 0
@@ -466,9 +466,9 @@ IfAppending false (Some w) reply turned goes = goes w
 -- each of the three that there are
 abbrev pub DidSnapshot : (List ℕ → ℕ) → (was now : SessionState) → CacheState → Life → Life → Reply
     → Type 0
-DidSnapshot sum was now behind old new reply =
+DidSnapshot sum was now after old new reply =
     IfAppending was.recovering was.writer reply ((now ≡ was) × (new ≡ old)) (λ w.
-    TakesSnapshot sum w was now behind old new reply)
+    TakesSnapshot sum w was now after old new reply)
 
 abbrev pub DidTrySnapshot : (was now : SessionState) → Reply → Type 0
 DidTrySnapshot was now reply =
@@ -477,9 +477,9 @@ DidTrySnapshot was now reply =
 
 abbrev pub DidSeal : (List ℕ → ℕ) → (was now : SessionState) → CacheState → Life → Life → Reply
     → Type 0
-DidSeal sum was now behind old new reply =
+DidSeal sum was now after old new reply =
     IfAppending was.recovering was.writer reply ((now ≡ was) × (new ≡ old)) (λ w.
-    SealsSession sum w was now behind old new reply)
+    SealsSession sum w was now after old new reply)
 
 -- a read of a snapshot, if there is one of this number
 abbrev pub DidSnap : (List ℕ → ℕ) → Option Tail → CacheState → (offset len : ℕ) → Life → Life
@@ -575,11 +575,11 @@ KeepsAllButReplays was now = now ≡ record was { replays = now.replays }
 
 -- what a call of a session's writer leaves: each snapshot and each replay of its full pages stands
 -- as it stood, and is of them still
-pub record LeavesTaken (sum : List ℕ → ℕ) (was now : Option WriterState) (cache behind : CacheState)
+pub record LeavesTaken (sum : List ℕ → ℕ) (was now : Option WriterState) (cache after : CacheState)
     (old new : Life) : Type 0 where
   pub snapshots : (t : Tail) (content : List ℕ) → IsBelow was t
       → StandsOn sum t content cache old.present
-      → StandsOn sum t content behind new.present × IsBelow now t
+      → StandsOn sum t content after new.present × IsBelow now t
   pub replays : (r : ReplayState) (content : List ℕ) → IsBelow was r.tail
       → IsReplayOf sum r content old.present
       → IsReplayOf sum r content new.present × IsBelow now r.tail
@@ -647,10 +647,10 @@ KeepsSnapshots was now = now ≡ record was { writer = now.writer; names = now.n
 pub record Stepped (sum : List ℕ → ℕ) (P : ℕ) (step : Step) (reply : Reply)
     (session : SessionState) (old new : Life) (before : Standing) : Type 0 where
   pub moments : List Disk
-  pub goes : new ≡ after old moments
-  pub behind : Standing
-  pub did : Did sum P step reply old.present moments before behind
-  pub stands : StandsFor sum P session behind new.present
+  pub goes : new ≡ life_after old moments
+  pub after : Standing
+  pub did : Did sum P step reply old.present moments before after
+  pub stands : StandsFor sum P session after new.present
 
 -- one step, whatever the session stood for
 abbrev pub StepsAlways : (List ℕ → ℕ) → Step → Reply → SessionState → SessionState → Life → Life

@@ -3,7 +3,7 @@
 -- answers Ok.
 use Rattle.std.specs.Prelude.{◌≡◌, ◌⊎◌, ◌≤◌, ◌+◌, ◌%◌, ◌++◌, ℕ, List, [], ◌∷◌, length, take, Bool}
 use Rattle.std.specs.Prelude.{true, false, nat_eq, Some, None, Result, Ok, Err}
-use Rattle.disk.specs.Disk.{Disk, IsImage, Life, after}
+use Rattle.disk.specs.Disk.{Disk, IsImage, Life, life_after}
 use Rattle.disk.specs.declared.error.Error.{Error}
 use Rattle.page.specs.Page.{text}
 use Rattle.page.specs.Geometry.{adjusted}
@@ -11,8 +11,8 @@ use Rattle.cache.specs.CacheState.{CacheState}
 use Rattle.crash.specs.Guard.{IsChanceFree}
 use Rattle.crash.specs.Kept.{AllKeep, Each, Through}
 use Rattle.crash.specs.Stays.{KeepsFloors}
-use Rattle.crash.specs.WriterState.{WriterState}
-use Rattle.crash.specs.Sound.{IsSound, content as content_of}
+use Rattle.writer_state.specs.WriterState.{WriterState}
+use Rattle.writer_state.specs.Sound.{IsSound, content as content_of}
 use Rattle.paged.specs.Calls.{HoldsWithin, start_calls}
 use Rattle.paged.specs.Recovery.{IsDurable, LeavesText}
 use Rattle.paged.specs.Recovers.{Recovers}
@@ -26,8 +26,8 @@ use Rattle.session.specs.Run.{pending_in, StandsFor}
 -- a disk of this life, since it was so
 abbrev pub IsMoment : Life → Life → Disk → Type 0
 IsMoment old new d =
-    (before behind : List Disk) × (new ≡ after (after old before) behind)
-    × (d ≡ (after old before).present)
+    (before after : List Disk) × (new ≡ life_after (life_after old before) after)
+    × (d ≡ (life_after old before).present)
 
 -- a crash: a new life begins with something that it may leave, all of it durable
 pub record HasCrashed (d e : Disk) : Type 0 where
@@ -104,16 +104,16 @@ pub record Survives (sum : List ℕ → ℕ) (P : ℕ) (content other : List ℕ
 -- to cut since
 abbrev pub Tells : (List ℕ → ℕ) → (P : ℕ) → List Step → List Reply → Disk → List Disk → Standing
     → Standing → Type 0
-Tells sum P [] [] from moments s behind =
-    (moments ≡ []) × (behind ≡ s) × Survives sum P s.content s.otherwise s.floor from
-Tells sum P (step ∷ steps) (reply ∷ replies) from moments s behind =
+Tells sum P [] [] from moments s after =
+    (moments ≡ []) × (after ≡ s) × Survives sum P s.content s.otherwise s.floor from
+Tells sum P (step ∷ steps) (reply ∷ replies) from moments s after =
     Survives sum P s.content s.otherwise s.floor from
     × (first : List Disk) × (rest : List Disk) × (moments ≡ first ++ rest) × (mid : Standing)
     × Answers sum P step reply from (last from first) s mid
     × Each (Survives sum P s.content (other_content step s) (begun step s).floor) (from ∷ first)
-    × Tells sum P steps replies (last from first) rest (raised (last from first) mid) behind
-Tells sum P [] (reply ∷ replies) from moments s behind = ⊥
-Tells sum P (step ∷ steps) [] from moments s behind = ⊥
+    × Tells sum P steps replies (last from first) rest (raised (last from first) mid) after
+Tells sum P [] (reply ∷ replies) from moments s after = ⊥
+Tells sum P (step ∷ steps) [] from moments s after = ⊥
 
 -- a run, told moment by moment; the session stands at its end for what the replies say, so another
 -- run may follow
@@ -122,10 +122,10 @@ pub record Told (sum : List ℕ → ℕ) (P : ℕ) (steps : List Step) (now : Se
   pub added : List Reply
   pub adds : replies ≡ earlier ++ added
   pub moments : List Disk
-  pub goes : new ≡ after old moments
-  pub behind : Standing
-  pub tells : Tells sum P steps added old.present moments before behind
-  pub stands : StandsFor sum P now behind new.present
+  pub goes : new ≡ life_after old moments
+  pub after : Standing
+  pub tells : Tells sum P steps added old.present moments before after
+  pub stands : StandsFor sum P now after new.present
 
 -- the promise of a run: so it is told whatever the session stood for when it began
 abbrev pub Promises : (List ℕ → ℕ) → List Step → SessionState → SessionState → Life → Life

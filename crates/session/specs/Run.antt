@@ -6,7 +6,7 @@ use Rattle.std.specs.Prelude.{option_map, slice_set}
 use Rattle.std.specs.Prelude.{if◌then◌else◌, is_some, slice_get, sum_by, Option, Some, None, Err}
 use Rattle.std.specs.Int.NonZero.{non_zero_usize_get}
 use Rattle.std.specs.List.{Contains, list_any, flat_map, range_with_len}
-use Rattle.disk.specs.Disk.{Disk, Life, after, HasFailed, coverings, had_failed}
+use Rattle.disk.specs.Disk.{Disk, Life, life_after, HasFailed, coverings, had_failed}
 use Rattle.disk.specs.declared.started_sync.StartedSync.{StartedSync}
 use Rattle.disk.specs.declared.started_sync.StartedSync.TheVariants.{Done as AllDone, Named}
 use Rattle.disk.specs.declared.error.Error.{Error}
@@ -18,15 +18,16 @@ use Rattle.page.specs.Page.{text}
 use Rattle.crash.specs.Kept.{AllKeep, AllOnly, Each}
 use Rattle.crash.specs.Looks.{SameButLog}
 use Rattle.crash.specs.Started.{WouldKeep, StartsStand}
-use Rattle.crash.specs.WriterState.{WriterState, SyncState}
-use Rattle.crash.specs.WriterState.SyncState.{Clean, Dirty, Pending}
-use Rattle.crash.specs.Sound.{IsSound, content as content_of}
+use Rattle.writer_state.specs.WriterState.{WriterState}
+use Rattle.writer_state.specs.declared.sync_state.SyncState.{SyncState}
+use Rattle.writer_state.specs.declared.sync_state.SyncState.TheVariants.{Clean, Dirty, Pending}
+use Rattle.writer_state.specs.Sound.{IsSound, content as content_of}
 use Rattle.cache.specs.CacheState.{CacheState}
 use Rattle.paged_read.specs.Tail.{Tail, told, HasPages, HasFullPages, CanRead}
 use Rattle.paged_read.specs.ReadAhead.{batch_of}
 use Rattle.paged_read.specs.Replay.{ReplayState, IsReplayOf}
 use Rattle.paged.specs.Caches.{tail_of}
-use Rattle.paged.specs.Writer.{physical_size}
+use Rattle.paged.specs.Writer.{physical_blob_size}
 use Rattle.paged.specs.Calls.{start_calls}
 use Rattle.session.specs.declared.steps.Step.{Step}
 use Rattle.session.specs.declared.steps.Step.TheVariants.{Append, Owned, TryAppend, Sync, StartSync}
@@ -95,7 +96,7 @@ written_after (byte ∷ bytes) written = false
 abbrev pub awaited_after : Standing → ℕ → Option ℕ
 awaited_after s more = if has_room s more then s.awaited else None
 
--- with these bytes behind the content
+-- with these bytes after the content
 abbrev pub appended : (P : ℕ) → List ℕ → Standing → Standing
 appended P bytes s = record s {
   content = s.content ++ bytes;
@@ -195,13 +196,13 @@ is_complete d name =
     elim (slice_get (coverings d) name) [ None ↦ false | Some c ↦ nat_le c.0 d.settled ]
 
 -- then what it covers is a floor
-abbrev pub raise : Disk → List (ℕ × ℕ) → (floor : ℕ) → ℕ
-raise d [] floor = floor
-raise d (c ∷ covers) floor =
-    raise d covers (if is_complete d c.0 then max c.1 floor else floor)
+abbrev pub raised_floor : Disk → List (ℕ × ℕ) → (floor : ℕ) → ℕ
+raised_floor d [] floor = floor
+raised_floor d (c ∷ covers) floor =
+    raised_floor d covers (if is_complete d c.0 then max c.1 floor else floor)
 
 abbrev pub raised : Disk → Standing → Standing
-raised d s = record s { floor = raise d s.covers s.floor }
+raised d s = record s { floor = raised_floor d s.covers s.floor }
 
 -- without its writer, whose last step would have left this content
 abbrev pub ended : List ℕ → Standing → Standing
@@ -247,12 +248,12 @@ abbrev pub replay_size : Standing → ℕ → ℕ
 replay_size s index =
     elim (numbered s.replays index) [ None ↦ 0 | Some r ↦ length r.content ]
 
--- each range, a place and a length, begins at or behind the end of the one before; the first at or
--- behind this place
-abbrev pub in_order_from : (place : ℕ) → List (ℕ × ℕ) → Bool
-in_order_from place [] = true
-in_order_from place (range ∷ ranges) =
-    nat_le place range.0 && in_order_from (range.0 + range.1) ranges
+-- each range, an offset and a length, begins at or after the end of the one before; the first at or
+-- after this offset
+abbrev pub in_order_from : (offset : ℕ) → List (ℕ × ℕ) → Bool
+in_order_from offset [] = true
+in_order_from offset (range ∷ ranges) =
+    nat_le offset range.0 && in_order_from (range.0 + range.1) ranges
 
 -- one call can take these ranges: they are in order, don't overlap, and their lengths together are
 -- below 2 ^ 64
@@ -295,13 +296,13 @@ abbrev pub Slices : List ℕ → (offset len : ℕ) → List ℕ → Type 0
 Slices content offset len bytes =
     (offset + len ≤ length content) × (bytes ≡ take len (drop offset content))
 
--- as many bytes as there are from a place on, at most so many; none may be asked for anywhere, and
--- some only before the end
+-- as many bytes as there are from an offset on, at most so many; none may be asked for anywhere,
+-- and some only before the end
 abbrev pub SlicesUpTo : List ℕ → (offset len : ℕ) → List ℕ → Type 0
 SlicesUpTo content offset len bytes =
     ((len ≡ 0) ⊎ (offset < length content)) × (bytes ≡ take len (drop offset content))
 
--- the bytes of ranges of the content, one behind the other, all within it
+-- the bytes of ranges of the content, one after the other, all within it
 abbrev pub SlicesAll : List ℕ → (ranges : List (ℕ × ℕ)) → List ℕ → Type 0
 SlicesAll content ranges bytes =
     EndWithin (length content) ranges
@@ -362,62 +363,62 @@ HasCompleted (Some name) d = is_complete d name ≡ true
 -- answers how many bytes the text of the blob has, as far as it was to look.
 abbrev pub Accepts : (List ℕ → ℕ) → (P : ℕ) → Step → Reply → (from to : Disk) → Standing
     → Standing → Type 0
-Accepts sum P (Append bytes) (At n) from to s behind =
-    (n ≡ length s.content) × (behind ≡ appended P bytes.items s)
-Accepts sum P (Owned bytes) (At n) from to s behind =
-    (n ≡ length s.content) × (behind ≡ appended P bytes.items s)
-Accepts sum P (TryAppend bytes) (At n) from to s behind =
+Accepts sum P (Append bytes) (At n) from to s after =
+    (n ≡ length s.content) × (after ≡ appended P bytes.items s)
+Accepts sum P (Owned bytes) (At n) from to s after =
+    (n ≡ length s.content) × (after ≡ appended P bytes.items s)
+Accepts sum P (TryAppend bytes) (At n) from to s after =
     (has_room s (length bytes.items) ≡ true) × (n ≡ length s.content)
-    × (behind ≡ appended P bytes.items s)
-Accepts sum P (TryAppend bytes) Nothing from to s behind =
-    (has_room s (length bytes.items) ≡ false) × (behind ≡ s)
-Accepts sum P Sync Done from to s behind = behind ≡ synced P s
-Accepts sum P StartSync (Started sync) from to s behind =
-    (sync ≡ started_by s from) × (behind ≡ starting P sync s)
-Accepts sum P Wait Done from to s behind = HasCompleted s.awaited to × (behind ≡ waited s)
-Accepts sum P (WaitSync name) Done from to s behind =
-    HasCompleted (Some name) to × (behind ≡ s)
-Accepts sum P Needs (Answer answer) from to s behind = (answer ≡ needs_sync s) × (behind ≡ s)
-Accepts sum P Size (Length n) from to s behind = (n ≡ length s.content) × (behind ≡ s)
-Accepts sum P (Read offset len) (Bytes bytes) from to s behind =
-    Slices s.content offset len bytes.items × (behind ≡ s)
-Accepts sum P (ReadUpTo offset len) (Bytes bytes) from to s behind =
-    SlicesUpTo s.content offset len bytes.items × (behind ≡ s)
-Accepts sum P (TryRead offset len) (Bytes bytes) from to s behind =
-    Slices s.content offset len bytes.items × (behind ≡ s)
-Accepts sum P (TryRead offset len) Nothing from to s behind = behind ≡ s
-Accepts sum P (ReadRanges ranges) (Served count bytes) from to s behind =
-    SlicesAll s.content ranges.items bytes.items × (count ≤ length ranges.items) × (behind ≡ s)
-Accepts sum P (TryReadRanges ranges) (Missed numbers) from to s behind =
-    NumbersSome s.content ranges.items numbers.items × (behind ≡ s)
-Accepts sum P Begin Done from to s behind = behind ≡ record s { recovering = false }
-Accepts sum P (Truncate n) (Length m) from to s behind =
-    (m ≡ min n (length s.content)) × (behind ≡ truncated P n s)
-Accepts sum P Snapshot (Taken index) from to s behind =
-    (index ≡ length s.snapshots) × (behind ≡ noted (flushed P s))
-Accepts sum P TrySnapshot (Taken index) from to s behind =
-    (s.buffered < P) × (index ≡ length s.snapshots) × (behind ≡ noted s)
-Accepts sum P TrySnapshot Nothing from to s behind = (P ≤ s.buffered) × (behind ≡ s)
-Accepts sum P (Snap index offset len) (Bytes bytes) from to s behind =
-    Slices (snapshot_at s index) offset len bytes.items × (behind ≡ s)
-Accepts sum P Seal (Sealed index sync) from to s behind =
-    (index ≡ length s.snapshots) × (sync ≡ sealed_by s from) × (behind ≡ left_by_seal P sync s)
-Accepts sum P (Scan proven most buffer_size) (Length n) from to s behind =
-    (n ≡ min most (length (text sum P from.readable))) × (behind ≡ s)
-Accepts sum P (Replay buffer_size) (Replaying index) from to s behind =
+    × (after ≡ appended P bytes.items s)
+Accepts sum P (TryAppend bytes) Nothing from to s after =
+    (has_room s (length bytes.items) ≡ false) × (after ≡ s)
+Accepts sum P Sync Done from to s after = after ≡ synced P s
+Accepts sum P StartSync (Started sync) from to s after =
+    (sync ≡ started_by s from) × (after ≡ starting P sync s)
+Accepts sum P Wait Done from to s after = HasCompleted s.awaited to × (after ≡ waited s)
+Accepts sum P (WaitSync name) Done from to s after =
+    HasCompleted (Some name) to × (after ≡ s)
+Accepts sum P Needs (Answer answer) from to s after = (answer ≡ needs_sync s) × (after ≡ s)
+Accepts sum P Size (Length n) from to s after = (n ≡ length s.content) × (after ≡ s)
+Accepts sum P (Read offset len) (Bytes bytes) from to s after =
+    Slices s.content offset len bytes.items × (after ≡ s)
+Accepts sum P (ReadUpTo offset len) (Bytes bytes) from to s after =
+    SlicesUpTo s.content offset len bytes.items × (after ≡ s)
+Accepts sum P (TryRead offset len) (Bytes bytes) from to s after =
+    Slices s.content offset len bytes.items × (after ≡ s)
+Accepts sum P (TryRead offset len) Nothing from to s after = after ≡ s
+Accepts sum P (ReadRanges ranges) (Served count bytes) from to s after =
+    SlicesAll s.content ranges.items bytes.items × (count ≤ length ranges.items) × (after ≡ s)
+Accepts sum P (TryReadRanges ranges) (Missed numbers) from to s after =
+    NumbersSome s.content ranges.items numbers.items × (after ≡ s)
+Accepts sum P Begin Done from to s after = after ≡ record s { recovering = false }
+Accepts sum P (Truncate n) (Length m) from to s after =
+    (m ≡ min n (length s.content)) × (after ≡ truncated P n s)
+Accepts sum P Snapshot (Taken index) from to s after =
+    (index ≡ length s.snapshots) × (after ≡ noted (flushed P s))
+Accepts sum P TrySnapshot (Taken index) from to s after =
+    (s.buffered < P) × (index ≡ length s.snapshots) × (after ≡ noted s)
+Accepts sum P TrySnapshot Nothing from to s after = (P ≤ s.buffered) × (after ≡ s)
+Accepts sum P (Snap index offset len) (Bytes bytes) from to s after =
+    Slices (snapshot_at s index) offset len bytes.items × (after ≡ s)
+Accepts sum P Seal (Sealed index sync) from to s after =
+    (index ≡ length s.snapshots) × (sync ≡ sealed_by s from) × (after ≡ left_by_seal P sync s)
+Accepts sum P (Scan proven most buffer_size) (Length n) from to s after =
+    (n ≡ min most (length (text sum P from.readable))) × (after ≡ s)
+Accepts sum P (Replay buffer_size) (Replaying index) from to s after =
     (index ≡ length s.replays)
-    × (behind ≡ replaying P (non_zero_usize_get buffer_size) (rewritten P s))
-Accepts sum P (Ensure index count) (Answer answer) from to s behind =
+    × (after ≡ replaying P (non_zero_usize_get buffer_size) (rewritten P s))
+Accepts sum P (Ensure index count) (Answer answer) from to s after =
     (was : Replayed) × (now : Replayed) × (numbered s.replays index ≡ Some was)
-    × HasEnsured was count answer now × (behind ≡ moved index now s)
-Accepts sum P (Take index count) (Bytes bytes) from to s behind =
+    × HasEnsured was count answer now × (after ≡ moved index now s)
+Accepts sum P (Take index count) (Bytes bytes) from to s after =
     (r : Replayed) × (numbered s.replays index ≡ Some r)
     × (bytes.items ≡ take (min count r.hand) (drop r.position r.content))
-    × (behind ≡ moved index (passed count r) s)
-Accepts sum P (Seek index offset) Done from to s behind =
+    × (after ≡ moved index (passed count r) s)
+Accepts sum P (Seek index offset) Done from to s after =
     (r : Replayed) × (numbered s.replays index ≡ Some r) × (offset ≤ length r.content)
-    × (behind ≡ moved index (record r { position = offset; hand = 0 }) s)
-Accepts sum P step reply from to s behind = ⊥
+    × (after ≡ moved index (record r { position = offset; hand = 0 }) s)
+Accepts sum P step reply from to s after = ⊥
 
 -- ---- steps that are refused
 
@@ -451,18 +452,21 @@ faults (Ensure index count) = ReadFailed ∷ OutOfMemory ∷ []
 faults (Take index count) = OutOfMemory ∷ []
 faults (Seek index offset) = BlobInsufficientLength ∷ []
 
--- a place, or the blob that the new size needs in pages of P bytes, passes the greatest number; of
--- ranges the first that can't be read decides
+-- an offset, or the blob that the new size needs in pages of P bytes, passes the greatest number;
+-- of ranges the first that can't be read decides
 abbrev pub Overflows : (P : ℕ) → Step → Standing → Type 0
-Overflows P (Append bytes) s = 2 ^ 64 ≤ physical_size P 0 (length s.content + length bytes.items)
-Overflows P (Owned bytes) s = 2 ^ 64 ≤ physical_size P 0 (length s.content + length bytes.items)
-Overflows P (TryAppend bytes) s = 2 ^ 64 ≤ physical_size P 0 (length s.content + length bytes.items)
+Overflows P (Append bytes) s =
+    2 ^ 64 ≤ physical_blob_size P 0 (length s.content + length bytes.items)
+Overflows P (Owned bytes) s =
+    2 ^ 64 ≤ physical_blob_size P 0 (length s.content + length bytes.items)
+Overflows P (TryAppend bytes) s =
+    2 ^ 64 ≤ physical_blob_size P 0 (length s.content + length bytes.items)
 Overflows P (Read offset len) s = 2 ^ 64 ≤ offset + len
 Overflows P (Snap index offset len) s = 2 ^ 64 ≤ offset + len
 Overflows P (ReadRanges ranges) s = RangesGo (length s.content) ranges.items (Err OffsetOverflow)
 Overflows P step s = ⊥
 
--- a range or a place passes the end, and no greatest number; or some bytes are asked for where
+-- a range or an offset passes the end, and no greatest number; or some bytes are asked for where
 -- there is none
 abbrev pub PassesEnd : Step → Standing → Type 0
 PassesEnd (Read offset len) s = (offset + len < 2 ^ 64) × (length s.content < offset + len)
@@ -484,18 +488,18 @@ Allocates Wait s = is_some s.awaited ≡ true
 Allocates step s = Unit {0}
 
 -- the started sync that a step waits for, in pages of P bytes
-abbrev pub waits_for : (P : ℕ) → Step → Standing → Option ℕ
-waits_for P (Append bytes) s = if has_room s (length bytes.items) then None else s.awaited
-waits_for P (Owned bytes) s = if has_room s (length bytes.items) then None else s.awaited
-waits_for P Sync s = s.awaited
-waits_for P StartSync s = if s.written then None else s.awaited
-waits_for P Wait s = s.awaited
-waits_for P (WaitSync name) s = Some name
-waits_for P (Truncate n) s = s.awaited
-waits_for P Snapshot s = if nat_lt s.buffered P then None else s.awaited
-waits_for P Seal s = s.awaited
-waits_for P (Replay buffer_size) s = if s.written then None else s.awaited
-waits_for P step s = None
+abbrev pub awaited_name : (P : ℕ) → Step → Standing → Option ℕ
+awaited_name P (Append bytes) s = if has_room s (length bytes.items) then None else s.awaited
+awaited_name P (Owned bytes) s = if has_room s (length bytes.items) then None else s.awaited
+awaited_name P Sync s = s.awaited
+awaited_name P StartSync s = if s.written then None else s.awaited
+awaited_name P Wait s = s.awaited
+awaited_name P (WaitSync name) s = Some name
+awaited_name P (Truncate n) s = s.awaited
+awaited_name P Snapshot s = if nat_lt s.buffered P then None else s.awaited
+awaited_name P Seal s = s.awaited
+awaited_name P (Replay buffer_size) s = if s.written then None else s.awaited
+awaited_name P step s = None
 
 -- it had failed
 abbrev pub HadFailed : Option ℕ → Disk → Type 0
@@ -508,7 +512,7 @@ HasCause P step s from to ReadFailed = HasFailed ReadFailed from to
 HasCause P step s from to WriteFailed = HasFailed WriteFailed from to
 HasCause P step s from to ResizeFailed = HasFailed ResizeFailed from to
 HasCause P step s from to SyncFailed =
-    HasFailed SyncFailed from to ⊎ HadFailed (waits_for P step s) from
+    HasFailed SyncFailed from to ⊎ HadFailed (awaited_name P step s) from
 HasCause P step s from to OffsetOverflow = Overflows P step s
 HasCause P step s from to BlobInsufficientLength = PassesEnd step s
 HasCause P step s from to OutOfMemory = Allocates step s
@@ -525,36 +529,36 @@ content_after step content = content
 -- there was no memory for a name, a snapshot or a replay that the session would have been given:
 -- nothing was done
 abbrev pub HadNoRoom : Error → Disk → Disk → Standing → Standing → Type 0
-HadNoRoom e from to s behind = (e ≡ OutOfMemory) × (to ≡ from) × (behind ≡ s)
+HadNoRoom e from to s after = (e ≡ OutOfMemory) × (to ≡ from) × (after ≡ s)
 
 -- the standing after a refused step: a call that takes the writer ends it
 abbrev pub Refuses : Step → Error → Disk → Disk → Standing → Standing → Type 0
-Refuses (Append bytes) e from to s behind = behind ≡ ended (s.content ++ bytes.items) s
-Refuses (Owned bytes) e from to s behind = behind ≡ ended (s.content ++ bytes.items) s
-Refuses Sync e from to s behind = behind ≡ ended s.content s
-Refuses StartSync e from to s behind =
-    ((s.written ≡ false) × (behind ≡ ended s.content s)) ⊎ HadNoRoom e from to s behind
-Refuses Wait e from to s behind = behind ≡ ended s.content s
-Refuses Snapshot e from to s behind =
-    (behind ≡ ended s.content s) ⊎ HadNoRoom e from to s behind
-Refuses Seal e from to s behind = (behind ≡ ended s.content s) ⊎ HadNoRoom e from to s behind
-Refuses (Replay buffer_size) e from to s behind =
-    (behind ≡ ended s.content s) ⊎ HadNoRoom e from to s behind
-Refuses (Ensure index count) e from to s behind =
+Refuses (Append bytes) e from to s after = after ≡ ended (s.content ++ bytes.items) s
+Refuses (Owned bytes) e from to s after = after ≡ ended (s.content ++ bytes.items) s
+Refuses Sync e from to s after = after ≡ ended s.content s
+Refuses StartSync e from to s after =
+    ((s.written ≡ false) × (after ≡ ended s.content s)) ⊎ HadNoRoom e from to s after
+Refuses Wait e from to s after = after ≡ ended s.content s
+Refuses Snapshot e from to s after =
+    (after ≡ ended s.content s) ⊎ HadNoRoom e from to s after
+Refuses Seal e from to s after = (after ≡ ended s.content s) ⊎ HadNoRoom e from to s after
+Refuses (Replay buffer_size) e from to s after =
+    (after ≡ ended s.content s) ⊎ HadNoRoom e from to s after
+Refuses (Ensure index count) e from to s after =
     (was : Replayed) × (now : Replayed) × (numbered s.replays index ≡ Some was)
-    × HasFetched was now × (behind ≡ moved index now s)
-Refuses (Truncate n) e from to s behind = behind ≡ ended (take n s.content) s
-Refuses step e from to s behind = behind ≡ s
+    × HasFetched was now × (after ≡ moved index now s)
+Refuses (Truncate n) e from to s after = after ≡ ended (take n s.content) s
+Refuses step e from to s after = after ≡ s
 
 -- ---- one step
 
 -- a step that isn't turned away: it is refused for a cause, or accepted
 abbrev pub Takes : (List ℕ → ℕ) → (P : ℕ) → Step → Reply → Disk → Disk → Standing → Standing
     → Type 0
-Takes sum P step (Fault e) from to s behind =
+Takes sum P step (Fault e) from to s after =
     Contains (faults step) e × HasCause P step s from to e
-    × Refuses step e from to (begun step s) behind
-Takes sum P step reply from to s behind = Accepts sum P step reply from to (begun step s) behind
+    × Refuses step e from to (begun step s) after
+Takes sum P step reply from to s after = Accepts sum P step reply from to (begun step s) after
 
 -- a fault that the standing alone tells comes before any other reply
 abbrev pub Foretells : (P : ℕ) → Step → Reply → Standing → Type 0
@@ -562,12 +566,12 @@ Foretells P step reply s =
     (Overflows P step s → reply ≡ Fault OffsetOverflow)
     × (PassesEnd step s → reply ≡ Fault BlobInsufficientLength)
 
--- a step's reply, and the standing behind it
+-- a step's reply, and the standing after it
 abbrev pub Answers : (List ℕ → ℕ) → (P : ℕ) → Step → Reply → Disk → Disk → Standing → Standing
     → Type 0
-Answers sum P step reply from to s behind = elim (turned_away step s) [
-  | Some other ↦ (reply ≡ other) × (behind ≡ s)
-  | None ↦ Takes sum P step reply from to s behind × Foretells P step reply s
+Answers sum P step reply from to s after = elim (turned_away step s) [
+  | Some other ↦ (reply ≡ other) × (after ≡ s)
+  | None ↦ Takes sum P step reply from to s after × Foretells P step reply s
 ]
 
 -- what a step does to the disk: nothing, or it only reads, or it makes at most so many calls
@@ -576,7 +580,7 @@ pub data Touch : Type 0 where
   Looks : Touch
   Changes : (most : ℕ) → Touch
 
--- a replay has so many bytes at hand, or all that is left is behind the full pages: no device is
+-- a replay has so many bytes at hand, or all that is left is after the full pages: no device is
 -- needed; nor is it where there is no replay
 abbrev pub is_had : Option Replayed → (count : ℕ) → Bool
 is_had None count = true
@@ -636,30 +640,30 @@ AllCover sum P content covers d = All (λ c. WouldKeep sum P content c.0 c.1 d) 
 -- one step: its reply, what it did to the disk, and what a crash leaves at each of its moments, and
 -- would leave once a started sync completed, by what stands as it begins
 pub record Did (sum : List ℕ → ℕ) (P : ℕ) (step : Step) (reply : Reply) (from : Disk)
-    (moments : List Disk) (before behind : Standing) : Type 0 where
-  pub answer : Answers sum P step reply from (last from moments) before behind
+    (moments : List Disk) (before after : Standing) : Type 0 where
+  pub answer : Answers sum P step reply from (last from moments) before after
   pub touches : Touches (touch P step before) from moments
   pub stopped : is_some (turned_away step before) ≡ true → moments ≡ []
   pub kept : Each (AllKeep sum P before.content (begun step before).floor) (from ∷ moments)
   pub covered : Each (AllCover sum P before.content (begun step before).covers) (from ∷ moments)
   pub only : Each (AllOnly sum P before.content (other_content step before)) (from ∷ moments)
-  pub within : (raised (last from moments) behind).floor ≤ length behind.content
+  pub within : (raised (last from moments) after).floor ≤ length after.content
 
 -- a list of steps, through the moments of the run, from one standing to another: after each, what a
 -- completed sync covers is a floor; and what stands between two steps, or where none is left, is
 -- kept
 abbrev pub Ran : (List ℕ → ℕ) → (P : ℕ) → List Step → List Reply → Disk → List Disk → Standing
     → Standing → Type 0
-Ran sum P [] [] from moments s behind =
-    (moments ≡ []) × (behind ≡ s) × AllKeep sum P s.content s.floor from
+Ran sum P [] [] from moments s after =
+    (moments ≡ []) × (after ≡ s) × AllKeep sum P s.content s.floor from
     × AllOnly sum P s.content s.otherwise from
-Ran sum P (step ∷ steps) (reply ∷ replies) from moments s behind =
+Ran sum P (step ∷ steps) (reply ∷ replies) from moments s after =
     AllKeep sum P s.content s.floor from × AllOnly sum P s.content s.otherwise from
     × (first : List Disk) × (rest : List Disk) × (moments ≡ first ++ rest) × (mid : Standing)
     × Did sum P step reply from first s mid
-    × Ran sum P steps replies (last from first) rest (raised (last from first) mid) behind
-Ran sum P [] (reply ∷ replies) from moments s behind = ⊥
-Ran sum P (step ∷ steps) [] from moments s behind = ⊥
+    × Ran sum P steps replies (last from first) rest (raised (last from first) mid) after
+Ran sum P [] (reply ∷ replies) from moments s after = ⊥
+Ran sum P (step ∷ steps) [] from moments s after = ⊥
 
 -- ---- what a session has
 
@@ -792,12 +796,12 @@ FitsOn was now from to =
 pub record Runs (sum : List ℕ → ℕ) (P : ℕ) (steps : List Step) (replies : List Reply)
     (session : SessionState) (old new : Life) (before : Standing) : Type 0 where
   pub moments : List Disk
-  pub goes : new ≡ after old moments
-  pub behind : Standing
-  pub ran : Ran sum P steps replies old.present moments before behind
-  pub stands : StandsFor sum P session behind new.present
+  pub goes : new ≡ life_after old moments
+  pub after : Standing
+  pub ran : Ran sum P steps replies old.present moments before after
+  pub stands : StandsFor sum P session after new.present
 
--- a run, whatever the session stood for when it began: one reply a step, behind those that were
+-- a run, whatever the session stood for when it began: one reply a step, after those that were
 -- there
 pub record RunsAlways (sum : List ℕ → ℕ) (steps : List Step) (was now : SessionState)
     (old new : Life) (earlier replies : List Reply) : Type 0 where

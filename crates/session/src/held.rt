@@ -1,7 +1,7 @@
 // The writer of a session, in one of its two phases.
 ghost use Rattle.std.specs.Prelude.{◌≡◌, option_map, IfOk};
 ghost use Rattle.cache.specs.Pages.{IsFresh};
-ghost use Rattle.crash.specs.Sound.{IsSound};
+ghost use Rattle.writer_state.specs.Sound.{IsSound};
 ghost use Rattle.paged_read.specs.Replay.{LeavesReplays};
 ghost use Rattle.paged_read.specs.Snapshots.{LeavesTails};
 ghost use Rattle.paged_read.specs.Tail.{CanRead};
@@ -30,7 +30,7 @@ pub(crate) struct Held<B, H, Phase> {
 
 impl<B, H, Phase> Model for Held<B, H, Phase> {
     ghost use Rattle.std.specs.Prelude.{Option};
-    ghost use Rattle.crash.specs.WriterState.{WriterState};
+    ghost use Rattle.writer_state.specs.WriterState.{WriterState};
 
     ghost Value = { Option WriterState };
 
@@ -149,9 +149,9 @@ impl<B: Blob, H: Sum, Phase> Held<B, H, Phase> {
             return Reply::Closed;
         };
         match append_copy(self.alloc, writer, blob, cache, bytes) {
-            Ok((writer, place)) => {
+            Ok((writer, offset)) => {
                 self.writer = Some(writer);
-                Reply::At(place)
+                Reply::At(offset)
             }
             Err(error) => Reply::Fault(error),
         }
@@ -165,7 +165,7 @@ impl<B: Blob, H: Sum, Phase> Held<B, H, Phase> {
             return Reply::Closed;
         };
         match writer.try_append(bytes) {
-            Ok(Some(place)) => Reply::At(place),
+            Ok(Some(offset)) => Reply::At(offset),
             Ok(None) => Reply::Nothing,
             Err(error) => Reply::Fault(error),
         }

@@ -4,7 +4,7 @@ ghost use Rattle.std.specs.Prelude.{is_some, sum_by};
 ghost use Rattle.std.specs.List.{concat, range_with_len};
 ghost use Rattle.page.specs.Geometry.{AreInOrder};
 ghost use Rattle.cache.specs.Pages.{IsFresh};
-ghost use Rattle.crash.specs.Sound.{IsSound};
+ghost use Rattle.writer_state.specs.Sound.{IsSound};
 ghost use Rattle.paged_read.specs.Tail.{CanRead};
 ghost use Rattle.paged_read.specs.Ranges.{Misses};
 ghost use Rattle.paged.specs.Caches.{tail_of};
@@ -259,8 +259,8 @@ fn len_together(ranges: &[(u64, usize)]) -> Option<usize>
 {
     let mut total = 0usize;
     let mut end = 0u128;
-    for &(place, len) in ranges {
-        let begin = u128::from(place);
+    for &(offset, len) in ranges {
+        let begin = u128::from(offset);
         if begin < end {
             return None;
         }

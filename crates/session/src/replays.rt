@@ -103,7 +103,7 @@ impl<B: Blob, H: Sum> Session<B, H> {
         }
     }
 
-    // Behind the back of the writer, which may be gone.
+    // After the back of the writer, which may be gone.
     pub(crate) fn ensure(&mut self, blob: &mut B, index: usize, count: usize) -> Reply
         requires can { let old = (B.life blob.old).present in
             All (λ o. CanGoOn o old) self.old.replays }

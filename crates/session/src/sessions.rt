@@ -5,7 +5,7 @@ ghost use Rattle.cache.specs.Pages.{IsFresh};
 ghost use Rattle.paged_read.specs.Replay.{LeavesAllReplays};
 ghost use Rattle.paged_read.specs.Snapshots.{LeavesAllTails};
 ghost use Rattle.paged_read.specs.Tail.{CanRead, Tail};
-ghost use Rattle.crash.specs.Sound.{IsSound};
+ghost use Rattle.writer_state.specs.Sound.{IsSound};
 ghost use Rattle.disk.specs.Disk.{Disk};
 ghost use Rattle.paged.specs.Caches.{tail_of};
 ghost use Rattle.paged.specs.Reads.{size_of};
@@ -156,7 +156,7 @@ impl<B: Blob, H: Sum> Session<B, H> {
         }
     }
 
-    // Behind the back of the writer, which may be gone.
+    // After the back of the writer, which may be gone.
     fn wait_sync(&self, blob: &mut B, name: u64) -> Reply
         ensures goes { let given = is_given self.now.names name in
             WaitsFor given name (B.life blob.old) (B.life blob.new) result }
@@ -193,7 +193,7 @@ impl<B: Blob, H: Sum> Session<B, H> {
         Reply::Done
     }
 
-    // Where it is called, no replay is left behind it.
+    // Where it is called, no replay is left after it.
     fn truncate(&mut self, blob: &mut B, cache: &mut CacheRef, size: u64) -> Reply
         requires sound { HasSoundWriter H.sum_of self.old.writer (B.life blob.old).present }
         requires cached { FitsWriter self.old.writer cache.old (B.life blob.old).present }
@@ -249,8 +249,8 @@ impl<B: Blob, H: Sum> Session<B, H> {
 /// An append, a sync, a start of one, a wait of the writer, a truncate, a snapshot or a replay that
 /// is refused ends the writer, as a seal does at every answer; each step after it that needs one
 /// replies `Closed`. But a start, a snapshot, a replay or a seal for whose name or number there is
-/// no memory changes nothing. A try, a read, of the writer or of a snapshot, a scan, or a wait for a
-/// name that is refused leaves the session as it was, and so does a try that can't be met without
+/// no memory changes nothing. A try, a read, of the writer or of a snapshot, a scan, or a wait for
+/// a name that is refused leaves the session as it was, and so does a try that can't be met without
 /// the device. A replay that is refused what it was asked for stands where it stood.
 ///
 /// A snapshot tells for good what was appended before it, also where the session is closed. What it

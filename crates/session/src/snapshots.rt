@@ -118,7 +118,7 @@ impl<B: Blob, H: Sum> Session<B, H> {
         }
     }
 
-    // Behind the back of the writer, which may be gone.
+    // After the back of the writer, which may be gone.
     pub(crate) fn snap(
         &self,
         blob: &mut B,

@@ -23,13 +23,13 @@ pub enum Step {
     Needs,
     /// Asks for the number of logical bytes.
     Size,
-    /// Reads from this logical place so many bytes.
+    /// Reads from this logical offset so many bytes.
     Read(u64, usize),
-    /// Reads from this logical place as many bytes as there are, at most so many.
+    /// Reads from this logical offset as many bytes as there are, at most so many.
     ReadUpTo(u64, usize),
-    /// Reads from this logical place so many bytes where that needs no device.
+    /// Reads from this logical offset so many bytes where that needs no device.
     TryRead(u64, usize),
-    /// Reads these ranges, each a logical place and a length, in one call.
+    /// Reads these ranges, each a logical offset and a length, in one call.
     ReadRanges(Vec<(u64, usize)>),
     /// Asks which of these ranges can't be read without the device.
     TryReadRanges(Vec<(u64, usize)>),
@@ -47,7 +47,7 @@ pub enum Step {
     Snapshot,
     /// Makes one where no full page is buffered, and so nothing has to be written for it.
     TrySnapshot,
-    /// Reads of the snapshot of this number, from this logical place, so many bytes.
+    /// Reads of the snapshot of this number, from this logical offset, so many bytes.
     Snap(usize, u64, usize),
     /// Begins a replay of all that was appended, with a buffer of so many bytes. What isn't written
     /// is written first, without a sync: two device calls at most.
@@ -56,7 +56,7 @@ pub enum Step {
     Ensure(usize, usize),
     /// Takes so many of the bytes that the replay of this number has at hand, or all of them.
     Take(usize, usize),
-    /// Moves the replay of this number to this logical place.
+    /// Moves the replay of this number to this logical offset.
     Seek(usize, u64),
     /// Ends the writer by a snapshot and a started sync, where the recovery has ended: three device
     /// calls at most.
@@ -66,7 +66,7 @@ pub enum Step {
 /// The reply to a step.
 #[derive(Debug, PartialEq, Eq, Drop)]
 pub enum Reply {
-    /// The logical place of the first appended byte.
+    /// The logical offset of the first appended byte.
     At(u64),
     /// The bytes don't fit what is buffered, or can't be had without the device; or a snapshot
     /// can't be made without a write.
@@ -81,7 +81,7 @@ pub enum Reply {
     Length(u64),
     /// The bytes that were asked for.
     Bytes(Vec<u8>),
-    /// How many of the ranges needed no device, and the bytes of all, one behind the other.
+    /// How many of the ranges needed no device, and the bytes of all, one after the other.
     Served(usize, Vec<u8>),
     /// The numbers of the ranges that can't be read without the device.
     Missed(Vec<usize>),

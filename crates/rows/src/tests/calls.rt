@@ -21,7 +21,7 @@ fn a_to_k<H: Sum>(alloc: Global) -> Result<Store<H>, Error> {
     Ok(store)
 }
 
-// A place, a number of bytes, what a read of them answers, and how many pages are read.
+// An offset, a number of bytes, what a read of them answers, and how many pages are read.
 type Read = (u64, usize, Result<&'static [u8], Error>, usize);
 
 const READS: [Read; 14] = [
@@ -42,19 +42,19 @@ const READS: [Read; 14] = [
 ];
 
 fn read_across(rt: &impl Abort, alloc: Global, read: &Read) -> Result<(), Error> {
-    let (place, len, want, pages) = *read;
+    let (offset, len, want, pages) = *read;
     let mut store = a_to_k::<AddSum>(alloc)?;
     assert_eq!(rt; store.blob().len(), 32);
     // Nothing is held of a blob that was just recovered.
     store.sync()?;
     store.recover(CAPACITY)?;
     let before = store.blob().calls().len();
-    let got = store.read(place, len);
-    assert!(rt; answers(&got, want), "{len} bytes at {place}");
+    let got = store.read(offset, len);
+    assert!(rt; answers(&got, want), "{len} bytes at {offset}");
     assert_eq!(rt;
         store.calls_from(before)?.len(),
         pages,
-        "{len} bytes at {place}"
+        "{len} bytes at {offset}"
     );
     Ok(())
 }
@@ -233,7 +233,7 @@ fn recover_each_at_once(rt: &impl Abort, alloc: Global, rows: &[Row]) -> Result<
     Ok(())
 }
 
-// What the blob holds is there, and a crash behind the recovery keeps that and no more, whatever it
+// What the blob holds is there, and a crash after the recovery keeps that and no more, whatever it
 // would have left of the refused call.
 #[test]
 fn a_refused_call_is_recovered_at_once(rt: HostRuntime) -> Result<(), Fail> {
@@ -250,7 +250,7 @@ fn ends_in_yz(rt: &impl Abort, store: &mut Store<AddSum>, bytes: &[u8]) -> Resul
     Ok(())
 }
 
-// The recovered writer goes on behind what the blob holds.
+// The recovered writer goes on after what the blob holds.
 fn go_on(rt: &impl Abort, alloc: Global, row: &Row) -> Result<(), Error> {
     let mut store = refused(rt, alloc, row)?;
     assert!(rt; store.holds(row.readable)?);
@@ -261,7 +261,7 @@ fn go_on(rt: &impl Abort, alloc: Global, row: &Row) -> Result<(), Error> {
     ends_in_yz(rt, &mut store, row.readable)
 }
 
-fn go_on_behind_each(rt: &impl Abort, alloc: Global, rows: &[Row]) -> Result<(), Error> {
+fn go_on_after_each(rt: &impl Abort, alloc: Global, rows: &[Row]) -> Result<(), Error> {
     for row in rows {
         go_on(rt, alloc, row)?;
     }
@@ -269,7 +269,7 @@ fn go_on_behind_each(rt: &impl Abort, alloc: Global, rows: &[Row]) -> Result<(),
 }
 
 #[test]
-fn appends_go_on_behind_a_refused_call(rt: HostRuntime) -> Result<(), Fail> {
-    go_on_behind_each(&rt, rt.alloc(), &ROWS)?;
+fn appends_go_on_after_a_refused_call(rt: HostRuntime) -> Result<(), Fail> {
+    go_on_after_each(&rt, rt.alloc(), &ROWS)?;
     Ok(())
 }

@@ -32,7 +32,7 @@ fn torn<H: Sum>(rt: &impl Abort, alloc: Global, keep: &[bool]) -> Result<Store<H
 }
 
 /// The same, where the write is done and a sync of it is started, which nobody waits for.
-fn torn_behind_a_start<H: Sum>(
+fn torn_after_a_start<H: Sum>(
     rt: &impl Abort,
     alloc: Global,
     keep: &[bool],
@@ -102,7 +102,7 @@ fn a_constant_sum_lets_a_zero_in(rt: HostRuntime) -> Result<(), Fail> {
     Ok(())
 }
 
-/// So much is recovered behind that crash, which is the one with this number.
+/// So much is recovered after that crash, which is the one with this number.
 fn recovers<H: Sum>(
     rt: &impl Abort,
     alloc: Global,
@@ -191,10 +191,10 @@ fn every_choice_of_bytes_under_a_constant_sum(rt: HostRuntime) -> Result<(), Fai
 }
 
 #[test]
-fn every_choice_of_bytes_behind_a_started_sync(rt: HostRuntime) -> Result<(), Fail> {
+fn every_choice_of_bytes_after_a_started_sync(rt: HostRuntime) -> Result<(), Fail> {
     let alloc = rt.alloc();
-    let none = torn_behind_a_start::<AddSum>(&rt, alloc, &[])?;
-    let all = torn_behind_a_start::<AddSum>(&rt, alloc, &[true; WRITE])?;
+    let none = torn_after_a_start::<AddSum>(&rt, alloc, &[])?;
+    let all = torn_after_a_start::<AddSum>(&rt, alloc, &[true; WRITE])?;
     every_choice_keeps_what_was_durable(&rt, alloc, &none, &all)?;
     Ok(())
 }

@@ -393,7 +393,7 @@ fn a_cut_to_any_size_may_be_stopped(rt: HostRuntime) -> Result<(), Fail> {
     Ok(())
 }
 
-// "ab" in a page that isn't full, and a page behind it.
+// "ab" in a page that isn't full, and a page after it.
 const AB: Page = [
     0x61, 0x62, 0x00, 0x00, 0x00, 0x02, 0x00, 0x00, 0x00, 0xC3, 0x00, 0x00, 0x00, 0x00, 0x00, 0x00,
 ];

@@ -19,7 +19,7 @@ const AB_AND_ABCD: Page = [
     0x61, 0x62, 0x63, 0x64, 0x00, 0x02, 0x00, 0x00, 0x00, 0xC3, 0x00, 0x04, 0x00, 0x00, 0x01, 0x8A,
 ];
 
-// What is appended first, and whether a sync is started behind it. Then these bytes are appended,
+// What is appended first, and whether a sync is started after it. Then these bytes are appended,
 // with these device calls, and the blob is made of these pages.
 struct Row {
     before: &'static [u8],
@@ -72,7 +72,7 @@ const ROWS: [Row; 8] = [
         calls: &[Call::WaitSync(0), Call::WriteAt(16, 32, false)],
         pages: &[ABCD, EFGH, IJKL],
     },
-    // One page is left behind the boundary, and less than one: then all is buffered.
+    // One page is left after the boundary, and less than one: then all is buffered.
     Row {
         before: b"abcde",
         starts: false,
@@ -167,7 +167,7 @@ fn a_big_append_goes_past_the_buffer(rt: HostRuntime) -> Result<(), Fail> {
     Ok(())
 }
 
-// A store in which the append's call behind so many failed.
+// A store in which the append's call after so many failed.
 fn failed(
     rt: &impl Abort,
     alloc: Global,
@@ -184,7 +184,7 @@ fn failed(
     Ok(store)
 }
 
-// The append's call behind so many fails. A crash that keeps nothing leaves what was durable: what
+// The append's call after so many fails. A crash that keeps nothing leaves what was durable: what
 // a wait made so. One that keeps all leaves a beginning of the content.
 fn fail(
     rt: &impl Abort,

@@ -163,7 +163,7 @@ impl<H: Sum> Store<H> {
         Ok(())
     }
 
-    /// Appends bytes, and answers their place.
+    /// Appends bytes, and answers their offset.
     pub fn append(&mut self, bytes: &[u8]) -> Result<u64, Error> {
         let Some(writer) = self.writer.take() else {
             return Err(NO_WRITER);
@@ -173,7 +173,7 @@ impl<H: Sum> Store<H> {
         Ok(at)
     }
 
-    /// Appends a buffer of these bytes, and answers their place.
+    /// Appends a buffer of these bytes, and answers their offset.
     pub fn append_owned(&mut self, bytes: &[u8]) -> Result<u64, Error> {
         let bytes = IoBuf::copy_from_slice(self.alloc, bytes)?;
         let Some(writer) = self.writer.take() else {
@@ -237,7 +237,7 @@ impl<H: Sum> Store<H> {
     }
 
     /// Ends the writer, waits for what that started, and reads its first `len` bytes before the
-    /// wait and behind it.
+    /// wait and after it.
     pub fn seal(&mut self, len: usize) -> Result<Sealing, Error> {
         let Some(writer) = self.writer.take() else {
             return Err(NO_WRITER);
@@ -251,38 +251,38 @@ impl<H: Sum> Store<H> {
     }
 
     /// The bytes of a range.
-    pub fn read(&mut self, place: u64, len: usize) -> Result<IoBuf, Error> {
+    pub fn read(&mut self, offset: u64, len: usize) -> Result<IoBuf, Error> {
         match &self.writer {
             Some(writer) => writer
-                .read_at(&mut self.blob, &mut self.cache, place, len)?
+                .read_at(&mut self.blob, &mut self.cache, offset, len)?
                 .coalesce(),
             None => Err(NO_WRITER),
         }
     }
 
     /// The bytes of a range, in a buffer.
-    pub fn read_into(&mut self, buf: &mut [u8], place: u64) -> Result<(), Error> {
+    pub fn read_into(&mut self, buf: &mut [u8], offset: u64) -> Result<(), Error> {
         match &self.writer {
-            Some(writer) => writer.read_into(&mut self.blob, &mut self.cache, buf, place),
+            Some(writer) => writer.read_into(&mut self.blob, &mut self.cache, buf, offset),
             None => Err(NO_WRITER),
         }
     }
 
-    /// As many bytes from a place on as there are, and how many.
-    pub fn read_up_to(&mut self, place: u64, len: usize) -> Result<(Vec<u8>, usize), Error> {
+    /// As many bytes from an offset on as there are, and how many.
+    pub fn read_up_to(&mut self, offset: u64, len: usize) -> Result<(Vec<u8>, usize), Error> {
         let bytes = Vec::new(self.alloc);
         match &self.writer {
             Some(writer) => {
-                writer.read_up_to(&mut self.blob, &mut self.cache, place, len, bytes)
+                writer.read_up_to(&mut self.blob, &mut self.cache, offset, len, bytes)
             }
             None => Err(NO_WRITER),
         }
     }
 
     /// The bytes of a range, where that needs no device: whether it does.
-    pub fn try_read_sync_into(&self, buf: &mut [u8], place: u64) -> Option<bool> {
+    pub fn try_read_sync_into(&self, buf: &mut [u8], offset: u64) -> Option<bool> {
         let writer = self.writer.as_ref()?;
-        Some(writer.try_read_sync_into(&self.cache, buf, place))
+        Some(writer.try_read_sync_into(&self.cache, buf, offset))
     }
 
     /// Whether the cache holds a page of the blob that was opened first.
@@ -364,10 +364,10 @@ pub enum Call {
 
 fn as_written(call: &disk::Call) -> Call {
     match call {
-        disk::Call::ReadAt(place, len) => Call::ReadAt(*place, *len),
+        disk::Call::ReadAt(offset, len) => Call::ReadAt(*offset, *len),
         disk::Call::ReadMany(_) => Call::ReadMany,
         disk::Call::StartReadMany(_) => Call::StartReadMany,
-        disk::Call::WriteAt(place, len, sync) => Call::WriteAt(*place, *len, *sync),
+        disk::Call::WriteAt(offset, len, sync) => Call::WriteAt(*offset, *len, *sync),
         disk::Call::Resize(len) => Call::Resize(*len),
         disk::Call::Sync => Call::Sync,
         disk::Call::StartSync => Call::StartSync,

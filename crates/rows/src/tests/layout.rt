@@ -22,7 +22,7 @@ const I: Page = [
     0x69, 0x00, 0x00, 0x00, 0x00, 0x01, 0x00, 0x00, 0x00, 0x69, 0x00, 0x00, 0x00, 0x00, 0x00, 0x00,
 ];
 
-/// Appends, which answers this place, and syncs; the blob is made of these pages then.
+/// Appends, which answers this offset, and syncs; the blob is made of these pages then.
 fn append_and_sync(
     rt: &impl Abort,
     store: &mut Store<AddSum>,

@@ -34,13 +34,13 @@ impl Step {
     // Whether it goes as it says.
     fn goes(&self, alloc: Global, blob: &mut MemBlob) -> Result<bool, Error> {
         match self {
-            Step::Write(place, bytes, options, want) => {
+            Step::Write(offset, bytes, options, want) => {
                 let bufs = bufs(alloc, bytes)?;
-                let got = blob.write_at(*place, &bufs, *options);
+                let got = blob.write_at(*offset, &bufs, *options);
                 Ok(got == *want)
             }
-            Step::Read(place, len, want) => {
-                let got = blob.read_at(alloc, *place, *len, ReadOptions::default());
+            Step::Read(offset, len, want) => {
+                let got = blob.read_at(alloc, *offset, *len, ReadOptions::default());
                 Ok(read_as(&got, *want))
             }
             Step::Resize(len, want) => {
@@ -100,7 +100,7 @@ fn first_wrong(alloc: Global, blob: &mut MemBlob, steps: &[Step]) -> Result<Opti
 fn each_call_is_done_and_logged(rt: HostRuntime) -> Result<(), Fail> {
     let mut blob = MemBlob::new(rt.alloc());
     let steps = [
-        // Behind the end the gap is filled with zeros.
+        // After the end the gap is filled with zeros.
         Step::Write(2, b"abc", PLAIN, Ok(())),
         Step::Shows(b"\0\0abc"),
         Step::Read(3, 2, Ok(b"bc")),
@@ -306,7 +306,7 @@ fn two_parts(alloc: Global) -> Result<IoBufs, Error> {
 fn plain_blob(rt: &impl Abort, alloc: Global) -> Result<VecBlob, Error> {
     let mut blob = VecBlob::new(alloc);
     assert_eq!(rt; blob.len(), 0);
-    // Behind the end the gap is filled with zeros, and each buffer stands behind the one before.
+    // After the end the gap is filled with zeros, and each buffer stands after the one before.
     blob.write_at(2, &two_parts(alloc)?, PLAIN)?;
     assert_eq!(rt; blob.bytes(), b"\0\0abcde".as_slice());
     blob.write_at(1, &bufs(alloc, b"xy")?, DURABLE)?;
@@ -366,7 +366,7 @@ fn answer_alike(
     one: &mut MemBlob,
     other: &mut VecBlob,
 ) -> Result<bool, Error> {
-    let place = numbers.below(40);
+    let offset = numbers.below(40);
     match numbers.below(10) {
         0..=3 => {
             let mut parts = bufs(alloc, &some_bytes(alloc, numbers)?)?;
@@ -376,12 +376,12 @@ fn answer_alike(
             } else {
                 PLAIN
             };
-            let first = one.write_at(place, &parts, options);
-            Ok(first == other.write_at(place, &parts, options))
+            let first = one.write_at(offset, &parts, options);
+            Ok(first == other.write_at(offset, &parts, options))
         }
         4 => {
-            let first = one.resize(place);
-            Ok(first == other.resize(place))
+            let first = one.resize(offset);
+            Ok(first == other.resize(offset))
         }
         5 => {
             let first = one.sync();
@@ -398,8 +398,8 @@ fn answer_alike(
         }
         _ => {
             let len = numbers.below(16) as usize;
-            let first = one.read_at(alloc, place, len, ReadOptions::default());
-            let second = other.read_at(alloc, place, len, ReadOptions::default());
+            let first = one.read_at(alloc, offset, len, ReadOptions::default());
+            let second = other.read_at(alloc, offset, len, ReadOptions::default());
             Ok(match second {
                 Ok(bytes) => read_as(&first, Ok(bytes.as_ref())),
                 Err(error) => read_as(&first, Err(error)),

@@ -7,14 +7,14 @@ use std::test::Fail;
 
 const LETTERS: &[u8] = b"abcdef";
 
-// Two that lie across each other, an empty one behind the last byte, and one of all bytes.
+// Two that lie across each other, an empty one after the last byte, and one of all bytes.
 const RANGES: &[(u64, usize)] = &[(1, 3), (3, 2), (6, 0), (0, 6)];
 
 const RISING: &[(usize, &[u8])] = &[(0, b"bcd"), (1, b"de"), (2, b""), (3, b"abcdef")];
 
 const FALLING: &[(usize, &[u8])] = &[(3, b"abcdef"), (2, b""), (1, b"de"), (0, b"bcd")];
 
-// The last range passes the end by a byte, begins behind it, or is too long for any place.
+// The last range passes the end by a byte, begins after it, or is too long for any offset.
 const PAST: [&[(u64, usize)]; 4] = [
     &[(0, 1), (4, 3)],
     &[(0, 1), (7, 0)],

@@ -41,7 +41,7 @@ fn appended_pages_are_read_from_the_cache(rt: HostRuntime) -> Result<(), Error> 
     Ok(())
 }
 
-/// A store of ten bytes, whose cache has place for one page: it holds the second.
+/// A store of ten bytes, whose cache has room for one page: it holds the second.
 fn a_to_j(rt: &impl Abort, alloc: Global) -> Result<Store<AddSum>, Error> {
     let mut store = Store::empty(alloc)?;
     store.append(b"abcdefghij")?;
@@ -113,7 +113,7 @@ fn many_are_read_at_once(rt: HostRuntime) -> Result<(), Error> {
 }
 
 #[test]
-fn bytes_are_read_behind_those_that_were_opened(rt: HostRuntime) -> Result<(), Error> {
+fn bytes_are_read_after_those_that_were_opened(rt: HostRuntime) -> Result<(), Error> {
     let alloc = rt.alloc();
     let bytes = blob_bytes(alloc, &[ABCD, EF], &[])?;
     let mut store: Store<AddSum> = Store::of_bytes(alloc, &bytes)?;

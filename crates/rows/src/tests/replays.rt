@@ -3,7 +3,7 @@ ghost use Rattle.std.specs.Prelude.{◌≡◌, ℕ, List, IfOk, IfSome, take, dr
 ghost use Rattle.std.specs.Int.NonZero.{non_zero_u16_get};
 ghost use Rattle.cache.specs.Pages.{IsFresh};
 ghost use Rattle.disk.specs.History.{life_of};
-ghost use Rattle.crash.specs.Sound.{IsSound, content};
+ghost use Rattle.writer_state.specs.Sound.{IsSound, content};
 ghost use Rattle.paged.specs.Caches.{tail_of};
 ghost use Rattle.paged_read.specs.Replay.{CanReplay};
 ghost use Rattle.paged_read.specs.Tail.{CanRead};
@@ -62,8 +62,8 @@ fn replayed_of_a_snapshot<B: Blob, H: Sum>(
     Ok(Some(replay.copy_to_bytes(count)?))
 }
 
-// So it does behind an append, whatever that answered.
-fn replayed_behind_an_append<B: Blob, H: Sum>(
+// So it does after an append, whatever that answered.
+fn replayed_after_an_append<B: Blob, H: Sum>(
     writer: Writer<B, H>,
     blob: &mut B,
     cache: &mut CacheRef,
@@ -188,7 +188,7 @@ fn starts(blob: &MemBlob, first: usize, ranges: &[(u64, usize)]) -> bool {
     true
 }
 
-// Four bytes are in page 0, one is behind it. Behind the recovery's sync the replay writes both
+// Four bytes are in page 0, one is after it. After the recovery's sync the replay writes both
 // pages, and reads the first.
 #[test]
 fn bytes_are_taken_as_they_come(rt: HostRuntime) -> Result<(), Fail> {
@@ -213,14 +213,14 @@ fn bytes_are_taken_as_they_come(rt: HostRuntime) -> Result<(), Fail> {
     assert!(rt; !play.replay.is_exhausted());
     assert!(rt; play.ensure(1)?);
     assert!(rt; play.gives(1, b"e")?);
-    // Neither a place past the end nor the last bytes ask the device.
+    // Neither an offset past the end nor the last bytes ask the device.
     assert_eq!(rt; play.seek(6), Err(Error::BlobInsufficientLength));
     assert!(rt; starts(&play.blob, 2, &[(0, 16)]));
     Ok(())
 }
 
 #[test]
-fn the_end_is_a_place(rt: HostRuntime) -> Result<(), Fail> {
+fn the_end_is_an_offset(rt: HostRuntime) -> Result<(), Fail> {
     let alloc = rt.alloc();
     let mut play = Play::new(alloc, 4, b"abcdef", 1)?;
     play.seek(6)?;
@@ -281,7 +281,7 @@ const BATCHES: [(usize, u64); 8] = [
     (64, 16),
 ];
 
-// 80 full pages of 64 bytes and 10 bytes behind them. Four batches are read: one that is needed,
+// 80 full pages of 64 bytes and 10 bytes after them. Four batches are read: one that is needed,
 // and three ahead.
 #[test]
 fn a_quarter_of_the_buffer_is_read_at_once(rt: HostRuntime) -> Result<(), Fail> {
@@ -300,7 +300,7 @@ fn a_quarter_of_the_buffer_is_read_at_once(rt: HostRuntime) -> Result<(), Fail> 
 }
 
 // The read ahead of the second batch fails. It is read again once it is needed, and what was read
-// ahead behind it with it.
+// ahead after it with it.
 #[test]
 fn a_failed_read_ahead_is_read_again(rt: HostRuntime) -> Result<(), Fail> {
     let alloc = rt.alloc();
@@ -405,13 +405,13 @@ fn is_given(given: Option<IoBuf>, want: &[u8]) -> bool {
 
 // Full pages that follow one another stay what they are where others are appended.
 #[test]
-fn a_replay_stays_behind_an_append(rt: HostRuntime) -> Result<(), Fail> {
+fn a_replay_stays_after_an_append(rt: HostRuntime) -> Result<(), Fail> {
     let alloc = rt.alloc();
     let mut blob = MemBlob::new(alloc);
     let mut cache = cache_of(alloc, 4, 1)?;
     let writer = recovered::<AddSum>(alloc, &mut blob, &mut cache)?;
     let (writer, _) = writer.append(&mut blob, &mut cache, b"abcdef")?;
-    let given = replayed_behind_an_append(writer, &mut blob, &mut cache, b"ghijklmnop", 6)?;
+    let given = replayed_after_an_append(writer, &mut blob, &mut cache, b"ghijklmnop", 6)?;
     assert!(rt; is_given(given, b"abcdef"));
     let mut cache = cache_of(alloc, 4, 1)?;
     let writer = recovered::<AddSum>(alloc, &mut blob, &mut cache)?;

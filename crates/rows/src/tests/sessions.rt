@@ -215,7 +215,7 @@ fn a_started_sync_is_waited_for_by_the_next(rt: HostRuntime) -> Result<(), Fail>
     Ok(())
 }
 
-// Begins to append, starts a sync, and appends behind it.
+// Begins to append, starts a sync, and appends after it.
 fn start_and_go_on(
     rt: &impl Abort,
     alloc: Global,

@@ -3,7 +3,7 @@ ghost use Rattle.std.specs.Prelude.{◌≡◌, ◌++◌, IfOk, take, drop};
 ghost use Rattle.std.specs.List.{concat};
 ghost use Rattle.cache.specs.Pages.{IsFresh};
 ghost use Rattle.disk.specs.History.{life_of};
-ghost use Rattle.crash.specs.Sound.{IsSound, content};
+ghost use Rattle.writer_state.specs.Sound.{IsSound, content};
 ghost use Rattle.page.specs.Page.{text};
 ghost use Rattle.paged.specs.Caches.{tail_of};
 ghost use Rattle.paged_read.specs.Snapshots.{LeavesReads};
@@ -57,9 +57,9 @@ pub fn recovered<H: Sum>(
     recovered_beside::<H>(alloc, blob, cache)
 }
 
-// What a call answered behind a snapshot, the snapshot's size, and what it then reads.
+// What a call answered after a snapshot, the snapshot's size, and what it then reads.
 #[derive(Drop)]
-struct Behind {
+struct After {
     answer: Result<u64, Error>,
     size: u64,
     read: IoBufs,
@@ -67,13 +67,13 @@ struct Behind {
 
 // A snapshot is made, bytes are appended, and the snapshot is read, whatever the append answered:
 // it gives what there was before.
-fn read_behind_an_append<B: Blob, H: Sum>(
+fn read_after_an_append<B: Blob, H: Sum>(
     writer: Writer<B, H>,
     blob: &mut B,
     cache: &mut CacheRef,
     bytes: &[u8],
     range: (u64, usize),
-) -> Result<Behind, Error>
+) -> Result<After, Error>
     requires sound { IsSound H.sum_of writer (B.life blob.old).present }
     requires can { CanRead (tail_of writer) cache.old (B.life blob.old).present }
     ensures reads { let held = content writer (B.life blob.old).present.readable in
@@ -85,20 +85,20 @@ fn read_behind_an_append<B: Blob, H: Sum>(
         Err(error) => Err(error),
     };
     let read = sealed.read_at(blob, cache, range.0, range.1)?;
-    Ok(Behind {
+    Ok(After {
         answer,
         size: sealed.size(),
         read,
     })
 }
 
-// The same behind a sync.
-fn read_behind_a_sync<B: Blob, H: Sum>(
+// The same after a sync.
+fn read_after_a_sync<B: Blob, H: Sum>(
     writer: Writer<B, H>,
     blob: &mut B,
     cache: &mut CacheRef,
     range: (u64, usize),
-) -> Result<Behind, Error>
+) -> Result<After, Error>
     requires sound { IsSound H.sum_of writer (B.life blob.old).present }
     requires can { CanRead (tail_of writer) cache.old (B.life blob.old).present }
     ensures reads { let held = content writer (B.life blob.old).present.readable in
@@ -110,7 +110,7 @@ fn read_behind_a_sync<B: Blob, H: Sum>(
         Err(error) => Err(error),
     };
     let read = sealed.read_at(blob, cache, range.0, range.1)?;
-    Ok(Behind {
+    Ok(After {
         answer,
         size: sealed.size(),
         read,
@@ -118,13 +118,13 @@ fn read_behind_a_sync<B: Blob, H: Sum>(
 }
 
 // What a writer that ended started, what the wait for it answered, and the bytes before that and
-// behind it.
+// after it.
 #[derive(Drop)]
 pub struct Sealing {
     pub started: StartedSync,
     pub waited: Result<(), Error>,
     pub before: IoBufs,
-    pub behind: IoBufs,
+    pub after: IoBufs,
 }
 
 // Ends a writer, and reads its first bytes on both sides of the wait.
@@ -138,19 +138,19 @@ pub fn read_when_sealed<B: Blob, H: Sum>(
     requires can { CanRead (tail_of writer) cache.old (B.life blob.old).present }
     ensures before { let held = content writer (B.life blob.old).present.readable in
         IfOk result (λ s. concat s.before ≡ take len held) }
-    ensures behind { let held = content writer (B.life blob.old).present.readable in
-        IfOk result (λ s. concat s.behind ≡ take len held) }
+    ensures after { let held = content writer (B.life blob.old).present.readable in
+        IfOk result (λ s. concat s.after ≡ take len held) }
     ensures fresh { IsFresh cache.old → IsFresh cache.new }
 {
     let (sealed, started) = writer.seal(blob, cache)?;
     let before = sealed.read_at(blob, cache, 0, len)?;
     let waited = wait_sync::<B, H>(blob, started);
-    let behind = sealed.read_at(blob, cache, 0, len)?;
+    let after = sealed.read_at(blob, cache, 0, len)?;
     Ok(Sealing {
         started,
         waited,
         before,
-        behind,
+        after,
     })
 }
 
@@ -162,7 +162,7 @@ const WRITE: Call = Call::WriteAt(0, 16, false);
 
 const NEXT: Call = Call::WriteAt(16, 16, false);
 
-// Behind a snapshot of "abcde" bytes are appended, or all is synced, and the nth call of the
+// After a snapshot of "abcde" bytes are appended, or all is synced, and the nth call of the
 // device fails, of which the first is the snapshot's own; a cache of so many pages.
 struct Row {
     append: Option<&'static [u8]>,
@@ -226,13 +226,13 @@ fn goes(rt: &impl Abort, alloc: Global, row: &Row, number: usize) -> Result<(), 
     assert!(rt; writer.try_snapshot()?.is_none(), "row {number}");
     let before = blob.calls().len();
     blob.fail_at(row.fail.max(1));
-    let behind = match row.append {
-        Some(bytes) => read_behind_an_append(writer, &mut blob, &mut cache, bytes, (0, 5))?,
-        None => read_behind_a_sync(writer, &mut blob, &mut cache, (0, 5))?,
+    let after = match row.append {
+        Some(bytes) => read_after_an_append(writer, &mut blob, &mut cache, bytes, (0, 5))?,
+        None => read_after_a_sync(writer, &mut blob, &mut cache, (0, 5))?,
     };
-    assert_eq!(rt; behind.answer, row.answer, "row {number}");
-    assert_eq!(rt; behind.size, 5, "row {number}");
-    assert!(rt; is_made_of(behind.read, b"abcde")?, "row {number}");
+    assert_eq!(rt; after.answer, row.answer, "row {number}");
+    assert_eq!(rt; after.size, 5, "row {number}");
+    assert!(rt; is_made_of(after.read, b"abcde")?, "row {number}");
     assert!(rt;
         calls_from(alloc, &blob, before)?.as_slice() == row.calls,
         "row {number}"
@@ -255,8 +255,8 @@ fn a_snapshot_is_read_in_part(rt: HostRuntime) -> Result<(), Fail> {
     let mut cache = cache_of(alloc, 4, 1)?;
     let writer = recovered::<AddSum>(alloc, &mut blob, &mut cache)?;
     let (writer, _) = writer.append(&mut blob, &mut cache, b"abcde")?;
-    let behind = read_behind_an_append(writer, &mut blob, &mut cache, b"f", (3, 2))?;
-    assert!(rt; is_made_of(behind.read, b"de")?);
+    let after = read_after_an_append(writer, &mut blob, &mut cache, b"f", (3, 2))?;
+    assert!(rt; is_made_of(after.read, b"de")?);
     Ok(())
 }
 
@@ -518,7 +518,7 @@ fn ends(rt: &impl Abort, alloc: Global, end: &End, number: usize) -> Result<(), 
             assert_eq!(rt; Ok(sealing.started), end.started, "row {number}");
             assert_eq!(rt; sealing.waited, end.waited, "row {number}");
             assert!(rt; is_made_of(sealing.before, end.read)?, "row {number}");
-            assert!(rt; is_made_of(sealing.behind, end.read)?, "row {number}");
+            assert!(rt; is_made_of(sealing.after, end.read)?, "row {number}");
         }
         Err(error) => assert_eq!(rt; Err(error), end.started, "row {number}"),
     }

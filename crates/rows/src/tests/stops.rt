@@ -140,7 +140,7 @@ fn stop_each(rt: &impl Abort, alloc: Global, rows: &[Row]) -> Result<(), Error> 
 }
 
 // Each row is recovered whole, and then with each of the device calls of that recovery failing:
-// with a crash behind it that keeps nothing, or all; and with none, where the blob is recovered
+// with a crash after it that keeps nothing, or all; and with none, where the blob is recovered
 // again at once, and a crash keeps that.
 #[test]
 fn a_recovery_may_be_stopped(rt: HostRuntime) -> Result<(), Fail> {

@@ -6,4 +6,4 @@ use Rattle.bench.proofs.work.read_many_all.Given as goal
 abbrev pub invariant-loop : goal.invariant-loop
 invariant-loop g l =
     IsReady g.H.Sum.sum_of l.writer l.cache (g.B.Blob.life l.blob)
-    × (length l.buf ≡ length l.places * non_zero_usize_get l.len)
+    × (length l.buf ≡ length l.offsets * non_zero_usize_get l.len)

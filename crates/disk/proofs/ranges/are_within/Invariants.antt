@@ -3,5 +3,5 @@ use Rattle.disk.specs.Disk.{IsWithin}
 use Rattle.disk.proofs.ranges.are_within.Given as goal
 
 -- the ranges so far lie within
-abbrev pub invariant-loop-place : goal.invariant-loop-place
-invariant-loop-place l = IsWithin (take l.place-index l.ranges) l.bytes
+abbrev pub invariant-loop-offset : goal.invariant-loop-offset
+invariant-loop-offset l = IsWithin (take l.offset-index l.ranges) l.bytes

@@ -8,7 +8,7 @@ abbrev pub invariant-loop-buf : goal.invariant-loop-buf
 invariant-loop-buf l =
     let so_far = concat (take l.buf-index l.buf-items) in
     record {
-      at : l.at ≡ l.place + length so_far;
-      bytes : l.bytes.items ≡ take l.place l.fn.bytes.items ++ so_far ++ drop l.at l.fn.bytes.items;
+      at : l.at ≡ l.offset + length so_far;
+      bytes : l.bytes.items ≡ take l.offset l.fn.bytes.items ++ so_far ++ drop l.at l.fn.bytes.items;
       room : vec_capacity l.fn.bytes ≤ vec_capacity l.bytes;
     }

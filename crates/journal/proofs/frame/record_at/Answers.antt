@@ -8,4 +8,4 @@ returns-then-len-lt-IN_FRONT-clause-found g c = sym (record_of-short g.R.Sum.sum
 
 pub returns-clause-found : goal.returns-clause-found
 returns-clause-found g c =
-    c.record_behind.ensures.found c.args.bytes.now (ap record_len (sym c.as_ref.ensures) ∙ sym c.record_len_of.ensures.len) refl
+    c.record_after.ensures.found c.args.bytes.now (ap record_len (sym c.as_ref.ensures) ∙ sym c.record_len_of.ensures.len) refl

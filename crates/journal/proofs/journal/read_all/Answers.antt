@@ -1,6 +1,6 @@
 use Rattle.std.proofs.Common.{◌≡◌, ◌∙◌, List, ℕ, ap, subst, length}
 use Rattle.std.specs.Int.NonZero.{non_zero_usize_get}
-use Rattle.crash.specs.Sound.{content}
+use Rattle.writer_state.specs.Sound.{content}
 use Rattle.disk.specs.Disk.{Life}
 use Rattle.paged_read.specs.Replay.{ReplayState}
 use Rattle.paged_read.specs.Tail.{told}

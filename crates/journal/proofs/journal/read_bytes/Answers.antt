@@ -8,7 +8,7 @@ use Rattle.journal.proofs.journal.read_bytes.Goals as goal
 pub returns-in-Err-clause-reads : goal.returns-in-Err-clause-reads
 returns-in-Err-clause-reads g c =
     let goes = c.in-Err.ensures in
-    read_refused g.H.Sum.sum_of (tail_of c.args.writer.now) c.args.cache.now c.args.place c.args.len concat (g.B.Blob.life c.args.blob.now) (g.B.Blob.life c.read_at.new.blob) c.in-Err.error
+    read_refused g.H.Sum.sum_of (tail_of c.args.writer.now) c.args.cache.now c.args.offset c.args.len concat (g.B.Blob.life c.args.blob.now) (g.B.Blob.life c.read_at.new.blob) c.in-Err.error
     c.requires.within c.requires.fits goes.reads (λ same. goes.never c.requires.ready.sound (ap (λ (e : Error). Err e) same))
 
 pub returns-in-Ok-clause-leaves : goal.returns-in-Ok-clause-leaves

@@ -1,7 +1,7 @@
 use Rattle.std.proofs.Common.{◌≡◌, ◌∙◌, Ok, Err, take, length, subst, sym, ap, ℕ, arith}
-use Rattle.crash.specs.Sound.{content}
+use Rattle.writer_state.specs.Sound.{content}
 use Rattle.crash.specs.Stays.{LeavesOnly}
-use Rattle.crash.specs.WriterState.{WriterState}
+use Rattle.writer_state.specs.WriterState.{WriterState}
 use Rattle.paged.specs.Reads.{size_of}
 use Rattle.paged.specs.Truncate.{KeepsFloorsWithin, Truncates}
 use Rattle.paged_read.specs.Snapshots.{LeavesOthers}
@@ -36,7 +36,7 @@ returns-then-end-size-clause-only g c =
     let held = content c.args.recovery old.present.readable in
     leaves_or g.H.Sum.sum_of c.args.recovery.page_size held (whole_frames held) old (g.B.Blob.life c.read_all.new.blob) c.read_all.ensures.leaves.only
 
--- the writer behind the reads is ready
+-- the writer after the reads is ready
 left : (g : Over) (c : After-truncate g) → OnlyReads g.H.Sum.sum_of c.in_ok-recovery.recovery c.args.cache.now c.read_all.new.cache (g.B.Blob.life c.args.blob.now) (g.B.Blob.life c.read_all.new.blob)
 left g c =
     subst (λ (w : WriterState). OnlyReads g.H.Sum.sum_of w c.args.cache.now c.read_all.new.cache (g.B.Blob.life c.args.blob.now) (g.B.Blob.life c.read_all.new.blob)) (sym (c.in_ok-recovery.ensures.reads).0)

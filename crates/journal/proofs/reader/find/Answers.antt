@@ -4,14 +4,14 @@ use Rattle.journal.proofs.Journals.{found}
 use Rattle.journal.proofs.Readers.{looks_start}
 use Rattle.journal.proofs.reader.find.Goals as goal
 
-pub returns-then-size-place-clause-leaves : goal.returns-then-size-place-clause-leaves
-returns-then-size-place-clause-leaves g c = looks_start g.H.Sum.sum_of c.args.snapshot.now c.args.cache.now (g.B.Blob.life c.args.blob.now) c.requires.opened
+pub returns-then-size-offset-clause-leaves : goal.returns-then-size-offset-clause-leaves
+returns-then-size-offset-clause-leaves g c = looks_start g.H.Sum.sum_of c.args.snapshot.now c.args.cache.now (g.B.Blob.life c.args.blob.now) c.requires.opened
 
 pub returns-clause-reads : goal.returns-clause-reads
 returns-clause-reads g c =
     let held = told c.args.snapshot.now (g.B.Blob.life c.args.blob.now).present.readable in
-    let rest = c.size-size.result - c.args.place in
+    let rest = c.size-size.result - c.args.offset in
     let size = c.requires.opened.size in
-    found g.R.Sum.sum_of held c.args.place rest c.in_ok-framed.framed c.in_ok-bytes.bytes (c.args.place + c.len.result)
-    (omega (arith, c.if-size-place.false, c.size-size.ensures, size)) (omega (arith, c.if-size-place.false))
-    c.in_ok-framed.ensures.reads c.in_ok-bytes.ensures.found (ap (λ n. c.args.place + n) c.len.ensures)
+    found g.R.Sum.sum_of held c.args.offset rest c.in_ok-framed.framed c.in_ok-bytes.bytes (c.args.offset + c.len.result)
+    (omega (arith, c.if-size-offset.false, c.size-size.ensures, size)) (omega (arith, c.if-size-offset.false))
+    c.in_ok-framed.ensures.reads c.in_ok-bytes.ensures.found (ap (λ n. c.args.offset + n) c.len.ensures)

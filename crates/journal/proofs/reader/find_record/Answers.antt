@@ -35,10 +35,10 @@ returns-in_default-clause-finds g c =
     let t = c.args.snapshot.now in
     let mid = g.B.Blob.life c.frames.blob in
     let held = told t (g.B.Blob.life c.args.blob.now).present.readable in
-    let here : length (told t mid.present.readable) ≤ c.frames.place =
-    subst (λ (o : Option Found). ReadsRecord own (told t mid.present.readable) c.frames.place mid (g.B.Blob.life c.find.new.blob) (Ok o)) c.in_default.is c.in_ok-found.ensures.reads in
-    let end : length held ≤ c.frames.place = omega (arith, here, ap length c.frames.invariant.looks.holds) in
-    next_none own held c.args.from c.frames.place c.frames.invariant.so_far end
+    let here : length (told t mid.present.readable) ≤ c.frames.offset =
+    subst (λ (o : Option Found). ReadsRecord own (told t mid.present.readable) c.frames.offset mid (g.B.Blob.life c.find.new.blob) (Ok o)) c.in_default.is c.in_ok-found.ensures.reads in
+    let end : length held ≤ c.frames.offset = omega (arith, here, ap length c.frames.invariant.looks.holds) in
+    next_none own held c.args.from c.frames.offset c.frames.invariant.so_far end
 
 pub returns-in_default-clause-leaves : goal.returns-in_default-clause-leaves
 returns-in_default-clause-leaves g c = looks g (goal.at.returns-in_default-clause-leaves g c).After-find
@@ -52,11 +52,11 @@ frames-preserved g c =
     let t = c.args.snapshot.now in
     let mid = g.B.Blob.life c.frames.blob in
     let f = c.in-Some.found in
-    let place = c.frames.place in
-    let here = subst (λ (o : Option Found). ReadsRecord own (told t mid.present.readable) place mid (g.B.Blob.life c.find.new.blob) (Ok o)) c.in-Some.is c.in_ok-found.ensures.reads in
-    let there = subst (λ (l : List ℕ). IsFound own l place f.bytes f.end) c.frames.invariant.looks.holds here in
+    let offset = c.frames.offset in
+    let here = subst (λ (o : Option Found). ReadsRecord own (told t mid.present.readable) offset mid (g.B.Blob.life c.find.new.blob) (Ok o)) c.in-Some.is c.in_ok-found.ensures.reads in
+    let there = subst (λ (l : List ℕ). IsFound own l offset f.bytes f.end) c.frames.invariant.looks.holds here in
     record {
       looks = looks g (goal.at.frames-preserved g c).After-find;
-      so_far = next_later own (told t (g.B.Blob.life c.args.blob.now).present.readable) c.args.from place f.bytes f.end c.frames.invariant.so_far there
+      so_far = next_later own (told t (g.B.Blob.life c.args.blob.now).present.readable) c.args.from offset f.bytes f.end c.frames.invariant.so_far there
           (not_some f.bytes (sym c.is_some.ensures ∙ c.if-is_some.false));
     }

@@ -10,8 +10,8 @@ invariant-frames g l =
     let held = told l.snapshot old.present.readable in
     record {
       looks : OnlyLooks g.H.Sum.sum_of l.snapshot l.fn.cache l.cache old (g.B.Blob.life l.blob);
-      so_far : records g.R.Sum.sum_of (drop l.fn.from held) ≡ records g.R.Sum.sum_of (drop l.place held);
+      so_far : records g.R.Sum.sum_of (drop l.fn.from held) ≡ records g.R.Sum.sum_of (drop l.offset held);
     }
 
 abbrev pub decreases-frames : goal.decreases-frames
-decreases-frames g l = size_of l.snapshot - l.place
+decreases-frames g l = size_of l.snapshot - l.offset

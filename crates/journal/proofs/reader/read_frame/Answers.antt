@@ -10,14 +10,14 @@ returns-clause-reads g c =
     let t = c.args.snapshot.now in
     let old = g.B.Blob.life c.args.blob.now in
     let held = told t old.present.readable in
-    let long : length (drop c.args.place held) ≡ c.args.rest =
-    omega (arith, c.requires.within, c.requires.opened.size, length-drop c.args.place held) in
+    let long : length (drop c.args.offset held) ≡ c.args.rest =
+    omega (arith, c.requires.within, c.requires.opened.size, length-drop c.args.offset held) in
     let head = c.in_ok-head.ensures.reads in
     let said : c.min-len.result ≡ min c.args.rest (record_len c.in_ok-head.head + 7) =
     c.min-len.ensures ∙ ap (λ n. min c.args.rest (n + 7)) (c.record_len_of.ensures.len ∙ ap record_len c.as_ref.ensures) in
     let left = c.read_bytes.ensures.leaves in
-    frame_read held (told t (g.B.Blob.life c.read_bytes.new.blob).present.readable) c.args.place c.args.rest c.min-len.result c.in_ok-head.head old (g.B.Blob.life c.read_bytes.new.blob) (g.B.Blob.life c.read_bytes-2.new.blob) c.read_bytes-2.result
-    left.looked left.holds long (head ∙ ap (λ n. take n (drop c.args.place held)) c.min.ensures) said c.read_bytes-2.ensures.reads
+    frame_read held (told t (g.B.Blob.life c.read_bytes.new.blob).present.readable) c.args.offset c.args.rest c.min-len.result c.in_ok-head.head old (g.B.Blob.life c.read_bytes.new.blob) (g.B.Blob.life c.read_bytes-2.new.blob) c.read_bytes-2.result
+    left.looked left.holds long (head ∙ ap (λ n. take n (drop c.args.offset held)) c.min.ensures) said c.read_bytes-2.ensures.reads
 
 pub returns-clause-leaves : goal.returns-clause-leaves
 returns-clause-leaves g c =

@@ -3,7 +3,7 @@ use Rattle.std.proofs.lemmas.Bool.{leb-false, leb-true}
 use Rattle.journal.specs.Frame.{record_len}
 use Rattle.journal.specs.Replay.{LeavesReady, Plays}
 use Rattle.journal.proofs.Journals.{refused_later}
-use Rattle.journal.proofs.Replays.{behind, fault_refused, frame_refused, given, leaves_join, place_taken, plays_on, plays_taken, replay_leaves, said}
+use Rattle.journal.proofs.Replays.{after, fault_refused, frame_refused, given, leaves_join, offset_taken, plays_on, plays_taken, replay_leaves, said}
 use Rattle.journal.proofs.replay.next_frame.Given.{Over}
 use Rattle.journal.proofs.replay.next_frame.Goals as goal
 use Rattle.journal.proofs.replay.next_frame.Goals.{After-ensure, After-copy_to_bytes, After-ensure-2}
@@ -26,28 +26,28 @@ both g c =
     leaves_join sum old mid new (replay_leaves sum old mid did.looked did.writers did.tails did.can_read)
     (replay_leaves sum mid new then_did.looked then_did.writers then_did.tails then_did.can_read)
 
--- the length is taken, and the replay stands behind it
+-- the length is taken, and the replay stands after it
 record Taken (g : Over) (c : After-ensure-2 g) (content : List ℕ) : Type 0 where
   plays : Plays g.H.Sum.sum_of c.copy_to_bytes.new.self content (g.B.Blob.life c.ensure.new.blob).present
-  at : c.copy_to_bytes.new.self.position ≡ c.args.place + 2
-  says : c.record_len_of-len.result ≡ record_len (drop c.args.place content)
+  at : c.copy_to_bytes.new.self.position ≡ c.args.offset + 2
+  says : c.record_len_of-len.result ≡ record_len (drop c.args.offset content)
 
 taken : (g : Over) (c : After-ensure-2 g) (content : List ℕ) → Plays g.H.Sum.sum_of c.args.replay.now content (g.B.Blob.life c.args.blob.now).present → Taken g c content
 taken g c content plays =
     let sum = g.H.Sum.sum_of in
     let old = g.B.Blob.life c.args.blob.now in
     let mid = g.B.Blob.life c.ensure.new.blob in
-    let place = c.args.place in
+    let offset = c.args.offset in
     let fetched = c.in_ok-ensure.ensures.fetches in
     let took = c.in_ok-copy_to_bytes.ensures in
     let there : Plays sum c.ensure.new.self content mid.present = plays_on sum c.args.replay.now c.ensure.new.self content old mid plays fetched.0.tail c.ensure.ensures.replays in
-    let stands : c.ensure.new.self.position ≡ place = fetched.0.position ∙ sym c.requires.at in
-    let head : c.in_ok-copy_to_bytes.field-0 ≡ take 2 (drop place content) = given c.ensure.new.self c.in_ok-copy_to_bytes.field-0 content sum mid.present place 2 there took.gives stands in
-    let moved = place_taken c.ensure.new.self c.copy_to_bytes.new.self 2 took.taken (fetched.2 c.if-not-branch.false) in
+    let stands : c.ensure.new.self.position ≡ offset = fetched.0.position ∙ sym c.requires.at in
+    let head : c.in_ok-copy_to_bytes.field-0 ≡ take 2 (drop offset content) = given c.ensure.new.self c.in_ok-copy_to_bytes.field-0 content sum mid.present offset 2 there took.gives stands in
+    let moved = offset_taken c.ensure.new.self c.copy_to_bytes.new.self 2 took.taken (fetched.2 c.if-not-branch.false) in
     record {
       plays = plays_taken sum c.ensure.new.self c.copy_to_bytes.new.self content mid.present 2 there took.taken c.copy_to_bytes.ensures.replays;
       at = moved ∙ ap (λ n. n + 2) stands;
-      says = said content c.in_ok-copy_to_bytes.field-0 place c.record_len_of-len.result head (c.record_len_of-len.ensures.len ∙ ap record_len c.as_ref-2.ensures);
+      says = said content c.in_ok-copy_to_bytes.field-0 offset c.record_len_of-len.result head (c.record_len_of-len.ensures.len ∙ ap record_len c.as_ref-2.ensures);
     }
 
 pub returns-in_err-ensure-clause-leaves : goal.returns-in_err-ensure-clause-leaves
@@ -83,7 +83,7 @@ returns-in_err-ensure-2-clause-plays g c = λ content plays.
     let e = c.in_err-ensure-2.field-0.0 in
     let had = taken g (goal.at.returns-in_err-ensure-2-clause-plays g c).After-ensure-2 content plays in
     let refused = fault_refused sum c.copy_to_bytes.new.self.tail content mid new e had.plays.of.tail (c.in_err-ensure-2.ensures.fetches).1 in
-    frame_refused sum g.R.Sum.sum_of c.ensure-2.new.self content c.args.place old new e c.from_residual-in_err-ensure-2.result c.from_residual-in_err-ensure-2.ensures.1 (refused_later old mid new e c.ensure.ensures.looked refused)
+    frame_refused sum g.R.Sum.sum_of c.ensure-2.new.self content c.args.offset old new e c.from_residual-in_err-ensure-2.result c.from_residual-in_err-ensure-2.ensures.1 (refused_later old mid new e c.ensure.ensures.looked refused)
 
 pub returns-then-not-branch-2-clause-plays : goal.returns-then-not-branch-2-clause-plays
 returns-then-not-branch-2-clause-plays g c = λ content plays.
@@ -100,21 +100,21 @@ returns-clause-plays g c = λ content plays.
     let new = g.B.Blob.life c.ensure-2.new.blob in
     let r = c.copy_to_bytes.new.self in
     let full = c.ensure-2.new.self in
-    let place = c.args.place in
+    let offset = c.args.offset in
     let n = c.record_len_of-len.result in
     let had = taken g (goal.at.returns-clause-plays g c).After-ensure-2 content plays in
     let fetched = c.in_ok-ensure-2.ensures.fetches in
     let took = c.in_ok-rest.ensures in
     let there : Plays sum full content new.present = plays_on sum r full content mid new had.plays fetched.0.tail c.ensure-2.ensures.replays in
-    let stands : full.position ≡ place + 2 = fetched.0.position ∙ had.at in
-    let rest : c.in_ok-rest.rest ≡ take (n + 5) (drop (place + 2) content) = given full c.in_ok-rest.rest content sum new.present (place + 2) (n + 5) there took.gives stands in
-    let moved = place_taken full c.copy_to_bytes-2.new.self (n + 5) took.taken (fetched.2 c.if-not-branch-2.false) in
+    let stands : full.position ≡ offset + 2 = fetched.0.position ∙ had.at in
+    let rest : c.in_ok-rest.rest ≡ take (n + 5) (drop (offset + 2) content) = given full c.in_ok-rest.rest content sum new.present (offset + 2) (n + 5) there took.gives stands in
+    let moved = offset_taken full c.copy_to_bytes-2.new.self (n + 5) took.taken (fetched.2 c.if-not-branch-2.false) in
     let within = leb-true (r.position + (n + 5)) _ (sym fetched.1 ∙ c.if-not-branch-2.false) in
-    let is = behind g.R.Sum.sum_of content place n c.in_ok-rest.rest had.says rest in
+    let is = after g.R.Sum.sum_of content offset n c.in_ok-rest.rest had.says rest in
     record {
       plays = plays_taken sum full c.copy_to_bytes-2.new.self content new.present (n + 5) there took.taken c.copy_to_bytes-2.ensures.replays;
       at = omega (arith, moved, stands);
-      held = c.in_ok-bytes.ensures.found (take (n + 7) (drop place content)) is.says is.is ∙ is.held;
-      behind = omega (arith, is.long);
+      held = c.in_ok-bytes.ensures.found (take (n + 7) (drop offset content)) is.says is.is ∙ is.held;
+      after = omega (arith, is.long);
       within = omega (arith, within, had.at, had.plays.size);
     }

@@ -9,10 +9,10 @@ use Rattle.journal.proofs.Journals.{refused_later}
 use Rattle.journal.proofs.Replays.{all_refused, leaves_join, leaves_start}
 use Rattle.journal.proofs.replay.records_of.Given.{Over}
 use Rattle.journal.proofs.replay.records_of.Goals as goal
-use Rattle.journal.proofs.replay.records_of.Goals.{Left-loop-place, else-loop-place-test, then-loop-place-test+in_ok-frame+in_default}
+use Rattle.journal.proofs.replay.records_of.Goals.{Left-loop-offset, else-loop-offset-test, then-loop-offset-test+in_ok-frame+in_default}
 
-pub loop-place-init : goal.loop-place-init
-loop-place-init g c =
+pub loop-offset-init : goal.loop-offset-init
+loop-offset-init g c =
     let old = g.B.Blob.life c.args.blob.now in
     let held = told c.args.replay.tail old.present.readable in
     let n = length (whole_frames held) in
@@ -29,70 +29,70 @@ loop-place-init g c =
 pub returns-in_err-frame-clause-plays : goal.returns-in_err-frame-clause-plays
 returns-in_err-frame-clause-plays g c =
     let old = g.B.Blob.life c.args.blob.now in
-    let mid = g.B.Blob.life c.loop-place.blob in
+    let mid = g.B.Blob.life c.loop-offset.blob in
     let new = g.B.Blob.life c.next_frame.new.blob in
     let held = told c.args.replay.tail old.present.readable in
     let e = c.in_err-frame.field-0.0 in
     all_refused g.R.Sum.sum_of held old new e c.from_residual.result c.from_residual.ensures.1
-    (refused_later old mid new e c.loop-place.invariant.leaves.looked (c.in_err-frame.ensures.plays held c.loop-place.invariant.plays))
+    (refused_later old mid new e c.loop-offset.invariant.leaves.looked (c.in_err-frame.ensures.plays held c.loop-offset.invariant.plays))
 
 pub returns-in_err-frame-clause-leaves : goal.returns-in_err-frame-clause-leaves
 returns-in_err-frame-clause-leaves g c =
-    leaves_join g.H.Sum.sum_of (g.B.Blob.life c.args.blob.now) (g.B.Blob.life c.loop-place.blob) (g.B.Blob.life c.next_frame.new.blob) c.loop-place.invariant.leaves c.next_frame.ensures.leaves
+    leaves_join g.H.Sum.sum_of (g.B.Blob.life c.args.blob.now) (g.B.Blob.life c.loop-offset.blob) (g.B.Blob.life c.next_frame.new.blob) c.loop-offset.invariant.leaves c.next_frame.ensures.leaves
 
 pub returns-in_err-push_record-clause-leaves : goal.returns-in_err-push_record-clause-leaves
 returns-in_err-push_record-clause-leaves g c =
-    leaves_join g.H.Sum.sum_of (g.B.Blob.life c.args.blob.now) (g.B.Blob.life c.loop-place.blob) (g.B.Blob.life c.next_frame.new.blob) c.loop-place.invariant.leaves c.next_frame.ensures.leaves
+    leaves_join g.H.Sum.sum_of (g.B.Blob.life c.args.blob.now) (g.B.Blob.life c.loop-offset.blob) (g.B.Blob.life c.next_frame.new.blob) c.loop-offset.invariant.leaves c.next_frame.ensures.leaves
 
-pub loop-place-preserved : goal.loop-place-preserved
-loop-place-preserved g c =
+pub loop-offset-preserved : goal.loop-offset-preserved
+loop-offset-preserved g c =
     let sum = g.H.Sum.sum_of in
     let own = g.R.Sum.sum_of in
     let old = g.B.Blob.life c.args.blob.now in
-    let mid = g.B.Blob.life c.loop-place.blob in
+    let mid = g.B.Blob.life c.loop-offset.blob in
     let new = g.B.Blob.life c.next_frame.new.blob in
     let held = told c.args.replay.tail old.present.readable in
     let now = c.next_frame.new.replay in
-    let place = c.loop-place.place in
+    let offset = c.loop-offset.offset in
     let f = c.in-Some.frame in
-    let so_far = c.loop-place.invariant in
-    let here : IsPlayed sum own now held place f.bytes f.end new.present =
-    subst (λ (o : Option Found). PlaysFrame sum own now held place mid new (Ok o)) c.in-Some.is (c.in_ok-frame.ensures.plays held so_far.plays) in
-    let n = frame_len (drop place held) in
-    let lt : place < length held = omega (arith, c.loop-place-test.true, c.blob_size-size.ensures, c.requires.plays.size) in
+    let so_far = c.loop-offset.invariant in
+    let here : IsPlayed sum own now held offset f.bytes f.end new.present =
+    subst (λ (o : Option Found). PlaysFrame sum own now held offset mid new (Ok o)) c.in-Some.is (c.in_ok-frame.ensures.plays held so_far.plays) in
+    let n = frame_len (drop offset held) in
+    let lt : offset < length held = omega (arith, c.loop-offset-test.true, c.blob_size-size.ensures, c.requires.plays.size) in
     record {
       leaves = leaves_join sum old mid new so_far.leaves c.next_frame.ensures.leaves;
       plays = here.plays;
       at = here.at;
-      found = ap₂ (λ rs e. rs ++ records own (drop e held)) c.in_ok-push_record.ensures.adds here.behind
-          ∙ records-next own held place n c.loop-place.found.items f.bytes lt refl here.held so_far.found;
-      whole = ap (λ e. e + length (whole_frames (drop e held))) here.behind
-          ∙ whole-next held place n (omega (arith, here.behind, here.within)) refl so_far.whole;
+      found = ap₂ (λ rs e. rs ++ records own (drop e held)) c.in_ok-push_record.ensures.adds here.after
+          ∙ records-next own held offset n c.loop-offset.found.items f.bytes lt refl here.held so_far.found;
+      whole = ap (λ e. e + length (whole_frames (drop e held))) here.after
+          ∙ whole-next held offset n (omega (arith, here.after, here.within)) refl so_far.whole;
       within = here.within;
     }
 
 -- no whole frame is left where the loop ends
-ended : (g : Over) (c : Left-loop-place g) → length (told c.args.replay.tail (g.B.Blob.life c.args.blob.now).present.readable)
-    < c.loop-place.place + frame_len (drop c.loop-place.place (told c.args.replay.tail (g.B.Blob.life c.args.blob.now).present.readable))
-ended g c = elim c.loop-place-test.branch [
-  | else-loop-place-test w ↦ omega (arith, w.loop-place-test.false, c.blob_size-size.ensures, c.requires.plays.size)
-  | then-loop-place-test+in_ok-frame+in_default w ↦
+ended : (g : Over) (c : Left-loop-offset g) → length (told c.args.replay.tail (g.B.Blob.life c.args.blob.now).present.readable)
+    < c.loop-offset.offset + frame_len (drop c.loop-offset.offset (told c.args.replay.tail (g.B.Blob.life c.args.blob.now).present.readable))
+ended g c = elim c.loop-offset-test.branch [
+  | else-loop-offset-test w ↦ omega (arith, w.loop-offset-test.false, c.blob_size-size.ensures, c.requires.plays.size)
+  | then-loop-offset-test+in_ok-frame+in_default w ↦
       let held = told c.args.replay.tail (g.B.Blob.life c.args.blob.now).present.readable in
-      subst (λ (o : Option Found). PlaysFrame g.H.Sum.sum_of g.R.Sum.sum_of w.next_frame.new.replay held c.loop-place.place (g.B.Blob.life c.loop-place.blob) (g.B.Blob.life w.next_frame.new.blob) (Ok o)) w.in_default.is
-      (w.in_ok-frame.ensures.plays held c.loop-place.invariant.plays)
+      subst (λ (o : Option Found). PlaysFrame g.H.Sum.sum_of g.R.Sum.sum_of w.next_frame.new.replay held c.loop-offset.offset (g.B.Blob.life c.loop-offset.blob) (g.B.Blob.life w.next_frame.new.blob) (Ok o)) w.in_default.is
+      (w.in_ok-frame.ensures.plays held c.loop-offset.invariant.plays)
 ]
 
 pub returns-clause-plays : goal.returns-clause-plays
 returns-clause-plays g c =
     let held = told c.args.replay.tail (g.B.Blob.life c.args.blob.now).present.readable in
-    let end = ended g (goal.at.returns-clause-plays g c).Left-loop-place in (
-      records-end g.R.Sum.sum_of held c.loop-place.place c.loop-place.found.items end c.loop-place.invariant.found,
-      whole-end held c.loop-place.place end c.loop-place.invariant.whole,
+    let end = ended g (goal.at.returns-clause-plays g c).Left-loop-offset in (
+      records-end g.R.Sum.sum_of held c.loop-offset.offset c.loop-offset.found.items end c.loop-offset.invariant.found,
+      whole-end held c.loop-offset.offset end c.loop-offset.invariant.whole,
     )
 
 pub returns-clause-leaves : goal.returns-clause-leaves
-returns-clause-leaves g c = elim c.loop-place-test.branch [
-  | else-loop-place-test w ↦ rw w.blob-is c.loop-place.invariant.leaves
-  | then-loop-place-test+in_ok-frame+in_default w ↦
-      rw w.blob-is (leaves_join g.H.Sum.sum_of (g.B.Blob.life c.args.blob.now) (g.B.Blob.life c.loop-place.blob) (g.B.Blob.life w.next_frame.new.blob) c.loop-place.invariant.leaves w.next_frame.ensures.leaves)
+returns-clause-leaves g c = elim c.loop-offset-test.branch [
+  | else-loop-offset-test w ↦ rw w.blob-is c.loop-offset.invariant.leaves
+  | then-loop-offset-test+in_ok-frame+in_default w ↦
+      rw w.blob-is (leaves_join g.H.Sum.sum_of (g.B.Blob.life c.args.blob.now) (g.B.Blob.life c.loop-offset.blob) (g.B.Blob.life w.next_frame.new.blob) c.loop-offset.invariant.leaves w.next_frame.ensures.leaves)
 ]

@@ -5,10 +5,10 @@ use Rattle.page.proofs.geometry.validate_read_ranges.Goals as goal
 pub returns-in_err-validate_range : goal.returns-in_err-validate_range
 returns-in_err-validate_range c =
     let error = err_from_is_err_and c.from_residual.result c.from_residual.ensures.1 in
-    rw (error.1, error.2) (RangesGo-refused c.args.size c.args.ranges.now c.loop-place.place-index (0, 0) _ c.loop-place-test.true c.loop-place.invariant c.in_err-validate_range.ensures)
+    rw (error.1, error.2) (RangesGo-refused c.args.size c.args.ranges.now c.loop-offset.offset-index (0, 0) _ c.loop-offset-test.true c.loop-offset.invariant c.in_err-validate_range.ensures)
 
-pub loop-place-preserved : goal.loop-place-preserved
-loop-place-preserved c = EndWithin-more _ _ _ (0, 0) c.loop-place-test.true c.loop-place.invariant c.in_ok-validate_range.ensures
+pub loop-offset-preserved : goal.loop-offset-preserved
+loop-offset-preserved c = EndWithin-more _ _ _ (0, 0) c.loop-offset-test.true c.loop-offset.invariant c.in_ok-validate_range.ensures
 
 pub returns : goal.returns
-returns c = EndWithin-all _ _ _ c.loop-place-test.false c.loop-place.invariant
+returns c = EndWithin-all _ _ _ c.loop-offset-test.false c.loop-offset.invariant

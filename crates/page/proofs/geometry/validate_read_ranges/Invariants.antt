@@ -2,5 +2,5 @@ use Rattle.std.proofs.Common.{take}
 use Rattle.page.specs.Geometry.{EndWithin}
 use Rattle.page.proofs.geometry.validate_read_ranges.Given as goal
 
-abbrev pub invariant-loop-place : goal.invariant-loop-place
-invariant-loop-place l = EndWithin l.size (take l.place-index l.ranges)
+abbrev pub invariant-loop-offset : goal.invariant-loop-offset
+invariant-loop-offset l = EndWithin l.size (take l.offset-index l.ranges)

@@ -1,10 +1,10 @@
-use Rattle.paged.proofs.OpenedReads.{opened_fits, gives_id, looked_reads, cut_reads, recovered_id}
+use Rattle.paged.proofs.OpenedReads.{opened_fits, gives_id, looked_reads, cut_reads, recovered_id, gives_others}
 use Rattle.paged.specs.Caches.{tail_of}
 use Rattle.std.proofs.Common.{◌≡◌, ◌≤◌, ◌+◌, ◌*◌, ℕ, length, ◌∙◌, ap, arith, refl, subst, inr}
 use Rattle.std.proofs.lemmas.Result.{err_from_is_err_and}
 use Rattle.std.proofs.Math.Nat.{mul-le-mul_left}
 use Rattle.std.specs.Int.NonZero.{non_zero_u16_get, non_zero_usize_get}
-use Rattle.crash.specs.WriterState.{WriterState}
+use Rattle.writer_state.specs.WriterState.{WriterState}
 use Rattle.page.specs.Page.{pieces, text}
 use Rattle.paged_read.specs.Prefix.{prefix_of, prefix_pages}
 use Rattle.paged.specs.Recovers.{Recovers}
@@ -12,10 +12,10 @@ use Rattle.paged.proofs.Recoveries.{opened_size_le, finds_cause}
 use Rattle.paged.proofs.Recovered.{counted_length, opened_length, opened_page_size, opened_positive, found_is, found_within, found_short, counted_text, no_work, CutToText, scanned_length, scanned_as_opened, recovers_unfound, recovers_end, recovers_keep}
 use Rattle.paged.proofs.Trims.{Owes, scanned_owe, recovers_owe, finds_looked}
 use Rattle.paged_read.specs.Searches.{ReadsWithin, scan_bytes}
-use Rattle.paged_read.proofs.Searching.{back_within, page_within, scans_within, cuts_within}
+use Rattle.paged_read.proofs.Backward.{back_within, scans_within}
+use Rattle.paged_read.proofs.Searching.{page_within, cuts_within}
 use Rattle.paged.proofs.There.{recovered_sound}
 use Rattle.paged.proofs.recovery.recover.Given.{Over}
-use Rattle.paged.proofs.OpenedReads.{gives_others}
 use Rattle.paged.proofs.recovery.recover.Goals as goal
 use Rattle.paged.proofs.recovery.recover.Goals.{In_err-prefix, After-scan, After-size_of-text_size, After-truncate}
 

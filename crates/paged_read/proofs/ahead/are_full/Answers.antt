@@ -10,7 +10,7 @@ loop-page-preserved g c =
     let P = non_zero_u16_get c.args.page_size in
     let page = c.loop-page.page in
     let bytes = c.args.bytes.now in
-    let is = slice_is_page P c.physical_size-size.result page bytes c.physical_size-size.ensures in
+    let is = slice_is_page P c.physical_page_size-size.result page bytes c.physical_page_size-size.ensures in
     full_more g.H.Sum.sum_of P page bytes c.loop-page.invariant
     (ap (λ l. value_len g.H.Sum.sum_of P l) (sym is) ∙ c.is_full.ensures.0 c.if-not-is_full.false)
 
@@ -19,7 +19,7 @@ returns-then-not-is_full g c =
     let P = non_zero_u16_get c.args.page_size in
     let page = c.loop-page.page in
     let bytes = c.args.bytes.now in
-    let is = slice_is_page P c.physical_size-size.result page bytes c.physical_size-size.ensures in (
+    let is = slice_is_page P c.physical_page_size-size.result page bytes c.physical_page_size-size.ensures in (
       λ no. absurd (true≢false (sym no)),
       λ all.
           let full : value_len g.H.Sum.sum_of P (page_at P page bytes) ≡ P =

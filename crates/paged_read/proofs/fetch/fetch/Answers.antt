@@ -1,10 +1,10 @@
 use Rattle.std.proofs.Common.{◌≡◌, ◌∙◌, sym, ap, subst, ℕ, ◌+◌, ◌<◌, List, length, arith, eqb-true, Ok, Err}
 use Rattle.disk.specs.Disk.{ReadManyGoes}
-use Rattle.paged_read.specs.Ranges.{places}
+use Rattle.paged_read.specs.Ranges.{page_ranges}
 use Rattle.std.specs.Int.NonZero.{non_zero_u16_get}
 use Rattle.std.proofs.lemmas.Result.{err_from_is_err_and}
 use Rattle.crash.specs.Looks.{looked_start}
-use Rattle.paged_read.proofs.BatchReads.{delivers_none, looked_many, asks_many, many_fault, places_all, some_from_test, length-places}
+use Rattle.paged_read.proofs.BatchReads.{delivers_none, looked_many, asks_many, many_fault, page_ranges_all, some_from_test, length-page_ranges}
 use Rattle.paged_read.proofs.fetch.fetch.Goals as goal
 
 pub returns-then-is_empty-clause-reads : goal.returns-then-is_empty-clause-reads
@@ -25,7 +25,7 @@ returns-in_err-read_many-clause-reads g c =
     let old = g.B.Blob.life c.args.blob.now in
     let new = g.B.Blob.life c.read_many.new.self in
     let size : c.from-size.result + 12 ≡ P + 12 = ap (λ (n : ℕ). n + 12) (c.from-size.ensures ∙ c.get.ensures.value) in
-    let asked : c.deref.result.now ≡ places P c.args.pages.now = c.deref.ensures.value ∙ places_all P (c.from-size.result + 12) c.args.pages.now c.loop-page.page-index c.loop-page.ranges.items size c.loop-page-test.false c.loop-page.invariant in
+    let asked : c.deref.result.now ≡ page_ranges P c.args.pages.now = c.deref.ensures.value ∙ page_ranges_all P (c.from-size.result + 12) c.args.pages.now c.loop-page.page-index c.loop-page.ranges.items size c.loop-page-test.false c.loop-page.invariant in
     let goes = subst (λ (rs : List (ℕ × ℕ)). ReadManyGoes rs old new c.read_many.new.out.items (Err c.in_err-read_many.field-0.0)) asked c.in_err-read_many.ensures.goes in
     let error = err_from_is_err_and c.from_residual-in_err-read_many.result c.from_residual-in_err-read_many.ensures.1 in
     rw (error.1, error.2) (many_fault P c.args.pages.now old new c.read_many.new.out.items c.in_err-read_many.field-0.0 c.requires.there goes)
@@ -36,10 +36,10 @@ returns-in_err-read_many-clause-asks g c =
     let old = g.B.Blob.life c.args.blob.now in
     let new = g.B.Blob.life c.read_many.new.self in
     let size : c.from-size.result + 12 ≡ P + 12 = ap (λ (n : ℕ). n + 12) (c.from-size.ensures ∙ c.get.ensures.value) in
-    let asked : c.deref.result.now ≡ places P c.args.pages.now = c.deref.ensures.value ∙ places_all P (c.from-size.result + 12) c.args.pages.now c.loop-page.page-index c.loop-page.ranges.items size c.loop-page-test.false c.loop-page.invariant in
+    let asked : c.deref.result.now ≡ page_ranges P c.args.pages.now = c.deref.ensures.value ∙ page_ranges_all P (c.from-size.result + 12) c.args.pages.now c.loop-page.page-index c.loop-page.ranges.items size c.loop-page-test.false c.loop-page.invariant in
     let goes = subst (λ (rs : List (ℕ × ℕ)). ReadManyGoes rs old new c.read_many.new.out.items (Err c.in_err-read_many.field-0.0)) asked c.in_err-read_many.ensures.goes in
     let some : 0 < length c.args.pages.now = some_from_test c.args.pages.now (sym c.is_empty.ensures ∙ c.if-is_empty.false) in
-    asks_many (places P c.args.pages.now) old new c.read_many.new.out.items (Err c.in_err-read_many.field-0.0) (omega (arith, some, length-places P c.args.pages.now)) goes
+    asks_many (page_ranges P c.args.pages.now) old new c.read_many.new.out.items (Err c.in_err-read_many.field-0.0) (omega (arith, some, length-page_ranges P c.args.pages.now)) goes
 
 pub returns-in_err-read_many-clause-looked : goal.returns-in_err-read_many-clause-looked
 returns-in_err-read_many-clause-looked g c = looked_many c.deref.result.now (g.B.Blob.life c.args.blob.now) (g.B.Blob.life c.read_many.new.self) c.read_many.new.out.items (Err c.in_err-read_many.field-0.0) c.in_err-read_many.ensures.goes

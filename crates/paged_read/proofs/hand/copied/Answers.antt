@@ -30,11 +30,11 @@ loop-at-preserved c =
     let there = c.requires.there in
     omega (arith, sizes, least, more, there, c.len.ensures, length-take (done + len) told) in
     record {
-      run = c.behind-at.ensures.run.1;
-      place = c.behind-at.ensures.place;
+      run = c.after-at.ensures.run.1;
+      cursor = c.after-at.ensures.cursor;
       within = omega (arith, part, least, more);
       copied = copied ∙ ap (λ n. take n told) (sym part);
       rest = λ less.
           let whole : len ≡ at.left = omega (arith, part, least, less, size, c.len.ensures) in
-          sym c.behind-at.ensures.bytes ∙ ap (λ l. drop at.left l) rest ∙ drop-drop at.left done told ∙ ap (λ n. drop n told) (omega (arith, part, whole));
+          sym c.after-at.ensures.bytes ∙ ap (λ l. drop at.left l) rest ∙ drop-drop at.left done told ∙ ap (λ n. drop n told) (omega (arith, part, whole));
     }

@@ -1,5 +1,5 @@
 use Rattle.std.proofs.Common.{◌≡◌, ◌≤◌, ◌<◌, ◌-◌, length, drop, take}
-use Rattle.paged_read.specs.Hand.{payloads_at, IsPlace}
+use Rattle.paged_read.specs.Hand.{payloads_at, IsCursor}
 use Rattle.paged_read.proofs.hand.copied.Given as goal
 
 abbrev pub invariant-loop-at : goal.invariant-loop-at
@@ -11,7 +11,7 @@ invariant-loop-at l =
     let done = length l.bytes.items in
     record {
       run : l.at.run ≤ length all;
-      place : IsPlace (drop l.at.run all) l.at.start l.at.left;
+      cursor : IsCursor (drop l.at.run all) l.at.start l.at.left;
       within : done ≤ l.count;
       copied : l.bytes.items ≡ take done told;
       rest : done < l.count → payloads_at P all l.at.run l.at.start l.at.left ≡ drop done told;

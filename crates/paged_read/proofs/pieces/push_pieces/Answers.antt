@@ -21,7 +21,7 @@ pub loop-page-preserved : goal.loop-page-preserved
 loop-page-preserved c =
     let first = c.args.offset / c.from-size.result in
     let P = non_zero_u16_get c.args.page_size in
-    let f = piece_of P (c.args.offset, c.args.len) c.args.place in
+    let f = piece_of P (c.args.offset, c.args.len) c.args.buf_offset in
     let n : c.loop-page.page + 1 - first ≡ c.loop-page.page - first + 1 = omega (arith, c.loop-page.auto.page) in
     let old = c.args.pieces.now.items in
     let before : List Piece = map f (range_with_len first (c.loop-page.page - first)) in

@@ -6,4 +6,4 @@ use Rattle.paged_read.proofs.pieces.push_pieces.Given as goal
 
 abbrev pub invariant-loop-page : goal.invariant-loop-page
 invariant-loop-page l =
-    l.pieces.items ≡ l.initial.pieces.items ++ map (piece_of (non_zero_u16_get l.page_size) (l.offset, l.len) l.place) (range_with_len l.first (l.page - l.first))
+    l.pieces.items ≡ l.initial.pieces.items ++ map (piece_of (non_zero_u16_get l.page_size) (l.offset, l.len) l.buf_offset) (range_with_len l.first (l.page - l.first))

@@ -144,7 +144,7 @@ loop-page-preserved g c =
       looked = part_looked g at.After-read_part;
     }
 
--- what was found behind the last page
+-- what was found after the last page
 all_found : (g : Over) (c : After-loop-page g) → (c.in_ok-end.end - 1) / c.from-size.result + 1 ≤ c.loop-page.page → let P = non_zero_u16_get c.args.page_size in
     parts_told g.H.Sum.sum_of P c.args.offset c.in_ok-end.end ((c.in_ok-end.end - 1) / c.from-size.result + 1 - c.args.offset / c.from-size.result) (c.args.offset / c.from-size.result) (g.B.Blob.life c.args.blob.now).present.readable ≡ Ok (concat c.loop-page.bytes)
 all_found g c last =

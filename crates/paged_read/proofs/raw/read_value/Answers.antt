@@ -17,33 +17,33 @@ use Rattle.paged_read.proofs.raw.read_value.Goals.{After-read_at, After-physical
 same : (g : Over) (c : After-physical_page g) → c.from.result ≡ non_zero_u16_get c.args.page_size
 same g c = c.from.ensures ∙ c.get.ensures.value
 
-pub returns-in_err-place-clause-told : goal.returns-in_err-place-clause-told
-returns-in_err-place-clause-told g c =
+pub returns-in_err-page_start-clause-told : goal.returns-in_err-page_start-clause-told
+returns-in_err-page_start-clause-told g c =
     let P = non_zero_u16_get c.args.page_size in
     let old = g.B.Blob.life c.args.blob.now in
-    let is = same g (goal.at.returns-in_err-place-clause-told g c).After-physical_page in
+    let is = same g (goal.at.returns-in_err-page_start-clause-told g c).After-physical_page in
     let told = value_told g.H.Sum.sum_of P c.args.page old.present.readable in
     let p = err_from_is_err_and c.from_residual.result c.from_residual.ensures.1 in
-    let over : 2 ^ 64 ≤ (c.args.page + 1) * (P + 12) = omega (arith, subst (λ (n : ℕ). (c.args.page + 1) * (n + 12) < 2 ^ 64 → ⊥) is c.in_err-place.ensures.place) in
-    rw (p.1, p.2) (subst (λ (x : Error). ReadsTold {A = List ℕ × ℕ} (λ r. take r.1 r.0) told old old (Err x)) (sym c.in_err-place.ensures.err)
+    let over : 2 ^ 64 ≤ (c.args.page + 1) * (P + 12) = omega (arith, subst (λ (n : ℕ). (c.args.page + 1) * (n + 12) < 2 ^ 64 → ⊥) is c.in_err-page_start.ensures.offset) in
+    rw (p.1, p.2) (subst (λ (x : Error). ReadsTold {A = List ℕ × ℕ} (λ r. take r.1 r.0) told old old (Err x)) (sym c.in_err-page_start.ensures.err)
     (value_passes g.H.Sum.sum_of P c.args.page old.present.readable over, looked_start old))
 
 -- what was read, and where
-size_is : (g : Over) (c : After-read_at g) → c.in_ok-place.size ≡ non_zero_u16_get c.args.page_size + 12
-size_is g c = ap (λ (p : ℕ × ℕ). p.1) c.in_ok-place.ensures.place.1 ∙ ap (λ (n : ℕ). n + 12) (c.from.ensures ∙ c.get.ensures.value)
+size_is : (g : Over) (c : After-read_at g) → c.in_ok-page_start.size ≡ non_zero_u16_get c.args.page_size + 12
+size_is g c = ap (λ (p : ℕ × ℕ). p.1) c.in_ok-page_start.ensures.offset.1 ∙ ap (λ (n : ℕ). n + 12) (c.from.ensures ∙ c.get.ensures.value)
 
-place_is : (g : Over) (c : After-read_at g) → c.in_ok-place.place ≡ c.args.page * (non_zero_u16_get c.args.page_size + 12)
-place_is g c = ap (λ (p : ℕ × ℕ). p.0) c.in_ok-place.ensures.place.1 ∙ ap (λ (n : ℕ). c.args.page * (n + 12)) (c.from.ensures ∙ c.get.ensures.value)
+page_start_is : (g : Over) (c : After-read_at g) → c.in_ok-page_start.page_start ≡ c.args.page * (non_zero_u16_get c.args.page_size + 12)
+page_start_is g c = ap (λ (p : ℕ × ℕ). p.0) c.in_ok-page_start.ensures.offset.1 ∙ ap (λ (n : ℕ). c.args.page * (n + 12)) (c.from.ensures ∙ c.get.ensures.value)
 
 fits : (g : Over) (c : After-read_at g) → (c.args.page + 1) * (non_zero_u16_get c.args.page_size + 12) < 2 ^ 64
-fits g c = subst (λ (n : ℕ). (c.args.page + 1) * (n + 12) < 2 ^ 64) (c.from.ensures ∙ c.get.ensures.value) c.in_ok-place.ensures.place.0
+fits g c = subst (λ (n : ℕ). (c.args.page + 1) * (n + 12) < 2 ^ 64) (c.from.ensures ∙ c.get.ensures.value) c.in_ok-page_start.ensures.offset.0
 
 pub returns-in_err-bytes-clause-told : goal.returns-in_err-bytes-clause-told
 returns-in_err-bytes-clause-told g c =
     let k = (goal.at.returns-in_err-bytes-clause-told g c).After-read_at in
     let p = err_from_is_err_and c.from_residual-in_err-bytes.result c.from_residual-in_err-bytes.ensures.1 in
-    rw (p.1, p.2) (value_fault {A = List ℕ × ℕ} g.H.Sum.sum_of (λ r. take r.1 r.0) (non_zero_u16_get c.args.page_size) c.args.page c.in_ok-place.size c.in_ok-place.place (g.B.Blob.life c.args.blob.now) (g.B.Blob.life c.read_at.new.self)
-    c.in_err-bytes.field-0.0 (size_is g k) (place_is g k) (fits g k) c.in_err-bytes.ensures.goes)
+    rw (p.1, p.2) (value_fault {A = List ℕ × ℕ} g.H.Sum.sum_of (λ r. take r.1 r.0) (non_zero_u16_get c.args.page_size) c.args.page c.in_ok-page_start.size c.in_ok-page_start.page_start (g.B.Blob.life c.args.blob.now) (g.B.Blob.life c.read_at.new.self)
+    c.in_err-bytes.field-0.0 (size_is g k) (page_start_is g k) (fits g k) c.in_err-bytes.ensures.goes)
 
 pub returns-in-None-clause-told : goal.returns-in-None-clause-told
 returns-in-None-clause-told g c =
@@ -52,9 +52,9 @@ returns-in-None-clause-told g c =
     let new = g.B.Blob.life c.read_at.new.self in
     let goes = c.in_ok-bytes.ensures.goes in
     let bytes = c.in_ok-bytes.bytes in
-    let many = read_len c.in_ok-place.place c.in_ok-place.size old new bytes goes in
-    read_missing_value {A = List ℕ × ℕ} g.H.Sum.sum_of (λ r. take r.1 r.0) (non_zero_u16_get c.args.page_size) c.args.page c.in_ok-place.size c.in_ok-place.place old new bytes (size_is g k) (place_is g k) (fits g k) goes
-    (seen_active g.H.Sum.sum_of (non_zero_u16_get c.args.page_size) c.in_ok-place.size bytes c.as_ref.result.now None (size_is g k) many c.as_ref.ensures (sym c.in-None.is ∙ c.validate_page.ensures))
+    let many = read_len c.in_ok-page_start.page_start c.in_ok-page_start.size old new bytes goes in
+    read_missing_value {A = List ℕ × ℕ} g.H.Sum.sum_of (λ r. take r.1 r.0) (non_zero_u16_get c.args.page_size) c.args.page c.in_ok-page_start.size c.in_ok-page_start.page_start old new bytes (size_is g k) (page_start_is g k) (fits g k) goes
+    (seen_active g.H.Sum.sum_of (non_zero_u16_get c.args.page_size) c.in_ok-page_start.size bytes c.as_ref.result.now None (size_is g k) many c.as_ref.ensures (sym c.in-None.is ∙ c.validate_page.ensures))
 
 -- what tells the value
 told_by : (g : Over) (c : In-Some g) → active g.H.Sum.sum_of (non_zero_u16_get c.args.page_size) c.in_ok-bytes.bytes ≡ Some c.in-Some.slot
@@ -62,9 +62,9 @@ told_by g c =
     let old = g.B.Blob.life c.args.blob.now in
     let new = g.B.Blob.life c.read_at.new.self in
     let bytes = c.in_ok-bytes.bytes in
-    let size = ap (λ (p : ℕ × ℕ). p.1) c.in_ok-place.ensures.place.1 ∙ ap (λ (n : ℕ). n + 12) (c.from.ensures ∙ c.get.ensures.value) in
-    let many = read_len c.in_ok-place.place c.in_ok-place.size old new bytes c.in_ok-bytes.ensures.goes in
-    seen_active g.H.Sum.sum_of (non_zero_u16_get c.args.page_size) c.in_ok-place.size bytes c.as_ref.result.now (Some c.in-Some.slot) size many c.as_ref.ensures (sym c.in-Some.is ∙ c.validate_page.ensures)
+    let size = ap (λ (p : ℕ × ℕ). p.1) c.in_ok-page_start.ensures.offset.1 ∙ ap (λ (n : ℕ). n + 12) (c.from.ensures ∙ c.get.ensures.value) in
+    let many = read_len c.in_ok-page_start.page_start c.in_ok-page_start.size old new bytes c.in_ok-bytes.ensures.goes in
+    seen_active g.H.Sum.sum_of (non_zero_u16_get c.args.page_size) c.in_ok-page_start.size bytes c.as_ref.result.now (Some c.in-Some.slot) size many c.as_ref.ensures (sym c.in-Some.is ∙ c.validate_page.ensures)
 
 pub returns-in-Some-clause-told : goal.returns-in-Some-clause-told
 returns-in-Some-clause-told g c =
@@ -73,8 +73,8 @@ returns-in-Some-clause-told g c =
     let old = g.B.Blob.life c.args.blob.now in
     let new = g.B.Blob.life c.read_at.new.self in
     let goes = c.in_ok-bytes.ensures.goes in (
-      read_value_is g.H.Sum.sum_of (non_zero_u16_get c.args.page_size) c.args.page c.in_ok-place.size c.in_ok-place.place old new c.in_ok-bytes.bytes c.in-Some.slot (size_is g k) (place_is g k) (fits g k) goes (told_by g at.In-Some),
-      looked_read c.in_ok-place.place c.in_ok-place.size old new c.read_at.result c.read_at.ensures.goes,
+      read_value_is g.H.Sum.sum_of (non_zero_u16_get c.args.page_size) c.args.page c.in_ok-page_start.size c.in_ok-page_start.page_start old new c.in_ok-bytes.bytes c.in-Some.slot (size_is g k) (page_start_is g k) (fits g k) goes (told_by g at.In-Some),
+      looked_read c.in_ok-page_start.page_start c.in_ok-page_start.size old new c.read_at.result c.read_at.ensures.goes,
     )
 
 pub returns-in-Some-clause-part : goal.returns-in-Some-clause-part
@@ -85,5 +85,5 @@ pub returns-in-Some-clause-within : goal.returns-in-Some-clause-within
 returns-in-Some-clause-within g c =
     let at = goal.at.returns-in-Some-clause-within g c in
     let told = active_is g.H.Sum.sum_of (non_zero_u16_get c.args.page_size) c.in_ok-bytes.bytes c.in-Some.slot (told_by g at.In-Some) in
-    let many = read_len c.in_ok-place.place c.in_ok-place.size (g.B.Blob.life c.args.blob.now) (g.B.Blob.life c.read_at.new.self) c.in_ok-bytes.bytes c.in_ok-bytes.ensures.goes in
+    let many = read_len c.in_ok-page_start.page_start c.in_ok-page_start.size (g.B.Blob.life c.args.blob.now) (g.B.Blob.life c.read_at.new.self) c.in_ok-bytes.bytes c.in_ok-bytes.ensures.goes in
     omega (arith, told.fits, many, size_is g at.After-read_at)

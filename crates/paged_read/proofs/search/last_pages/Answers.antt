@@ -7,8 +7,8 @@ use Rattle.paged_read.proofs.Prefixes.{told_read, value_read, told_full, told_pa
 use Rattle.crash.specs.Looks.{looked_start}
 use Rattle.crash.proofs.LookLaws.{read_gives}
 use Rattle.paged_read.proofs.Looking.{looked_on, finds_fault, finds_memory}
-use Rattle.paged_read.proofs.Searching.{down_start, down_page, down_back}
-use Rattle.paged_read.specs.Searches.{ReadsBack}
+use Rattle.paged_read.proofs.Backward.{down_start, down_page, down_back}
+use Rattle.paged_read.specs.Backward.{ReadsBack}
 use Rattle.paged_read.proofs.search.last_pages.Given.{Over}
 use Rattle.paged_read.proofs.search.last_pages.Goals as goal
 use Rattle.paged_read.proofs.search.last_pages.Goals.{After-read_at}
@@ -17,10 +17,10 @@ pub returns-in_err-bytes-clause-finds : goal.returns-in_err-bytes-clause-finds
 returns-in_err-bytes-clause-finds g c =
     let life = g.B.Blob.life in
     let old = life c.args.blob.now in
-    let size = c.physical_size-size.result in
+    let size = c.physical_page_size-size.result in
     let n = c.loop-pages.pages in
     let P = non_zero_u16_get c.args.page_size in
-    let fits = last_fits P size n c.args.pages (length old.present.readable) c.physical_size-size.ensures c.loop-pages-test.true c.loop-pages.invariant.fewer c.requires.there in
+    let fits = last_fits P size n c.args.pages (length old.present.readable) c.physical_page_size-size.ensures c.loop-pages-test.true c.loop-pages.invariant.fewer c.requires.there in
     let p = err_from_is_err_and c.from_residual.result c.from_residual.ensures.1 in
     rw (p.1, p.2) (finds_fault ((n - 1) * size) size (last_prefix g.H.Sum.sum_of P c.args.pages old.present.readable) old (life c.loop-pages.blob) (life c.read_at.new.self) c.in_err-bytes.field-0.0 c.loop-pages.invariant.looked fits c.in_err-bytes.ensures.goes)
 
@@ -31,12 +31,12 @@ returns-then-is_full-clause-finds g c =
     let old = life c.args.blob.now in
     let new = life c.read_at.new.self in
     let readable = old.present.readable in
-    let size = c.physical_size-size.result in
+    let size = c.physical_page_size-size.result in
     let n = c.loop-pages.pages in
     let P = non_zero_u16_get c.args.page_size in
     let positive : 0 < P = omega arith in
     let read = read_gives ((n - 1) * size) size old (life c.loop-pages.blob) new c.in_ok-bytes.bytes c.loop-pages.invariant.looked c.in_ok-bytes.ensures.goes in
-    let told = told_read sum P size (n - 1) c.as_ref.result.now c.in_ok-bytes.bytes readable c.slot_at-slot.result c.physical_size-size.ensures c.as_ref.ensures read c.slot_at-slot.ensures.slot in
+    let told = told_read sum P size (n - 1) c.as_ref.result.now c.in_ok-bytes.bytes readable c.slot_at-slot.result c.physical_page_size-size.ensures c.as_ref.ensures read c.slot_at-slot.ensures.slot in
     let full = told_full sum P (page_at P (n - 1) readable) c.slot_at-slot.result c.is_full.result told c.is_full.ensures c.if-is_full.true in (
       last_full sum P n c.args.pages readable positive c.loop-pages.invariant.same c.loop-pages-test.true full,
       looked_on ((n - 1) * size) size old (life c.loop-pages.blob) new c.in_ok-bytes.bytes c.loop-pages.invariant.looked c.in_ok-bytes.ensures.goes,
@@ -46,7 +46,7 @@ pub returns-in_err-partial-clause-finds : goal.returns-in_err-partial-clause-fin
 returns-in_err-partial-clause-finds g c =
     let life = g.B.Blob.life in
     let old = life c.args.blob.now in
-    let size = c.physical_size-size.result in
+    let size = c.physical_page_size-size.result in
     let n = c.loop-pages.pages in
     let P = non_zero_u16_get c.args.page_size in
     let looked = looked_on ((n - 1) * size) size old (life c.loop-pages.blob) (life c.read_at.new.self) c.in_ok-bytes.bytes c.loop-pages.invariant.looked c.in_ok-bytes.ensures.goes in
@@ -60,14 +60,14 @@ returns-then-is_some-clause-finds g c =
     let old = life c.args.blob.now in
     let new = life c.read_at.new.self in
     let readable = old.present.readable in
-    let size = c.physical_size-size.result in
+    let size = c.physical_page_size-size.result in
     let n = c.loop-pages.pages in
     let P = non_zero_u16_get c.args.page_size in
     let page = page_at P (n - 1) readable in
     let read = read_gives ((n - 1) * size) size old (life c.loop-pages.blob) new c.in_ok-bytes.bytes c.loop-pages.invariant.looked c.in_ok-bytes.ensures.goes in
-    let told = told_read sum P size (n - 1) c.as_ref.result.now c.in_ok-bytes.bytes readable c.slot_at-slot.result c.physical_size-size.ensures c.as_ref.ensures read c.slot_at-slot.ensures.slot in
+    let told = told_read sum P size (n - 1) c.as_ref.result.now c.in_ok-bytes.bytes readable c.slot_at-slot.result c.physical_page_size-size.ensures c.as_ref.ensures read c.slot_at-slot.ensures.slot in
     let part = told_part sum P page c.slot_at-slot.result c.is_full.result told c.is_full.ensures c.if-is_full.false in
-    let value = value_read sum P size (n - 1) c.in_ok-bytes.bytes readable c.slot_at-slot.result c.in_ok-partial.partial c.physical_size-size.ensures read told c.in_ok-partial.ensures.ok in
+    let value = value_read sum P size (n - 1) c.in_ok-bytes.bytes readable c.slot_at-slot.result c.in_ok-partial.partial c.physical_page_size-size.ensures read told c.in_ok-partial.ensures.ok in
     let some = found_some sum P page c.in_ok-partial.partial value (sym c.is_some.ensures ∙ c.if-is_some.true) in (
       last_part sum P n c.args.pages readable c.in_ok-partial.partial c.loop-pages.invariant.same c.loop-pages-test.true value some part,
       looked_on ((n - 1) * size) size old (life c.loop-pages.blob) new c.in_ok-bytes.bytes c.loop-pages.invariant.looked c.in_ok-bytes.ensures.goes,
@@ -77,10 +77,10 @@ pub returns-then-is_some-clause-bytes : goal.returns-then-is_some-clause-bytes
 returns-then-is_some-clause-bytes g c =
     let life = g.B.Blob.life in
     let old = life c.args.blob.now in
-    let size = c.physical_size-size.result in
+    let size = c.physical_page_size-size.result in
     let n = c.loop-pages.pages in
     let read = read_gives ((n - 1) * size) size old (life c.loop-pages.blob) (life c.read_at.new.self) c.in_ok-bytes.bytes c.loop-pages.invariant.looked c.in_ok-bytes.ensures.goes in
-    has_bytes_read (non_zero_u16_get c.args.page_size) size (n - 1) c.as_ref.result.now c.in_ok-bytes.bytes old.present.readable c.in_ok-partial.partial c.physical_size-size.ensures c.as_ref.ensures read c.slot_at-slot.ensures.bytes
+    has_bytes_read (non_zero_u16_get c.args.page_size) size (n - 1) c.as_ref.result.now c.in_ok-bytes.bytes old.present.readable c.in_ok-partial.partial c.physical_page_size-size.ensures c.as_ref.ensures read c.slot_at-slot.ensures.bytes
 
 pub loop-pages-preserved : goal.loop-pages-preserved
 loop-pages-preserved g c =
@@ -89,19 +89,19 @@ loop-pages-preserved g c =
     let old = life c.args.blob.now in
     let new = life c.read_at.new.self in
     let readable = old.present.readable in
-    let size = c.physical_size-size.result in
+    let size = c.physical_page_size-size.result in
     let n = c.loop-pages.pages in
     let P = non_zero_u16_get c.args.page_size in
     let page = page_at P (n - 1) readable in
     let read = read_gives ((n - 1) * size) size old (life c.loop-pages.blob) new c.in_ok-bytes.bytes c.loop-pages.invariant.looked c.in_ok-bytes.ensures.goes in
-    let told = told_read sum P size (n - 1) c.as_ref.result.now c.in_ok-bytes.bytes readable c.slot_at-slot.result c.physical_size-size.ensures c.as_ref.ensures read c.slot_at-slot.ensures.slot in
-    let value = value_read sum P size (n - 1) c.in_ok-bytes.bytes readable c.slot_at-slot.result c.in_ok-partial.partial c.physical_size-size.ensures read told c.in_ok-partial.ensures.ok in
+    let told = told_read sum P size (n - 1) c.as_ref.result.now c.in_ok-bytes.bytes readable c.slot_at-slot.result c.physical_page_size-size.ensures c.as_ref.ensures read c.slot_at-slot.ensures.slot in
+    let value = value_read sum P size (n - 1) c.in_ok-bytes.bytes readable c.slot_at-slot.result c.in_ok-partial.partial c.physical_page_size-size.ensures read told c.in_ok-partial.ensures.ok in
     let none = found_none sum P page c.in_ok-partial.partial value (sym c.is_some.ensures ∙ c.if-is_some.false) in
     record {
       fewer = omega arith;
       same = last_none sum P n c.args.pages readable c.loop-pages.invariant.same c.loop-pages-test.true none;
       looked = looked_on ((n - 1) * size) size old (life c.loop-pages.blob) new c.in_ok-bytes.bytes c.loop-pages.invariant.looked c.in_ok-bytes.ensures.goes;
-      reads = down_page P size n old (life c.loop-pages.blob) new c.read_at.result c.physical_size-size.ensures c.loop-pages-test.true c.loop-pages.invariant.reads c.read_at.ensures.goes;
+      reads = down_page P size n old (life c.loop-pages.blob) new c.read_at.result c.physical_page_size-size.ensures c.loop-pages-test.true c.loop-pages.invariant.reads c.read_at.ensures.goes;
     }
 
 pub loop-pages-preserved-else-is_some : goal.loop-pages-preserved-else-is_some
@@ -111,19 +111,19 @@ loop-pages-preserved-else-is_some g c =
     let old = life c.args.blob.now in
     let new = life c.read_at.new.self in
     let readable = old.present.readable in
-    let size = c.physical_size-size.result in
+    let size = c.physical_page_size-size.result in
     let n = c.loop-pages.pages in
     let P = non_zero_u16_get c.args.page_size in
     let page = page_at P (n - 1) readable in
     let read = read_gives ((n - 1) * size) size old (life c.loop-pages.blob) new c.in_ok-bytes.bytes c.loop-pages.invariant.looked c.in_ok-bytes.ensures.goes in
-    let told = told_read sum P size (n - 1) c.as_ref.result.now c.in_ok-bytes.bytes readable c.slot_at-slot.result c.physical_size-size.ensures c.as_ref.ensures read c.slot_at-slot.ensures.slot in
-    let value = value_read sum P size (n - 1) c.in_ok-bytes.bytes readable c.slot_at-slot.result c.in_ok-partial.partial c.physical_size-size.ensures read told c.in_ok-partial.ensures.ok in
+    let told = told_read sum P size (n - 1) c.as_ref.result.now c.in_ok-bytes.bytes readable c.slot_at-slot.result c.physical_page_size-size.ensures c.as_ref.ensures read c.slot_at-slot.ensures.slot in
+    let value = value_read sum P size (n - 1) c.in_ok-bytes.bytes readable c.slot_at-slot.result c.in_ok-partial.partial c.physical_page_size-size.ensures read told c.in_ok-partial.ensures.ok in
     let none = found_none sum P page c.in_ok-partial.partial value (sym c.is_some.ensures ∙ c.if-is_some.false) in
     record {
       fewer = omega arith;
       same = last_none sum P n c.args.pages readable c.loop-pages.invariant.same c.loop-pages-test.true none;
       looked = looked_on ((n - 1) * size) size old (life c.loop-pages.blob) new c.in_ok-bytes.bytes c.loop-pages.invariant.looked c.in_ok-bytes.ensures.goes;
-      reads = down_page P size n old (life c.loop-pages.blob) new c.read_at.result c.physical_size-size.ensures c.loop-pages-test.true c.loop-pages.invariant.reads c.read_at.ensures.goes;
+      reads = down_page P size n old (life c.loop-pages.blob) new c.read_at.result c.physical_page_size-size.ensures c.loop-pages-test.true c.loop-pages.invariant.reads c.read_at.ensures.goes;
     }
 
 -- a page was read, whatever the answer
@@ -134,7 +134,7 @@ reads g c =
     let n = c.loop-pages.pages in
     let old = life c.args.blob.now in
     let new = life c.read_at.new.self in
-    down_back (P + 12) ((n - 1) * (P + 12)) old new (down_page P c.physical_size-size.result n old (life c.loop-pages.blob) new c.read_at.result c.physical_size-size.ensures c.loop-pages-test.true c.loop-pages.invariant.reads c.read_at.ensures.goes)
+    down_back (P + 12) ((n - 1) * (P + 12)) old new (down_page P c.physical_page_size-size.result n old (life c.loop-pages.blob) new c.read_at.result c.physical_page_size-size.ensures c.loop-pages-test.true c.loop-pages.invariant.reads c.read_at.ensures.goes)
 
 pub returns-in_err-bytes-clause-reads : goal.returns-in_err-bytes-clause-reads
 returns-in_err-bytes-clause-reads g c = reads g (goal.at.returns-in_err-bytes-clause-reads g c).After-read_at

@@ -6,7 +6,7 @@ use Rattle.paged_read.specs.Scans.{prefix_from}
 use Rattle.paged_read.specs.Searches.{scan_bytes}
 use Rattle.paged_read.proofs.Looking.{look_finds}
 use Rattle.paged_read.proofs.Prefixes.{stands_first}
-use Rattle.paged_read.proofs.Searching.{forward_is_within}
+use Rattle.paged_read.proofs.Forward.{forward_is_within}
 use Rattle.paged_read.proofs.search.scan.Goals as goal
 
 pub returns-clause-finds : goal.returns-clause-finds

@@ -8,7 +8,8 @@ use Rattle.crash.specs.Looks.{looked_start}
 use Rattle.crash.proofs.LookLaws.{read_gives}
 use Rattle.paged_read.proofs.Looking.{looked_on, read_there, look_fault, look_memory}
 use Rattle.paged_read.specs.Searches.{scan_bytes}
-use Rattle.paged_read.proofs.Searching.{forward_start, forward_end, forward_batch, next_batch, scan_bytes_is}
+use Rattle.paged_read.proofs.Forward.{forward_start, forward_end, forward_batch, next_batch}
+use Rattle.paged_read.proofs.Searching.{scan_bytes_is}
 use Rattle.paged_read.proofs.search.scan_from.Given.{Over}
 use Rattle.paged_read.proofs.search.scan_from.Goals as goal
 use Rattle.paged_read.proofs.search.scan_from.Goals.{After-read_at}
@@ -17,11 +18,11 @@ pub returns-in_err-bytes-clause-finds : goal.returns-in_err-bytes-clause-finds
 returns-in_err-bytes-clause-finds g c =
     let life = g.B.Blob.life in
     let old = life c.args.blob.now in
-    let size = c.physical_size-size.result in
+    let size = c.physical_page_size-size.result in
     let k = c.loop-done.done in
     let b = c.min-batch.result in
     let P = non_zero_u16_get c.args.page_size in
-    let fits = batch_fits P size k b c.args.pages (c.args.pages * (P + 12)) c.physical_size-size.ensures (omega arith) (omega arith) in
+    let fits = batch_fits P size k b c.args.pages (c.args.pages * (P + 12)) c.physical_page_size-size.ensures (omega arith) (omega arith) in
     let p = err_from_is_err_and c.from_residual.result c.from_residual.ensures.1 in
     rw (p.1, p.2) (look_fault (k * size) (b * size) (c.args.pages * (P + 12)) (prefix_from g.H.Sum.sum_of P c.args.first c.args.pages old.present.readable) old (life c.loop-done.blob) (life c.read_at.new.self) c.in_err-bytes.field-0.0 c.loop-done.invariant.looked fits c.in_err-bytes.ensures.goes)
 
@@ -29,7 +30,7 @@ pub returns-in_err-prefix-clause-finds : goal.returns-in_err-prefix-clause-finds
 returns-in_err-prefix-clause-finds g c =
     let life = g.B.Blob.life in
     let old = life c.args.blob.now in
-    let size = c.physical_size-size.result in
+    let size = c.physical_page_size-size.result in
     let P = non_zero_u16_get c.args.page_size in
     let looked = looked_on (c.loop-done.done * size) (c.min-batch.result * size) old (life c.loop-done.blob) (life c.read_at.new.self) c.in_ok-bytes.bytes c.loop-done.invariant.looked c.in_ok-bytes.ensures.goes in
     let p = err_from_is_err_and c.from_residual-in_err-prefix.result c.from_residual-in_err-prefix.ensures.1 in
@@ -42,7 +43,7 @@ returns-then-prefix-batch-clause-finds g c =
     let old = life c.args.blob.now in
     let new = life c.read_at.new.self in
     let readable = old.present.readable in
-    let size = c.physical_size-size.result in
+    let size = c.physical_page_size-size.result in
     let k = c.loop-done.done in
     let b = c.min-batch.result in
     let P = non_zero_u16_get c.args.page_size in
@@ -51,7 +52,7 @@ returns-then-prefix-batch-clause-finds g c =
     let le : k + b ≤ c.args.pages = omega arith in
     let read = read_gives (k * size) (b * size) old (life c.loop-done.blob) new bytes c.loop-done.invariant.looked c.in_ok-bytes.ensures.goes in
     let there = read_there (k * size) (b * size) old (life c.loop-done.blob) (life c.read_at.new.self) bytes c.loop-done.invariant.looked c.in_ok-bytes.ensures.goes in
-    let batch = batch_read sum P size k b readable bytes q c.physical_size-size.ensures there read c.in_ok-prefix.ensures.ok in (
+    let batch = batch_read sum P size k b readable bytes q c.physical_page_size-size.ensures there read c.in_ok-prefix.ensures.ok in (
       sym (stands_ended sum P c.args.pages k b readable bytes q le batch (prefix_from sum P c.args.first c.args.pages readable) c.loop-done.invariant.stands c.if-prefix-batch.true),
       looked_on (k * size) (b * size) old (life c.loop-done.blob) new bytes c.loop-done.invariant.looked c.in_ok-bytes.ensures.goes,
     )
@@ -61,7 +62,7 @@ returns-then-prefix-batch-clause-bytes g c =
     let life = g.B.Blob.life in
     let sum = g.H.Sum.sum_of in
     let old = life c.args.blob.now in
-    let size = c.physical_size-size.result in
+    let size = c.physical_page_size-size.result in
     let k = c.loop-done.done in
     let b = c.min-batch.result in
     let P = non_zero_u16_get c.args.page_size in
@@ -70,7 +71,7 @@ returns-then-prefix-batch-clause-bytes g c =
     let le : k + b ≤ c.args.pages = omega arith in
     let read = read_gives (k * size) (b * size) old (life c.loop-done.blob) (life c.read_at.new.self) bytes c.loop-done.invariant.looked c.in_ok-bytes.ensures.goes in
     let there = read_there (k * size) (b * size) old (life c.loop-done.blob) (life c.read_at.new.self) bytes c.loop-done.invariant.looked c.in_ok-bytes.ensures.goes in
-    let batch = batch_read sum P size k b old.present.readable bytes q c.physical_size-size.ensures there read c.in_ok-prefix.ensures.ok in
+    let batch = batch_read sum P size k b old.present.readable bytes q c.physical_page_size-size.ensures there read c.in_ok-prefix.ensures.ok in
     has_bytes_batch sum P c.args.pages k b old.present.readable bytes q q.partial le batch c.if-prefix-batch.true c.in_ok-prefix.ensures.bytes
 
 pub loop-done-preserved : goal.loop-done-preserved
@@ -80,7 +81,7 @@ loop-done-preserved g c =
     let old = life c.args.blob.now in
     let new = life c.read_at.new.self in
     let readable = old.present.readable in
-    let size = c.physical_size-size.result in
+    let size = c.physical_page_size-size.result in
     let k = c.loop-done.done in
     let b = c.min-batch.result in
     let P = non_zero_u16_get c.args.page_size in
@@ -89,7 +90,7 @@ loop-done-preserved g c =
     let le : k + b ≤ c.args.pages = omega arith in
     let read = read_gives (k * size) (b * size) old (life c.loop-done.blob) new bytes c.loop-done.invariant.looked c.in_ok-bytes.ensures.goes in
     let there = read_there (k * size) (b * size) old (life c.loop-done.blob) (life c.read_at.new.self) bytes c.loop-done.invariant.looked c.in_ok-bytes.ensures.goes in
-    let batch = batch_read sum P size k b readable bytes q c.physical_size-size.ensures there read c.in_ok-prefix.ensures.ok in
+    let batch = batch_read sum P size k b readable bytes q c.physical_page_size-size.ensures there read c.in_ok-prefix.ensures.ok in
     record {
       some = c.loop-done.invariant.some;
       begun = omega (arith, c.loop-done.invariant.begun);
@@ -97,7 +98,7 @@ loop-done-preserved g c =
       none = λ still. absurd (omega (arith, still, c.loop-done.invariant.some, c.loop-done.invariant.begun));
       stands = stands_on sum P c.args.pages k b readable bytes q le batch (prefix_from sum P c.args.first c.args.pages readable) c.loop-done.invariant.stands (omega arith);
       looked = looked_on (k * size) (b * size) old (life c.loop-done.blob) new bytes c.loop-done.invariant.looked c.in_ok-bytes.ensures.goes;
-      reads = next_batch P size k b c.max-most.result (c.args.first * (P + 12)) old (life c.loop-done.blob) new bytes c.physical_size-size.ensures (omega arith) c.loop-done.invariant.reads c.in_ok-bytes.ensures.goes;
+      reads = next_batch P size k b c.max-most.result (c.args.first * (P + 12)) old (life c.loop-done.blob) new bytes c.physical_page_size-size.ensures (omega arith) c.loop-done.invariant.reads c.in_ok-bytes.ensures.goes;
     }
 
 pub loop-done-preserved-else-prefix-batch : goal.loop-done-preserved-else-prefix-batch
@@ -107,7 +108,7 @@ loop-done-preserved-else-prefix-batch g c =
     let old = life c.args.blob.now in
     let new = life c.read_at.new.self in
     let readable = old.present.readable in
-    let size = c.physical_size-size.result in
+    let size = c.physical_page_size-size.result in
     let k = c.loop-done.done in
     let b = c.min-batch.result in
     let P = non_zero_u16_get c.args.page_size in
@@ -116,7 +117,7 @@ loop-done-preserved-else-prefix-batch g c =
     let le : k + b ≤ c.args.pages = omega arith in
     let read = read_gives (k * size) (b * size) old (life c.loop-done.blob) new bytes c.loop-done.invariant.looked c.in_ok-bytes.ensures.goes in
     let there = read_there (k * size) (b * size) old (life c.loop-done.blob) (life c.read_at.new.self) bytes c.loop-done.invariant.looked c.in_ok-bytes.ensures.goes in
-    let batch = batch_read sum P size k b readable bytes q c.physical_size-size.ensures there read c.in_ok-prefix.ensures.ok in
+    let batch = batch_read sum P size k b readable bytes q c.physical_page_size-size.ensures there read c.in_ok-prefix.ensures.ok in
     record {
       some = c.loop-done.invariant.some;
       begun = omega (arith, c.loop-done.invariant.begun);
@@ -124,7 +125,7 @@ loop-done-preserved-else-prefix-batch g c =
       none = λ still. absurd (omega (arith, still, c.loop-done.invariant.some, c.loop-done.invariant.begun));
       stands = stands_on sum P c.args.pages k b readable bytes q le batch (prefix_from sum P c.args.first c.args.pages readable) c.loop-done.invariant.stands (omega arith);
       looked = looked_on (k * size) (b * size) old (life c.loop-done.blob) new bytes c.loop-done.invariant.looked c.in_ok-bytes.ensures.goes;
-      reads = next_batch P size k b c.max-most.result (c.args.first * (P + 12)) old (life c.loop-done.blob) new bytes c.physical_size-size.ensures (omega arith) c.loop-done.invariant.reads c.in_ok-bytes.ensures.goes;
+      reads = next_batch P size k b c.max-most.result (c.args.first * (P + 12)) old (life c.loop-done.blob) new bytes c.physical_page_size-size.ensures (omega arith) c.loop-done.invariant.reads c.in_ok-bytes.ensures.goes;
     }
 
 -- a batch was read, whatever the answer
@@ -133,16 +134,16 @@ reads : (g : Over) (c : After-read_at g) → let P = non_zero_u16_get c.args.pag
 reads g c =
     let life = g.B.Blob.life in
     let P = non_zero_u16_get c.args.page_size in
-    let size = c.physical_size-size.result in
+    let size = c.physical_page_size-size.result in
     let most = c.max-most.result in
     let old = life c.args.blob.now in
     let new = life c.read_at.new.self in
     let k = c.loop-done.done in
     let b = c.min-batch.result in
-    let is : most * (P + 12) ≡ scan_bytes P (non_zero_usize_get c.args.buffer_size) = scan_bytes_is P size (non_zero_usize_get c.args.buffer_size) most c.physical_size-size.ensures (c.max-most.ensures ∙ ap (λ (n : ℕ). max (n / size) 1) c.get.ensures.value) in
+    let is : most * (P + 12) ≡ scan_bytes P (non_zero_usize_get c.args.buffer_size) = scan_bytes_is P size (non_zero_usize_get c.args.buffer_size) most c.physical_page_size-size.ensures (c.max-most.ensures ∙ ap (λ (n : ℕ). max (n / size) 1) c.get.ensures.value) in
     let fits = batch_fits P (P + 12) k b c.args.pages (c.args.pages * (P + 12)) refl (omega arith) (omega arith) in
     subst (λ (n : ℕ). ReadsForward n (c.args.first * (P + 12)) (c.args.pages * (P + 12)) old new) is
-    (forward_batch P size k b most (c.args.first * (P + 12)) (c.args.pages * (P + 12)) old (life c.loop-done.blob) new c.read_at.result c.physical_size-size.ensures (omega arith) fits c.loop-done.invariant.reads c.read_at.ensures.goes)
+    (forward_batch P size k b most (c.args.first * (P + 12)) (c.args.pages * (P + 12)) old (life c.loop-done.blob) new c.read_at.result c.physical_page_size-size.ensures (omega arith) fits c.loop-done.invariant.reads c.read_at.ensures.goes)
 
 pub returns-in_err-bytes-clause-reads : goal.returns-in_err-bytes-clause-reads
 returns-in_err-bytes-clause-reads g c = reads g (goal.at.returns-in_err-bytes-clause-reads g c).After-read_at
@@ -177,6 +178,6 @@ returns-clause-reads g c =
     let to = c.args.pages * (P + 12) in
     let old = life c.args.blob.now in
     let now = life c.loop-done.blob in
-    let is : most * (P + 12) ≡ scan_bytes P (non_zero_usize_get c.args.buffer_size) = scan_bytes_is P c.physical_size-size.result (non_zero_usize_get c.args.buffer_size) most c.physical_size-size.ensures (c.max-most.ensures ∙ ap (λ (n : ℕ). max (n / c.physical_size-size.result) 1) c.get.ensures.value) in
+    let is : most * (P + 12) ≡ scan_bytes P (non_zero_usize_get c.args.buffer_size) = scan_bytes_is P c.physical_page_size-size.result (non_zero_usize_get c.args.buffer_size) most c.physical_page_size-size.ensures (c.max-most.ensures ∙ ap (λ (n : ℕ). max (n / c.physical_page_size-size.result) 1) c.get.ensures.value) in
     let more : (P + 12) * k ≤ (P + 12) * c.args.pages = mul-le-mul_left (P + 12) c.loop-done.invariant.within in
     subst (λ (n : ℕ). ReadsForward n from to old now) is (forward_end (most * (P + 12)) from (k * (P + 12)) to old now (omega (arith, more)) c.loop-done.invariant.reads)

@@ -3,7 +3,7 @@ use Rattle.std.specs.Int.NonZero.{non_zero_u16_get}
 use Rattle.crash.specs.Looks.{Looked}
 use Rattle.paged_read.specs.Scans.{prefix_from}
 use Rattle.paged_read.proofs.Prefixes.{StandsAt}
-use Rattle.paged_read.proofs.Searching.{ReadsTo}
+use Rattle.paged_read.proofs.Forward.{ReadsTo}
 use Rattle.paged_read.proofs.search.scan_from.Given as goal
 
 abbrev pub invariant-loop-done : goal.invariant-loop-done

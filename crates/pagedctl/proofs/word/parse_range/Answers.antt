@@ -1,12 +1,12 @@
 use Rattle.std.proofs.Common.{rules}
-use Rattle.pagedctl.proofs.Ranges.{IsFirstColon, place-unread, length-unread, no_colon-unread, passed-on}
+use Rattle.pagedctl.proofs.Ranges.{IsFirstColon, offset-unread, length-unread, no_colon-unread, passed-on}
 use Rattle.pagedctl.specs.Script.{IsRange, range_word}
 use Rattle.pagedctl.proofs.word.parse_range.Goals as goal
 
 pub returns-in_err-offset : goal.returns-in_err-offset
 returns-in_err-offset c =
     let first : IsFirstColon c.args.word.now c.in-Some.colon = (search rules, search rules, λ k below same. search rules) in
-    record { reads = passed-on range_word IsRange _ _ _ c.from_residual.ensures.1 (place-unread _ _ _ first c.in_err-offset.ensures.reads) }
+    record { reads = passed-on range_word IsRange _ _ _ c.from_residual.ensures.1 (offset-unread _ _ _ first c.in_err-offset.ensures.reads) }
 
 pub returns-in_err-len : goal.returns-in_err-len
 returns-in_err-len c =

@@ -2,8 +2,7 @@ use Rattle.std.proofs.Common.{◌≡◌, ◌∙◌, ap, sym, subst, ℕ}
 use Rattle.cache.specs.CacheState.{CacheState, same_key, Puts}
 use Rattle.cache.specs.Kept.{pages_of, with_page}
 use Rattle.cache.specs.contracts.cache.CacheRef.{the_view}
-use Rattle.cache.proofs.Keeping.{overwrite_keeps, overwrite_puts, add_keeps, add_puts, held_at_ok}
-use Rattle.cache.proofs.Keeping.{with_page_same}
+use Rattle.cache.proofs.Keeping.{overwrite_keeps, overwrite_puts, add_keeps, add_puts, held_at_ok, with_page_same}
 use Rattle.cache.proofs.cache.CacheRef.keep.Goals as goal
 
 pub invariant_of-self : goal.invariant_of-self
@@ -19,9 +18,9 @@ returns-then-overwrite c =
     let key : ℕ × ℕ = (c.args.id, c.args.page) in
     let old : CacheState = the_view c.self.inside in
     let pages = c.overwrite.new.pages in
-    let behind : CacheState = record old { pages = pages_of pages.entries; capacity = pages.cap } in
+    let after : CacheState = record old { pages = pages_of pages.entries; capacity = pages.cap } in
     record {
-      puts = subst (λ (was : CacheState). Puts key c.args.bytes.now was behind) c.self.view_is
+      puts = subst (λ (was : CacheState). Puts key c.args.bytes.now was after) c.self.view_is
           (overwrite_puts key c.args.bytes.now old pages.cap (pages_of pages.entries)
           c.if-overwrite.ensures.told c.overwrite.ensures.capacity c.if-overwrite.ensures.pages);
     }
@@ -46,10 +45,10 @@ returns-else-is_err c =
     let key : ℕ × ℕ = (c.args.id, c.args.page) in
     let old : CacheState = the_view c.self.inside in
     let pages = c.add.new.pages in
-    let behind : CacheState = record old { pages = pages_of pages.entries; capacity = pages.cap } in
+    let after : CacheState = record old { pages = pages_of pages.entries; capacity = pages.cap } in
     let added = held_at_ok c.add.result c.if-is_err.ensures.value c.add.ensures.pages in
     record {
-      puts = subst (λ (was : CacheState). Puts key c.args.bytes.now was behind) c.self.view_is
+      puts = subst (λ (was : CacheState). Puts key c.args.bytes.now was after) c.self.view_is
           (add_puts key c.args.bytes.now old pages.cap (pages_of pages.entries)
           c.if-overwrite.ensures.told (c.add.ensures.capacity ∙ c.overwrite.ensures.capacity)
           (added ∙ with_page_same key c.args.bytes.now c.overwrite.new.pages.cap old.capacity

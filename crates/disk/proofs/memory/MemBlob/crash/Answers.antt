@@ -1,9 +1,8 @@
 use Rattle.std.proofs.Common.{ℕ, replicate, ap, sym, ◌∙◌, true, arith}
 use Rattle.disk.specs.Disk.{failures}
-use Rattle.disk.specs.History.{names_in}
+use Rattle.disk.specs.History.{names_in, life_of}
 use Rattle.disk.proofs.Starts.{begun_kept}
 use Rattle.disk.proofs.Torn.{torn_is_image, begun_leaves}
-use Rattle.disk.specs.History.{life_of}
 use Rattle.disk.specs.Memory.{history_of}
 use Rattle.disk.proofs.memory.MemBlob.crash.Goals as goal
 

@@ -1,7 +1,7 @@
 use Rattle.std.proofs.Common.{ℕ, List, true, false, sym, ap, ◌∙◌, subst}
 use Rattle.disk.specs.Disk.{IsWithin, bytes_of}
 use Rattle.disk.specs.declared.action.Action.TheVariants as actions
-use Rattle.disk.specs.History.{life_of, lives}
+use Rattle.disk.specs.History.{life_of, life_after_action}
 use Rattle.disk.proofs.Device.{life_after}
 use Rattle.disk.proofs.memory.MemBlob.start_ranges.Goals as goal
 
@@ -9,7 +9,7 @@ pub returns-then-branch-clause-goes : goal.returns-then-branch-clause-goes
 returns-then-branch-clause-goes c =
     let now = c.args.self.now in
     life_after (actions.StartReadMany c.in_ok-asked.asked) true now c.ask.new.self (sym c.if-branch.true ∙ c.in_ok-ask.ensures.failed) c.in_ok-ask.ensures.told
-    ∙ ap (λ (ranges : List (ℕ × ℕ)). lives (actions.StartReadMany ranges) true (life_of now)) c.in_ok-asked.ensures
+    ∙ ap (λ (ranges : List (ℕ × ℕ)). life_after_action (actions.StartReadMany ranges) true (life_of now)) c.in_ok-asked.ensures
 
 pub returns-clause-goes : goal.returns-clause-goes
 returns-clause-goes c =
@@ -17,5 +17,5 @@ returns-clause-goes c =
     let ranges = c.args.ranges.now in
     let given = c.in_ok-bufs.ensures in
     let asked = life_after (actions.StartReadMany c.in_ok-asked.asked) false now c.ask.new.self (sym c.if-branch.false ∙ c.in_ok-ask.ensures.failed) c.in_ok-ask.ensures.told
-    ∙ ap (λ (ranges : List (ℕ × ℕ)). lives (actions.StartReadMany ranges) false (life_of now)) c.in_ok-asked.ensures in
+    ∙ ap (λ (ranges : List (ℕ × ℕ)). life_after_action (actions.StartReadMany ranges) false (life_of now)) c.in_ok-asked.ensures in
     (subst (λ (l : List ℕ). IsWithin ranges l) c.bytes.ensures given.0, given.1 ∙ ap (bytes_of ranges) c.bytes.ensures, asked)

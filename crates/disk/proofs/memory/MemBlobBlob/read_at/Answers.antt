@@ -1,5 +1,4 @@
-use Rattle.std.proofs.Common.{true, false}
-use Rattle.std.proofs.Common.{sym, ◌∙◌}
+use Rattle.std.proofs.Common.{true, false, sym, ◌∙◌}
 use Rattle.disk.specs.declared.action.Action.TheVariants as actions
 use Rattle.disk.proofs.Device.{life_after}
 use Rattle.disk.proofs.memory.MemBlobBlob.read_at.Goals as goal

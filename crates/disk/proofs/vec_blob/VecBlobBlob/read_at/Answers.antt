@@ -1,26 +1,33 @@
-use Rattle.std.proofs.Common.{◌≡◌, ◌≤◌, ◌+◌, ℕ, List, length, take, drop, false, refl, ap, ◌∙◌, subst}
+use Rattle.std.proofs.Common.{◌≤◌, ◌+◌, ℕ, List, length, take, drop, true, false, refl, ap, ◌∙◌, subst}
 use Rattle.disk.specs.declared.action.Action.TheVariants as actions
 use Rattle.disk.specs.History.{life_of}
-use Rattle.disk.specs.Past.{went}
-use Rattle.disk.proofs.Histories.{life_went}
-use Rattle.disk.proofs.Starts.{plain_went}
+use Rattle.disk.specs.VecBlob.{VecState}
+use Rattle.disk.proofs.Starts.{plain_went, same_bytes}
+use Rattle.disk.proofs.Stops.{lives_on}
+use Rattle.std.specs.Prelude.{vec_capacity}
 use Rattle.disk.proofs.vec_blob.VecBlobBlob.read_at.Goals as goal
-
-pub returns : goal.returns
-returns c =
-    let a = actions.Read c.args.offset c.args.len in
-    let range = c.in_ok-bytes.ensures in
-    let same = c.deref.ensures.value ∙ c.self.invariant.reads ∙ ap (λ h. (life_of h).present.readable) c.self.view_is in
-    let is : c.read.result.value ≡ went a false c.args.self.now = c.read.ensures ∙ ap (went a false) c.self.view_is in
-    record {
-      goes = (
-        subst (λ (l : List ℕ). c.args.offset + c.args.len ≤ length l) same range.0,
-        range.1 ∙ ap (λ (l : List ℕ). take c.args.len (drop c.args.offset l)) same,
-        life_went a false c.args.self.now c.read.result.value is,
-      );
-    }
 
 pub invariant_of-self : goal.invariant_of-self
 invariant_of-self c =
     let a = actions.Read c.args.offset c.args.len in
-    plain_went a c.self.inside.past.value c.read.result.value c.self.inside.bytes.items c.self.inside.bytes.items c.self.inside.starts (λ life. refl) c.read.ensures c.self.invariant refl
+    plain_went a c.self.inside.stopped c.self.inside.past.value c.read.result.value c.self.inside.bytes.items c.self.inside.bytes.items c.self.inside.starts (λ life. refl) c.read.ensures c.self.invariant (same_bytes a c.self.inside.stopped c.self.inside.bytes.items refl)
+
+pub invariant_of-self-2 : goal.invariant_of-self-2
+invariant_of-self-2 c =
+    let a = actions.Read c.args.offset c.args.len in
+    plain_went a c.self.inside.stopped c.self.inside.past.value c.read.result.value c.self.inside.bytes.items c.self.inside.bytes.items c.self.inside.starts (λ life. refl) c.read.ensures c.self.invariant (same_bytes a c.self.inside.stopped c.self.inside.bytes.items refl)
+
+pub returns-then-self-clause-goes : goal.returns-then-self-clause-goes
+returns-then-self-clause-goes c =
+    let a = actions.Read c.args.offset c.args.len in
+    lives_on a c.self.inside.stopped true c.self.inside.past.value (vec_capacity c.self.inside.bytes) c.args.self.now c.args.self.now.history c.read.result.value c.self.view_is refl c.if-self.true c.read.ensures
+
+pub returns-clause-goes : goal.returns-clause-goes
+returns-clause-goes c =
+    let a = actions.Read c.args.offset c.args.len in
+    let range = c.in_ok-bytes.ensures in
+    let same = c.deref.ensures.value ∙ c.self.invariant.reads ∙ ap (λ (s : VecState). (life_of s.history).present.readable) c.self.view_is in (
+      subst (λ (l : List ℕ). c.args.offset + c.args.len ≤ length l) same range.0,
+      range.1 ∙ ap (λ (l : List ℕ). take c.args.len (drop c.args.offset l)) same,
+      lives_on a c.self.inside.stopped false c.self.inside.past.value (vec_capacity c.self.inside.bytes) c.args.self.now c.args.self.now.history c.read.result.value c.self.view_is refl c.if-self.false c.read.ensures,
+    )

@@ -1,15 +1,26 @@
-use Rattle.std.proofs.Common.{◌≡◌, false, refl, ap, ◌∙◌}
+use Rattle.std.proofs.Common.{true, false, refl}
 use Rattle.disk.specs.declared.action.Action.TheVariants as actions
-use Rattle.disk.specs.Past.{went}
-use Rattle.disk.proofs.Histories.{life_went}
-use Rattle.disk.proofs.Starts.{plain_went}
+use Rattle.disk.proofs.Starts.{plain_went, same_bytes, sync_keeps}
+use Rattle.disk.proofs.Stops.{lives_on}
+use Rattle.std.specs.Prelude.{vec_capacity}
 use Rattle.disk.proofs.vec_blob.VecBlobBlob.sync.Goals as goal
-
-pub returns : goal.returns
-returns c =
-    let is : c.sync.result.value ≡ went actions.Sync false c.args.self.now = c.sync.ensures ∙ ap (went actions.Sync false) c.self.view_is in
-    record { goes = life_went actions.Sync false c.args.self.now c.sync.result.value is }
 
 pub invariant_of-self : goal.invariant_of-self
 invariant_of-self c =
-    plain_went actions.Sync c.self.inside.past.value c.sync.result.value c.self.inside.bytes.items c.self.inside.bytes.items c.self.inside.starts (λ life. refl) c.sync.ensures c.self.invariant refl
+    let a = actions.Sync in
+    plain_went a c.self.inside.stopped c.self.inside.past.value c.sync.result.value c.self.inside.bytes.items c.self.inside.bytes.items c.self.inside.starts (sync_keeps c.self.inside.stopped) c.sync.ensures c.self.invariant (same_bytes a c.self.inside.stopped c.self.inside.bytes.items refl)
+
+pub invariant_of-self-2 : goal.invariant_of-self-2
+invariant_of-self-2 c =
+    let a = actions.Sync in
+    plain_went a c.self.inside.stopped c.self.inside.past.value c.sync.result.value c.self.inside.bytes.items c.self.inside.bytes.items c.self.inside.starts (sync_keeps c.self.inside.stopped) c.sync.ensures c.self.invariant (same_bytes a c.self.inside.stopped c.self.inside.bytes.items refl)
+
+pub returns-then-self-clause-goes : goal.returns-then-self-clause-goes
+returns-then-self-clause-goes c =
+    let a = actions.Sync in
+    lives_on a c.self.inside.stopped true c.self.inside.past.value (vec_capacity c.self.inside.bytes) c.args.self.now c.args.self.now.history c.sync.result.value c.self.view_is refl c.if-self.true c.sync.ensures
+
+pub returns-clause-goes : goal.returns-clause-goes
+returns-clause-goes c =
+    let a = actions.Sync in
+    lives_on a c.self.inside.stopped false c.self.inside.past.value (vec_capacity c.self.inside.bytes) c.args.self.now c.args.self.now.history c.sync.result.value c.self.view_is refl c.if-self.false c.sync.ensures

@@ -1,39 +1,48 @@
-use Rattle.std.proofs.Common.{◌≡◌, false, sym, ap, ◌∙◌, subst, inr, arith, Ok, Err}
-use Rattle.disk.specs.Disk.{had_failed, WaitsFor}
+use Rattle.std.proofs.Common.{◌≡◌, ◌⊎◌, true, false, sym, ap, subst, inl, inr, arith, refl, Ok, Err}
+use Rattle.std.specs.Prelude.{vec_capacity}
+use Rattle.disk.specs.Disk.{Life, had_failed, WaitsFor}
 use Rattle.disk.specs.declared.error.Error.TheVariants.{SyncFailed}
 use Rattle.disk.specs.declared.started_sync.StartedSync.{StartedSync}
 use Rattle.disk.specs.declared.action.Action.TheVariants as actions
-use Rattle.disk.specs.History.{History, life_of}
-use Rattle.disk.specs.Past.{went}
-use Rattle.disk.specs.Memory.{IsPlain}
-use Rattle.disk.proofs.Histories.{life_went}
+use Rattle.disk.specs.History.{life_of, life_after_action}
+use Rattle.disk.specs.VecBlob.{VecState}
 use Rattle.disk.proofs.Starts.{plain_waits, wait_goes, wait_fails, well_at, none_at}
+use Rattle.disk.proofs.Stops.{lives_on}
 use Rattle.disk.proofs.vec_blob.VecBlobBlob.wait_sync.Goals as goal
-
-pub returns : goal.returns
-returns c =
-    let now = c.args.self.now in
-    let old = life_of now in
-    let new = life_of c.wait_sync.result.value in
-    let name = c.in-Named.name in
-    let plain : IsPlain old.present c.self.inside.bytes.items c.self.inside.starts = subst (λ (h : History). IsPlain (life_of h).present c.self.inside.bytes.items c.self.inside.starts) c.self.view_is c.self.invariant in
-    let is : c.wait_sync.result.value ≡ went (actions.WaitSync name) false now = c.wait_sync.ensures ∙ ap (went (actions.WaitSync name) false) c.self.view_is in
-    let well : had_failed old.present.started name ≡ false = well_at old.present.started name plain.well (omega (arith, c.if-name-self.false, plain.names)) in
-    record { goes = subst (λ (s : StartedSync). WaitsFor s old new (Ok tt)) (sym c.in-Named.is) (wait_goes name old new well (life_went (actions.WaitSync name) false now c.wait_sync.result.value is)) }
-
-pub returns-then-name-self : goal.returns-then-name-self
-returns-then-name-self c =
-    let now = c.args.self.now in
-    let old = life_of now in
-    let new = life_of c.wait_sync.result.value in
-    let name = c.in-Named.name in
-    let plain : IsPlain old.present c.self.inside.bytes.items c.self.inside.starts = subst (λ (h : History). IsPlain (life_of h).present c.self.inside.bytes.items c.self.inside.starts) c.self.view_is c.self.invariant in
-    let is : c.wait_sync.result.value ≡ went (actions.WaitSync name) false now = c.wait_sync.ensures ∙ ap (went (actions.WaitSync name) false) c.self.view_is in
-    let none = none_at old.present.started name (omega (arith, c.if-name-self.true, plain.names)) in
-    record { goes = subst (λ (s : StartedSync). WaitsFor s old new (Err SyncFailed)) (sym c.in-Named.is) (wait_fails name false old new (inr none) (life_went (actions.WaitSync name) false now c.wait_sync.result.value is)) }
+use Rattle.disk.proofs.vec_blob.VecBlobBlob.wait_sync.Goals.{then-self-via-then-self, then-self-via-else-self+then-name-self}
 
 pub invariant_of-self : goal.invariant_of-self
-invariant_of-self c = plain_waits c.in-Named.name c.self.inside.past.value c.wait_sync.result.value c.self.inside.bytes.items c.self.inside.starts c.wait_sync.ensures c.self.invariant
+invariant_of-self c = plain_waits c.in-Named.name c.self.inside.stopped c.self.inside.past.value c.wait_sync.result.value c.self.inside.bytes.items c.self.inside.starts c.wait_sync.ensures c.self.invariant
 
 pub invariant_of-self-2 : goal.invariant_of-self-2
-invariant_of-self-2 c = plain_waits c.in-Named.name c.self.inside.past.value c.wait_sync.result.value c.self.inside.bytes.items c.self.inside.starts c.wait_sync.ensures c.self.invariant
+invariant_of-self-2 c = plain_waits c.in-Named.name c.self.inside.stopped c.self.inside.past.value c.wait_sync.result.value c.self.inside.bytes.items c.self.inside.starts c.wait_sync.ensures c.self.invariant
+
+pub returns-then-self-clause-goes : goal.returns-then-self-clause-goes
+returns-then-self-clause-goes c =
+    let name = c.in-Named.name in
+    let stopped = c.self.inside.stopped in
+    let past = c.self.inside.past.value in
+    let old = life_of c.args.self.now.history in
+    let new = life_of c.wait_sync.result.value in
+    let same : life_of past ≡ old = ap (λ (s : VecState). life_of s.history) c.self.view_is in
+    let life : new ≡ life_after_action (actions.WaitSync name) stopped old = lives_on (actions.WaitSync name) stopped stopped past (vec_capacity c.self.inside.bytes) c.args.self.now c.args.self.now.history c.wait_sync.result.value c.self.view_is refl refl c.wait_sync.ensures in
+    let why : (stopped ≡ true) ⊎ (had_failed old.present.started name ≡ true) =
+    elim c.then-self.branch [
+      | then-self-via-then-self w ↦ inl w.if-self.true
+      | then-self-via-else-self+then-name-self w ↦
+          inr (subst (λ (l : Life). had_failed l.present.started name ≡ true) same
+          (none_at (life_of past).present.started name (omega (arith, w.if-name-self.true, c.self.invariant.names))))
+    ] in
+    subst (λ (s : StartedSync). WaitsFor s old new (Err SyncFailed)) (sym c.in-Named.is) (wait_fails name stopped old new why life)
+
+pub returns-clause-goes : goal.returns-clause-goes
+returns-clause-goes c =
+    let name = c.in-Named.name in
+    let past = c.self.inside.past.value in
+    let old = life_of c.args.self.now.history in
+    let new = life_of c.wait_sync.result.value in
+    let same : life_of past ≡ old = ap (λ (s : VecState). life_of s.history) c.self.view_is in
+    let life : new ≡ life_after_action (actions.WaitSync name) false old = lives_on (actions.WaitSync name) c.self.inside.stopped false past (vec_capacity c.self.inside.bytes) c.args.self.now c.args.self.now.history c.wait_sync.result.value c.self.view_is refl c.if-self.false c.wait_sync.ensures in
+    let well : had_failed old.present.started name ≡ false = subst (λ (l : Life). had_failed l.present.started name ≡ false) same
+    (well_at (life_of past).present.started name (c.self.invariant.well c.if-self.false) (omega (arith, c.if-name-self.false, c.self.invariant.names))) in
+    subst (λ (s : StartedSync). WaitsFor s old new (Ok tt)) (sym c.in-Named.is) (wait_goes name old new well life)

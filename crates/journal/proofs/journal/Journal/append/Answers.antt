@@ -1,6 +1,6 @@
 use Rattle.std.proofs.Common.{subst, Err}
 use Rattle.crash.specs.Stays.{KeepsAllFloors}
-use Rattle.crash.specs.WriterState.{WriterState}
+use Rattle.writer_state.specs.WriterState.{WriterState}
 use Rattle.paged.specs.Calls.{Appends}
 use Rattle.paged_read.specs.Snapshots.{LeavesOthers, LeavesTails}
 use Rattle.journal.proofs.journal.Journal.append.Goals as goal

@@ -1,11 +1,11 @@
 use Rattle.crash.specs.Moments.{through_start}
 use Rattle.journal.specs.Journal.{Commits}
 use Rattle.std.proofs.Common.{◌≡◌, ◌++◌, ◌∷◌, [], List, ℕ, subst, ◌∙◌}
-use Rattle.crash.specs.Sound.{content}
+use Rattle.writer_state.specs.Sound.{content}
 use Rattle.crash.specs.Stays.{LeavesOnly}
 use Rattle.paged.specs.Calls.{Appends}
 use Rattle.journal.specs.Frame.{frame, records}
-use Rattle.journal.proofs.Journals.{append_goes, append_gives, keeps_committed, leaves_records, leaves_still, before_append, behind_append, others_stay, ready_of, whole_of}
+use Rattle.journal.proofs.Journals.{append_goes, append_gives, keeps_committed, leaves_records, leaves_still, before_append, after_append, others_stay, ready_of, whole_of}
 use Rattle.journal.proofs.Readers.{other_readers_stay, readers_stay}
 use Rattle.journal.proofs.journal.Journal.append_record.Goals as goal
 
@@ -42,7 +42,7 @@ returns-clause-only g c =
     let before = content w old.present.readable in
     let framed : c.deref.result.now ≡ frame own c.args.bytes.now = c.deref.ensures.value ∙ c.in_ok-framed.ensures.framed in
     leaves_records g.H.Sum.sum_of own w.page_size before (before ++ frame own c.args.bytes.now) (records own before ++ c.args.bytes.now ∷ []) old new
-    (before_append own before c.args.bytes.now) (behind_append own before c.args.bytes.now c.requires.short (g.met.R.Sum.small c.args.bytes.now) (whole_of g.H.Sum.sum_of c.args.self c.args.cache.now (g.B.Blob.life c.args.blob.now) c.requires.journal))
+    (before_append own before c.args.bytes.now) (after_append own before c.args.bytes.now c.requires.short (g.met.R.Sum.small c.args.bytes.now) (whole_of g.H.Sum.sum_of c.args.self c.args.cache.now (g.B.Blob.life c.args.blob.now) c.requires.journal))
     (subst (λ (b : List ℕ). LeavesOnly g.H.Sum.sum_of w.page_size before (before ++ b) old new) framed c.append.ensures.only)
 
 pub returns-in_err-framed-clause-kept : goal.returns-in_err-framed-clause-kept

@@ -1,4 +1,4 @@
-use Rattle.crash.specs.Sound.{content}
+use Rattle.writer_state.specs.Sound.{content}
 use Rattle.journal.specs.Frame.{records}
 use Rattle.journal.proofs.Journals.{commit_goes, commit_gives, keeps_committed, leaves_records, prefix_of_itself, others_stay, ready_of, whole_of}
 use Rattle.journal.proofs.Readers.{other_readers_stay, readers_stay}

@@ -1,12 +1,12 @@
 use Rattle.std.proofs.Common.{subst}
-use Rattle.crash.specs.Sound.{content}
-use Rattle.crash.specs.WriterState.{WriterState}
+use Rattle.writer_state.specs.Sound.{content}
+use Rattle.writer_state.specs.WriterState.{WriterState}
 use Rattle.journal.specs.Journal.{ReadsBytes, OnlyReads}
 use Rattle.journal.proofs.journal.Journal.read.Goals as goal
 
 pub returns-clause-reads : goal.returns-clause-reads
 returns-clause-reads g c =
-    subst (λ (w : WriterState). ReadsBytes (content w (g.B.Blob.life c.args.blob.now).present.readable) c.args.place c.args.len (g.B.Blob.life c.args.blob.now) (g.B.Blob.life c.read_bytes.new.blob) c.read_bytes.result) c.self.view_is c.read_bytes.ensures.reads
+    subst (λ (w : WriterState). ReadsBytes (content w (g.B.Blob.life c.args.blob.now).present.readable) c.args.offset c.args.len (g.B.Blob.life c.args.blob.now) (g.B.Blob.life c.read_bytes.new.blob) c.read_bytes.result) c.self.view_is c.read_bytes.ensures.reads
 
 pub returns-clause-leaves : goal.returns-clause-leaves
 returns-clause-leaves g c =

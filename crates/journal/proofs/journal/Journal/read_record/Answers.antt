@@ -1,5 +1,5 @@
 use Rattle.std.proofs.Common.{List, ℕ, subst, sym}
-use Rattle.crash.specs.Sound.{content}
+use Rattle.writer_state.specs.Sound.{content}
 use Rattle.journal.specs.Frame.{IsWhole, records}
 use Rattle.journal.proofs.Journals.{keeps_committed, leaves_records, prefix_of_itself, is_journal, others_stay, ready_of, whole_of}
 use Rattle.journal.proofs.Readers.{other_readers_stay, readers_stay}

@@ -1,5 +1,5 @@
 use Rattle.std.proofs.Common.{subst, sym}
-use Rattle.crash.specs.Sound.{content}
+use Rattle.writer_state.specs.Sound.{content}
 use Rattle.journal.specs.Frame.{records}
 use Rattle.journal.specs.Reader.{HasReader, ReaderState}
 use Rattle.journal.proofs.Journals.{keeps_committed, leaves_records, others_stay, prefix_of_itself, ready_of, whole_of}

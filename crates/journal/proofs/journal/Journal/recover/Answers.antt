@@ -1,6 +1,6 @@
 use Rattle.std.proofs.Common.{◌≡◌, ◌∙◌, sym, subst, refl, length, ℕ, List}
 use Rattle.page.specs.Page.{text}
-use Rattle.crash.specs.WriterState.{WriterState}
+use Rattle.writer_state.specs.WriterState.{WriterState}
 use Rattle.paged.specs.Truncate.{KeepsFloorsWithin}
 use Rattle.journal.specs.Frame.{records, whole_frames}
 use Rattle.journal.specs.Journal.{AllStay, OthersStay, HasRecovered, KeepsCommitted, KeepsAllRecords, LeavesAllRecords, BringsBack}

@@ -1,6 +1,6 @@
 use Rattle.std.proofs.Common.{subst}
 use Rattle.crash.specs.Stays.{KeepsAllFloors}
-use Rattle.crash.specs.WriterState.{WriterState}
+use Rattle.writer_state.specs.WriterState.{WriterState}
 use Rattle.paged_read.specs.Snapshots.{LeavesOthers, LeavesTails}
 use Rattle.journal.proofs.journal.Journal.snapshot.Goals as goal
 

@@ -1,7 +1,7 @@
 use Rattle.std.proofs.Common.{◌<◌, subst, ap, arith}
-use Rattle.crash.specs.Sound.{content}
+use Rattle.writer_state.specs.Sound.{content}
 use Rattle.crash.specs.Stays.{KeepsAll, KeepsAllFloors}
-use Rattle.crash.specs.WriterState.{WriterState}
+use Rattle.writer_state.specs.WriterState.{WriterState}
 use Rattle.paged_read.specs.Snapshots.{LeavesOthers, LeavesTails}
 use Rattle.journal.proofs.journal.Journal.sync.Goals as goal
 

@@ -27,7 +27,7 @@ returns-in_err-found-clause-reader g c =
 
 pub returns-clause-reader : goal.returns-clause-reader
 returns-clause-reader g c =
-    is_reader g.H.Sum.sum_of (record { tail = c.self.inside.snapshot; place = c.in_ok-found.found.end }) c.find_record.new.cache (g.B.Blob.life c.find_record.new.blob) c.find_record.ensures.leaves.opened
+    is_reader g.H.Sum.sum_of (record { tail = c.self.inside.snapshot; offset = c.in_ok-found.found.end }) c.find_record.new.cache (g.B.Blob.life c.find_record.new.blob) c.find_record.ensures.leaves.opened
 
 pub returns-in_err-found-clause-journals : goal.returns-in_err-found-clause-journals
 returns-in_err-found-clause-journals g c = journals_stay g.H.Sum.sum_of c.args.self.now.tail c.args.cache.now c.find_record.new.cache (g.B.Blob.life c.args.blob.now) (g.B.Blob.life c.find_record.new.blob) (looks g (goal.at.returns-in_err-found-clause-journals g c).After-find_record)

@@ -1,10 +1,10 @@
 use Rattle.std.proofs.Common.{◌*◌, ℕ, length, ◌∙◌, ap, arith, refl, sym, subst}
 use Rattle.std.specs.Int.NonZero.{non_zero_u16_get}
 use Rattle.page.specs.Tip.{Tip}
-use Rattle.paged.specs.Writer.{state_of, FitsBlob}
+use Rattle.paged.specs.Writer.{FitsBlob}
 use Rattle.paged_read.specs.Prefix.{tip_of}
 use Rattle.paged.specs.Recovery.{at_prefix}
-use Rattle.paged.proofs.Places.{IsPlaced, is_writer_placed, state_at}
+use Rattle.paged.proofs.Offsets.{IsPlaced, is_writer_placed, state_at}
 use Rattle.paged.proofs.recovery.Recovery+B+H.at_prefix.Given.{Over}
 use Rattle.paged.proofs.recovery.Recovery+B+H.at_prefix.Goals as goal
 use Rattle.paged.proofs.recovery.Recovery+B+H.at_prefix.Goals.{In_ok-id}
@@ -28,7 +28,7 @@ invariant_of-result g c =
 
 pub returns-clause-stands : goal.returns-clause-stands
 returns-clause-stands g c =
-    let sync = state_of c.args.sync_state in
+    let sync = c.args.sync_state in
     let cache = c.args.cache.now in
     state_at (non_zero_u16_get c.page_size-page_size.result) c.in_ok-id.id cache.ids_given c.args.capacity c.args.capacity c.args.prefix c.in_ok-tip.tip c.tip_and_slot-slot.result.1 sync (placed g (goal.at.returns-clause-stands g c).In_ok-id)
     c.in_ok-id.ensures.id.1 refl c.tip_and_slot-slot.ensures.slot

@@ -1,4 +1,4 @@
-use Rattle.paged.proofs.OpenedReads.{opened_reads}
+use Rattle.paged.proofs.OpenedReads.{opened_reads, opened_others}
 use Rattle.std.proofs.Common.{◌≡◌, ◌+◌, ◌*◌, ◌/◌, ◌%◌, ◌^◌, ◌<◌, ℕ, length, ◌∙◌, ap, arith, inl, refl, subst}
 use Rattle.std.proofs.lemmas.Result.{err_from_is_err_and}
 use Rattle.std.specs.Int.NonZero.{non_zero_u16_get}
@@ -9,14 +9,12 @@ use Rattle.paged.specs.Recovery.{Opens, opened_size, CutsBack}
 use Rattle.crash.specs.Looks.{looked_start}
 use Rattle.crash.proofs.FloorLaws.{floors_none}
 use Rattle.paged.proofs.Recoveries.{opened_is, opened_last, opened_reach, opened_kept, opened_size_le, pages_count, fits_prefix, opens_cause, back_cause, kept_back, trims_back}
-use Rattle.paged_read.specs.Searches.{ReadsBack}
+use Rattle.paged_read.specs.Backward.{ReadsBack}
 use Rattle.paged.proofs.QuietCuts.{opens_back}
 use Rattle.paged.proofs.Opened.{opens_end, opened_there, opens_as_opened}
 use Rattle.paged.proofs.Trims.{Owes, opens_owe, finds_looked}
-use Rattle.paged.proofs.Places.{opens_within}
-use Rattle.paged.proofs.Places.{adjusted_whole, adjusted_room}
+use Rattle.paged.proofs.Offsets.{opens_within, adjusted_whole, adjusted_room}
 use Rattle.paged.proofs.recovery.Recovery+B+H.open.Given.{Over}
-use Rattle.paged.proofs.OpenedReads.{opened_others}
 use Rattle.paged.proofs.recovery.Recovery+B+H.open.Goals as goal
 use Rattle.paged.proofs.recovery.Recovery+B+H.open.Goals.{In_err-capacity, In_err-last, After-cut_back, After-at_prefix}
 
@@ -25,7 +23,7 @@ pages_of-requires g c =
     let P = c.args.cache.now.page_size in
     let readable = (g.B.Blob.life c.args.blob.now).present.readable in
     let p = c.in_ok-last.last in
-    let reach = opened_reach g.H.Sum.sum_of P (non_zero_u16_get c.page_size-page_size.result) c.args.size c.physical_size-physical_size.result readable p c.page_size-page_size.ensures c.physical_size-physical_size.ensures c.requires.length c.in_ok-last.ensures.finds.0 in
+    let reach = opened_reach g.H.Sum.sum_of P (non_zero_u16_get c.page_size-page_size.result) c.args.size c.physical_page_size-physical_page_size.result readable p c.page_size-page_size.ensures c.physical_page_size-physical_page_size.ensures c.requires.length c.in_ok-last.ensures.finds.0 in
     pages_count P (length readable) _ p.full_pages (omega arith) reach (omega arith)
 
 pub overflow_mul-kept : goal.overflow_mul-kept
@@ -33,8 +31,8 @@ overflow_mul-kept g c =
     let sum = g.H.Sum.sum_of in
     let P = c.args.cache.now.page_size in
     let readable = (g.B.Blob.life c.args.blob.now).present.readable in
-    let physical = c.physical_size-physical_size.result in
-    let kept = opened_kept sum P (non_zero_u16_get c.page_size-page_size.result) c.args.size physical readable c.in_ok-last.last c.page_size-page_size.ensures c.physical_size-physical_size.ensures c.requires.length c.in_ok-last.ensures.finds.0 c.pages_of.result (c.pages_of.result * physical) c.pages_of.ensures refl in
+    let physical = c.physical_page_size-physical_page_size.result in
+    let kept = opened_kept sum P (non_zero_u16_get c.page_size-page_size.result) c.args.size physical readable c.in_ok-last.last c.page_size-page_size.ensures c.physical_page_size-physical_page_size.ensures c.requires.length c.in_ok-last.ensures.finds.0 c.pages_of.result (c.pages_of.result * physical) c.pages_of.ensures refl in
     omega (arith, kept, opened_size_le sum P readable)
 
 pub returns-in_err-sync_state-clause-opens : goal.returns-in_err-sync_state-clause-opens
@@ -42,13 +40,13 @@ returns-in_err-sync_state-clause-opens g c =
     let life = g.B.Blob.life in
     let sum = g.H.Sum.sum_of in
     let P = c.args.cache.now.page_size in
-    let physical = c.physical_size-physical_size.result in
+    let physical = c.physical_page_size-physical_page_size.result in
     let old = life c.args.blob.now in
     let mid = life c.last_pages.new.blob in
     let new = life c.cut_back.new.blob in
     let readable = old.present.readable in
     let e = c.in_err-sync_state.field-0.0 in
-    let kept = opened_kept sum P (non_zero_u16_get c.page_size-page_size.result) c.args.size physical readable c.in_ok-last.last c.page_size-page_size.ensures c.physical_size-physical_size.ensures c.requires.length c.in_ok-last.ensures.finds.0 c.pages_of.result (c.pages_of.result * physical) c.pages_of.ensures refl in
+    let kept = opened_kept sum P (non_zero_u16_get c.page_size-page_size.result) c.args.size physical readable c.in_ok-last.last c.page_size-page_size.ensures c.physical_page_size-physical_page_size.ensures c.requires.length c.in_ok-last.ensures.finds.0 c.pages_of.result (c.pages_of.result * physical) c.pages_of.ensures refl in
     let q = err_from_is_err_and c.from_residual-in_err-sync_state.result c.from_residual-in_err-sync_state.ensures.1 in
     rw (q.1, q.2) (opens_cause sum c.args.cache.now c.args.capacity old new e (back_cause (c.pages_of.result * physical) old mid new e c.in_ok-last.ensures.finds.1 (omega (arith, kept, opened_size_le sum P readable)) c.in_err-sync_state.ensures.cuts))
 
@@ -57,11 +55,11 @@ at_prefix-requires g c =
     let sum = g.H.Sum.sum_of in
     let P = c.args.cache.now.page_size in
     let Q = non_zero_u16_get c.page_size-page_size.result in
-    let physical = c.physical_size-physical_size.result in
+    let physical = c.physical_page_size-physical_page_size.result in
     let readable = (g.B.Blob.life c.args.blob.now).present.readable in
     let p = c.in_ok-last.last in
-    let last = opened_last sum P Q c.args.size physical readable p c.page_size-page_size.ensures c.physical_size-physical_size.ensures c.requires.length c.in_ok-last.ensures.finds.0 in
-    let reach = opened_reach sum P Q c.args.size physical readable p c.page_size-page_size.ensures c.physical_size-physical_size.ensures c.requires.length c.in_ok-last.ensures.finds.0 in
+    let last = opened_last sum P Q c.args.size physical readable p c.page_size-page_size.ensures c.physical_page_size-physical_page_size.ensures c.requires.length c.in_ok-last.ensures.finds.0 in
+    let reach = opened_reach sum P Q c.args.size physical readable p c.page_size-page_size.ensures c.physical_page_size-physical_page_size.ensures c.requires.length c.in_ok-last.ensures.finds.0 in
     let size : c.from.result ≡ P = c.from.ensures ∙ c.get.ensures.value ∙ c.page_size-page_size.ensures in
     let some : 0 < P = omega (arith, c.get.ensures.nonzero, c.get.ensures.value, c.page_size-page_size.ensures) in
     let room : c.in_ok-capacity.capacity ≡ adjusted c.args.capacity P = c.in_ok-capacity.ensures.capacity.1 ∙ ap (λ (n : ℕ). adjusted c.args.capacity n) size in
@@ -90,7 +88,7 @@ owes-looked g c =
     let old = g.B.Blob.life c.args.blob.now in
     let new = g.B.Blob.life c.last_pages.new.blob in
     let Q = non_zero_u16_get c.page_size-page_size.result in
-    let looked = finds_looked (last_prefix g.H.Sum.sum_of Q (c.args.size / c.physical_size-physical_size.result) old.present.readable) old new c.in_err-last.field-0.0 c.in_err-last.ensures.finds in
+    let looked = finds_looked (last_prefix g.H.Sum.sum_of Q (c.args.size / c.physical_page_size-physical_page_size.result) old.present.readable) old new c.in_err-last.field-0.0 c.in_err-last.ensures.finds in
     opens_owe g.H.Sum.sum_of c.args.cache.now.page_size old new (omega (arith, c.page_size-page_size.result.ok, c.page_size-page_size.ensures)) (g.met.B.Blob.readable_is_image c.args.blob.now) (new, looked, inl refl)
 
 pub returns-in_err-last-clause-floors : goal.returns-in_err-last-clause-floors
@@ -108,11 +106,11 @@ owes g c =
     let life = g.B.Blob.life in
     let sum = g.H.Sum.sum_of in
     let P = c.args.cache.now.page_size in
-    let physical = c.physical_size-physical_size.result in
+    let physical = c.physical_page_size-physical_page_size.result in
     let old = life c.args.blob.now in
     let mid = life c.last_pages.new.blob in
     let new = life c.cut_back.new.blob in
-    let kept = opened_kept sum P (non_zero_u16_get c.page_size-page_size.result) c.args.size physical old.present.readable c.in_ok-last.last c.page_size-page_size.ensures c.physical_size-physical_size.ensures c.requires.length c.in_ok-last.ensures.finds.0 c.pages_of.result (c.pages_of.result * physical) c.pages_of.ensures refl in
+    let kept = opened_kept sum P (non_zero_u16_get c.page_size-page_size.result) c.args.size physical old.present.readable c.in_ok-last.last c.page_size-page_size.ensures c.physical_page_size-physical_page_size.ensures c.requires.length c.in_ok-last.ensures.finds.0 c.pages_of.result (c.pages_of.result * physical) c.pages_of.ensures refl in
     opens_owe sum P old new (omega (arith, c.page_size-page_size.result.ok, c.page_size-page_size.ensures)) (g.met.B.Blob.readable_is_image c.args.blob.now)
     (trims_back (opened_size sum P old.present.readable) old mid new c.cut_back.result c.in_ok-last.ensures.finds.1 (subst (λ (n : ℕ). CutsBack n mid new c.cut_back.result) kept c.cut_back.ensures.cuts))
 
@@ -156,7 +154,7 @@ opens g c =
     let sum = g.H.Sum.sum_of in
     let P = c.args.cache.now.page_size in
     let Q = non_zero_u16_get c.page_size-page_size.result in
-    let physical = c.physical_size-physical_size.result in
+    let physical = c.physical_page_size-physical_page_size.result in
     let old = life c.args.blob.now in
     let mid = life c.last_pages.new.blob in
     let new = life c.cut_back.new.blob in
@@ -167,8 +165,8 @@ opens g c =
     let small : P < 2 ^ 16 = omega (arith, c.page_size-page_size.ensures) in
     let room : c.in_ok-capacity.capacity ≡ adjusted c.args.capacity P = c.in_ok-capacity.ensures.capacity.1 ∙ ap (λ (n : ℕ). adjusted c.args.capacity n) (c.from.ensures ∙ c.get.ensures.value ∙ c.page_size-page_size.ensures) in
     let bytes = subst (λ (n : ℕ). HasBytes n p.full_pages readable p.partial) c.page_size-page_size.ensures c.in_ok-last.ensures.bytes in
-    let is = opened_is sum P Q c.args.size physical readable p c.page_size-page_size.ensures c.physical_size-physical_size.ensures c.requires.length c.in_ok-last.ensures.finds.0 in
-    let kept = opened_kept sum P Q c.args.size physical readable p c.page_size-page_size.ensures c.physical_size-physical_size.ensures c.requires.length c.in_ok-last.ensures.finds.0 c.pages_of.result (c.pages_of.result * physical) c.pages_of.ensures refl in
+    let is = opened_is sum P Q c.args.size physical readable p c.page_size-page_size.ensures c.physical_page_size-physical_page_size.ensures c.requires.length c.in_ok-last.ensures.finds.0 in
+    let kept = opened_kept sum P Q c.args.size physical readable p c.page_size-page_size.ensures c.physical_page_size-physical_page_size.ensures c.requires.length c.in_ok-last.ensures.finds.0 c.pages_of.result (c.pages_of.result * physical) c.pages_of.ensures refl in
     opens_end sum c.args.cache.now c.args.capacity old new s c.in_ok-capacity.capacity p c.at_prefix.result (g.met.B.Blob.starts_are_covered c.cut_back.new.blob) g.met.H.Sum.small some small room is bytes
     (kept_back (opened_size sum P readable) old mid new s c.in_ok-last.ensures.finds.1 (opened_size_le sum P readable) (subst (λ (n : ℕ). CutsBack n mid new (Ok s)) kept c.in_ok-sync_state.ensures.cuts))
     c.at_prefix.ensures.stands

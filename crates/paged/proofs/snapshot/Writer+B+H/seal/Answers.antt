@@ -1,10 +1,10 @@
 use Rattle.std.proofs.Common.{[], append-nil, sym, Ok, Err}
 use Rattle.disk.specs.declared.started_sync.StartedSync.{StartedSync}
-use Rattle.crash.specs.Sound.{content}
-use Rattle.crash.specs.WriterState.{WriterState}
+use Rattle.writer_state.specs.Sound.{content}
+use Rattle.writer_state.specs.WriterState.{WriterState}
 use Rattle.paged_read.proofs.OutlivingReplays.{replays_stay}
 use Rattle.paged_read.proofs.Outliving.{others_stay, tails_stay}
-use Rattle.paged.proofs.Caching.{caches_law_same, fresh_law, reads_behind}
+use Rattle.paged.proofs.Caching.{caches_law_same, fresh_law, reads_after}
 use Rattle.paged.proofs.Halves.{start_keeps, start_leaves}
 use Rattle.paged.proofs.Snapshotting.{made_stands, made_tells}
 use Rattle.paged.proofs.snapshot.Writer+B+H.seal.Goals as goal
@@ -19,7 +19,7 @@ returns-clause-stands g c =
     made_stands g.H.Sum.sum_of c.args.self c.seal_all.new.self c.into_sealed.result
     c.args.cache.now c.seal_all.new.cache (g.B.Blob.life c.args.blob.now) (g.B.Blob.life c.seal_all.new.blob)
     c.in_ok-started.ensures.starts_sync.0 c.into_sealed.ensures.is
-    (reads_behind {A = WriterState × StartedSync} g.H.Sum.sum_of (λ r. r.0) c.args.self []
+    (reads_after {A = WriterState × StartedSync} g.H.Sum.sum_of (λ r. r.0) c.args.self []
     c.args.self.tip (g.B.Blob.life c.args.blob.now) (g.B.Blob.life c.seal_all.new.blob) c.args.cache.now
     c.seal_all.new.cache (c.seal_all.new.self, c.in_ok-started.started) c.requires.cached
     (sym (append-nil c.args.self.tip)) c.in_ok-started.ensures.starts_sync.0

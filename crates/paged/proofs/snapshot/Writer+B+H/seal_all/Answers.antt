@@ -1,28 +1,28 @@
 use Rattle.std.proofs.Common.{ap}
-use Rattle.crash.specs.WriterState.{WriterState}
+use Rattle.writer_state.specs.WriterState.{WriterState}
 use Rattle.paged.specs.Flush.{paired}
 use Rattle.paged.proofs.Caching.{puts_alike, puts_waited, refused_before}
 use Rattle.paged.proofs.Snapshotting.{seal_answers}
-use Rattle.paged.proofs.Starting.{starts_behind}
-use Rattle.paged.proofs.Waits.{covers_behind, pages_behind}
+use Rattle.paged.proofs.Starting.{starts_after}
+use Rattle.paged.proofs.Waits.{covers_after, pages_after}
 use Rattle.paged.proofs.snapshot.Writer+B+H.seal_all.Goals as goal
 
 pub returns-clause-starts_sync : goal.returns-clause-starts_sync
 returns-clause-starts_sync g c =
-    starts_behind g.H.Sum.sum_of c.args.self.now c.wait.new.self (g.B.Blob.life c.args.blob.now)
+    starts_after g.H.Sum.sum_of c.args.self.now c.wait.new.self (g.B.Blob.life c.args.blob.now)
     (g.B.Blob.life c.wait.new.blob) (g.B.Blob.life c.start_all.new.blob)
     c.in_ok-wait.ensures.waits.0 (paired c.start_all.new.self c.start_all.result)
     c.start_all.ensures.starts_sync
 
 pub returns-clause-pages : goal.returns-clause-pages
 returns-clause-pages g c =
-    pages_behind g.H.Sum.sum_of c.args.self.now c.wait.new.self (g.B.Blob.life c.args.blob.now)
+    pages_after g.H.Sum.sum_of c.args.self.now c.wait.new.self (g.B.Blob.life c.args.blob.now)
     (g.B.Blob.life c.wait.new.blob) (g.B.Blob.life c.start_all.new.blob)
     c.in_ok-wait.ensures.waits.0 c.in_ok-wait.ensures.pages c.start_all.ensures.pages
 
 pub returns-clause-covers : goal.returns-clause-covers
 returns-clause-covers g c =
-    covers_behind g.H.Sum.sum_of c.args.self.now c.wait.new.self (g.B.Blob.life c.args.blob.now)
+    covers_after g.H.Sum.sum_of c.args.self.now c.wait.new.self (g.B.Blob.life c.args.blob.now)
     (g.B.Blob.life c.wait.new.blob) (g.B.Blob.life c.start_all.new.blob)
     c.in_ok-wait.ensures.waits.0 c.in_ok-wait.ensures.covers c.start_all.ensures.covers
 

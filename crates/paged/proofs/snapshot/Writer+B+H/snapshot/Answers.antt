@@ -1,10 +1,10 @@
 use Rattle.std.proofs.Common.{[], append-nil, sym, Ok, Err}
-use Rattle.crash.specs.Sound.{content}
-use Rattle.crash.specs.WriterState.{WriterState}
+use Rattle.writer_state.specs.Sound.{content}
+use Rattle.writer_state.specs.WriterState.{WriterState}
 use Rattle.paged_read.specs.Tail.{Tail}
 use Rattle.paged_read.proofs.OutlivingReplays.{replays_stay}
 use Rattle.paged_read.proofs.Outliving.{others_stay, tails_stay}
-use Rattle.paged.proofs.Caching.{caches_law_same, fresh_law, reads_behind}
+use Rattle.paged.proofs.Caching.{caches_law_same, fresh_law, reads_after}
 use Rattle.paged.proofs.Covers.{completed}
 use Rattle.paged.proofs.Serves.{sound_there}
 use Rattle.paged.proofs.Snapshotting.{made_stands, made_tells, make_keeps, make_leaves}
@@ -27,7 +27,7 @@ returns-clause-tells g c =
 
 pub returns-clause-can_read : goal.returns-clause-can_read
 returns-clause-can_read g c =
-    reads_behind {A = WriterState × Tail} g.H.Sum.sum_of (λ r. r.0) c.args.self [] c.args.self.tip
+    reads_after {A = WriterState × Tail} g.H.Sum.sum_of (λ r. r.0) c.args.self [] c.args.self.tip
     (g.B.Blob.life c.args.blob.now) (g.B.Blob.life c.snapshot_all.new.blob) c.args.cache.now
     c.snapshot_all.new.cache (c.snapshot_all.new.self, c.in_ok-sealed.sealed) c.requires.cached
     (sym (append-nil c.args.self.tip)) c.in_ok-sealed.ensures.makes.0 c.in_ok-sealed.ensures.puts

@@ -2,7 +2,7 @@ use Rattle.std.proofs.Common.{◌≡◌, ◌<◌, ◌^◌, ◌%◌, length, ap, 
 use Rattle.std.proofs.lemmas.Result.{err_from_is_err_and}
 use Rattle.page.specs.Slot.{other}
 use Rattle.page.specs.declared.slot.Slot.{Slot}
-use Rattle.crash.specs.WriterState.{WriterState}
+use Rattle.writer_state.specs.WriterState.{WriterState}
 use Rattle.paged.specs.Writer.{FitsBlob}
 use Rattle.paged.proofs.Shortened.{within_fits, within_stands, within_unresized, within_unread, within_short, within_unwritten, within_written}
 use Rattle.paged.proofs.truncate.Recovery+B+H.cut_within.Given.{Over}

@@ -1,19 +1,18 @@
-use Rattle.std.proofs.Common.{List, ℕ, [], append-nil, sym}
+use Rattle.std.proofs.Common.{List, ℕ, [], append-nil, sym, ◌≡◌, ◌<◌, Ok, Err, Result, subst, arith}
 use Rattle.cache.specs.Pages.{CachesOnly}
-use Rattle.crash.specs.Sound.{content}
+use Rattle.writer_state.specs.Sound.{content}
 use Rattle.paged.specs.Caches.{ReadsOn}
 use Rattle.paged.proofs.Caching.{only_law}
 use Rattle.paged.proofs.CachedCuts.{fresh_of_puts, others_of_puts, written_reads, shortened_reads, fewer_pages}
-use Rattle.std.proofs.Common.{◌≡◌, ◌<◌, ℕ, Ok, Err, Result, subst, arith}
 use Rattle.std.proofs.lemmas.Result.{err_from_is_err_and}
 use Rattle.std.specs.Prelude.{IsErrAnd}
 use Rattle.disk.specs.Disk.{AreCovered, Life}
 use Rattle.disk.specs.declared.error.Error.{Error}
-use Rattle.crash.specs.WriterState.{WriterState}
-use Rattle.crash.proofs.Soundness.{sound_leaves}
+use Rattle.writer_state.specs.WriterState.{WriterState}
+use Rattle.writer_state.proofs.Soundness.{sound_leaves}
 use Rattle.paged.specs.Reads.{size_of}
 use Rattle.paged.specs.Truncate.{CutsTo, Shortens}
-use Rattle.paged.proofs.Truncating.{Truncating, SyncsWritten, TruncateOwes, behind, truncate_owes}
+use Rattle.paged.proofs.Truncating.{Truncating, SyncsWritten, TruncateOwes, after, truncate_owes}
 use Rattle.paged.proofs.Truncating.Ends.{refused, kept, cut}
 use Rattle.paged.proofs.truncate.Recovery+B+H.truncate.Given.{Over}
 use Rattle.paged.proofs.truncate.Recovery+B+H.truncate.Goals as goal
@@ -84,12 +83,12 @@ ended_owes g c t syncs = elim c.if-size.branch [
 pub shorten-requires-clause-opened : goal.shorten-requires-clause-opened
 shorten-requires-clause-opened g c =
     let at = (goal.at.shorten-requires-clause-opened g c).After-sync_written in
-    (behind g.H.Sum.sum_of c.args.size c.args.self (g.B.Blob.life c.args.blob.now) (begun g at) c.sync_written.new.self (g.B.Blob.life c.sync_written.new.blob) (written g at (Ok tt) c.in_ok-sync_written.was)).opened
+    (after g.H.Sum.sum_of c.args.size c.args.self (g.B.Blob.life c.args.blob.now) (begun g at) c.sync_written.new.self (g.B.Blob.life c.sync_written.new.blob) (written g at (Ok tt) c.in_ok-sync_written.was)).opened
 
 pub shorten-requires-clause-clean : goal.shorten-requires-clause-clean
 shorten-requires-clause-clean g c =
     let at = (goal.at.shorten-requires-clause-clean g c).After-sync_written in
-    (behind g.H.Sum.sum_of c.args.size c.args.self (g.B.Blob.life c.args.blob.now) (begun g at) c.sync_written.new.self (g.B.Blob.life c.sync_written.new.blob) (written g at (Ok tt) c.in_ok-sync_written.was)).settled.clean
+    (after g.H.Sum.sum_of c.args.size c.args.self (g.B.Blob.life c.args.blob.now) (begun g at) c.sync_written.new.self (g.B.Blob.life c.sync_written.new.blob) (written g at (Ok tt) c.in_ok-sync_written.was)).settled.clean
 
 pub returns-in_err-sync_written-clause-truncates : goal.returns-in_err-sync_written-clause-truncates
 returns-in_err-sync_written-clause-truncates g c = (refused_owes g (goal.at.returns-in_err-sync_written-clause-truncates g c).After-sync_written c.in_err-sync_written.field-0.0 c.from_residual.result c.in_err-sync_written.was c.from_residual.ensures.1).truncates
@@ -278,13 +277,13 @@ ended_reads g c t syncs can =
     let m = c.sync_written.new.self in
     let old = g.B.Blob.life c.args.blob.now in
     let mid = g.B.Blob.life c.sync_written.new.blob in
-    let after = c.sync_written.new.cache in
-    let first = written_reads sum w m old mid c.args.cache.now after t.stands syncs c.requires.cached
+    let cache_synced = c.sync_written.new.cache in
+    let first = written_reads sum w m old mid c.args.cache.now cache_synced t.stands syncs c.requires.cached
     c.in_ok-sync_written.ensures.idle_cache c.in_ok-sync_written.ensures.puts can in
-    let settled = (behind sum c.args.size w old t m mid syncs).settled in
+    let settled = (after sum c.args.size w old t m mid syncs).settled in
     elim c.if-size.branch [
       | then-size+in_ok-shorten v ↦
-          rw (v.blob-is, v.self-is) (shortened_reads sum c.args.size m v.shorten.new.self mid (g.B.Blob.life v.shorten.new.blob) after
+          rw (v.blob-is, v.self-is) (shortened_reads sum c.args.size m v.shorten.new.self mid (g.B.Blob.life v.shorten.new.blob) cache_synced
           (fewer_pages c.args.size m settled.short (omega (arith, v.if-size.true, c.size.ensures)))
           v.in_ok-shorten.ensures.shortens v.in_ok-shorten.ensures.cuts.pages first)
       | else-size v ↦ rw (v.blob-is, v.self-is) first

@@ -1,10 +1,8 @@
-use Rattle.crash.specs.Sound.{content}
-use Rattle.std.specs.Prelude.{Ok, Err}
-use Rattle.std.proofs.Common.{ℕ, sym, refl, ◌++◌}
-use Rattle.crash.specs.WriterState.{WriterState}
-use Rattle.paged.proofs.Caching.{caches_law, fresh_law, reads_behind}
-use Rattle.std.proofs.Common.{Ok, Err, subst, sym}
-use Rattle.std.specs.Prelude.{ℕ}
+use Rattle.writer_state.specs.Sound.{content}
+use Rattle.std.specs.Prelude.{Ok, Err, ℕ}
+use Rattle.std.proofs.Common.{ℕ, sym, refl, ◌++◌, Ok, Err, subst}
+use Rattle.writer_state.specs.WriterState.{WriterState}
+use Rattle.paged.proofs.Caching.{caches_law, fresh_law, reads_after}
 use Rattle.paged.specs.Calls.{Appends}
 use Rattle.paged.proofs.Covers.{completed}
 use Rattle.paged.proofs.Halves.{append_keeps, append_leaves}
@@ -39,39 +37,39 @@ pub returns-in_err-append_bytes-clause-caches : goal.returns-in_err-append_bytes
 returns-in_err-append_bytes-clause-caches g c =
     let w = c.args.self in
     let old = g.B.Blob.life c.args.blob.now in
-    let behind = c.append_bytes.new.cache in
-    caches_law {A = WriterState × ℕ} g.H.Sum.sum_of (λ r. r.0) w c.args.bytes.now (w.tip ++ c.args.bytes.now) old c.args.cache.now behind (Err c.in_err-append_bytes.field-0.0) c.requires.sound c.requires.cached refl c.in_err-append_bytes.ensures.puts
+    let after = c.append_bytes.new.cache in
+    caches_law {A = WriterState × ℕ} g.H.Sum.sum_of (λ r. r.0) w c.args.bytes.now (w.tip ++ c.args.bytes.now) old c.args.cache.now after (Err c.in_err-append_bytes.field-0.0) c.requires.sound c.requires.cached refl c.in_err-append_bytes.ensures.puts
 
 pub returns-in_err-append_bytes-clause-fresh_ids : goal.returns-in_err-append_bytes-clause-fresh_ids
 returns-in_err-append_bytes-clause-fresh_ids g c =
     let w = c.args.self in
     let old = g.B.Blob.life c.args.blob.now in
-    let behind = c.append_bytes.new.cache in
-    λ given fresh. fresh_law w.id w.full_pages (content w old.present.readable ++ c.args.bytes.now) c.args.cache.now behind
-    (caches_law {A = WriterState × ℕ} g.H.Sum.sum_of (λ r. r.0) w c.args.bytes.now (w.tip ++ c.args.bytes.now) old c.args.cache.now behind (Err c.in_err-append_bytes.field-0.0) c.requires.sound c.requires.cached refl c.in_err-append_bytes.ensures.puts) given fresh
+    let after = c.append_bytes.new.cache in
+    λ given fresh. fresh_law w.id w.full_pages (content w old.present.readable ++ c.args.bytes.now) c.args.cache.now after
+    (caches_law {A = WriterState × ℕ} g.H.Sum.sum_of (λ r. r.0) w c.args.bytes.now (w.tip ++ c.args.bytes.now) old c.args.cache.now after (Err c.in_err-append_bytes.field-0.0) c.requires.sound c.requires.cached refl c.in_err-append_bytes.ensures.puts) given fresh
 
 pub returns-clause-caches : goal.returns-clause-caches
 returns-clause-caches g c =
     let w = c.args.self in
     let old = g.B.Blob.life c.args.blob.now in
-    let behind = c.append_bytes.new.cache in
-    caches_law {A = WriterState × ℕ} g.H.Sum.sum_of (λ r. r.0) w c.args.bytes.now (w.tip ++ c.args.bytes.now) old c.args.cache.now behind (Ok (c.append_bytes.new.self, c.size-at.result)) c.requires.sound c.requires.cached refl c.in_ok-append_bytes.ensures.puts
+    let after = c.append_bytes.new.cache in
+    caches_law {A = WriterState × ℕ} g.H.Sum.sum_of (λ r. r.0) w c.args.bytes.now (w.tip ++ c.args.bytes.now) old c.args.cache.now after (Ok (c.append_bytes.new.self, c.size-at.result)) c.requires.sound c.requires.cached refl c.in_ok-append_bytes.ensures.puts
 
 pub returns-clause-fresh_ids : goal.returns-clause-fresh_ids
 returns-clause-fresh_ids g c =
     let w = c.args.self in
     let old = g.B.Blob.life c.args.blob.now in
-    let behind = c.append_bytes.new.cache in
-    λ given fresh. fresh_law w.id w.full_pages (content w old.present.readable ++ c.args.bytes.now) c.args.cache.now behind
-    (caches_law {A = WriterState × ℕ} g.H.Sum.sum_of (λ r. r.0) w c.args.bytes.now (w.tip ++ c.args.bytes.now) old c.args.cache.now behind (Ok (c.append_bytes.new.self, c.size-at.result)) c.requires.sound c.requires.cached refl c.in_ok-append_bytes.ensures.puts) given fresh
+    let after = c.append_bytes.new.cache in
+    λ given fresh. fresh_law w.id w.full_pages (content w old.present.readable ++ c.args.bytes.now) c.args.cache.now after
+    (caches_law {A = WriterState × ℕ} g.H.Sum.sum_of (λ r. r.0) w c.args.bytes.now (w.tip ++ c.args.bytes.now) old c.args.cache.now after (Ok (c.append_bytes.new.self, c.size-at.result)) c.requires.sound c.requires.cached refl c.in_ok-append_bytes.ensures.puts) given fresh
 
 pub returns-clause-can_read : goal.returns-clause-can_read
 returns-clause-can_read g c =
     let w = c.args.self in
     let old = g.B.Blob.life c.args.blob.now in
-    let behind = c.append_bytes.new.cache in
+    let after = c.append_bytes.new.cache in
     let new = g.B.Blob.life c.append_bytes.new.blob in
-    reads_behind {A = WriterState × ℕ} g.H.Sum.sum_of (λ r. r.0) w c.args.bytes.now (w.tip ++ c.args.bytes.now) old new c.args.cache.now behind (c.append_bytes.new.self, c.size-at.result) c.requires.cached refl c.in_ok-append_bytes.ensures.appends.1 c.in_ok-append_bytes.ensures.puts
+    reads_after {A = WriterState × ℕ} g.H.Sum.sum_of (λ r. r.0) w c.args.bytes.now (w.tip ++ c.args.bytes.now) old new c.args.cache.now after (c.append_bytes.new.self, c.size-at.result) c.requires.cached refl c.in_ok-append_bytes.ensures.appends.1 c.in_ok-append_bytes.ensures.puts
 
 pub returns-in_err-append_bytes-clause-tails : goal.returns-in_err-append_bytes-clause-tails
 returns-in_err-append_bytes-clause-tails g c =

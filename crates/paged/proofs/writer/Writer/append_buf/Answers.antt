@@ -1,10 +1,9 @@
-use Rattle.std.proofs.Common.{◌++◌}
+use Rattle.std.proofs.Common.{◌++◌, refl}
 use Rattle.paged.proofs.Caching.{puts_nothing}
-use Rattle.std.proofs.Common.{refl}
-use Rattle.crash.specs.Sound.{IsSound, content}
+use Rattle.writer_state.specs.Sound.{IsSound, content}
 use Rattle.crash.proofs.BelowLaws.{pages_none}
-use Rattle.crash.proofs.CoverLaws.{covers_none}
-use Rattle.crash.proofs.StandLaws.{sound_stands}
+use Rattle.writer_state.proofs.CoverLaws.{covers_none}
+use Rattle.writer_state.proofs.StandLaws.{sound_stands}
 use Rattle.paged.proofs.writer.Writer.append_buf.Goals as goal
 
 pub returns-then-not-fits-clause-pages : goal.returns-then-not-fits-clause-pages

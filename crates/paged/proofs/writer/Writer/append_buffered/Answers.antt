@@ -1,20 +1,18 @@
 use Rattle.paged.proofs.Refused.{puts_none}
-use Rattle.std.proofs.Common.{ℕ, ◌++◌, subst}
+use Rattle.std.proofs.Common.{ℕ, ◌++◌, subst, ap, ◌∙◌, sym, refl, arith, length, length-append}
 use Rattle.paged.specs.Caches.{PutsUpTo}
 use Rattle.paged.proofs.Caching.{refused_before, puts_buffered, puts_alike, puts_nothing}
-use Rattle.std.proofs.Common.{ap, ◌∙◌, sym}
-use Rattle.crash.specs.Sound.{content, IsSound}
-use Rattle.crash.proofs.CoverLaws.{covers_none}
+use Rattle.writer_state.specs.Sound.{content, IsSound}
+use Rattle.writer_state.proofs.CoverLaws.{covers_none}
 use Rattle.paged.proofs.Covers.{longer_covers}
-use Rattle.std.proofs.Common.{refl, ◌++◌, sym, ap, subst, arith, length, length-append, ◌∙◌}
 use Rattle.crash.proofs.BelowLaws.{pages_none}
-use Rattle.crash.proofs.StandLaws.{sound_stands}
+use Rattle.writer_state.proofs.StandLaws.{sound_stands}
 use Rattle.paged.proofs.Below.{pages_longer}
 use Rattle.std.proofs.lemmas.Result.{err_from_is_err_and}
 use Rattle.paged.proofs.Flushes.{size_is_length}
 use Rattle.paged.proofs.Appends.{append_flushed, append_unbuffered, buffered_goes, unbuffered_all, over_work}
-use Rattle.crash.specs.WriterState.{WriterState}
-use Rattle.crash.proofs.Soundness.{longer_sound}
+use Rattle.writer_state.specs.WriterState.{WriterState}
+use Rattle.writer_state.proofs.Soundness.{longer_sound}
 use Rattle.paged.proofs.writer.Writer.append_buffered.Goals as goal
 
 pub returns-in_err-buffer-clause-appends : goal.returns-in_err-buffer-clause-appends

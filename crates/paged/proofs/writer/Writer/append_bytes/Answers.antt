@@ -1,13 +1,12 @@
 use Rattle.paged.proofs.Refused.{puts_none}
-use Rattle.std.proofs.Common.{◌++◌}
+use Rattle.std.proofs.Common.{◌++◌, refl, sym, subst, Err}
 use Rattle.paged.proofs.Caching.{puts_nothing, refused_before}
-use Rattle.std.proofs.Common.{refl, sym, subst, Err}
 use Rattle.std.proofs.lemmas.Result.{err_from_is_err_and}
 use Rattle.disk.specs.declared.error.Error.TheVariants.{OutOfMemory}
-use Rattle.crash.specs.Sound.{IsSound, content}
+use Rattle.writer_state.specs.Sound.{IsSound, content}
 use Rattle.crash.proofs.BelowLaws.{pages_none}
-use Rattle.crash.proofs.CoverLaws.{covers_none}
-use Rattle.crash.proofs.StandLaws.{sound_stands}
+use Rattle.writer_state.proofs.CoverLaws.{covers_none}
+use Rattle.writer_state.proofs.StandLaws.{sound_stands}
 use Rattle.paged.specs.Calls.{Appends}
 use Rattle.paged.proofs.Appends.{append_unbuffered}
 use Rattle.paged.proofs.writer.Writer.append_bytes.Goals as goal

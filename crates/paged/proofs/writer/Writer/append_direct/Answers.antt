@@ -1,21 +1,20 @@
-use Rattle.paged.proofs.Refused.{puts_behind}
-use Rattle.std.proofs.Common.{sym}
+use Rattle.paged.proofs.Refused.{puts_after}
+use Rattle.std.proofs.Common.{sym, ◌≡◌, ◌-◌, ◌%◌, ◌<◌, ◌+◌, ◌++◌, List, ℕ, true, length, take, drop, refl, ap, subst, arith, ◌∙◌, Err, length-drop}
 use Rattle.paged.proofs.Caching.{direct_joined, longer_refused, puts_settings}
-use Rattle.std.proofs.Common.{◌≡◌, ◌-◌, ◌%◌, ◌<◌, ◌+◌, ◌++◌, List, ℕ, true, length, take, drop, refl, ap, sym, subst, arith, ◌∙◌, Err, length-drop}
 use Rattle.std.specs.Prelude.{slice_range}
 use Rattle.std.proofs.lemmas.List.{take_all, take-append-drop}
 use Rattle.std.proofs.lemmas.Result.{err_from_is_err_and}
 use Rattle.crash.specs.Below.{PagesStay}
-use Rattle.crash.specs.Sound.{IsSound}
-use Rattle.crash.specs.WriterState.{WriterState}
+use Rattle.writer_state.specs.Sound.{IsSound}
+use Rattle.writer_state.specs.WriterState.{WriterState}
 use Rattle.crash.proofs.BelowLaws.{pages_join}
 use Rattle.paged.specs.Calls.{Appends}
 use Rattle.paged.specs.Direct.{fill_of, is_too_big}
 use Rattle.paged.specs.Flush.{answered}
 use Rattle.paged.specs.Reads.{size_of}
 use Rattle.paged.specs.Writer.{FitsBlob}
-use Rattle.paged.proofs.Bypass.{IsCut, is_cut, big_enough, direct_places}
-use Rattle.paged.proofs.Joins.{direct_behind, appends_refused, appends_stopped, appends_join, covers_join}
+use Rattle.paged.proofs.Bypass.{IsCut, is_cut, big_enough, direct_offsets}
+use Rattle.paged.proofs.Joins.{direct_after, appends_refused, appends_stopped, appends_join, covers_join}
 use Rattle.paged.proofs.writer.Writer.append_direct.Goals as goal
 
 cut : (w : WriterState) (fill P end n m : ℕ) (bytes one two whole : List ℕ) → 0 < w.page_size → fill ≡ fill_of w → P ≡ w.page_size → n ≡ length bytes → m ≡ length bytes → is_too_big w (length bytes) ≡ true
@@ -31,7 +30,7 @@ cut w fill P end n m bytes one two whole some fill_is P_is n_is m_is big one_is 
     (subst (λ l. IsCut w.page_size (fill_of w) bytes (take (fill_of w) bytes) l (take (length two - end) (drop end two))) (sym between)
     (subst (λ l. IsCut w.page_size (fill_of w) bytes (take (fill_of w) bytes) (slice_range bytes (fill_of w) end) l) (sym rest) is))
 
--- the same bytes, cut behind what fills the tip
+-- the same bytes, cut after what fills the tip
 halves : (fill : ℕ) (bytes one : List ℕ) → one ≡ bytes → take fill one ++ drop fill one ≡ bytes
 halves fill bytes one is = take-append-drop fill one ∙ is
 
@@ -78,7 +77,7 @@ write_direct-requires-clause-direct g c =
     let mid = g.B.Blob.life c.fill_tip.new.blob in
     let size : c.from-page_size.result ≡ w.page_size = c.from-page_size.ensures ∙ c.get.ensures.value ∙ ap (λ s. s.page_size) c.self.view_is in
     let is = cut w c.args.fill c.from-page_size.result end c.len.result c.len-2.result bytes one two whole c.requires.sound.stands.some c.requires.fill size c.len.ensures c.len-2.ensures c.requires.big c.as_ref.ensures c.as_ref-2.ensures refl c.in_ok-whole.ensures.ok in
-    direct_behind g.H.Sum.sum_of w c.fill_tip.new.self old mid bytes (take c.args.fill one) whole (take (length two - end) (drop end two)) c.requires.sound c.requires.fits c.in_ok-fill_tip.ensures.appends.1 c.in_ok-fill_tip.ensures.empty is
+    direct_after g.H.Sum.sum_of w c.fill_tip.new.self old mid bytes (take c.args.fill one) whole (take (length two - end) (drop end two)) c.requires.sound c.requires.fits c.in_ok-fill_tip.ensures.appends.1 c.in_ok-fill_tip.ensures.empty is
 
 pub returns-clause-appends : goal.returns-clause-appends
 unfolding IsSound
@@ -101,9 +100,9 @@ returns-clause-appends g c =
     let goes = c.in_ok-fill_tip.ensures.appends.1 in
     let size : c.from-page_size.result ≡ w.page_size = c.from-page_size.ensures ∙ c.get.ensures.value ∙ ap (λ s. s.page_size) c.self.view_is in
     let is = cut w c.args.fill c.from-page_size.result end c.len.result c.len-2.result bytes one two whole c.requires.sound.stands.some c.requires.fill size c.len.ensures c.len-2.ensures c.requires.big c.as_ref.ensures c.as_ref-2.ensures refl c.in_ok-whole.ensures.ok in
-    let direct = direct_behind sum w m old mid bytes first whole rest c.requires.sound c.requires.fits goes c.in_ok-fill_tip.ensures.empty is in
+    let direct = direct_after sum w m old mid bytes first whole rest c.requires.sound c.requires.fits goes c.in_ok-fill_tip.ensures.empty is in
     subst (λ l. Appends sum w l old new (answered (n, size_of w) result)) is.joined
-    (appends_join sum w m old mid new first (whole ++ rest) goes n result c.requires.sound (direct_places m whole rest direct) c.write_direct.ensures.appends)
+    (appends_join sum w m old mid new first (whole ++ rest) goes n result c.requires.sound (direct_offsets m whole rest direct) c.write_direct.ensures.appends)
 
 pub returns-clause-pages : goal.returns-clause-pages
 returns-clause-pages g c =
@@ -163,5 +162,5 @@ returns-clause-puts g c =
 
 pub returns-clause-refused : goal.returns-clause-refused
 returns-clause-refused g c =
-    puts_behind c.args.cache.now c.fill_tip.new.cache c.write_direct.new.cache c.fill_tip.new.self.sync c.write_direct.result
+    puts_after c.args.cache.now c.fill_tip.new.cache c.write_direct.new.cache c.fill_tip.new.self.sync c.write_direct.result
     c.in_ok-fill_tip.ensures.once c.write_direct.ensures.refused c.write_direct.ensures.late

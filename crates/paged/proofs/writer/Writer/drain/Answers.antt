@@ -2,7 +2,6 @@ use Rattle.std.proofs.Common.{◌≡◌, ◌/◌, ◌<◌, length, ap, ◌∙◌
 use Rattle.std.specs.Prelude.{◌==◌}
 use Rattle.std.specs.Int.NonZero.{non_zero_u16_get}
 use Rattle.page.specs.Tip.{ArePages}
-use Rattle.paged.specs.Writer.{state_of}
 use Rattle.paged.proofs.Footers.{small_pages}
 use Rattle.paged.proofs.Drains.{is_writer_drained, pages_drained, durable_some, durable_none, drained_state}
 use Rattle.paged.proofs.writer.Writer.drain.Goals as goal
@@ -28,9 +27,9 @@ returns-clause-state g c =
     let are : ArePages P pages = subst (λ n. ArePages n pages) size c.in_ok-pages.ensures.pages in
     let count : length pages ≡ length inside.tip.bytes / P = pages_drained P inside.tip pages some c.self.invariant.page_size are (c.in_ok-pages.ensures.bytes ∙ c.in_ok-chunks.ensures.0) in
     elim c.if-not-is_empty.branch [
-      | then-not-is_empty w ↦ w.self-is ∙ drained_state P inside.id inside.tip c.drain_full_pages.new.self inside.flushed inside.durable _ (state_of inside.sync_state) c.args.self.now some c.self.invariant c.in_ok-chunks.ensures.2 c.self.view_is
+      | then-not-is_empty w ↦ w.self-is ∙ drained_state P inside.id inside.tip c.drain_full_pages.new.self inside.flushed inside.durable _ inside.sync_state c.args.self.now some c.self.invariant c.in_ok-chunks.ensures.2 c.self.view_is
           (durable_some inside.durable (length pages) (length inside.tip.bytes / P) count (w.if-not-is_empty.ensures ∙ ap (λ n. n == 0) c.in_ok-pages.pages.ok.0))
-      | else-not-is_empty w ↦ w.self-is ∙ drained_state P inside.id inside.tip c.drain_full_pages.new.self inside.flushed inside.durable _ (state_of inside.sync_state) c.args.self.now some c.self.invariant c.in_ok-chunks.ensures.2 c.self.view_is
+      | else-not-is_empty w ↦ w.self-is ∙ drained_state P inside.id inside.tip c.drain_full_pages.new.self inside.flushed inside.durable _ inside.sync_state c.args.self.now some c.self.invariant c.in_ok-chunks.ensures.2 c.self.view_is
           (durable_none inside.durable (length pages) (length inside.tip.bytes / P) count (w.if-not-is_empty.ensures ∙ ap (λ n. n == 0) c.in_ok-pages.pages.ok.0))
     ]
 

@@ -1,17 +1,15 @@
 use Rattle.paged.proofs.Refused.{puts_none, flushed_once}
 use Rattle.std.specs.Prelude.{false}
 use Rattle.paged.specs.Flush.{has_work}
-use Rattle.std.proofs.Common.{◌++◌, subst}
+use Rattle.std.proofs.Common.{◌++◌, subst, ap, ◌∙◌, sym, refl}
 use Rattle.paged.proofs.Caching.{refused_before, puts_buffered, puts_alike}
-use Rattle.std.proofs.Common.{ap, ◌∙◌, sym}
-use Rattle.std.proofs.Common.{refl, sym, subst}
 use Rattle.std.proofs.lemmas.Result.{err_from_is_err_and}
-use Rattle.crash.specs.WriterState.{WriterState}
-use Rattle.crash.specs.Sound.{content, IsSound}
+use Rattle.writer_state.specs.WriterState.{WriterState}
+use Rattle.writer_state.specs.Sound.{content, IsSound}
 use Rattle.crash.proofs.BelowLaws.{pages_none}
-use Rattle.crash.proofs.CoverLaws.{covers_none}
-use Rattle.crash.proofs.Soundness.{longer_sound}
-use Rattle.crash.proofs.StandLaws.{sound_stands}
+use Rattle.writer_state.proofs.CoverLaws.{covers_none}
+use Rattle.writer_state.proofs.Soundness.{longer_sound}
+use Rattle.writer_state.proofs.StandLaws.{sound_stands}
 use Rattle.paged.proofs.Appends.{append_flushed, append_unbuffered}
 use Rattle.paged.proofs.Covers.{longer_covers}
 use Rattle.paged.proofs.Joins.{filled_ok}

@@ -1,19 +1,17 @@
 use Rattle.paged.proofs.Refused.{puts_none, puts_late}
-use Rattle.std.specs.Prelude.{Err}
-use Rattle.std.proofs.Common.{ap}
+use Rattle.std.specs.Prelude.{Err, OnOk}
+use Rattle.std.proofs.Common.{ap, ◌≡◌, ◌<◌, ℕ, length, refl, sym, ◌∙◌, subst, arith, true}
 use Rattle.paged.proofs.Caching.{puts_nothing, puts_waited, puts_alike}
-use Rattle.std.proofs.Common.{◌≡◌, ◌<◌, ℕ, length, refl, sym, ◌∙◌, subst, arith, true}
-use Rattle.std.specs.Prelude.{OnOk}
 use Rattle.std.proofs.lemmas.Result.{err_from_is_err_and}
-use Rattle.crash.specs.Sound.{content, IsSound}
-use Rattle.crash.specs.WriterState.{WriterState}
+use Rattle.writer_state.specs.Sound.{content, IsSound}
+use Rattle.writer_state.specs.WriterState.{WriterState}
 use Rattle.crash.proofs.BelowLaws.{pages_none}
-use Rattle.crash.proofs.CoverLaws.{covers_none}
-use Rattle.crash.proofs.StandLaws.{sound_stands}
+use Rattle.writer_state.proofs.CoverLaws.{covers_none}
+use Rattle.writer_state.proofs.StandLaws.{sound_stands}
 use Rattle.paged.specs.Flush.{has_work, answered}
 use Rattle.paged.specs.Calls.{WaitsForNone}
 use Rattle.paged.proofs.Flushes.{goes_on_same, idle_short_rest, idle_written}
-use Rattle.paged.proofs.Waits.{flushes_behind, pages_behind, covers_behind, waits_for_none, on_ok_after}
+use Rattle.paged.proofs.Waits.{flushes_after, pages_after, covers_after, waits_for_none, on_ok_after}
 use Rattle.paged.proofs.writer.Writer.flush.Goals as goal
 
 pub returns : goal.returns
@@ -89,9 +87,9 @@ returns-then-has_flush_work g c =
           (puts_alike m now m.tip w.tip c.args.cache.now c.flush_pages.new.cache result (ap (λ (v : WriterState). v.tip) is) c.flush_pages.ensures.puts);
       refused = puts_late c.args.cache.now c.flush_pages.new.cache result c.flush_pages.ensures.late;
       idle_cache = λ none. absurd (cc (work, none));
-      flushes = flushes_behind sum w m old mid new first (answered now result) c.flush_pages.ensures.flushes;
-      pages = pages_behind sum w m old mid new first c.in_ok-wait.ensures.pages c.flush_pages.ensures.pages;
-      covers = covers_behind sum w m old mid new first c.in_ok-wait.ensures.covers c.flush_pages.ensures.covers;
+      flushes = flushes_after sum w m old mid new first (answered now result) c.flush_pages.ensures.flushes;
+      pages = pages_after sum w m old mid new first c.in_ok-wait.ensures.pages c.flush_pages.ensures.pages;
+      covers = covers_after sum w m old mid new first c.in_ok-wait.ensures.covers c.flush_pages.ensures.covers;
       starts = c.flush_pages.ensures.starts;
       calls = omega (arith, c.in_ok-wait.ensures.calls, c.flush_pages.ensures.calls);
       short = subst (λ (P : ℕ). OnOk result (length now.tip < P)) first.same.page_size c.flush_pages.ensures.short;

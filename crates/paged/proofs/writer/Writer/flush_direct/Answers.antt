@@ -1,12 +1,12 @@
 use Rattle.paged.proofs.Refused.{write_late}
 use Rattle.paged.proofs.Caching.{puts_carried}
 use Rattle.std.proofs.Common.{◌≡◌, ◌++◌, refl, ap, false}
-use Rattle.crash.specs.WriterState.{WriterState}
-use Rattle.crash.specs.Sound.{IsSound, CanWrite}
-use Rattle.crash.proofs.Soundness.{longer_sound}
-use Rattle.crash.proofs.StandLaws.{write_stands}
+use Rattle.writer_state.specs.WriterState.{WriterState}
+use Rattle.writer_state.specs.Sound.{IsSound, CanWrite}
+use Rattle.writer_state.proofs.Soundness.{longer_sound}
+use Rattle.writer_state.proofs.StandLaws.{write_stands}
 use Rattle.paged.specs.Direct.{buffering, IsDirect}
-use Rattle.paged.specs.Flush.{full_in, place_of, flush_bytes, carried}
+use Rattle.paged.specs.Flush.{full_in, offset_of, flush_bytes, carried}
 use Rattle.paged.proofs.Appends.{append_flushed}
 use Rattle.paged.proofs.Below.{flush_pages}
 use Rattle.paged.proofs.Bypass.{direct_can, direct_left, direct_carried}
@@ -34,14 +34,14 @@ returns g c =
     let can : CanWrite v.page_size v.tip (full_in v) false = direct_can c.carry.new.self c.args.whole c.args.rest.now direct in
     let goes = c.write_taken.ensures.goes in
     record {
-      late = write_late (place_of v) bytes false old new result c.write_taken.ensures.fits c.write_taken.ensures.goes;
+      late = write_late (offset_of v) bytes false old new result c.write_taken.ensures.fits c.write_taken.ensures.goes;
       puts = puts_carried w c.carry.new.self now more c.args.cache.now c.write_taken.new.cache result c.carry.ensures.is c.write_taken.ensures.puts;
       appends = append_flushed sum w longer now old new more result c.requires.sound refl
           (flush_call sum longer v now false old new result g.met.H.Sum.small sound c.carry.ensures.ready is can goes c.write_taken.ensures.state c.write_taken.ensures.fits);
-      pages = flush_pages sum w (place_of v) bytes false old new result c.requires.sound (ap place_of c.carry.ensures.is) goes;
+      pages = flush_pages sum w (offset_of v) bytes false old new result c.requires.sound (ap offset_of c.carry.ensures.is) goes;
       covers = longer_covers sum w longer more old new c.requires.sound refl (carried_covers sum longer v false false old new result g.met.H.Sum.small sound c.carry.ensures.ready is can goes);
       tip = direct_left c.carry.new.self c.args.whole c.args.rest.now direct sum now result c.write_taken.ensures.state;
       dirty = flush_dirty sum v now false result c.write_taken.ensures.state;
-      calls = write_asks (place_of v) bytes false old new result goes;
-      starts = write_stands (place_of v) bytes false old new result (ready_settled sum w old.present c.requires.sound c.carry.ensures.ready) goes;
+      calls = write_asks (offset_of v) bytes false old new result goes;
+      starts = write_stands (offset_of v) bytes false old new result (ready_settled sum w old.present c.requires.sound c.carry.ensures.ready) goes;
     }

@@ -1,10 +1,10 @@
 use Rattle.paged.proofs.Refused.{write_late}
 use Rattle.paged.proofs.Caching.{puts_carried, puts_alike}
-use Rattle.crash.specs.Sound.{IsSound, CanWrite}
-use Rattle.crash.specs.WriterState.{WriterState}
+use Rattle.writer_state.specs.Sound.{IsSound, CanWrite}
+use Rattle.writer_state.specs.WriterState.{WriterState}
 use Rattle.std.proofs.Common.{ap, sym, subst, false}
-use Rattle.crash.proofs.StandLaws.{write_stands}
-use Rattle.paged.specs.Flush.{full_in, place_of, flush_bytes}
+use Rattle.writer_state.proofs.StandLaws.{write_stands}
+use Rattle.paged.specs.Flush.{full_in, offset_of, flush_bytes}
 use Rattle.paged.proofs.Below.{flush_pages}
 use Rattle.paged.proofs.Causes.{write_asks, write_names}
 use Rattle.paged.proofs.Covers.{carried_covers}
@@ -15,8 +15,8 @@ use Rattle.paged.proofs.writer.Writer.flush_pages.Goals as goal
 pub write_pages-requires-clause-can : goal.write_pages-requires-clause-can
 unfolding IsSound
 write_pages-requires-clause-can g c =
-    subst (λ (v : WriterState). CanWrite v.page_size v.tip (full_in v) c.writes_rest-behind.result) (sym c.carry.ensures.is)
-    (can_flush_rest c.args.self.now c.args.rest c.writes_rest-behind.result c.requires.sound.stands.some c.requires.work c.writes_rest-behind.ensures)
+    subst (λ (v : WriterState). CanWrite v.page_size v.tip (full_in v) c.writes_rest-after.result) (sym c.carry.ensures.is)
+    (can_flush_rest c.args.self.now c.args.rest c.writes_rest-after.result c.requires.sound.stands.some c.requires.work c.writes_rest-after.ensures)
 
 pub returns : goal.returns
 unfolding IsSound
@@ -25,25 +25,25 @@ returns g c =
     let w = c.args.self.now in
     let v = c.carry.new.self in
     let now = c.write_pages.new.self in
-    let rest = c.writes_rest-behind.result in
+    let rest = c.writes_rest-after.result in
     let old = g.B.Blob.life c.args.blob.now in
     let new = g.B.Blob.life c.write_pages.new.blob in
     let result = c.write_pages.result in
     let bytes = flush_bytes sum v rest in
     let can : CanWrite v.page_size v.tip (full_in v) rest = subst (λ (v : WriterState). CanWrite v.page_size v.tip (full_in v) rest) (sym c.carry.ensures.is)
-    (can_flush_rest w c.args.rest rest c.requires.sound.stands.some c.requires.work c.writes_rest-behind.ensures) in
+    (can_flush_rest w c.args.rest rest c.requires.sound.stands.some c.requires.work c.writes_rest-after.ensures) in
     let goes = c.write_pages.ensures.goes in
     record {
       puts = puts_carried w v now w.tip c.args.cache.now c.write_pages.new.cache result c.carry.ensures.is
           (puts_alike v now v.tip w.tip c.args.cache.now c.write_pages.new.cache result (ap (λ (u : WriterState). u.tip) c.carry.ensures.is) c.write_pages.ensures.puts);
-      late = write_late (place_of v) bytes false old new result c.write_pages.ensures.fits goes;
+      late = write_late (offset_of v) bytes false old new result c.write_pages.ensures.fits goes;
       flushes = flush_call sum w v now rest old new result g.met.H.Sum.small c.requires.sound c.carry.ensures.ready c.carry.ensures.is can goes c.write_pages.ensures.state c.write_pages.ensures.fits;
-      pages = flush_pages sum w (place_of v) bytes false old new result c.requires.sound (ap place_of c.carry.ensures.is) goes;
+      pages = flush_pages sum w (offset_of v) bytes false old new result c.requires.sound (ap offset_of c.carry.ensures.is) goes;
       covers = carried_covers sum w v rest false old new result g.met.H.Sum.small c.requires.sound c.carry.ensures.ready c.carry.ensures.is can goes;
-      starts = write_stands (place_of v) bytes false old new result (ready_settled sum w old.present c.requires.sound c.carry.ensures.ready) goes;
-      calls = write_asks (place_of v) bytes false old new result goes;
+      starts = write_stands (offset_of v) bytes false old new result (ready_settled sum w old.present c.requires.sound c.carry.ensures.ready) goes;
+      calls = write_asks (offset_of v) bytes false old new result goes;
       short = flush_short sum w v now rest result c.requires.sound.stands.some c.carry.ensures.is c.write_pages.ensures.state;
-      written = flush_written sum w v now c.args.rest rest result c.requires.sound.stands.some c.carry.ensures.is c.writes_rest-behind.ensures c.write_pages.ensures.state;
-      names = write_names (place_of v) bytes false old new result goes;
+      written = flush_written sum w v now c.args.rest rest result c.requires.sound.stands.some c.carry.ensures.is c.writes_rest-after.ensures c.write_pages.ensures.state;
+      names = write_names (offset_of v) bytes false old new result goes;
       dirty = flush_dirty sum v now rest result c.write_pages.ensures.state;
     }

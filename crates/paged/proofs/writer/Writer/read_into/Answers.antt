@@ -3,8 +3,7 @@ use Rattle.disk.specs.declared.error.Error.TheVariants.{BlobInsufficientLength}
 use Rattle.std.proofs.Common.{◌≡◌, ◌<◌, ◌+◌, ◌^◌, sym, subst, length}
 use Rattle.std.specs.Prelude.{Err}
 use Rattle.paged_read.specs.Tail.{Tail, CanRead, size_of}
-use Rattle.paged_read.specs.Ranges.{Reads}
-use Rattle.paged_read.specs.Ranges.{AsksForMissing, LeavesAll}
+use Rattle.paged_read.specs.Ranges.{Reads, AsksForMissing, LeavesAll}
 use Rattle.paged.proofs.There.{reads_keep_sound, reads_keep, reads_leave}
 use Rattle.paged.proofs.Serves.{reads_never}
 use Rattle.paged_read.proofs.OutlivingReplays.{look_leaves_replays}

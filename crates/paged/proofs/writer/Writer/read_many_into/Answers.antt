@@ -2,8 +2,7 @@ use Rattle.paged.proofs.Recovered.{looked_as_opened}
 use Rattle.std.proofs.Common.{sym, subst}
 use Rattle.std.specs.Int.NonZero.{non_zero_usize_get}
 use Rattle.paged_read.specs.Tail.{Tail, CanRead}
-use Rattle.paged_read.specs.Ranges.{ReadsMany}
-use Rattle.paged_read.specs.Ranges.{AsksOnce, LeavesAll}
+use Rattle.paged_read.specs.Ranges.{ReadsMany, AsksOnce, LeavesAll}
 use Rattle.paged_read.specs.Batch.{ranges_of}
 use Rattle.paged.proofs.There.{reads_keep_sound, reads_keep, reads_leave}
 use Rattle.paged.proofs.Serves.{reads_many_never}

@@ -1,8 +1,7 @@
 use Rattle.paged.proofs.Recovered.{looked_as_opened}
 use Rattle.std.proofs.Common.{sym, subst}
 use Rattle.paged_read.specs.Tail.{Tail, CanRead}
-use Rattle.paged_read.specs.Ranges.{ReadsMany}
-use Rattle.paged_read.specs.Ranges.{AsksOnce, LeavesAll}
+use Rattle.paged_read.specs.Ranges.{ReadsMany, AsksOnce, LeavesAll}
 use Rattle.paged.proofs.There.{reads_keep_sound, reads_keep, reads_leave}
 use Rattle.paged.proofs.Serves.{reads_many_never}
 use Rattle.paged_read.proofs.OutlivingReplays.{look_leaves_replays}

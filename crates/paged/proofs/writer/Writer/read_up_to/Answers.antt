@@ -1,11 +1,9 @@
 use Rattle.paged.proofs.Recovered.{looked_as_opened}
 use Rattle.disk.specs.declared.error.Error.TheVariants.{BlobInsufficientLength}
-use Rattle.std.proofs.Common.{◌≢◌}
-use Rattle.std.proofs.Common.{◌≡◌, ◌≤◌, sym, subst}
+use Rattle.std.proofs.Common.{◌≢◌, ◌≡◌, ◌≤◌, sym, subst}
 use Rattle.std.specs.Prelude.{Err}
 use Rattle.paged_read.specs.Tail.{Tail, CanRead, size_of}
-use Rattle.paged_read.specs.Ranges.{ReadsUpTo, range_up_to}
-use Rattle.paged_read.specs.Ranges.{AsksForMissing, LeavesAll}
+use Rattle.paged_read.specs.Ranges.{ReadsUpTo, range_up_to, AsksForMissing, LeavesAll}
 use Rattle.paged.proofs.There.{reads_keep_sound, reads_keep, reads_leave}
 use Rattle.paged.proofs.Serves.{reads_up_to_never}
 use Rattle.paged_read.proofs.OutlivingReplays.{look_leaves_replays}

@@ -1,11 +1,11 @@
 use Rattle.std.proofs.Common.{[], ap, append-nil, sym, Ok, Err}
-use Rattle.crash.specs.Sound.{content}
-use Rattle.crash.specs.WriterState.{WriterState}
+use Rattle.writer_state.specs.Sound.{content}
+use Rattle.writer_state.specs.WriterState.{WriterState}
 use Rattle.std.specs.Int.NonZero.{non_zero_usize_get}
 use Rattle.paged_read.specs.Replay.{ReplayState}
 use Rattle.paged_read.proofs.OutlivingReplays.{replays_stay}
 use Rattle.paged_read.proofs.Outliving.{others_stay, tails_stay}
-use Rattle.paged.proofs.Caching.{caches_law_same, fresh_law, reads_behind}
+use Rattle.paged.proofs.Caching.{caches_law_same, fresh_law, reads_after}
 use Rattle.paged.proofs.Covers.{completed}
 use Rattle.paged.proofs.Serves.{sound_there}
 use Rattle.paged.proofs.Snapshotting.{begin_keeps, begin_leaves, begun_gives, made_stands}
@@ -30,7 +30,7 @@ returns-clause-gives g c =
 
 pub returns-clause-can_read : goal.returns-clause-can_read
 returns-clause-can_read g c =
-    reads_behind {A = WriterState × ReplayState} g.H.Sum.sum_of (λ r. r.0) c.args.self [] c.args.self.tip
+    reads_after {A = WriterState × ReplayState} g.H.Sum.sum_of (λ r. r.0) c.args.self [] c.args.self.tip
     (g.B.Blob.life c.args.blob.now) (g.B.Blob.life c.replay_all.new.blob) c.args.cache.now
     c.replay_all.new.cache (c.replay_all.new.self, c.in_ok-replay.replay) c.requires.cached
     (sym (append-nil c.args.self.tip)) c.in_ok-replay.ensures.begins.0 c.in_ok-replay.ensures.puts

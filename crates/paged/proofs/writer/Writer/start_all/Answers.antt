@@ -2,8 +2,8 @@ use Rattle.paged.proofs.Caching.{puts_before}
 use Rattle.std.proofs.Common.{◌≡◌, refl, true, false}
 use Rattle.std.proofs.lemmas.Result.{err_from_is_err_and}
 use Rattle.paged.specs.Flush.{has_work, paired}
-use Rattle.paged.proofs.Waits.{pages_behind, covers_behind}
-use Rattle.paged.proofs.Starting.{starts_behind, start_asks_behind, start_due, start_none, start_asks_flush, start_some, start_again, start_named}
+use Rattle.paged.proofs.Waits.{pages_after, covers_after}
+use Rattle.paged.proofs.Starting.{starts_after, start_asks_after, start_due, start_none, start_asks_flush, start_some, start_again, start_named}
 use Rattle.paged.proofs.writer.Writer.start_all.Goals as goal
 
 pub returns-in_err-flush : goal.returns-in_err-flush
@@ -48,12 +48,12 @@ returns g c =
     record {
       puts = puts_before w m now w.tip c.args.cache.now c.flush.new.cache result c.start_written.ensures.same_pages c.in_ok-flush.ensures.puts;
       idle_cache = λ none. c.in_ok-flush.ensures.idle_cache none;
-      starts_sync = starts_behind sum w m old mid new first (paired now result) c.start_written.ensures.starts_sync;
-      pages = pages_behind sum w m old mid new first c.in_ok-flush.ensures.pages c.start_written.ensures.pages;
-      covers = covers_behind sum w m old mid new first c.in_ok-flush.ensures.covers c.start_written.ensures.covers;
+      starts_sync = starts_after sum w m old mid new first (paired now result) c.start_written.ensures.starts_sync;
+      pages = pages_after sum w m old mid new first c.in_ok-flush.ensures.pages c.start_written.ensures.pages;
+      covers = covers_after sum w m old mid new first c.in_ok-flush.ensures.covers c.start_written.ensures.covers;
       starts = c.start_written.ensures.starts;
       room = c.in_ok-flush.ensures.room;
-      calls = start_asks_behind w m old mid new dirty idle c.in_ok-flush.ensures.calls c.start_written.ensures.calls;
+      calls = start_asks_after w m old mid new dirty idle c.in_ok-flush.ensures.calls c.start_written.ensures.calls;
       idle = λ none. start_again w m now old mid new result (start_none w m old mid new dirty idle none) c.start_written.ensures.idle;
       fresh = λ some. start_named old mid result c.in_ok-flush.ensures.names (c.start_written.ensures.fresh (start_due w m old mid new dirty idle some));
     }

@@ -1,10 +1,9 @@
 use Rattle.disk.specs.declared.started_sync.StartedSync.{StartedSync}
-use Rattle.crash.specs.Sound.{content}
+use Rattle.writer_state.specs.Sound.{content}
 use Rattle.std.specs.Prelude.{Ok, Err}
-use Rattle.std.proofs.Common.{[], append-nil, sym}
-use Rattle.crash.specs.WriterState.{WriterState}
-use Rattle.paged.proofs.Caching.{caches_law_same, fresh_law, reads_behind}
-use Rattle.std.proofs.Common.{Ok, Err}
+use Rattle.std.proofs.Common.{[], append-nil, sym, Ok, Err}
+use Rattle.writer_state.specs.WriterState.{WriterState}
+use Rattle.paged.proofs.Caching.{caches_law_same, fresh_law, reads_after}
 use Rattle.paged.proofs.Covers.{completed}
 use Rattle.paged.proofs.Halves.{start_keeps, start_leaves, start_within}
 use Rattle.paged.proofs.There.{start_there}
@@ -37,39 +36,39 @@ pub returns-in_err-started-clause-caches : goal.returns-in_err-started-clause-ca
 returns-in_err-started-clause-caches g c =
     let w = c.args.self in
     let old = g.B.Blob.life c.args.blob.now in
-    let behind = c.start_all.new.cache in
-    caches_law_same {A = WriterState × StartedSync} g.H.Sum.sum_of (λ r. r.0) w old c.args.cache.now behind (Err c.in_err-started.field-0.0) c.requires.sound c.requires.cached c.in_err-started.ensures.puts
+    let after = c.start_all.new.cache in
+    caches_law_same {A = WriterState × StartedSync} g.H.Sum.sum_of (λ r. r.0) w old c.args.cache.now after (Err c.in_err-started.field-0.0) c.requires.sound c.requires.cached c.in_err-started.ensures.puts
 
 pub returns-in_err-started-clause-fresh_ids : goal.returns-in_err-started-clause-fresh_ids
 returns-in_err-started-clause-fresh_ids g c =
     let w = c.args.self in
     let old = g.B.Blob.life c.args.blob.now in
-    let behind = c.start_all.new.cache in
-    λ given fresh. fresh_law w.id w.full_pages (content w old.present.readable) c.args.cache.now behind
-    (caches_law_same {A = WriterState × StartedSync} g.H.Sum.sum_of (λ r. r.0) w old c.args.cache.now behind (Err c.in_err-started.field-0.0) c.requires.sound c.requires.cached c.in_err-started.ensures.puts) given fresh
+    let after = c.start_all.new.cache in
+    λ given fresh. fresh_law w.id w.full_pages (content w old.present.readable) c.args.cache.now after
+    (caches_law_same {A = WriterState × StartedSync} g.H.Sum.sum_of (λ r. r.0) w old c.args.cache.now after (Err c.in_err-started.field-0.0) c.requires.sound c.requires.cached c.in_err-started.ensures.puts) given fresh
 
 pub returns-clause-caches : goal.returns-clause-caches
 returns-clause-caches g c =
     let w = c.args.self in
     let old = g.B.Blob.life c.args.blob.now in
-    let behind = c.start_all.new.cache in
-    caches_law_same {A = WriterState × StartedSync} g.H.Sum.sum_of (λ r. r.0) w old c.args.cache.now behind (Ok (c.start_all.new.self, c.in_ok-started.started)) c.requires.sound c.requires.cached c.in_ok-started.ensures.puts
+    let after = c.start_all.new.cache in
+    caches_law_same {A = WriterState × StartedSync} g.H.Sum.sum_of (λ r. r.0) w old c.args.cache.now after (Ok (c.start_all.new.self, c.in_ok-started.started)) c.requires.sound c.requires.cached c.in_ok-started.ensures.puts
 
 pub returns-clause-fresh_ids : goal.returns-clause-fresh_ids
 returns-clause-fresh_ids g c =
     let w = c.args.self in
     let old = g.B.Blob.life c.args.blob.now in
-    let behind = c.start_all.new.cache in
-    λ given fresh. fresh_law w.id w.full_pages (content w old.present.readable) c.args.cache.now behind
-    (caches_law_same {A = WriterState × StartedSync} g.H.Sum.sum_of (λ r. r.0) w old c.args.cache.now behind (Ok (c.start_all.new.self, c.in_ok-started.started)) c.requires.sound c.requires.cached c.in_ok-started.ensures.puts) given fresh
+    let after = c.start_all.new.cache in
+    λ given fresh. fresh_law w.id w.full_pages (content w old.present.readable) c.args.cache.now after
+    (caches_law_same {A = WriterState × StartedSync} g.H.Sum.sum_of (λ r. r.0) w old c.args.cache.now after (Ok (c.start_all.new.self, c.in_ok-started.started)) c.requires.sound c.requires.cached c.in_ok-started.ensures.puts) given fresh
 
 pub returns-clause-can_read : goal.returns-clause-can_read
 returns-clause-can_read g c =
     let w = c.args.self in
     let old = g.B.Blob.life c.args.blob.now in
-    let behind = c.start_all.new.cache in
+    let after = c.start_all.new.cache in
     let new = g.B.Blob.life c.start_all.new.blob in
-    reads_behind {A = WriterState × StartedSync} g.H.Sum.sum_of (λ r. r.0) w [] w.tip old new c.args.cache.now behind (c.start_all.new.self, c.in_ok-started.started) c.requires.cached (sym (append-nil w.tip)) c.in_ok-started.ensures.starts_sync.0 c.in_ok-started.ensures.puts
+    reads_after {A = WriterState × StartedSync} g.H.Sum.sum_of (λ r. r.0) w [] w.tip old new c.args.cache.now after (c.start_all.new.self, c.in_ok-started.started) c.requires.cached (sym (append-nil w.tip)) c.in_ok-started.ensures.starts_sync.0 c.in_ok-started.ensures.puts
 
 pub returns-in_err-started-clause-tails : goal.returns-in_err-started-clause-tails
 returns-in_err-started-clause-tails g c =

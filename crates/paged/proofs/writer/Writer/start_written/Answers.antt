@@ -1,12 +1,10 @@
-use Rattle.paged.specs.Calls.{started_state}
+use Rattle.writer_state.specs.WriterState.{started_state}
 use Rattle.paged.proofs.Caching.{started_pages}
-use Rattle.std.proofs.Common.{refl}
-use Rattle.std.proofs.Common.{◌∙◌, sym, ap, refl, arith}
-use Rattle.crash.specs.Sound.{IsSound, content}
+use Rattle.std.proofs.Common.{refl, ◌∙◌, sym, ap, arith}
+use Rattle.writer_state.specs.Sound.{IsSound, content}
 use Rattle.crash.proofs.BelowLaws.{pages_none}
-use Rattle.crash.proofs.CoverLaws.{covers_none}
-use Rattle.crash.proofs.StandLaws.{sound_stands}
-use Rattle.paged.specs.Writer.{state_of}
+use Rattle.writer_state.proofs.CoverLaws.{covers_none}
+use Rattle.writer_state.proofs.StandLaws.{sound_stands}
 use Rattle.paged.specs.Calls.{unstarted_calls, started_already}
 use Rattle.std.specs.Prelude.{Ok}
 use Rattle.paged.proofs.Starting.{dirty_starts, clean_starts, pending_starts, start_fresh}
@@ -17,7 +15,7 @@ unfolding IsSound
 returns-in-Clean g c =
     let w = c.args.self.now in
     let life = g.B.Blob.life c.args.blob.now in
-    let clean = sym (ap (λ s. s.sync) c.self.view_is) ∙ ap state_of c.in-Clean.is in
+    let clean = sym (ap (λ s. s.sync) c.self.view_is) ∙ c.in-Clean.is in
     record {
       same_pages = refl;
       starts_sync = clean_starts g.H.Sum.sum_of w life c.requires.sound clean c.requires.written;
@@ -34,7 +32,7 @@ unfolding IsSound
 returns-in-Pending g c =
     let w = c.args.self.now in
     let life = g.B.Blob.life c.args.blob.now in
-    let pending = sym (ap (λ s. s.sync) c.self.view_is) ∙ ap state_of c.in-Pending.is in
+    let pending = sym (ap (λ s. s.sync) c.self.view_is) ∙ c.in-Pending.is in
     record {
       same_pages = refl;
       starts_sync = pending_starts g.H.Sum.sum_of w c.in-Pending.name life g.met.H.Sum.small c.requires.sound pending c.requires.written;
@@ -51,7 +49,7 @@ returns-in-Dirty g c =
     let w = c.args.self.now in
     let old = g.B.Blob.life c.args.blob.now in
     let new = g.B.Blob.life c.start_blob.new.blob in
-    let dirty = sym (ap (λ s. s.sync) c.self.view_is) ∙ ap state_of c.in-Dirty.is in
+    let dirty = sym (ap (λ s. s.sync) c.self.view_is) ∙ c.in-Dirty.is in
     let done = dirty_starts g.H.Sum.sum_of w c.start_blob.new.self old new c.start_blob.result g.met.H.Sum.small c.requires.sound dirty c.requires.written c.start_blob.ensures.goes c.start_blob.ensures.state in
     record {
       same_pages = started_pages started_state c.args.self.now c.start_blob.new.self c.start_blob.result c.start_blob.ensures.state;

@@ -1,9 +1,8 @@
-use Rattle.crash.specs.Sound.{content}
+use Rattle.writer_state.specs.Sound.{content}
 use Rattle.std.specs.Prelude.{Ok, Err}
-use Rattle.std.proofs.Common.{[], append-nil, sym}
-use Rattle.crash.specs.WriterState.{WriterState}
-use Rattle.paged.proofs.Caching.{caches_law_same, fresh_law, reads_behind}
-use Rattle.std.proofs.Common.{Ok, Err}
+use Rattle.std.proofs.Common.{[], append-nil, sym, Ok, Err}
+use Rattle.writer_state.specs.WriterState.{WriterState}
+use Rattle.paged.proofs.Caching.{caches_law_same, fresh_law, reads_after}
 use Rattle.paged.proofs.Flushes.{sync_within}
 use Rattle.paged.proofs.Halves.{sync_keeps_all, sync_keeps, sync_leaves}
 use Rattle.paged.proofs.There.{synced_there}
@@ -36,39 +35,39 @@ pub returns-in_err-sync_all-clause-caches : goal.returns-in_err-sync_all-clause-
 returns-in_err-sync_all-clause-caches g c =
     let w = c.args.self in
     let old = g.B.Blob.life c.args.blob.now in
-    let behind = c.sync_all.new.cache in
-    caches_law_same {A = WriterState} g.H.Sum.sum_of (λ v. v) w old c.args.cache.now behind (Err c.in_err-sync_all.field-0.0) c.requires.sound c.requires.cached c.in_err-sync_all.ensures.puts
+    let after = c.sync_all.new.cache in
+    caches_law_same {A = WriterState} g.H.Sum.sum_of (λ v. v) w old c.args.cache.now after (Err c.in_err-sync_all.field-0.0) c.requires.sound c.requires.cached c.in_err-sync_all.ensures.puts
 
 pub returns-in_err-sync_all-clause-fresh_ids : goal.returns-in_err-sync_all-clause-fresh_ids
 returns-in_err-sync_all-clause-fresh_ids g c =
     let w = c.args.self in
     let old = g.B.Blob.life c.args.blob.now in
-    let behind = c.sync_all.new.cache in
-    λ given fresh. fresh_law w.id w.full_pages (content w old.present.readable) c.args.cache.now behind
-    (caches_law_same {A = WriterState} g.H.Sum.sum_of (λ v. v) w old c.args.cache.now behind (Err c.in_err-sync_all.field-0.0) c.requires.sound c.requires.cached c.in_err-sync_all.ensures.puts) given fresh
+    let after = c.sync_all.new.cache in
+    λ given fresh. fresh_law w.id w.full_pages (content w old.present.readable) c.args.cache.now after
+    (caches_law_same {A = WriterState} g.H.Sum.sum_of (λ v. v) w old c.args.cache.now after (Err c.in_err-sync_all.field-0.0) c.requires.sound c.requires.cached c.in_err-sync_all.ensures.puts) given fresh
 
 pub returns-clause-caches : goal.returns-clause-caches
 returns-clause-caches g c =
     let w = c.args.self in
     let old = g.B.Blob.life c.args.blob.now in
-    let behind = c.sync_all.new.cache in
-    caches_law_same {A = WriterState} g.H.Sum.sum_of (λ v. v) w old c.args.cache.now behind (Ok c.sync_all.new.self) c.requires.sound c.requires.cached c.in_ok-sync_all.ensures.puts
+    let after = c.sync_all.new.cache in
+    caches_law_same {A = WriterState} g.H.Sum.sum_of (λ v. v) w old c.args.cache.now after (Ok c.sync_all.new.self) c.requires.sound c.requires.cached c.in_ok-sync_all.ensures.puts
 
 pub returns-clause-fresh_ids : goal.returns-clause-fresh_ids
 returns-clause-fresh_ids g c =
     let w = c.args.self in
     let old = g.B.Blob.life c.args.blob.now in
-    let behind = c.sync_all.new.cache in
-    λ given fresh. fresh_law w.id w.full_pages (content w old.present.readable) c.args.cache.now behind
-    (caches_law_same {A = WriterState} g.H.Sum.sum_of (λ v. v) w old c.args.cache.now behind (Ok c.sync_all.new.self) c.requires.sound c.requires.cached c.in_ok-sync_all.ensures.puts) given fresh
+    let after = c.sync_all.new.cache in
+    λ given fresh. fresh_law w.id w.full_pages (content w old.present.readable) c.args.cache.now after
+    (caches_law_same {A = WriterState} g.H.Sum.sum_of (λ v. v) w old c.args.cache.now after (Ok c.sync_all.new.self) c.requires.sound c.requires.cached c.in_ok-sync_all.ensures.puts) given fresh
 
 pub returns-clause-can_read : goal.returns-clause-can_read
 returns-clause-can_read g c =
     let w = c.args.self in
     let old = g.B.Blob.life c.args.blob.now in
-    let behind = c.sync_all.new.cache in
+    let after = c.sync_all.new.cache in
     let new = g.B.Blob.life c.sync_all.new.blob in
-    reads_behind {A = WriterState} g.H.Sum.sum_of (λ v. v) w [] w.tip old new c.args.cache.now behind c.sync_all.new.self c.requires.cached (sym (append-nil w.tip)) c.in_ok-sync_all.ensures.syncs.0 c.in_ok-sync_all.ensures.puts
+    reads_after {A = WriterState} g.H.Sum.sum_of (λ v. v) w [] w.tip old new c.args.cache.now after c.sync_all.new.self c.requires.cached (sym (append-nil w.tip)) c.in_ok-sync_all.ensures.syncs.0 c.in_ok-sync_all.ensures.puts
 
 pub returns-in_err-sync_all-clause-tails : goal.returns-in_err-sync_all-clause-tails
 returns-in_err-sync_all-clause-tails g c =

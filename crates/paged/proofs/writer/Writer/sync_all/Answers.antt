@@ -1,7 +1,6 @@
 use Rattle.paged.proofs.Refused.{puts_none}
-use Rattle.std.proofs.Common.{refl}
+use Rattle.std.proofs.Common.{refl, sym, ◌∙◌, arith}
 use Rattle.paged.proofs.Caching.{settled_nothing}
-use Rattle.std.proofs.Common.{sym, ◌∙◌, arith}
 use Rattle.paged.specs.Flush.{answered}
 use Rattle.paged.proofs.Flushes.{sync_settles, settle_none, sync_due}
 use Rattle.paged.proofs.writer.Writer.sync_all.Goals as goal

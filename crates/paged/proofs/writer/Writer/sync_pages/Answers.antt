@@ -1,13 +1,12 @@
 use Rattle.paged.proofs.Refused.{puts_none, puts_late, waited_clean}
 use Rattle.std.specs.Prelude.{Err}
-use Rattle.std.proofs.Common.{ap, ◌∙◌}
+use Rattle.std.proofs.Common.{ap, ◌∙◌, ◌≡◌, sym, subst, true}
 use Rattle.paged.proofs.Caching.{puts_nothing, puts_waited, puts_alike}
-use Rattle.std.proofs.Common.{◌≡◌, sym, subst, true}
 use Rattle.std.proofs.lemmas.Result.{err_from_is_err_and}
-use Rattle.crash.specs.WriterState.{WriterState}
+use Rattle.writer_state.specs.WriterState.{WriterState}
 use Rattle.paged.specs.Flush.{has_work, answered}
 use Rattle.paged.specs.Calls.{WaitsForNone}
-use Rattle.paged.proofs.Waits.{syncs_behind, pages_behind, covers_behind, waits_for_none, sync_asks_behind, sync_asks_wait}
+use Rattle.paged.proofs.Waits.{syncs_after, pages_after, covers_after, waits_for_none, sync_asks_after, sync_asks_wait}
 use Rattle.paged.proofs.writer.Writer.sync_pages.Goals as goal
 
 pub returns-in_err-wait : goal.returns-in_err-wait
@@ -49,9 +48,9 @@ returns g c =
       puts = puts_waited w m now w.tip c.args.cache.now c.write_durably.new.cache result is
           (puts_alike m now m.tip w.tip c.args.cache.now c.write_durably.new.cache result (ap (λ (v : WriterState). v.tip) is) c.write_durably.ensures.puts);
       refused = λ one. puts_late c.args.cache.now c.write_durably.new.cache result (c.write_durably.ensures.late (waited_clean w m is one));
-      syncs = syncs_behind sum w m old mid new first (answered now result) c.write_durably.ensures.syncs;
-      pages = pages_behind sum w m old mid new first c.in_ok-wait.ensures.pages c.write_durably.ensures.pages;
-      covers = covers_behind sum w m old mid new first c.in_ok-wait.ensures.covers c.write_durably.ensures.covers;
+      syncs = syncs_after sum w m old mid new first (answered now result) c.write_durably.ensures.syncs;
+      pages = pages_after sum w m old mid new first c.in_ok-wait.ensures.pages c.write_durably.ensures.pages;
+      covers = covers_after sum w m old mid new first c.in_ok-wait.ensures.covers c.write_durably.ensures.covers;
       starts = c.write_durably.ensures.starts;
-      calls = sync_asks_behind w m old mid new is c.in_ok-wait.ensures.calls c.write_durably.ensures.calls;
+      calls = sync_asks_after w m old mid new is c.in_ok-wait.ensures.calls c.write_durably.ensures.calls;
     }

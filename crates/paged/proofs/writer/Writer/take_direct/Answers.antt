@@ -1,5 +1,5 @@
 use Rattle.std.proofs.Common.{◌≡◌, ◌<◌, ◌+◌, ◌++◌, ◌/◌, length, ap, sym, ◌∙◌, subst, ℕ}
-use Rattle.crash.specs.WriterState.{WriterState}
+use Rattle.writer_state.specs.WriterState.{WriterState}
 use Rattle.paged.specs.Direct.{buffering}
 use Rattle.paged.specs.Flush.{full_in}
 use Rattle.paged.proofs.Caching.{direct_put, refused_after, put_either}

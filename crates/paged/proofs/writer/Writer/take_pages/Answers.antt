@@ -1,9 +1,8 @@
 use Rattle.std.proofs.Common.{◌≡◌, ◌<◌, ◌++◌, ◌+◌, ap, sym, ◌∙◌, subst, ℕ}
-use Rattle.crash.specs.WriterState.{WriterState}
+use Rattle.writer_state.specs.WriterState.{WriterState}
 use Rattle.paged.specs.Caches.{PutsUpTo}
-use Rattle.paged.specs.Flush.{full_in}
+use Rattle.paged.specs.Flush.{full_in, rest_bytes}
 use Rattle.paged.proofs.Caching.{taken_put, refused_after}
-use Rattle.paged.specs.Flush.{rest_bytes}
 use Rattle.paged.proofs.Flushing.{flush_bytes-drained}
 use Rattle.paged.proofs.writer.Writer.take_pages.Goals as goal
 

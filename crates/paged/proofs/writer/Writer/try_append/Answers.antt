@@ -1,7 +1,6 @@
 use Rattle.paged.proofs.Caching.{tried_reads}
 use Rattle.std.proofs.Common.{◌<◌, rules}
 use Rattle.std.specs.Int.NonZero.{non_zero_u16_get}
-use Rattle.paged.specs.Writer.{state_of}
 use Rattle.paged.proofs.Appends.{tries, buffers_over, keeps_sound, keeps_pages}
 use Rattle.paged.proofs.writer.Writer.try_append.Goals as goal
 
@@ -11,7 +10,7 @@ returns-clause-appends g c =
     let P = non_zero_u16_get inside.page_size in
     let some : 0 < P = inside.page_size.ok in
     buffers_over g.H.Sum.sum_of c.args.self.now _ c.args.bytes.now c.try_append.result
-    (tries P inside.id inside.flushed inside.durable (state_of inside.sync_state) some inside.tip c.try_append.new.self c.args.bytes.now c.self.invariant c.args.self.now c.try_append.result c.self.view_is (c.fits.ensures.0 (search rules)) c.try_append.ensures)
+    (tries P inside.id inside.flushed inside.durable inside.sync_state some inside.tip c.try_append.new.self c.args.bytes.now c.self.invariant c.args.self.now c.try_append.result c.self.view_is (c.fits.ensures.0 (search rules)) c.try_append.ensures)
 
 pub returns-clause-sound : goal.returns-clause-sound
 returns-clause-sound g c =
@@ -19,7 +18,7 @@ returns-clause-sound g c =
     let P = non_zero_u16_get inside.page_size in
     let some : 0 < P = inside.page_size.ok in
     keeps_sound g.H.Sum.sum_of c.args.self.now _ c.args.bytes.now c.try_append.result
-    (tries P inside.id inside.flushed inside.durable (state_of inside.sync_state) some inside.tip c.try_append.new.self c.args.bytes.now c.self.invariant c.args.self.now c.try_append.result c.self.view_is (c.fits.ensures.0 (search rules)) c.try_append.ensures)
+    (tries P inside.id inside.flushed inside.durable inside.sync_state some inside.tip c.try_append.new.self c.args.bytes.now c.self.invariant c.args.self.now c.try_append.result c.self.view_is (c.fits.ensures.0 (search rules)) c.try_append.ensures)
 
 pub returns-clause-pages : goal.returns-clause-pages
 returns-clause-pages g c =
@@ -27,7 +26,7 @@ returns-clause-pages g c =
     let P = non_zero_u16_get inside.page_size in
     let some : 0 < P = inside.page_size.ok in
     keeps_pages c.args.self.now _ c.args.bytes.now c.try_append.result
-    (tries P inside.id inside.flushed inside.durable (state_of inside.sync_state) some inside.tip c.try_append.new.self c.args.bytes.now c.self.invariant c.args.self.now c.try_append.result c.self.view_is (c.fits.ensures.0 (search rules)) c.try_append.ensures)
+    (tries P inside.id inside.flushed inside.durable inside.sync_state some inside.tip c.try_append.new.self c.args.bytes.now c.self.invariant c.args.self.now c.try_append.result c.self.view_is (c.fits.ensures.0 (search rules)) c.try_append.ensures)
 
 pub returns-clause-can_read : goal.returns-clause-can_read
 returns-clause-can_read g c =
@@ -35,4 +34,4 @@ returns-clause-can_read g c =
     let P = non_zero_u16_get inside.page_size in
     let some : 0 < P = inside.page_size.ok in
     tried_reads c.args.self.now _ c.args.bytes.now c.try_append.result
-    (tries P inside.id inside.flushed inside.durable (state_of inside.sync_state) some inside.tip c.try_append.new.self c.args.bytes.now c.self.invariant c.args.self.now c.try_append.result c.self.view_is (c.fits.ensures.0 (search rules)) c.try_append.ensures)
+    (tries P inside.id inside.flushed inside.durable inside.sync_state some inside.tip c.try_append.new.self c.args.bytes.now c.self.invariant c.args.self.now c.try_append.result c.self.view_is (c.fits.ensures.0 (search rules)) c.try_append.ensures)

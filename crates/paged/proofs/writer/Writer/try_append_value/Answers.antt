@@ -1,7 +1,7 @@
 use Rattle.paged.proofs.Caching.{tried_reads}
 use Rattle.std.proofs.Common.{◌+◌, ◌<◌, length, subst, rules}
 use Rattle.std.specs.Int.NonZero.{non_zero_u16_get}
-use Rattle.paged.specs.Writer.{state_of, FitsBlob}
+use Rattle.paged.specs.Writer.{FitsBlob}
 use Rattle.paged.proofs.Appends.{tries, buffers_over, keeps_sound, keeps_pages}
 use Rattle.paged.proofs.writer.Writer.try_append_value.Goals as goal
 
@@ -13,7 +13,7 @@ returns-clause-appends g c =
     let w = c.args.self.now in
     let fits : FitsBlob w.page_size w.full_pages (length w.tip + length (g.T.EncodeSize.encoded c.args.value.now)) = subst (λ n. FitsBlob w.page_size w.full_pages (length w.tip + n)) c.encode_size.ensures (c.fits.ensures.0 (search rules)) in
     buffers_over g.H.Sum.sum_of c.args.self.now _ (g.T.EncodeSize.encoded c.args.value.now) c.try_append_value.result
-    (tries P inside.id inside.flushed inside.durable (state_of inside.sync_state) some inside.tip c.try_append_value.new.self (g.T.EncodeSize.encoded c.args.value.now) c.self.invariant c.args.self.now c.try_append_value.result c.self.view_is fits c.try_append_value.ensures)
+    (tries P inside.id inside.flushed inside.durable inside.sync_state some inside.tip c.try_append_value.new.self (g.T.EncodeSize.encoded c.args.value.now) c.self.invariant c.args.self.now c.try_append_value.result c.self.view_is fits c.try_append_value.ensures)
 
 pub returns-clause-sound : goal.returns-clause-sound
 returns-clause-sound g c =
@@ -23,7 +23,7 @@ returns-clause-sound g c =
     let w = c.args.self.now in
     let fits : FitsBlob w.page_size w.full_pages (length w.tip + length (g.T.EncodeSize.encoded c.args.value.now)) = subst (λ n. FitsBlob w.page_size w.full_pages (length w.tip + n)) c.encode_size.ensures (c.fits.ensures.0 (search rules)) in
     keeps_sound g.H.Sum.sum_of c.args.self.now _ (g.T.EncodeSize.encoded c.args.value.now) c.try_append_value.result
-    (tries P inside.id inside.flushed inside.durable (state_of inside.sync_state) some inside.tip c.try_append_value.new.self (g.T.EncodeSize.encoded c.args.value.now) c.self.invariant c.args.self.now c.try_append_value.result c.self.view_is fits c.try_append_value.ensures)
+    (tries P inside.id inside.flushed inside.durable inside.sync_state some inside.tip c.try_append_value.new.self (g.T.EncodeSize.encoded c.args.value.now) c.self.invariant c.args.self.now c.try_append_value.result c.self.view_is fits c.try_append_value.ensures)
 
 pub returns-clause-pages : goal.returns-clause-pages
 returns-clause-pages g c =
@@ -33,7 +33,7 @@ returns-clause-pages g c =
     let w = c.args.self.now in
     let fits : FitsBlob w.page_size w.full_pages (length w.tip + length (g.T.EncodeSize.encoded c.args.value.now)) = subst (λ n. FitsBlob w.page_size w.full_pages (length w.tip + n)) c.encode_size.ensures (c.fits.ensures.0 (search rules)) in
     keeps_pages c.args.self.now _ (g.T.EncodeSize.encoded c.args.value.now) c.try_append_value.result
-    (tries P inside.id inside.flushed inside.durable (state_of inside.sync_state) some inside.tip c.try_append_value.new.self (g.T.EncodeSize.encoded c.args.value.now) c.self.invariant c.args.self.now c.try_append_value.result c.self.view_is fits c.try_append_value.ensures)
+    (tries P inside.id inside.flushed inside.durable inside.sync_state some inside.tip c.try_append_value.new.self (g.T.EncodeSize.encoded c.args.value.now) c.self.invariant c.args.self.now c.try_append_value.result c.self.view_is fits c.try_append_value.ensures)
 
 pub returns-clause-can_read : goal.returns-clause-can_read
 returns-clause-can_read g c =
@@ -43,4 +43,4 @@ returns-clause-can_read g c =
     let w = c.args.self.now in
     let fits : FitsBlob w.page_size w.full_pages (length w.tip + length (g.T.EncodeSize.encoded c.args.value.now)) = subst (λ n. FitsBlob w.page_size w.full_pages (length w.tip + n)) c.encode_size.ensures (c.fits.ensures.0 (search rules)) in
     tried_reads c.args.self.now _ (g.T.EncodeSize.encoded c.args.value.now) c.try_append_value.result
-    (tries P inside.id inside.flushed inside.durable (state_of inside.sync_state) some inside.tip c.try_append_value.new.self (g.T.EncodeSize.encoded c.args.value.now) c.self.invariant c.args.self.now c.try_append_value.result c.self.view_is fits c.try_append_value.ensures)
+    (tries P inside.id inside.flushed inside.durable inside.sync_state some inside.tip c.try_append_value.new.self (g.T.EncodeSize.encoded c.args.value.now) c.self.invariant c.args.self.now c.try_append_value.result c.self.view_is fits c.try_append_value.ensures)

@@ -1,9 +1,8 @@
 use Rattle.std.proofs.Common.{◌∙◌, sym, ap, refl, arith}
-use Rattle.crash.specs.Sound.{IsSound, content}
+use Rattle.writer_state.specs.Sound.{IsSound, content}
 use Rattle.crash.proofs.BelowLaws.{pages_none}
-use Rattle.crash.proofs.CoverLaws.{covers_none}
-use Rattle.crash.proofs.StandLaws.{sound_stands}
-use Rattle.paged.specs.Writer.{state_of}
+use Rattle.writer_state.proofs.CoverLaws.{covers_none}
+use Rattle.writer_state.proofs.StandLaws.{sound_stands}
 use Rattle.paged.proofs.Flushes.{goes_on_same}
 use Rattle.paged.proofs.Waits.{wait_goes, wait_pages, wait_covers_through, wait_stands, wait_names, wait_completes, wait_asks_one, wait_settles, wait_due, waits_idle, none_pending, idle_calls, idle_completes}
 use Rattle.paged.proofs.writer.Writer.wait.Goals as goal
@@ -20,7 +19,7 @@ returns-in-Pending g c =
     let result = c.wait_for.result in
     let goes = c.wait_for.ensures.goes in
     let small = g.met.H.Sum.small in
-    let state = sym (ap (λ s. s.sync) c.self.view_is) ∙ ap state_of c.in-Pending.is in
+    let state = sym (ap (λ s. s.sync) c.self.view_is) ∙ c.in-Pending.is in
     record {
       waits = wait_goes sum w now name old new result small c.requires.sound state goes c.wait_for.ensures.state;
       pages = wait_pages sum w now name old new result small c.requires.sound state goes;

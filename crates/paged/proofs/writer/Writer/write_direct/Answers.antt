@@ -1,19 +1,17 @@
 use Rattle.paged.proofs.Refused.{puts_none, puts_late, waits_none, waited_ok}
 use Rattle.std.specs.Prelude.{Err}
-use Rattle.std.proofs.Common.{refl}
-use Rattle.std.proofs.Common.{ap, ◌∙◌, sym}
+use Rattle.std.proofs.Common.{refl, ap, ◌∙◌, sym, ◌++◌, [], subst, arith}
 use Rattle.paged.proofs.Caching.{puts_nothing, puts_waited}
-use Rattle.std.proofs.Common.{◌++◌, [], sym, subst, arith}
 use Rattle.std.proofs.lemmas.Result.{err_from_is_err_and}
-use Rattle.crash.specs.WriterState.{WriterState}
-use Rattle.crash.specs.Sound.{content}
+use Rattle.writer_state.specs.WriterState.{WriterState}
+use Rattle.writer_state.specs.Sound.{content}
 use Rattle.crash.specs.Below.{PagesStay}
 use Rattle.crash.proofs.BelowLaws.{pages_join}
 use Rattle.paged.specs.Calls.{WaitsForNone}
 use Rattle.paged.proofs.Appends.{append_fails}
-use Rattle.paged.proofs.Bypass.{direct_waited, direct_places}
+use Rattle.paged.proofs.Bypass.{direct_waited, direct_offsets}
 use Rattle.paged.proofs.Joins.{refuses_longer, appends_join}
-use Rattle.paged.proofs.Waits.{covers_behind, waits_for_none}
+use Rattle.paged.proofs.Waits.{covers_after, waits_for_none}
 use Rattle.paged.proofs.writer.Writer.write_direct.Goals as goal
 
 pub returns-in_err-wait : goal.returns-in_err-wait
@@ -66,10 +64,10 @@ returns g c =
       puts = puts_waited w m now more c.args.cache.now c.flush_direct.new.cache result is c.flush_direct.ensures.puts;
       refused = puts_late c.args.cache.now c.flush_direct.new.cache result c.flush_direct.ensures.late;
       late = λ _. c.flush_direct.ensures.late;
-      appends = appends_join sum w m old mid new [] more first now result c.requires.sound (direct_places m c.args.whole c.args.rest.now direct) c.flush_direct.ensures.appends;
+      appends = appends_join sum w m old mid new [] more first now result c.requires.sound (direct_offsets m c.args.whole c.args.rest.now direct) c.flush_direct.ensures.appends;
       pages = pages_join w.page_size w.full_pages w.full_pages old mid new (omega arith) c.in_ok-wait.ensures.pages
           (subst (λ (v : WriterState). PagesStay v.page_size v.full_pages mid new) is c.flush_direct.ensures.pages);
-      covers = covers_behind sum w m old mid new first c.in_ok-wait.ensures.covers c.flush_direct.ensures.covers;
+      covers = covers_after sum w m old mid new first c.in_ok-wait.ensures.covers c.flush_direct.ensures.covers;
       tip = c.flush_direct.ensures.tip;
       dirty = c.flush_direct.ensures.dirty;
       calls = omega (arith, c.in_ok-wait.ensures.calls, c.flush_direct.ensures.calls);

@@ -2,16 +2,16 @@ use Rattle.paged.proofs.Refused.{write_late}
 use Rattle.paged.proofs.Caching.{puts_carried, puts_alike, puts_before, synced_pages}
 use Rattle.std.proofs.Common.{◌≡◌, ◌∙◌, refl, sym, subst, ap, arith, true, false}
 use Rattle.crash.proofs.BelowLaws.{pages_join, sync_pages_stay}
-use Rattle.crash.proofs.StandLaws.{write_stands, sync_stands}
+use Rattle.writer_state.proofs.StandLaws.{write_stands, sync_stands}
 use Rattle.paged.proofs.Below.{flush_pages}
 use Rattle.paged.proofs.Covers.{flush_covers, carried_covers, second_covers}
 use Rattle.std.proofs.lemmas.Result.{err_from_is_err_and}
-use Rattle.crash.specs.WriterState.{WriterState, SyncState}
-use Rattle.crash.specs.WriterState.SyncState.{Clean}
-use Rattle.crash.specs.Sound.{IsSound, CanWrite, StateFits}
+use Rattle.writer_state.specs.WriterState.{WriterState}
+use Rattle.writer_state.specs.declared.sync_state.SyncState.{SyncState}
+use Rattle.writer_state.specs.declared.sync_state.SyncState.TheVariants.{Clean}
+use Rattle.writer_state.specs.Sound.{IsSound, CanWrite, StateFits}
 use Rattle.std.specs.Prelude.{Ok, Err}
-use Rattle.paged.specs.Writer.{state_of}
-use Rattle.paged.specs.Flush.{full_in, place_of, flush_bytes}
+use Rattle.paged.specs.Flush.{full_in, offset_of, flush_bytes}
 use Rattle.paged.proofs.Flushing.{can_sync}
 use Rattle.paged.proofs.Flushes.{flush_goes, dirty_carried, sync_write, sync_second, sync_asks_once, sync_asks_twice, dirty_state, ready_settled, dirty_settled}
 use Rattle.paged.proofs.Causes.{write_asks, sync_asks}
@@ -26,7 +26,7 @@ write_pages-requires-clause-can g c =
 pub write_pages-requires-clause-settled : goal.write_pages-requires-clause-settled
 unfolding IsSound
 write_pages-requires-clause-settled g c =
-    let clean : c.args.self.now.sync ≡ Clean = sym (ap (λ s. s.sync) c.self.view_is) ∙ ap state_of c.in-Clean.is in
+    let clean : c.args.self.now.sync ≡ Clean = sym (ap (λ s. s.sync) c.self.view_is) ∙ c.in-Clean.is in
     λ durable. (subst (λ (s : SyncState). StateFits (g.B.Blob.life c.args.blob.now).present s) clean c.requires.sound.stands.state).0
 
 pub returns-in_err-write_pages-in-Dirty : goal.returns-in_err-write_pages-in-Dirty
@@ -45,11 +45,11 @@ returns-in_err-write_pages-in-Dirty g c =
       puts = c.in_err-write_pages-in-Dirty.ensures.puts;
       syncs = flush_goes sum w c.write_pages-in-Dirty.new.self rest old mid (Err e) g.met.H.Sum.small c.requires.sound (dirty_carried w dirty) can
           c.in_err-write_pages-in-Dirty.ensures.goes c.in_err-write_pages-in-Dirty.ensures.state c.in_err-write_pages-in-Dirty.ensures.fits;
-      pages = flush_pages sum w (place_of w) (flush_bytes sum w rest) false old mid (Err e) c.requires.sound refl c.in_err-write_pages-in-Dirty.ensures.goes;
+      pages = flush_pages sum w (offset_of w) (flush_bytes sum w rest) false old mid (Err e) c.requires.sound refl c.in_err-write_pages-in-Dirty.ensures.goes;
       covers = flush_covers sum w rest false old mid (Err e) g.met.H.Sum.small c.requires.sound (dirty_carried w dirty) can c.in_err-write_pages-in-Dirty.ensures.goes;
       late = λ clean. absurd (cc (dirty, clean));
-      calls = sync_asks_once w old mid c.requires.work (write_asks (place_of w) (flush_bytes sum w rest) false old mid (Err e) c.in_err-write_pages-in-Dirty.ensures.goes);
-      starts = write_stands (place_of w) (flush_bytes sum w rest) false old mid (Err e) (dirty_settled sum w old.present c.requires.sound dirty) c.in_err-write_pages-in-Dirty.ensures.goes;
+      calls = sync_asks_once w old mid c.requires.work (write_asks (offset_of w) (flush_bytes sum w rest) false old mid (Err e) c.in_err-write_pages-in-Dirty.ensures.goes);
+      starts = write_stands (offset_of w) (flush_bytes sum w rest) false old mid (Err e) (dirty_settled sum w old.present c.requires.sound dirty) c.in_err-write_pages-in-Dirty.ensures.goes;
     })
 
 pub returns-in-Clean : goal.returns-in-Clean
@@ -68,12 +68,12 @@ returns-in-Clean g c =
       syncs = sync_write sum w v c.write_pages.new.self rest old new c.write_pages.result
           g.met.H.Sum.small c.requires.sound c.carry.ensures.ready c.carry.ensures.is c.has_rest-rest.ensures (subst (λ (v : WriterState). CanWrite v.page_size v.tip (full_in v) rest) (sym c.carry.ensures.is) can)
           c.write_pages.ensures.goes c.write_pages.ensures.state c.write_pages.ensures.fits;
-      pages = flush_pages sum w (place_of v) (flush_bytes sum v rest) true old new c.write_pages.result c.requires.sound (ap place_of c.carry.ensures.is) c.write_pages.ensures.goes;
+      pages = flush_pages sum w (offset_of v) (flush_bytes sum v rest) true old new c.write_pages.result c.requires.sound (ap offset_of c.carry.ensures.is) c.write_pages.ensures.goes;
       covers = carried_covers sum w v rest true old new c.write_pages.result g.met.H.Sum.small c.requires.sound c.carry.ensures.ready c.carry.ensures.is
           (subst (λ (v : WriterState). CanWrite v.page_size v.tip (full_in v) rest) (sym c.carry.ensures.is) can) c.write_pages.ensures.goes;
-      late = λ _. write_late (place_of v) (flush_bytes sum v rest) true old new c.write_pages.result c.write_pages.ensures.fits c.write_pages.ensures.goes;
-      calls = sync_asks_once w old new c.requires.work (write_asks (place_of v) (flush_bytes sum v rest) true old new c.write_pages.result c.write_pages.ensures.goes);
-      starts = write_stands (place_of v) (flush_bytes sum v rest) true old new c.write_pages.result (ready_settled sum w old.present c.requires.sound c.carry.ensures.ready) c.write_pages.ensures.goes;
+      late = λ _. write_late (offset_of v) (flush_bytes sum v rest) true old new c.write_pages.result c.write_pages.ensures.fits c.write_pages.ensures.goes;
+      calls = sync_asks_once w old new c.requires.work (write_asks (offset_of v) (flush_bytes sum v rest) true old new c.write_pages.result c.write_pages.ensures.goes);
+      starts = write_stands (offset_of v) (flush_bytes sum v rest) true old new c.write_pages.result (ready_settled sum w old.present c.requires.sound c.carry.ensures.ready) c.write_pages.ensures.goes;
     }
 
 pub returns-in_ok-write_pages-in-Dirty : goal.returns-in_ok-write_pages-in-Dirty
@@ -94,7 +94,7 @@ returns-in_ok-write_pages-in-Dirty g c =
       syncs = sync_second sum w m c.sync_blob.new.self rest old mid new c.sync_blob.result g.met.H.Sum.small c.requires.sound dirty c.has_rest-rest.ensures can
           c.in_ok-write_pages-in-Dirty.ensures.goes c.in_ok-write_pages-in-Dirty.ensures.state c.sync_blob.ensures.goes c.sync_blob.ensures.state;
       pages = pages_join w.page_size w.full_pages w.full_pages old mid new (omega arith)
-          (flush_pages sum w (place_of w) (flush_bytes sum w rest) false old mid (Ok tt) c.requires.sound refl c.in_ok-write_pages-in-Dirty.ensures.goes)
+          (flush_pages sum w (offset_of w) (flush_bytes sum w rest) false old mid (Ok tt) c.requires.sound refl c.in_ok-write_pages-in-Dirty.ensures.goes)
           (sync_pages_stay w.page_size w.full_pages mid new c.sync_blob.result c.sync_blob.ensures.goes);
       covers = second_covers sum w m old mid new c.sync_blob.result
           (flush_covers sum w rest false old mid (Ok tt) g.met.H.Sum.small c.requires.sound (dirty_carried w dirty) can c.in_ok-write_pages-in-Dirty.ensures.goes)
@@ -105,6 +105,6 @@ returns-in_ok-write_pages-in-Dirty g c =
           c.sync_blob.ensures.goes;
       late = λ clean. absurd (cc (dirty, clean));
       calls = sync_asks_twice w old mid new c.requires.work dirty
-          (write_asks (place_of w) (flush_bytes sum w rest) false old mid (Ok tt) c.in_ok-write_pages-in-Dirty.ensures.goes)
+          (write_asks (offset_of w) (flush_bytes sum w rest) false old mid (Ok tt) c.in_ok-write_pages-in-Dirty.ensures.goes)
           (sync_asks mid new c.sync_blob.result c.sync_blob.ensures.goes);
     }

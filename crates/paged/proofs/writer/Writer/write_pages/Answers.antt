@@ -1,7 +1,7 @@
 use Rattle.std.proofs.Common.{◌≡◌, ap, arith, length}
 use Rattle.std.specs.List.{concat}
 use Rattle.std.proofs.lemmas.Result.{err_from_is_err_and}
-use Rattle.paged.specs.Flush.{place_of, flush_bytes}
+use Rattle.paged.specs.Flush.{offset_of, flush_bytes}
 use Rattle.paged.proofs.Causes.{no_overflow, write_unasked}
 use Rattle.paged.proofs.Flushing.{can_some, flush_fits}
 use Rattle.paged.proofs.writer.Writer.write_pages.Goals as goal
@@ -10,13 +10,13 @@ pub returns-in_err-bufs-clause-goes : goal.returns-in_err-bufs-clause-goes
 returns-in_err-bufs-clause-goes g c =
     let w = c.args.self.now in
     let p = err_from_is_err_and c.from_residual.result c.from_residual.ensures.1 in
-    let fits = flush_fits g.H.Sum.sum_of w c.args.rest (can_some w c.args.rest c.requires.can) c.requires.can c.place-place.ensures.fits in
-    rw (p.1, p.2) (write_unasked (place_of w) (flush_bytes g.H.Sum.sum_of w c.args.rest) c.args.sync (g.B.Blob.life c.args.blob.now) c.in_err-bufs.field-0.0 c.in_err-bufs.ensures.err fits)
+    let fits = flush_fits g.H.Sum.sum_of w c.args.rest (can_some w c.args.rest c.requires.can) c.requires.can c.physical_offset-offset.ensures.fits in
+    rw (p.1, p.2) (write_unasked (offset_of w) (flush_bytes g.H.Sum.sum_of w c.args.rest) c.args.sync (g.B.Blob.life c.args.blob.now) c.in_err-bufs.field-0.0 c.in_err-bufs.ensures.err fits)
 
 pub returns-in_err-write_at-clause-fits : goal.returns-in_err-write_at-clause-fits
 returns-in_err-write_at-clause-fits g c =
     let w = c.args.self.now in
     let bytes : length (concat c.in_ok-bufs.bufs) ≡ length (flush_bytes g.H.Sum.sum_of w c.args.rest) = ap length c.in_ok-bufs.ensures.bytes in
-    let fits = flush_fits g.H.Sum.sum_of w c.args.rest (can_some w c.args.rest c.requires.can) c.requires.can c.place-place.ensures.fits in
+    let fits = flush_fits g.H.Sum.sum_of w c.args.rest (can_some w c.args.rest c.requires.can) c.requires.can c.physical_offset-offset.ensures.fits in
     let p = err_from_is_err_and c.from_residual-in_err-write_at.result c.from_residual-in_err-write_at.ensures.1 in
-    rw (p.1, p.2) (λ is. no_overflow _ _ c.args.sync _ _ c.in_err-write_at.field-0.0 c.in_err-write_at.ensures.goes (omega (arith, fits, c.place-place.ensures.place, bytes)) cc)
+    rw (p.1, p.2) (λ is. no_overflow _ _ c.args.sync _ _ c.in_err-write_at.field-0.0 c.in_err-write_at.ensures.goes (omega (arith, fits, c.physical_offset-offset.ensures.offset, bytes)) cc)

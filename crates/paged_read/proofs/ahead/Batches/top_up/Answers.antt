@@ -3,15 +3,15 @@ use Rattle.std.specs.Int.NonZero.{non_zero_u16_get}
 use Rattle.disk.specs.Disk.{StartReadGoes}
 use Rattle.crash.specs.Looks.{looked_start, looked_joins}
 use Rattle.paged_read.specs.declared.ahead.Ahead.{Ahead}
-use Rattle.paged_read.specs.ReadAhead.{behind, batch_range, page_behind, Follow, IsBatch}
-use Rattle.paged_read.proofs.ReadAheads.{are_next, batches_more, follow_more, looked_start_read, page_behind_more}
+use Rattle.paged_read.specs.ReadAhead.{after, batch_range, page_after, Follow, IsBatch}
+use Rattle.paged_read.proofs.ReadAheads.{are_next, batches_more, follow_more, looked_start_read, page_after_more}
 use Rattle.paged_read.proofs.ahead.Batches.top_up.Goals as goal
 
 pub loop-self-init : goal.loop-self-init
 loop-self-init g c = record {
   follow = c.requires.follow;
-  next = c.behind_queue-next.ensures.next
-      ∙ ap (λ l. page_behind c.args.self.batch c.args.self.full_pages c.args.page l) c.deref.ensures.value;
+  next = c.after_queue-next.ensures.next
+      ∙ ap (λ l. page_after c.args.self.batch c.args.self.full_pages c.args.page l) c.deref.ensures.value;
   few = c.requires.few;
   room = refl;
   batches = c.requires.batches;
@@ -31,11 +31,11 @@ loop-self-preserved g c =
     let old = g.B.Blob.life c.loop-self.blob in
     let new = g.B.Blob.life c.start.new.blob in
     let goes = subst (λ n. StartReadGoes (batch_range P batch full n ∷ []) old new a.read) (sym c.start.ensures.page) c.start.ensures.goes in
-    let below : page_behind batch full page queue < full = subst (λ n. n < full) so_far.next c.if-next-self.true in
+    let below : page_after batch full page queue < full = subst (λ n. n < full) so_far.next c.if-next-self.true in
     let more = c.loop-self-test.true in
     record {
       follow = subst (λ (l : List Ahead). Follow batch full page l) (sym items) (follow_more batch full page queue a so_far.follow (c.start.ensures.page ∙ so_far.next) below);
-      next = c.behind-next.ensures ∙ ap (λ n. behind batch full n) so_far.next ∙ sym (page_behind_more batch full page queue a) ∙ ap (λ (l : List Ahead). page_behind batch full page l) (sym items);
+      next = c.after-next.ensures ∙ ap (λ n. after batch full n) so_far.next ∙ sym (page_after_more batch full page queue a) ∙ ap (λ (l : List Ahead). page_after batch full page l) (sym items);
       few = omega (arith, more, c.len.ensures, ap (λ (l : List Ahead). length l) items, length-append queue (a ∷ []));
       room = c.push_reserved.ensures.capacity ∙ so_far.room;
       batches = subst (λ (l : List Ahead). All (IsBatch P batch full new.present) l) (sym items) (batches_more P batch full old new queue a goes so_far.batches);

@@ -15,6 +15,6 @@ invariant_of-self c =
       refl,
       hand_passed P was.runs.items c.drop_front.new.runs.items was.at.start was.at.left
           was.remaining next.run next.start next.left c.min-count.result c.self.invariant.1
-          c.drop_front.ensures c.passed-at.ensures.place c.passed-at.ensures.fits
+          c.drop_front.ensures c.passed-at.ensures.cursor c.passed-at.ensures.fits
           (rw (← size) (told ∙ ap (λ run. drop c.min-count.result (payloads_at c.from-page_size.result was.runs.items run was.at.start was.at.left)) first)),
     )

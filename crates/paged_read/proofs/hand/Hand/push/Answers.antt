@@ -50,7 +50,7 @@ made c =
     pushed P was.runs.items was.at.start was.at.left was.remaining c.args.run c.args.skip
     c.beside-at.result.start c.beside-at.result.left c.self.invariant.1
     (omega (arith, less, view)) (omega (arith, more, size)) (omega (arith, size, c.len.type_inv))
-    (λ some. c.requires.behind (rw (← bytes) some))
+    (λ some. c.requires.after (rw (← bytes) some))
     (λ none. let is = c.beside-at.ensures.none none in (
       ap (λ p. p.start) is,
       ap (λ p. p.left) is ∙ omega (arith, other, page),

@@ -55,7 +55,7 @@ returns-in_err-fill-clause-looked g c =
     looked_joins (g.B.Blob.life c.args.blob.now) (g.B.Blob.life c.loop-self.blob)
     (g.B.Blob.life c.fill.new.blob) c.loop-self.invariant.looked c.fill.ensures.looked
 
--- the replay behind the loop
+-- the replay after the loop
 abbrev left : (g : Over) (c : After-remaining-2 g) → ReplayState
 left g c = record {
   tail = c.self-2.inside.sealed;

@@ -8,7 +8,7 @@ use Rattle.paged_read.specs.Hand.{HandState, payloads}
 use Rattle.paged_read.specs.ReadAhead.{IsBatch}
 use Rattle.paged_read.specs.Replay.{CanReplay, end_of, FillsOnce, ReplayState}
 use Rattle.paged_read.specs.Tail.{size_of}
-use Rattle.paged_read.proofs.Replays.{Filled, filled_batch, filled_rest, grows, page_behind, page_within}
+use Rattle.paged_read.proofs.Replays.{Filled, filled_batch, filled_rest, grows, page_after, page_within}
 use Rattle.paged_read.proofs.replay.Replay.fill.Goals as goal
 use Rattle.paged_read.proofs.replay.Replay.fill.Goals.{After-add, After-from-page_size, After-push}
 use Rattle.paged_read.proofs.replay.Replay.fill.Given.{Over}
@@ -17,7 +17,7 @@ use Rattle.paged_read.proofs.replay.Replay.fill.Given.{Over}
 both : (f : ℕ → ℕ → ℕ) (a b m n : ℕ) → a ≡ b → m ≡ n → f a m ≡ f b n
 both f a b m n first second = ap (λ x. f x m) first ∙ ap (λ x. f b x) second
 
--- a page that isn't behind the last one
+-- a page that isn't after the last one
 not_last : (page full : ℕ) → page ≤ full → (page ≡ full → ⊥) → page < full
 not_last page full within isnt = elim (cases_lt page full) [
   | inl less ↦ less
@@ -221,7 +221,7 @@ rest_can g c =
     subst (λ (r : ReplayState). CanReplay r (g.B.Blob.life c.args.blob.now).present)
     (sym c.self.view_is) c.requires.can
 
--- what the bytes behind the full pages make of it
+-- what the bytes after the full pages make of it
 rest : (g : Over) (c : After-push g) → Filled g.H.Sum.sum_of (rest_was g c)
     (record (rest_was g c) { hand = c.push.new.self.bytes }) (g.B.Blob.life c.args.blob.now)
     (g.B.Blob.life c.args.blob.now) c.push.result
@@ -265,11 +265,11 @@ invariant_of-self g c = (
 )
 
 pub returns-clause-idle : goal.returns-clause-idle
-returns-clause-idle g c = λ behind.
+returns-clause-idle g c = λ after.
     let here = goal.at.returns-clause-idle g c in
     let was = batch_was g here.After-add in
     let past : was.tail.full_pages * was.tail.page_size ≤ end_of was =
-    subst (λ (r : ReplayState). r.tail.full_pages * r.tail.page_size ≤ end_of r) (sym c.self.view_is) behind in
+    subst (λ (r : ReplayState). r.tail.full_pages * r.tail.page_size ≤ end_of r) (sym c.self.view_is) after in
     let under = add_below g here.After-from-page_size c.if-page-self.false in
-    let page = page_behind g.H.Sum.sum_of was c.self.invariant.0 (batch_more g here.After-add) past in
+    let page = page_after g.H.Sum.sum_of was c.self.invariant.0 (batch_more g here.After-add) past in
     absurd (omega (arith, under, page, batch_page g here.After-add, c.self.invariant.3))

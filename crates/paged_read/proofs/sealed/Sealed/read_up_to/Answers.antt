@@ -2,8 +2,7 @@ use Rattle.std.proofs.Common.{subst}
 use Rattle.paged_read.specs.Tail.{Tail}
 use Rattle.paged_read.specs.Ranges.{LeavesAll, ReadsUpTo}
 use Rattle.paged_read.proofs.FullReads.{full_reads_up_to}
-use Rattle.paged_read.proofs.Outliving.{look_leaves_writers, read_leaves_all_tails}
-use Rattle.paged_read.proofs.Outliving.{read_leaves_all_reads, read_leaves_others}
+use Rattle.paged_read.proofs.Outliving.{look_leaves_writers, read_leaves_all_tails, read_leaves_all_reads, read_leaves_others}
 use Rattle.paged_read.proofs.OutlivingReplays.{look_leaves_replays}
 use Rattle.paged_read.proofs.sealed.Sealed.read_up_to.Goals as goal
 

@@ -7,7 +7,7 @@ use Rattle.paged_read.proofs.view.View.gather.Goals as goal
 
 pub loop-offset-init : goal.loop-offset-init
 loop-offset-init g c = record {
-  place = refl;
+  buf_offset = refl;
   gathered = gathered_start c.args.cache.now (tail_at c.args.self.page_size c.args.self.id c.args.self.tip.now) _ _ c.args.buf.now c.new-batch.ensures.pages c.new-batch.ensures.lacks;
   served = c.new-batch.ensures.served;
   few = omega (arith, c.new-batch.ensures.served);
@@ -16,7 +16,7 @@ loop-offset-init g c = record {
 pub gather_range-requires-clause-room : goal.gather_range-requires-clause-room
 gather_range-requires-clause-room g c =
     let most = sum_by_more_le (λ (range : ℕ × ℕ). range.1) c.args.ranges.now c.loop-offset.offset-index (0, 0) c.loop-offset-test.true in
-    omega (arith, most, c.loop-offset.invariant.place, c.requires.filled, c.loop-offset.auto.buf)
+    omega (arith, most, c.loop-offset.invariant.buf_offset, c.requires.filled, c.loop-offset.auto.buf)
 
 pub loop-offset-preserved : goal.loop-offset-preserved
 loop-offset-preserved g c =
@@ -25,8 +25,8 @@ loop-offset-preserved g c =
     let inv = c.loop-offset.invariant in
     let count : c.count.new.self.served ≡ c.loop-offset.batch.served + cond c.in_ok-served.served 1 0 = c.count.ensures.served ∙ ap (λ (n : ℕ). n + cond c.in_ok-served.served 1 0) c.gather_range.ensures.count in
     record {
-      place = ap (λ (n : ℕ). n + (get_or c.args.ranges.now i (0, 0)).1) inv.place ∙ sym (sum_by_more (λ (range : ℕ × ℕ). range.1) c.args.ranges.now i (0, 0) c.loop-offset-test.true);
-      gathered = gathered_next c.args.cache.now t c.args.ranges.now i (0, 0) c.loop-offset.place _ _ _ _ _ _ c.loop-offset.buf c.gather_range.new.buf c.requires.in_order c.loop-offset-test.true inv.gathered c.in_ok-served.ensures.gathered
+      buf_offset = ap (λ (n : ℕ). n + (get_or c.args.ranges.now i (0, 0)).1) inv.buf_offset ∙ sym (sum_by_more (λ (range : ℕ × ℕ). range.1) c.args.ranges.now i (0, 0) c.loop-offset-test.true);
+      gathered = gathered_next c.args.cache.now t c.args.ranges.now i (0, 0) c.loop-offset.buf_offset _ _ _ _ _ _ c.loop-offset.buf c.gather_range.new.buf c.requires.in_order c.loop-offset-test.true inv.gathered c.in_ok-served.ensures.gathered
           (ap (λ v. v.items) c.count.ensures.pages) (ap (λ v. v.items) c.count.ensures.lacks);
       served = count ∙ served_count c.args.cache.now t c.args.ranges.now i (0, 0) c.loop-offset.batch.served c.in_ok-served.served c.loop-offset-test.true inv.served c.in_ok-served.ensures.served;
       few = omega (arith, count, inv.few, one_at_most c.in_ok-served.served);

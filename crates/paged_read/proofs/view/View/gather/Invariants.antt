@@ -9,8 +9,8 @@ invariant-loop-offset g l =
     let t = tail_at l.self.page_size l.self.id l.self.tip.now in
     let ranges = take l.offset-index l.ranges in
     record {
-      place : l.place ≡ sum_by (λ range. range.1) ranges;
-      gathered : Gathered l.cache t ranges l.place l.batch.pages.items l.batch.lacks.items l.buf;
+      buf_offset : l.buf_offset ≡ sum_by (λ range. range.1) ranges;
+      gathered : Gathered l.cache t ranges l.buf_offset l.batch.pages.items l.batch.lacks.items l.buf;
       served : l.batch.served ≡ served l.cache t ranges;
       few : l.batch.served ≤ l.offset-index;
     }

@@ -9,32 +9,32 @@ use Rattle.paged_read.proofs.view.View.gather_part.Goals as goal
 pub returns-then-try_read_sync_into-clause-gathered : goal.returns-then-try_read_sync_into-clause-gathered
 returns-then-try_read_sync_into-clause-gathered g c = λ ranges ends before.
     let t = tail_at c.args.self.page_size c.args.self.id c.args.self.tip.now in
-    let place = c.args.place in
+    let buf_offset = c.args.buf_offset in
     let len = c.args.len in
     let buf = c.args.buf.now in
     let part = c.try_read_sync_into.new.buf in
-    let tries = tried_part t c.args.offset len place c.args.cache.now buf part c.try_read_sync_into.result c.requires.room c.try_read_sync_into.ensures.tries in
-    let size : length part ≡ len = c.try_read_sync_into.ensures.size ∙ length_part place len buf c.requires.room in
+    let tries = tried_part t c.args.offset len buf_offset c.args.cache.now buf part c.try_read_sync_into.result c.requires.room c.try_read_sync_into.ensures.tries in
+    let size : length part ≡ len = c.try_read_sync_into.ensures.size ∙ length_part buf_offset len buf c.requires.room in
     let served = tried_served t (c.args.offset, len) c.args.cache.now part c.try_read_sync_into.result tries c.if-try_read_sync_into.true in
-    let front = take-put_mid place (place + len - place) buf part (place + len) (omega (arith, size)) (omega (arith, c.requires.room)) in
-    gathered_served c.args.cache.now t ranges c.args.offset len place c.args.batch.now.pages.items c.args.batch.now.lacks.items buf part _ (omega (arith, c.requires.room)) served front (tries.1 c.if-try_read_sync_into.true) before
+    let front = take-put_mid buf_offset (buf_offset + len - buf_offset) buf part (buf_offset + len) (omega (arith, size)) (omega (arith, c.requires.room)) in
+    gathered_served c.args.cache.now t ranges c.args.offset len buf_offset c.args.batch.now.pages.items c.args.batch.now.lacks.items buf part _ (omega (arith, c.requires.room)) served front (tries.1 c.if-try_read_sync_into.true) before
 
 pub returns-clause-gathered : goal.returns-clause-gathered
 returns-clause-gathered g c = λ ranges ends before.
     let t = tail_at c.args.self.page_size c.args.self.id c.args.self.tip.now in
     let P = non_zero_u16_get c.args.self.page_size in
-    let place = c.args.place in
+    let buf_offset = c.args.buf_offset in
     let len = c.args.len in
     let buf = c.args.buf.now in
     let part = c.try_read_sync_into.new.buf in
-    let tries = tried_part t c.args.offset len place c.args.cache.now buf part c.try_read_sync_into.result c.requires.room c.try_read_sync_into.ensures.tries in
-    let size : length part ≡ len = c.try_read_sync_into.ensures.size ∙ length_part place len buf c.requires.room in
+    let tries = tried_part t c.args.offset len buf_offset c.args.cache.now buf part c.try_read_sync_into.result c.requires.room c.try_read_sync_into.ensures.tries in
+    let size : length part ≡ len = c.try_read_sync_into.ensures.size ∙ length_part buf_offset len buf c.requires.room in
     let unserved = tried_unserved t (c.args.offset, len) c.args.cache.now part c.try_read_sync_into.result tries c.requires.ends c.if-try_read_sync_into.false in
-    let front = take-put_mid place (place + len - place) buf part (place + len) (omega (arith, size)) (omega (arith, c.requires.room)) in
+    let front = take-put_mid buf_offset (buf_offset + len - buf_offset) buf part (buf_offset + len) (omega (arith, size)) (omega (arith, c.requires.room)) in
     let wide : 0 < P = omega (arith, c.get.ensures.value, c.get.ensures.nonzero) in
     let from : c.from-page_size.result ≡ P = c.from-page_size.ensures ∙ c.get.ensures.value in
-    let piece : Piece = record { page = c.args.offset / c.from-page_size.result; skip = c.args.offset % c.from-page_size.result; place = place; len = len } in
-    let piece_is : piece ≡ record { page = c.args.offset / P; skip = c.args.offset % P; place = place; len = len } =
-    ap (λ (n : ℕ). let p : Piece = record { page = c.args.offset / n; skip = c.args.offset % n; place = place; len = len } in p) from in
-    gathered_lacked c.args.cache.now t ranges c.args.offset len place c.args.batch.now.pages.items c.add.new.self.pages.items c.args.batch.now.lacks.items c.add.new.self.lacks.items piece buf part _
+    let piece : Piece = record { page = c.args.offset / c.from-page_size.result; skip = c.args.offset % c.from-page_size.result; buf_offset = buf_offset; len = len } in
+    let piece_is : piece ≡ record { page = c.args.offset / P; skip = c.args.offset % P; buf_offset = buf_offset; len = len } =
+    ap (λ (n : ℕ). let p : Piece = record { page = c.args.offset / n; skip = c.args.offset % n; buf_offset = buf_offset; len = len } in p) from in
+    gathered_lacked c.args.cache.now t ranges c.args.offset len buf_offset c.args.batch.now.pages.items c.add.new.self.pages.items c.args.batch.now.lacks.items c.add.new.self.lacks.items piece buf part _
     wide c.requires.some (omega (arith, c.requires.room)) size c.requires.ends ends c.requires.within unserved front piece_is c.in_ok-add.ensures.pages c.in_ok-add.ensures.lacks before

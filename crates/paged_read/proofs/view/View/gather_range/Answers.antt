@@ -12,7 +12,7 @@ loop-at-init g c =
       after = omega arith;
       within = omega arith;
       served = served_start c.args.cache.now t c.args.offset _ none;
-      gathered = λ ranges ends before. gathered_empty c.args.cache.now t ranges c.args.offset _ c.args.place _ _ _ none before;
+      gathered = λ ranges ends before. gathered_empty c.args.cache.now t ranges c.args.offset _ c.args.buf_offset _ _ _ none before;
       count = refl;
     }
 
@@ -25,6 +25,6 @@ loop-at-preserved g c =
       after = omega (arith, inv.after);
       within = omega (arith, c.part_len-part.ensures.ends);
       served = served_more c.args.cache.now t c.args.offset c.loop-at.at c.part_len-part.result c.loop-at.served c.in_ok-served.field-0 wide inv.after inv.served c.in_ok-served.ensures.served;
-      gathered = λ ranges ends before. gathered_more c.args.cache.now t ranges c.args.offset c.loop-at.at c.part_len-part.result c.args.place _ _ _ _ _ _ wide inv.after ends (inv.gathered ranges ends before) c.in_ok-served.ensures.gathered;
+      gathered = λ ranges ends before. gathered_more c.args.cache.now t ranges c.args.offset c.loop-at.at c.part_len-part.result c.args.buf_offset _ _ _ _ _ _ wide inv.after ends (inv.gathered ranges ends before) c.in_ok-served.ensures.gathered;
       count = c.gather_part.ensures.count ∙ inv.count;
     }

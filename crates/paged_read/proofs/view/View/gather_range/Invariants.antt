@@ -13,8 +13,8 @@ invariant-loop-at g l =
       within : l.at ≤ l.end;
       served : l.served ≡ is_served l.cache t (l.offset, l.at - l.offset);
       gathered : (ranges : List (ℕ × ℕ)) → EndWithin l.offset ranges
-          → Gathered l.cache t ranges l.place l.initial.batch.pages.items l.initial.batch.lacks.items l.initial.buf
-          → Gathered l.cache t (ranges ++ (l.offset, l.at - l.offset) ∷ []) (l.place + (l.at - l.offset)) l.batch.pages.items l.batch.lacks.items l.buf;
+          → Gathered l.cache t ranges l.buf_offset l.initial.batch.pages.items l.initial.batch.lacks.items l.initial.buf
+          → Gathered l.cache t (ranges ++ (l.offset, l.at - l.offset) ∷ []) (l.buf_offset + (l.at - l.offset)) l.batch.pages.items l.batch.lacks.items l.buf;
       count : l.batch.served ≡ l.initial.batch.served;
     }
 

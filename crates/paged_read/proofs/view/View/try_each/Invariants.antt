@@ -9,7 +9,7 @@ invariant-loop-index g l =
     let t = tail_at l.self.page_size l.self.id l.self.tip.now in
     let ranges = take l.index l.ranges in
     record {
-      place : l.place ≡ sum_by (λ range. range.1) ranges;
+      buf_offset : l.buf_offset ≡ sum_by (λ range. range.1) ranges;
       missed : l.missed.items ≡ missed_from 0 l.cache t ranges;
-      served : (d : Disk) → CanRead t l.cache d → HasServed l.cache t ranges (told t d.readable) (take l.place l.buf);
+      served : (d : Disk) → CanRead t l.cache d → HasServed l.cache t ranges (told t d.readable) (take l.buf_offset l.buf);
     }

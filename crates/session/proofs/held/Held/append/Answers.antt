@@ -1,10 +1,10 @@
 use Rattle.std.proofs.Common.{rules, arith, ◌≡◌, Some, None, refl, sym, subst}
 use Rattle.std.specs.Prelude.{Option}
-use Rattle.crash.specs.WriterState.{WriterState}
+use Rattle.writer_state.specs.WriterState.{WriterState}
 use Rattle.session.specs.declared.steps.Reply.TheVariants.{At}
 use Rattle.session.specs.Calls.{Appended}
 use Rattle.session.proofs.Below.{can_in, leaves_on, leaves_gone}
-use Rattle.session.proofs.StepLaws.{wait_one}
+use Rattle.session.proofs.AppendLaws.{wait_one}
 use Rattle.session.proofs.held.Held.append.Goals as goal
 
 pub returns-in-Ok-clause-goes : goal.returns-in-Ok-clause-goes

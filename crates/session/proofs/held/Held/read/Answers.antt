@@ -1,10 +1,10 @@
 use Rattle.std.proofs.Common.{sym, ◌∙◌, subst}
 use Rattle.std.specs.Prelude.{Option}
-use Rattle.crash.specs.WriterState.{WriterState}
+use Rattle.writer_state.specs.WriterState.{WriterState}
 use Rattle.paged.specs.Caches.{tail_of}
 use Rattle.session.specs.Calls.{DidRead}
 use Rattle.session.proofs.Below.{leaves_same}
-use Rattle.session.proofs.StepLaws.{read_says}
+use Rattle.session.proofs.SizeLaws.{read_says}
 use Rattle.session.proofs.held.Held.read.Goals as goal
 
 pub returns-in-Ok-clause-goes : goal.returns-in-Ok-clause-goes

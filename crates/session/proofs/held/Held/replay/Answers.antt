@@ -1,7 +1,7 @@
 use Rattle.std.proofs.Common.{rules, ◌≡◌, Some, None, refl, sym, subst}
 use Rattle.std.specs.Prelude.{Option}
 use Rattle.std.specs.Int.NonZero.{non_zero_usize_get}
-use Rattle.crash.specs.WriterState.{WriterState}
+use Rattle.writer_state.specs.WriterState.{WriterState}
 use Rattle.session.specs.declared.steps.Reply.TheVariants.{Replaying}
 use Rattle.session.specs.Calls.{TakesReplay}
 use Rattle.session.proofs.Below.{can_in, leaves_on, leaves_gone}

@@ -1,6 +1,6 @@
 use Rattle.std.proofs.Common.{◌≡◌, ◌∙◌, ◌+◌, ◌*◌, ℕ, inl, min, sym, subst}
 use Rattle.std.specs.Prelude.{Option}
-use Rattle.crash.specs.WriterState.{WriterState}
+use Rattle.writer_state.specs.WriterState.{WriterState}
 use Rattle.paged_read.specs.Scans.{scan_end, scan_to}
 use Rattle.paged.specs.Scans.{flushed_pages}
 use Rattle.session.specs.declared.steps.Reply.TheVariants.{Length, Fault}

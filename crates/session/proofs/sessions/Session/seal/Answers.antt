@@ -1,6 +1,6 @@
 use Rattle.std.proofs.Common.{rules, ◌≡◌, Some, None, sym, subst}
 use Rattle.std.specs.Prelude.{Option}
-use Rattle.crash.specs.WriterState.{WriterState}
+use Rattle.writer_state.specs.WriterState.{WriterState}
 use Rattle.session.specs.Calls.{LeavesTaken}
 use Rattle.session.proofs.Below.{can_in, in_appending, leaves_gone}
 use Rattle.session.proofs.sessions.Session.seal.Goals as goal

@@ -1,6 +1,6 @@
 use Rattle.std.proofs.Common.{rules, ◌≡◌, sym, subst}
 use Rattle.std.specs.Prelude.{Option}
-use Rattle.crash.specs.WriterState.{WriterState}
+use Rattle.writer_state.specs.WriterState.{WriterState}
 use Rattle.session.specs.Calls.{LeavesTaken}
 use Rattle.session.proofs.Below.{in_recovery, in_appending}
 use Rattle.session.proofs.sessions.Session.step_writer.Goals as goal

@@ -1,6 +1,6 @@
 use Rattle.std.proofs.Common.{subst, sym}
 use Rattle.disk.specs.History.{life_of}
-use Rattle.crash.specs.WriterState.{WriterState}
+use Rattle.writer_state.specs.WriterState.{WriterState}
 use Rattle.rows.specs.Store.{HasReady}
 use Rattle.std.specs.Prelude.{Some}
 use Rattle.rows.proofs.tests.kit.Store.recover.Goals as goal

@@ -1,0 +1,87 @@
+-- What the host of a device is asked for.
+use Rattle.std.specs.Prelude.{◌≡◌, ◌⊎◌, List, [], ◌∷◌, ◌++◌, map, Bool, true, false}
+use Rattle.std.specs.Prelude.{if◌then◌else◌, Result, Ok, Err}
+use Rattle.disk.specs.declared.action.Action.{Action}
+use Rattle.disk.specs.declared.action.Action.TheVariants as actions
+use Rattle.disk.specs.declared.action.Event.{Event}
+
+-- an action with this outcome
+abbrev pub event : Action → Bool → Event
+event action failed = record { action = action; failed = failed }
+
+-- an action with the outcome that a call answered
+abbrev pub outcome : {T E : Type 0} → Action → Result T E → Event
+outcome action (Ok _) = event action false
+outcome action (Err _) = event action true
+
+-- what a device asks its host for by an action: a write that is to be durable is a write and a
+-- sync, a started sync is one when it is waited for, and no read asks for anything
+abbrev pub requests_of : Action → List Action
+requests_of (actions.Read offset len) = []
+requests_of (actions.ReadMany ranges) = []
+requests_of (actions.StartReadMany ranges) = []
+requests_of (actions.Write offset bytes sync) =
+    actions.Write offset bytes false ∷ (if sync then actions.Sync ∷ [] else [])
+requests_of (actions.Resize len) = actions.Resize len ∷ []
+requests_of actions.Sync = actions.Sync ∷ []
+requests_of actions.StartSync = []
+requests_of (actions.WaitSync name) = actions.Sync ∷ []
+
+-- each of them was done
+abbrev pub all_done : List Action → List Event
+all_done [] = []
+all_done (action ∷ actions) = event action false ∷ all_done actions
+
+-- one of them failed, each before it was done, and nothing was asked after it
+abbrev pub FailsIn : List Action → List Event → Type 0
+FailsIn [] events = ⊥
+FailsIn (action ∷ actions) [] = ⊥
+FailsIn (action ∷ actions) (e ∷ es) =
+    ((e ≡ event action true) × (es ≡ [])) ⊎ ((e ≡ event action false) × FailsIn actions es)
+
+-- what a host was asked for by a device's events, each of which was done
+abbrev pub asked_by : List Event → List Event
+asked_by [] = []
+asked_by (e ∷ es) = all_done (requests_of e.action) ++ asked_by es
+
+-- each of the events has this outcome
+abbrev pub HaveOutcome : Bool → List Event → Type 0
+HaveOutcome failed [] = Unit {0}
+HaveOutcome failed (e ∷ es) = (e.failed ≡ failed) × HaveOutcome failed es
+
+-- no call of the host failed: it was asked for just what the device's events say
+pub record WasAskedAll (events asked : List Event) : Type 0 where
+  pub done : HaveOutcome false events
+  pub just : asked ≡ asked_by events
+
+-- a call of the host failed: it was asked for what the events before say and for that call, and
+-- for nothing since; each event since has failed too
+pub record WasAskedUntil (events asked : List Event) : Type 0 where
+  pub before : List Event
+  pub action : Action
+  pub since : List Event
+  pub all : events ≡ before ++ event action true ∷ since
+  pub done : HaveOutcome false before
+  pub failed : HaveOutcome true since
+  pub last : List Event
+  pub just : asked ≡ asked_by before ++ last
+  pub fails : FailsIn (requests_of action) last
+
+-- by whether a call of it failed
+abbrev pub WasAsked : (failed : Bool) → (events asked : List Event) → Type 0
+WasAsked false events asked = WasAskedAll events asked
+WasAsked true events asked = WasAskedUntil events asked
+
+-- a host was asked for these, and answered
+abbrev pub Answers : {T E : Type 0} → List Action → (old new : List Event) → Result T E → Type 0
+Answers actions old new (Ok _) = new ≡ old ++ all_done actions
+Answers actions old new (Err _) =
+    (last : List Event) × (new ≡ old ++ last) × FailsIn actions last
+
+-- the same, but nothing where a call failed before; and whether one has failed then
+abbrev pub Passes : (was now : Bool) → List Action → (old new : List Event) → Type 0
+Passes false false actions old new = new ≡ old ++ all_done actions
+Passes false true actions old new =
+    (last : List Event) × (new ≡ old ++ last) × FailsIn actions last
+Passes true true actions old new = new ≡ old
+Passes true false actions old new = ⊥

@@ -1,0 +1,110 @@
+// What a mirror passes its calls on to.
+ghost use Rattle.std.specs.Prelude.{◌≡◌, ◌∷◌, [], ◌++◌, List, false};
+ghost use Rattle.std.specs.List.{concat};
+ghost use Rattle.disk.specs.declared.action.Action.TheVariants as actions;
+ghost use Rattle.disk.specs.declared.action.Event.{Event};
+ghost use Rattle.file.specs.Asked.{outcome};
+
+use disk::{IoBufs, Past};
+use std::fs::File;
+use std::io;
+use std::marker::Model;
+use std::os::unix::fs::FileExt;
+use std::snapshot::Snapshot;
+
+/// What holds a blob's bytes for good. No clause says what it does with them: each says just that
+/// the call, with its outcome, is the last thing that the host was asked for.
+pub trait Host {
+    /// What it was asked for so far, and how each call went.
+    ghost asked: { Self → List Event };
+
+    /// Sets the bytes at `offset`, those of the buffers one after the other. A gap after the end
+    /// is filled with zeros, also where there is no byte. After an error any part of it may be
+    /// done.
+    fn put(&mut self, offset: u64, bufs: &IoBufs) -> io::Result<()>
+        ensures asked { let action = actions.Write offset (concat bufs.now) false in
+            asked self.new ≡ asked self.old ++ outcome action result ∷ [] };
+
+    /// Cuts the bytes to `len`, or fills them with zeros up to there.
+    fn set_len(&mut self, len: u64) -> io::Result<()>
+        ensures asked { asked self.new
+            ≡ asked self.old ++ outcome (actions.Resize len) result ∷ [] };
+
+    /// Makes all of it durable.
+    fn sync(&mut self) -> io::Result<()>
+        ensures asked { asked self.new ≡ asked self.old ++ outcome actions.Sync result ∷ [] };
+}
+
+/// A file of the system as a host.
+///
+/// That the file does what it is asked for is not proved but read, in the three calls below: the
+/// ghost record beside each says only that it was asked.
+#[derive(Drop)]
+pub struct FileHost {
+    file: File,
+    past: Snapshot<Past>,
+}
+
+impl Model for FileHost {
+    ghost use Rattle.std.specs.Prelude.{List};
+    ghost use Rattle.disk.specs.declared.action.Event.{Event};
+
+    ghost Value = { List Event };
+
+    ghost view = { λ h. h.past.value.events };
+}
+
+impl FileHost {
+    /// A file that begins with these bytes, of which nothing was asked yet.
+    pub fn new(file: File, bytes: &Vec<u8>) -> Self
+        ensures { result ≡ [] }
+    {
+        FileHost {
+            file,
+            past: Past::begun(bytes),
+        }
+    }
+}
+
+impl Host for FileHost {
+    ghost asked = { λ h. h };
+
+    fn put(&mut self, offset: u64, bufs: &IoBufs) -> io::Result<()> {
+        let result = write_all(&self.file, offset, bufs);
+        self.past = Past::write(&self.past, offset, bufs, false, result.is_err());
+        result
+    }
+
+    fn set_len(&mut self, len: u64) -> io::Result<()> {
+        let result = self.file.set_len(len);
+        self.past = Past::resize(&self.past, len, result.is_err());
+        result
+    }
+
+    fn sync(&mut self) -> io::Result<()> {
+        let result = self.file.sync_all();
+        self.past = Past::sync(&self.past, result.is_err());
+        result
+    }
+}
+
+// Each buffer goes to the file as it is.
+fn write_all(file: &File, offset: u64, bufs: &IoBufs) -> io::Result<()> {
+    if bufs.is_empty() {
+        return fill(file, offset);
+    }
+    let mut at = offset;
+    for buf in bufs.iter() {
+        file.write_all_at(buf.as_ref(), at)?;
+        at = at.wrapping_add(buf.len() as u64);
+    }
+    Ok(())
+}
+
+// A write of no byte leaves a file's end where it is.
+fn fill(file: &File, len: u64) -> io::Result<()> {
+    if file.metadata()?.len() < len {
+        file.set_len(len)?;
+    }
+    Ok(())
+}

@@ -1,0 +1,20 @@
+//! Blobs over a file: all bytes are mirrored in memory, and each write, resize and sync is passed
+//! on to the file.
+//!
+//! What is proved is [`Mirror`]: for every [`Host`] it keeps each law of [`disk::Blob`], and asks
+//! the host for just what the blob's life tells, up to the first call of the host that failed. What
+//! the file itself holds, no clause can say: [`FileHost`] is short, and is to be read.
+#![tactic(auto)]
+
+mod host;
+mod mirror;
+mod opening;
+#[cfg(test)]
+mod tests;
+
+pub use host::{FileHost, Host};
+pub use mirror::Mirror;
+pub use opening::open;
+
+/// A blob over a file of the system.
+pub type FileBlob = Mirror<FileHost>;

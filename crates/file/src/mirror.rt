@@ -1,0 +1,221 @@
+// A blob whose bytes stand in memory, and whose calls are passed on to a host.
+ghost use Rattle.std.specs.Prelude.{◌≡◌, [], length, is_some, false};
+ghost use Rattle.std.specs.List.{concat};
+ghost use Rattle.disk.specs.Disk.{ReadGoes, ReadManyGoes, WriteGoes, ResizeGoes, SyncGoes};
+ghost use Rattle.disk.specs.Disk.{StartReadGoes, StartGoes, WaitsFor};
+ghost use Rattle.disk.specs.History.{life_of, begun};
+ghost use Rattle.file.specs.Asked.{Answers, Passes, WasAsked};
+ghost use Rattle.file.specs.Mirror.{requested};
+
+use crate::Host;
+use disk::{
+    Blob, Error, IoBuf, IoBufs, ReadOptions, StartedRead, StartedSync, VecBlob, WriteOptions,
+};
+use std::alloc::Global;
+use std::io;
+use std::marker::Model;
+
+/// A blob that keeps all its bytes in memory, and passes each write, resize and sync on to a host,
+/// as a file.
+///
+/// A call that is refused for its offset, its range or want of memory asks the host for nothing. A
+/// read never does. Each other call asks the host first, and then does the same in memory. A
+/// started sync asks when it is waited for: a wait for it makes all durable that was written until
+/// then.
+///
+/// **After the first call of the host that failed, each later call fails** with its own error, and
+/// the host is asked for nothing more: after a failed write it may hold any part of it, so a later
+/// sync that answers `Ok` would call durable what isn't there; and after a failed sync a system may
+/// have dropped what it was to write. [`failure`](Mirror::failure) says why it failed. Open the
+/// host anew then, and recover.
+#[derive(Drop)]
+pub struct Mirror<S: Host> {
+    host: S,
+    kept: VecBlob,
+    failure: Option<io::Error>,
+}
+
+impl<S: Host> Model for Mirror<S> {
+    ghost use Rattle.std.specs.Prelude.{◌≡◌, is_some};
+    ghost use Rattle.file.specs.Asked.{WasAsked};
+    ghost use Rattle.file.specs.Mirror.{MirrorState};
+
+    ghost Value = { MirrorState };
+
+    ghost view = { λ m. record { kept = m.kept; asked = S.asked m.host } };
+
+    ghost invariant = { λ m. WasAsked m.kept.stopped m.kept.history.events (S.asked m.host)
+        × (is_some m.failure ≡ m.kept.stopped) };
+}
+
+// What a host is to be asked for.
+#[derive(Clone, Copy)]
+enum Request<'a> {
+    Write(u64, &'a IoBufs, bool),
+    Resize(u64),
+    Sync,
+}
+
+impl<S: Host> Mirror<S> {
+    /// A blob over a host that holds these bytes, all of them durable, and of which nothing was
+    /// asked yet.
+    pub fn new(host: S, bytes: Vec<u8>) -> Self
+        requires asked { S.asked host ≡ [] }
+        ensures life { life_of result.kept.history ≡ begun bytes.items [] }
+        ensures asked { result.asked ≡ [] }
+        ensures well { result.kept.stopped ≡ false }
+    {
+        Mirror {
+            host,
+            kept: VecBlob::from_vec(bytes),
+            failure: None,
+        }
+    }
+
+    /// What a read of all bytes would give.
+    pub fn bytes(&self) -> &[u8]
+        ensures { result.now ≡ (life_of self.now.kept.history).present.readable }
+    {
+        self.kept.bytes()
+    }
+
+    /// How many bytes it has.
+    pub fn len(&self) -> u64
+        ensures { result ≡ length (life_of self.now.kept.history).present.readable }
+    {
+        self.kept.len()
+    }
+
+    /// Why the host failed, where it has. Then each later call fails.
+    pub fn failure(&self) -> Option<&io::Error>
+        ensures { is_some result ≡ self.now.kept.stopped }
+    {
+        self.failure.as_ref()
+    }
+
+    /// The host. It was asked for just what the blob's life tells, in that order, up to the first
+    /// call that failed, and for nothing since.
+    pub fn host(&self) -> &S
+        ensures same { S.asked result.now ≡ self.now.asked }
+        ensures asked { let events = self.now.kept.history.events in
+            WasAsked self.now.kept.stopped events (S.asked result.now) }
+    {
+        &self.host
+    }
+}
+
+// Asks the host, unless it has failed; where it fails, the blob in memory fails from then on.
+fn pass_on<S: Host>(
+    host: &mut S,
+    kept: &mut VecBlob,
+    failure: &mut Option<io::Error>,
+    request: Request<'_>,
+)
+    requires failure { is_some failure.old ≡ kept.old.stopped }
+    ensures history { kept.new.history ≡ kept.old.history }
+    ensures room { kept.new.room ≡ kept.old.room }
+    ensures failure { is_some failure.new ≡ kept.new.stopped }
+    ensures passes { Passes kept.old.stopped kept.new.stopped (requested request.entry)
+        (S.asked host.old) (S.asked host.new) }
+{
+    if kept.is_stopped() {
+        return;
+    }
+    if let Err(error) = ask(host, request) {
+        kept.stop();
+        *failure = Some(error);
+    }
+}
+
+fn ask<S: Host>(host: &mut S, request: Request<'_>) -> io::Result<()>
+    ensures { Answers (requested request.entry) (S.asked host.old) (S.asked host.new) result }
+{
+    match request {
+        Request::Write(offset, bufs, sync) => {
+            host.put(offset, bufs)?;
+            if sync { host.sync() } else { Ok(()) }
+        }
+        Request::Resize(len) => host.set_len(len),
+        Request::Sync => host.sync(),
+    }
+}
+
+impl<S: Host> Blob for Mirror<S> {
+    ghost use Rattle.disk.specs.Lives.{life_reads, life_covers};
+
+    ghost life = { λ m. life_of m.kept.history };
+
+    fn read_at(
+        &mut self,
+        alloc: Global,
+        offset: u64,
+        len: usize,
+        options: ReadOptions,
+    ) -> Result<IoBuf, Error> {
+        self.kept.read_at(alloc, offset, len, options)
+    }
+
+    fn read_many(
+        &mut self,
+        alloc: Global,
+        ranges: &[(u64, usize)],
+        options: ReadOptions,
+        out: &mut Vec<(usize, IoBuf)>,
+    ) -> Result<(), Error> {
+        self.kept.read_many(alloc, ranges, options, out)
+    }
+
+    fn start_read_many(
+        &mut self,
+        alloc: Global,
+        ranges: &[(u64, usize)],
+        options: ReadOptions,
+    ) -> StartedRead {
+        self.kept.start_read_many(alloc, ranges, options)
+    }
+
+    fn write_at(&mut self, offset: u64, bufs: &IoBufs, options: WriteOptions) -> Result<(), Error> {
+        self.kept.reserve(offset, bufs.len())?;
+        let request = Request::Write(offset, bufs, options.sync);
+        pass_on(&mut self.host, &mut self.kept, &mut self.failure, request);
+        self.kept.write_at(offset, bufs, options)
+    }
+
+    fn resize(&mut self, len: u64) -> Result<(), Error> {
+        self.kept.reserve(len, 0)?;
+        let request = Request::Resize(len);
+        pass_on(&mut self.host, &mut self.kept, &mut self.failure, request);
+        self.kept.resize(len)
+    }
+
+    fn sync(&mut self) -> Result<(), Error> {
+        pass_on(
+            &mut self.host,
+            &mut self.kept,
+            &mut self.failure,
+            Request::Sync,
+        );
+        self.kept.sync()
+    }
+
+    fn start_sync(&mut self) -> Result<StartedSync, Error> {
+        self.kept.start_sync()
+    }
+
+    fn wait_sync(&mut self, started: StartedSync) -> Result<(), Error> {
+        let StartedSync::Named(_) = started else {
+            return Ok(());
+        };
+        pass_on(
+            &mut self.host,
+            &mut self.kept,
+            &mut self.failure,
+            Request::Sync,
+        );
+        self.kept.wait_sync(started)
+    }
+
+    ghost readable_is_image = { λ m. life_reads m.kept.history };
+
+    ghost starts_are_covered = { λ m. life_covers m.kept.history };
+}

@@ -1,0 +1,233 @@
+// A journal: records, one after another, on a device and under a checksum function of one's own.
+ghost use Rattle.std.specs.Prelude.{◌≡◌, length, IfOk};
+ghost use Rattle.cache.specs.Pages.{IsFresh};
+ghost use Rattle.writer_state.specs.Sound.{IsSound};
+ghost use Rattle.paged.specs.Caches.{tail_of};
+ghost use Rattle.paged_read.specs.Tail.{CanRead};
+
+use crate::calls::{CAPACITY, new_cache};
+use crate::device::Metered;
+use cache::CacheRef;
+use disk::{Blob, Error, IoBuf, MemBlob};
+use page::Sum;
+use paged::{Recovery, recover};
+use std::alloc::Global;
+use std::marker::Model;
+use std::num::NonZeroUsize;
+
+/// The device.
+pub type Device = Metered<MemBlob>;
+
+/// A record, and the offset after it.
+#[derive(Drop)]
+pub struct Record {
+    pub bytes: IoBuf,
+    pub end: u64,
+}
+
+/// A journal: its blob, the cache, and the writer, if there is one. A call that takes the writer
+/// and is refused leaves none; then the journal is to be recovered.
+///
+/// A record is two bytes of its length, the higher one first, and its bytes.
+#[derive(Drop)]
+pub struct Journal<H: Sum> {
+    alloc: Global,
+    blob: Device,
+    cache: CacheRef,
+    writer: Option<Recovery<Device, H>>,
+}
+
+impl<H: Sum> Model for Journal<H> {
+    ghost use Rattle.disk.specs.History.{life_of};
+    ghost use Rattle.guide.specs.Ready.{IsReady};
+
+    ghost Value = { Unit {0} };
+
+    ghost view = { λ journal. tt };
+
+    ghost invariant = { λ journal.
+        IsReady H.sum_of journal.writer journal.cache (life_of journal.blob.inner) };
+}
+
+// What a call answers where there is no writer.
+const NO_WRITER: Error = Error::WriteFailed;
+
+// A record as it stands in the blob.
+fn frame_of(alloc: Global, record: &[u8]) -> Result<Vec<u8>, Error> {
+    let Ok(len) = u16::try_from(record.len()) else {
+        return Err(Error::OffsetOverflow);
+    };
+    let mut framed = Vec::new(alloc);
+    framed.extend_from_slice(&len.to_be_bytes())?;
+    framed.extend_from_slice(record)?;
+    Ok(framed)
+}
+
+// A blob of so many bytes, recovered.
+fn recovered<B: Blob, H: Sum>(
+    alloc: Global,
+    blob: &mut B,
+    size: u64,
+    cache: &mut CacheRef,
+) -> Result<Recovery<B, H>, Error>
+    requires length { size ≡ length (B.life blob.old).present.readable }
+    requires fresh { IsFresh cache.old }
+    ensures sound { IfOk result (λ w. IsSound H.sum_of w (B.life blob.new).present) }
+    ensures can { IfOk result (λ w. CanRead (tail_of w) cache.new (B.life blob.new).present) }
+    ensures fresh { IsFresh cache.new }
+{
+    recover::<B, H>(alloc, blob, size, CAPACITY, cache, NonZeroUsize::MIN)
+}
+
+// A blob in recovery, cut to its first bytes.
+fn cut_to<B: Blob, H: Sum>(
+    recovery: Recovery<B, H>,
+    blob: &mut B,
+    cache: &mut CacheRef,
+    size: u64,
+) -> Result<Recovery<B, H>, Error>
+    requires sound { IsSound H.sum_of recovery (B.life blob.old).present }
+    requires can { CanRead (tail_of recovery) cache.old (B.life blob.old).present }
+    requires fresh { IsFresh cache.old }
+    ensures sound { IfOk result (λ w. IsSound H.sum_of w (B.life blob.new).present) }
+    ensures can { IfOk result (λ w. CanRead (tail_of w) cache.new (B.life blob.new).present) }
+    ensures fresh { IsFresh cache.new }
+{
+    recovery.truncate(blob, cache, size)
+}
+
+impl<H: Sum> Journal<H> {
+    /// A journal of this blob, recovered.
+    pub fn open(alloc: Global, blob: MemBlob) -> Result<Self, Error> {
+        let mut journal = Journal {
+            alloc,
+            blob: Metered::new(blob),
+            cache: new_cache(alloc)?,
+            writer: None,
+        };
+        journal.recover()?;
+        Ok(journal)
+    }
+
+    /// Recovers the blob as it is, after a crash or at once after a call that was refused, and
+    /// cuts off a record that is half there.
+    pub fn recover(&mut self) -> Result<(), Error> {
+        self.recover_blob()?;
+        let end = self.whole_end()?;
+        if end < self.size() {
+            self.cut(end)?;
+        }
+        Ok(())
+    }
+
+    fn recover_blob(&mut self) -> Result<(), Error> {
+        self.writer = None;
+        let size = self.blob.inner.len();
+        let writer = recovered(self.alloc, &mut self.blob, size, &mut self.cache)?;
+        self.writer = Some(writer);
+        Ok(())
+    }
+
+    // The offset after the last whole record.
+    fn whole_end(&mut self) -> Result<u64, Error> {
+        let mut offset = 0;
+        for _ in 0..self.size() {
+            match self.read(offset)? {
+                Some(record) => offset = record.end,
+                None => break,
+            }
+        }
+        Ok(offset)
+    }
+
+    fn cut(&mut self, size: u64) -> Result<(), Error> {
+        let Some(writer) = self.writer.take() else {
+            return Err(NO_WRITER);
+        };
+        let writer = cut_to(writer, &mut self.blob, &mut self.cache, size)?;
+        self.writer = Some(writer);
+        Ok(())
+    }
+
+    /// How many bytes the records have, with their lengths; 0 where there is no writer.
+    pub fn size(&self) -> u64 {
+        match &self.writer {
+            Some(writer) => writer.size(),
+            None => 0,
+        }
+    }
+
+    /// Appends a record of at most 65,535 bytes, and answers its offset.
+    pub fn append(&mut self, record: &[u8]) -> Result<u64, Error> {
+        let framed = frame_of(self.alloc, record)?;
+        self.append_bytes(&framed)
+    }
+
+    fn append_bytes(&mut self, bytes: &[u8]) -> Result<u64, Error> {
+        let Some(writer) = self.writer.take() else {
+            return Err(NO_WRITER);
+        };
+        let (writer, offset) = writer.append(&mut self.blob, &mut self.cache, bytes)?;
+        self.writer = Some(writer);
+        Ok(offset)
+    }
+
+    /// Makes all records durable that were appended.
+    pub fn commit(&mut self) -> Result<(), Error> {
+        let Some(writer) = self.writer.take() else {
+            return Err(NO_WRITER);
+        };
+        self.writer = Some(writer.sync(&mut self.blob, &mut self.cache)?);
+        Ok(())
+    }
+
+    /// The record at an offset; none where no whole one stands there.
+    pub fn read(&mut self, offset: u64) -> Result<Option<Record>, Error> {
+        let size = self.size();
+        let body = offset.saturating_add(2);
+        if size < body {
+            return Ok(None);
+        }
+        let mut head = [0; 2];
+        self.read_into(&mut head, offset)?;
+        let len = u16::from_be_bytes(head);
+        let end = body.saturating_add(u64::from(len));
+        if size < end {
+            return Ok(None);
+        }
+        let bytes = self.read_bytes(body, usize::from(len))?;
+        Ok(Some(Record { bytes, end }))
+    }
+
+    fn read_into(&mut self, buf: &mut [u8], offset: u64) -> Result<(), Error> {
+        match &self.writer {
+            Some(writer) => writer.read_into(&mut self.blob, &mut self.cache, buf, offset),
+            None => Err(NO_WRITER),
+        }
+    }
+
+    fn read_bytes(&mut self, offset: u64, len: usize) -> Result<IoBuf, Error> {
+        match &self.writer {
+            Some(writer) => writer
+                .read_at(&mut self.blob, &mut self.cache, offset, len)?
+                .coalesce(),
+            None => Err(NO_WRITER),
+        }
+    }
+
+    /// The device.
+    pub fn device(&self) -> &Device {
+        &self.blob
+    }
+
+    /// Lets the nth call of the device from now on fail.
+    pub fn fail_at(&mut self, n: u64) {
+        self.blob.inner.fail_at(n.max(1));
+    }
+
+    /// Crashes the device: of the unsynced bytes those with a flag are left. The writer is gone.
+    pub fn crash(&mut self, keep: &[bool]) -> Result<(), Error> {
+        self.writer = None;
+        self.blob.inner.crash(keep)
+    }
+}

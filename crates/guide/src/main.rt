@@ -1,0 +1,92 @@
+//! What the guide shows: the calls of a writer, a device and a checksum of one's own, and a journal
+//! over them, which is refused and crashes.
+#![tactic(auto)]
+
+mod calls;
+mod device;
+mod journal;
+mod sum;
+
+use crate::calls::{keep, keep_a_replay, keep_a_snapshot, keep_and_go_on, keep_and_look};
+use crate::journal::Journal;
+use crate::sum::Poly;
+use disk::{Error, IoBuf, MemBlob};
+use std::alloc::Global;
+use std::io;
+
+fn text_of(bytes: &IoBuf) -> &str {
+    str::from_utf8(bytes.as_ref()).unwrap_or("no text")
+}
+
+fn show_calls(rt: &HostRuntime) -> io::Result<()> {
+    let alloc = rt.alloc();
+    if let Ok(bytes) = keep(alloc) {
+        println!(rt; "kept {}", text_of(&bytes))?;
+    }
+    if let Ok((right, wrong)) = keep_and_look(alloc) {
+        println!(rt;
+            "its page size: {} bytes, {} to be cut",
+            right.len, right.cut
+        )?;
+        println!(rt; "another one: {} bytes, {} to be cut", wrong.len, wrong.cut)?;
+    }
+    if let Ok(bytes) = keep_a_snapshot(alloc) {
+        println!(rt; "the snapshot has {}", text_of(&bytes))?;
+    }
+    if let Ok(bytes) = keep_a_replay(alloc) {
+        println!(rt; "replayed {}", text_of(&bytes))?;
+    }
+    if let Ok(offset) = keep_and_go_on(alloc) {
+        println!(rt; "appended at {offset} meanwhile")?;
+    }
+    Ok(())
+}
+
+/// What a journal had.
+#[derive(Drop)]
+struct Told {
+    refused: bool,
+    recovered: u64,
+    crashed: u64,
+    first: Option<IoBuf>,
+    writes: u64,
+    syncs: u64,
+}
+
+/// Commits a record; is refused as it commits another, and recovers at once; appends a third, and
+/// crashes.
+fn fail_and_crash(alloc: Global) -> Result<Told, Error> {
+    let mut journal = Journal::<Poly>::open(alloc, MemBlob::new(alloc))?;
+    let offset = journal.append(b"one")?;
+    journal.commit()?;
+    journal.append(b"two")?;
+    journal.fail_at(1);
+    let refused = journal.commit().is_err();
+    journal.recover()?;
+    let recovered = journal.size();
+    journal.append(b"three, which is longer than a page")?;
+    journal.crash(&[true; 40])?;
+    journal.recover()?;
+    let first = journal.read(offset)?.map(|record| record.bytes);
+    Ok(Told {
+        refused,
+        recovered,
+        crashed: journal.size(),
+        first,
+        writes: journal.device().writes,
+        syncs: journal.device().syncs,
+    })
+}
+
+fn main(rt: HostRuntime) -> io::Result<()> {
+    show_calls(&rt)?;
+    match fail_and_crash(rt.alloc()) {
+        Ok(told) => {
+            println!(rt; "refused {}, recovered {}", told.refused, told.recovered)?;
+            println!(rt; "after the crash {}", told.crashed)?;
+            println!(rt; "first {}", told.first.as_ref().map_or("none", text_of))?;
+            println!(rt; "{} writes, {} syncs", told.writes, told.syncs)
+        }
+        Err(error) => println!(rt; "error {error}"),
+    }
+}

@@ -1,0 +1,90 @@
+-- Searches from a blob's end back: what they read, told by the log.
+use Rattle.std.proofs.Common.{◌≡◌, ◌⊎◌, inl, inr, ℕ, ◌+◌, ◌-◌, ◌*◌, ◌/◌, ◌<◌, ◌≤◌, max, List, [], ◌∷◌, ◌++◌, length, map, Bool, true, false, Result, Ok, Err, refl, sym, ap, ◌∙◌, subst, arith, append-nil, append_assoc}
+use Rattle.std.proofs.Math.Nat.{mul-le-mul_left}
+use Rattle.std.proofs.lemmas.List.{map-append}
+use Rattle.disk.specs.Disk.{Request, Entry, Life, ReadAt, ReadMany, StartReadMany, AskedOnce, ReadGoes}
+use Rattle.disk.specs.declared.error.Error.{Error}
+use Rattle.disk.specs.declared.error.Error.TheVariants.{ReadFailed, WriteFailed, ResizeFailed, SyncFailed, InvalidChecksum, BlobInsufficientLength, OffsetOverflow, OutOfMemory, IdsExhausted}
+use Rattle.paged_read.specs.Scans.{AreForward, ReadsForward}
+use Rattle.paged_read.specs.Searches.{Gained, AreWithin, ReadsWithin, scan_bytes}
+use Rattle.paged_read.specs.Backward.{FallFrom, ReadsBack}
+use Rattle.paged_read.proofs.Searching.{within_joins, gained_none, gained_once, gained_joins, gained_then, read_asks}
+
+-- reads that fall, the last one no lower than this offset
+abbrev pub FallTo : (size top bottom : ℕ) → List Request → Type 0
+FallTo size top bottom [] = bottom ≤ top
+FallTo size top bottom (ReadAt offset len ∷ rest) = (len ≡ size) × (offset + size ≤ top) × FallTo size offset bottom rest
+FallTo size top bottom (ReadMany ranges ∷ rest) = ⊥
+FallTo size top bottom (StartReadMany ranges ∷ rest) = ⊥
+FallTo size top bottom (_ ∷ rest) = FallTo size top bottom rest
+
+-- each is of one page
+fall_within : (size top most : ℕ) (xs : List Request) → size ≤ most → FallFrom size top xs → AreWithin most xs
+fall_within size top most [] enough fall = tt
+fall_within size top most (ReadAt offset len ∷ xs) enough fall = (omega (arith, fall.0), fall_within size offset most xs enough fall.2)
+fall_within size top most (ReadMany ranges ∷ xs) enough fall = absurd fall
+fall_within size top most (StartReadMany ranges ∷ xs) enough fall = absurd fall
+fall_within size top most (_ ∷ xs) enough fall = fall_within size top most xs enough fall
+
+-- however low they end
+fall_forget : (size top bottom : ℕ) (xs : List Request) → FallTo size top bottom xs → FallFrom size top xs
+fall_forget size top bottom [] fall = tt
+fall_forget size top bottom (ReadAt offset len ∷ xs) fall = (fall.0, fall.1, fall_forget size offset bottom xs fall.2)
+fall_forget size top bottom (ReadMany ranges ∷ xs) fall = absurd fall
+fall_forget size top bottom (StartReadMany ranges ∷ xs) fall = absurd fall
+fall_forget size top bottom (_ ∷ xs) fall = fall_forget size top bottom xs fall
+
+-- one lower
+fall_read : (size top bottom offset : ℕ) (xs : List Request) → FallTo size top bottom xs → offset + size ≤ bottom → FallTo size top offset (xs ++ ReadAt offset size ∷ [])
+fall_read size top bottom offset [] fall below = (refl, omega arith, omega arith)
+fall_read size top bottom offset (ReadAt at len ∷ xs) fall below = (fall.0, fall.1, fall_read size at bottom offset xs fall.2 below)
+fall_read size top bottom offset (ReadMany ranges ∷ xs) fall below = absurd fall
+fall_read size top bottom offset (StartReadMany ranges ∷ xs) fall below = absurd fall
+fall_read size top bottom offset (_ ∷ xs) fall below = fall_read size top bottom offset xs fall below
+
+fall_lower : (size top bottom offset : ℕ) (xs : List Request) → FallTo size top bottom xs → offset ≤ bottom → FallTo size top offset xs
+fall_lower size top bottom offset [] fall below = omega arith
+fall_lower size top bottom offset (ReadAt at len ∷ xs) fall below = (fall.0, fall.1, fall_lower size at bottom offset xs fall.2 below)
+fall_lower size top bottom offset (ReadMany ranges ∷ xs) fall below = absurd fall
+fall_lower size top bottom offset (StartReadMany ranges ∷ xs) fall below = absurd fall
+fall_lower size top bottom offset (_ ∷ xs) fall below = fall_lower size top bottom offset xs fall below
+
+-- the reads of a search that goes back, down to an offset
+abbrev pub ReadsDownTo : (size bottom : ℕ) → Life → Life → Type 0
+ReadsDownTo size bottom old new = Gained (FallTo size (length old.present.readable) bottom) old new
+
+-- none yet
+pub down_start : (size bottom : ℕ) (life : Life) → bottom ≤ length life.present.readable → ReadsDownTo size bottom life life
+down_start size bottom life below = gained_none (FallTo size (length life.present.readable) bottom) life life refl below
+
+-- one lower
+pub down_read : (size bottom offset : ℕ) (start old new : Life) (answer : Result (List ℕ) Error) → offset + size ≤ bottom → ReadsDownTo size bottom start old → ReadGoes offset size old new answer → ReadsDownTo size offset start new
+down_read size bottom offset start old new answer below so_far goes =
+    let top = length start.present.readable in
+    elim (read_asks offset size old new answer goes) [
+      | inl none ↦ subst (λ (l : Life). ReadsDownTo size offset start l) (sym none) (gained_then (FallTo size top bottom) (FallTo size top offset) start old (λ xs fall. fall_lower size top bottom offset xs fall (omega arith)) so_far)
+      | inr asked ↦ gained_joins (FallTo size top bottom) (λ ys. ys ≡ ReadAt offset size ∷ []) (FallTo size top offset) start old new
+          (λ xs ys fall is. subst (λ (l : List Request). FallTo size top offset (xs ++ l)) (sym is) (fall_read size top bottom offset xs fall below)) so_far
+          (gained_once (λ ys. ys ≡ ReadAt offset size ∷ []) (ReadAt offset size) asked.0 old new (ap (λ (l : Life). l.present.log) asked.1) refl)
+    ]
+
+-- the page before the last that is left
+pub down_page : (P size n : ℕ) (start old new : Life) (answer : Result (List ℕ) Error) → size ≡ P + 12 → 0 < n → ReadsDownTo (P + 12) (n * (P + 12)) start old → ReadGoes ((n - 1) * size) size old new answer
+    → ReadsDownTo (P + 12) ((n - 1) * (P + 12)) start new
+down_page P size n start old new answer is some so_far goes =
+    let last : n - 1 + 1 ≡ n = omega arith in
+    let below : (n - 1) * (P + 12) + (P + 12) ≤ n * (P + 12) = rw last at (let all : (n - 1) * (P + 12) + (P + 12) ≤ (n - 1 + 1) * (P + 12) = omega arith in all) in
+    down_read (P + 12) (n * (P + 12)) ((n - 1) * (P + 12)) start old new answer below so_far (subst (λ (k : ℕ). ReadGoes ((n - 1) * k) k old new answer) is goes)
+
+-- so it goes back
+pub down_back : (size bottom : ℕ) (old new : Life) → ReadsDownTo size bottom old new → ReadsBack size old new
+down_back size bottom old new down = gained_then (FallTo size (length old.present.readable) bottom) (FallFrom size (length old.present.readable)) old new (λ xs fall. fall_forget size (length old.present.readable) bottom xs fall) down
+
+-- its reads are within any that have a page
+pub back_within : (size most : ℕ) (old new : Life) → size ≤ most → ReadsBack size old new → ReadsWithin most old new
+back_within size most old new enough back = gained_then (FallFrom size (length old.present.readable)) (AreWithin most) old new (λ xs fall. fall_within size (length old.present.readable) most xs enough fall) back
+
+-- a scan of what was opened
+pub scans_within : (size most : ℕ) (old mid new : Life) → size ≤ most → ReadsBack size old mid → ReadsWithin most mid new → ReadsWithin most old new
+scans_within size most old mid new enough back within =
+    gained_joins (AreWithin most) (AreWithin most) (AreWithin most) old mid new (within_joins most) (back_within size most old mid enough back) within

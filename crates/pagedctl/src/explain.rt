@@ -1,0 +1,206 @@
+// What is wrong with a line that can't be read.
+use crate::script::{parse_page_size, parse_pages, parse_sum, parts, without_last_feed};
+use crate::word::{ReadError, parse_flags, parse_hex, parse_number, parse_range};
+use std::alloc::{AllocError, Global};
+use std::io::Write;
+use std::{fmt, io};
+
+/// The names of the lines after the first.
+const NAMES: [&str; 29] = [
+    "append",
+    "owned",
+    "try",
+    "sync",
+    "start-sync",
+    "wait",
+    "wait-sync",
+    "needs",
+    "size",
+    "read",
+    "upto",
+    "cached",
+    "ranges",
+    "cached-ranges",
+    "scan",
+    "begin",
+    "truncate",
+    "snapshot",
+    "try-snapshot",
+    "snap",
+    "replay",
+    "ensure",
+    "take",
+    "seek",
+    "seal",
+    "fail",
+    "crash",
+    "recover",
+    "dump",
+];
+
+/// How many bytes of a text are shown at most.
+const MOST_SHOWN: usize = 60;
+
+/// What a word is to be.
+#[derive(Clone, Copy, Debug, PartialEq, Eq)]
+enum Form {
+    Start,
+    Name,
+    Hex,
+    Number,
+    Count,
+    PageSize,
+    Pages,
+    Sum,
+    Flags,
+    Range,
+    RangeOrEnd,
+    End,
+}
+
+impl Form {
+    /// What the word at an index of the first line is to be.
+    fn at_start(index: usize) -> Self {
+        match index {
+            0 => Form::Start,
+            1 => Form::PageSize,
+            2 => Form::Number,
+            3 => Form::Pages,
+            4 => Form::Sum,
+            _ => Form::End,
+        }
+    }
+
+    /// What the word after the name of another line is to be, the first one at index 1.
+    fn after(name: &[u8], index: usize) -> Self {
+        match name {
+            b"append" | b"owned" | b"try" if index == 1 => Form::Hex,
+            b"wait-sync" | b"truncate" if index == 1 => Form::Number,
+            b"replay" | b"fail" if index == 1 => Form::Count,
+            b"crash" if index == 1 => Form::Flags,
+            b"read" | b"upto" | b"cached" | b"ensure" | b"take" | b"seek" if index < 3 => {
+                Form::Number
+            }
+            b"snap" if index < 4 => Form::Number,
+            b"scan" if index < 3 => Form::Number,
+            b"scan" if index == 3 => Form::Count,
+            b"ranges" | b"cached-ranges" if index == 1 => Form::Range,
+            b"ranges" | b"cached-ranges" => Form::RangeOrEnd,
+            _ => Form::End,
+        }
+    }
+
+    /// Whether a word is of this form. Where there is no memory to find out it counts as one.
+    fn fits(self, alloc: Global, word: &[u8]) -> bool {
+        match self {
+            Form::Start => word == b"start".as_slice(),
+            Form::Name => NAMES.iter().any(|name| name.as_bytes() == word),
+            Form::Hex => is_read(parse_hex(alloc, word)),
+            Form::Number => is_read(parse_number(word)),
+            Form::Count => word != b"0".as_slice() && is_read(parse_number(word)),
+            Form::PageSize => is_read(parse_page_size(word)),
+            Form::Pages => is_read(parse_pages(word)),
+            Form::Sum => is_read(parse_sum(word)),
+            Form::Flags => is_read(parse_flags(alloc, word)),
+            Form::Range | Form::RangeOrEnd => is_read(parse_range(word)),
+            Form::End => false,
+        }
+    }
+}
+
+impl fmt::Display for Form {
+    fn fmt<W: fmt::Write>(&self, f: &mut fmt::Formatter<W>) -> fmt::Result {
+        match self {
+            Form::Start => write!(f, "start"),
+            Form::Name => {
+                write!(f, "one of")?;
+                for name in NAMES {
+                    write!(f, " {name}")?;
+                }
+                Ok(())
+            }
+            Form::Hex => write!(f, "pairs of the digits 0-9 and a-f, or -"),
+            Form::Number => write!(f, "a number below 2^64, with no 0 in front"),
+            Form::Count => write!(f, "a number from 1 to 2^64 - 1, with no 0 in front"),
+            Form::PageSize => write!(f, "a page size, 1 to 65535"),
+            Form::Pages => write!(f, "a number of pages, 1 to 4096"),
+            Form::Sum => write!(f, "add or const"),
+            Form::Flags => write!(f, "the digits 0 and 1, or -"),
+            Form::Range => write!(f, "a range, as 0:4"),
+            Form::RangeOrEnd => write!(f, "a range, as 0:4, or the end of the line"),
+            Form::End => write!(f, "the end of the line"),
+        }
+    }
+}
+
+// Whether a text was read, or there was no memory to find out.
+fn is_read<T: Drop>(read: Result<T, ReadError>) -> bool {
+    !matches!(read, Err(ReadError::Unreadable))
+}
+
+/// What the word at this index of a line is to be.
+fn form_at(number: u64, words: &[&[u8]], index: usize) -> Form {
+    match words {
+        _ if number == 1 => Form::at_start(index),
+        [name, ..] if index > 0 => Form::after(name, index),
+        _ => Form::Name,
+    }
+}
+
+/// The first word of a line that isn't what it is to be, by its index, and what it is to be; the
+/// index after the last word where one is missing.
+fn first_fault(alloc: Global, number: u64, words: &[&[u8]]) -> Option<(usize, Form)> {
+    for (index, word) in words.iter().enumerate() {
+        let form = form_at(number, words, index);
+        if !form.fits(alloc, word) {
+            return Some((index, form));
+        }
+    }
+    match form_at(number, words, words.len()) {
+        Form::End | Form::RangeOrEnd => None,
+        form => Some((words.len(), form)),
+    }
+}
+
+/// Bytes between backquotes: as they are where they are printable characters, and the first of
+/// them alone where there are many.
+#[derive(Clone, Copy)]
+struct Shown<'a>(&'a [u8]);
+
+impl fmt::Display for Shown<'_> {
+    fn fmt<W: fmt::Write>(&self, f: &mut fmt::Formatter<W>) -> fmt::Result {
+        write!(f, "`")?;
+        for &byte in self.0.iter().take(MOST_SHOWN) {
+            match byte {
+                b' '..=b'~' => write!(f, "{}", char::from(byte))?,
+                _ => write!(f, "\\x{byte:02x}")?,
+            }
+        }
+        let rest = if self.0.len() > MOST_SHOWN { ".." } else { "" };
+        write!(f, "`{rest}")
+    }
+}
+
+/// Says which word of the line of this number is wrong, and what it is to be.
+pub fn explain<E: Write>(alloc: Global, text: &[u8], number: u64, err: &mut E) -> io::Result<()> {
+    let lines = parts(alloc, without_last_feed(text), b'\n')?;
+    let Some(line) = lines.get(number.saturating_sub(1) as usize) else {
+        return Ok(());
+    };
+    let words = parts(alloc, line, b' ')?;
+    let Some((index, form)) = first_fault(alloc, number, &words) else {
+        return Ok(());
+    };
+    let line = Shown(line);
+    let count = index.saturating_add(1);
+    match words.get(index) {
+        Some(word) if word.is_empty() => {
+            writeln!(err, "word {count} of {line} is empty: expected {form}")
+        }
+        Some(word) => {
+            let word = Shown(word);
+            writeln!(err, "word {count} of {line} is {word}: expected {form}")
+        }
+        None => writeln!(err, "{line} ends before word {count}: expected {form}"),
+    }
+}

@@ -1,0 +1,5 @@
+pub mod Answer
+pub mod Input
+pub mod Request
+pub mod Serve
+pub mod Stop

@@ -1,0 +1,95 @@
+-- Two runs, one after the other, are one run of all the steps. Whoever calls `run` again and again
+-- puts the runs together by these laws, and has the promise of them all.
+use Rattle.std.specs.Prelude.{◌≡◌, ℕ, List, [], ◌∷◌, ◌++◌, length}
+use Rattle.std.proofs.Common.{sym, ap, ◌∙◌, subst, refl, append_assoc, length-append, ◌+◌}
+use Rattle.disk.specs.Disk.{Disk, Life, life_after}
+use Rattle.crash.specs.Moments.{life_after-append}
+use Rattle.session.specs.declared.steps.Step.{Step}
+use Rattle.session.specs.declared.steps.Reply.{Reply}
+use Rattle.session.specs.Run.{Standing, SessionState, last, raised, Ran, StandsFor, RunsAlways}
+use Rattle.session.specs.Promise.{Promises}
+pub use Rattle.session.proofs.RunLaws.{runs_none}
+use Rattle.session.proofs.PromiseLaws.{promises as kept}
+
+-- ---- from moment to moment
+
+-- the last of joined moments
+last_joined : (d : Disk) (xs ys : List Disk) → last d (xs ++ ys) ≡ last (last d xs) ys
+last_joined d [] ys = refl
+last_joined d (x ∷ xs) ys = last_joined x xs ys
+
+-- the present after some moments is the last of them
+last_present : (life : Life) (ds : List Disk) → (life_after life ds).present ≡ last life.present ds
+last_present life [] = refl
+last_present life (d ∷ ds) = last_present (record { present = d; past = life.present ∷ life.past }) ds
+
+-- what was told of the first run and of the second is told of both
+ran_joins : (sum : List ℕ → ℕ) (P : ℕ) (steps more : List Step) (replies others : List Reply)
+    (from : Disk) (moments later : List Disk) (before mid after : Standing)
+    → Ran sum P steps replies from moments before mid
+    → Ran sum P more others (last from moments) later mid after
+    → Ran sum P (steps ++ more) (replies ++ others) from (moments ++ later) before after
+ran_joins sum P [] more [] others from moments later before mid after (none, same, keeps, only) ran =
+    subst (λ (ds : List Disk). Ran sum P more others from (ds ++ later) before after) (sym none)
+    (subst (λ (s : Standing). Ran sum P more others from later s after) same
+    (subst (λ (ds : List Disk). Ran sum P more others (last from ds) later mid after) none ran))
+ran_joins sum P (step ∷ steps) more (reply ∷ replies) others from moments later before mid after
+    (keeps, only, first, rest, is, between, did, goes) ran = (
+      keeps,
+      only,
+      first,
+      rest ++ later,
+      ap (λ (ds : List Disk). ds ++ later) is ∙ append_assoc first rest later,
+      between,
+      did,
+      ran_joins sum P steps more replies others (last from first) rest later
+          (raised (last from first) between) mid after goes
+          (subst (λ (d : Disk). Ran sum P more others d later mid after)
+          (ap (λ (ds : List Disk). last from ds) is ∙ last_joined from first rest) ran),
+    )
+ran_joins sum P [] more (r ∷ rs) others from moments later before mid after none ran = absurd none
+ran_joins sum P (x ∷ xs) more [] others from moments later before mid after none ran = absurd none
+
+-- ---- two calls of `run`
+
+-- of which the second began with no reply
+pub runs_join : (sum : List ℕ → ℕ) (steps more : List Step) (was mid now : SessionState)
+    (old between new : Life) (earlier replies others : List Reply)
+    → RunsAlways sum steps was mid old between earlier replies
+    → RunsAlways sum more mid now between new [] others
+    → RunsAlways sum (steps ++ more) was now old new earlier (replies ++ others)
+runs_join sum steps more was mid now old between new earlier replies others first second = record {
+  added = first.added ++ second.added;
+  adds =
+      ap (λ (rs : List Reply). rs ++ others) first.adds
+      ∙ append_assoc earlier first.added others
+      ∙ ap (λ (rs : List Reply). earlier ++ (first.added ++ rs)) second.adds;
+  count =
+      length-append first.added second.added
+      ∙ ap (λ (n : ℕ). n + length second.added) first.count
+      ∙ ap (λ (n : ℕ). length steps + n) second.count
+      ∙ sym (length-append steps more);
+  runs = λ P before stands.
+      let a = first.runs P before stands in
+      let b = second.runs P a.after a.stands in
+      let at : between.present ≡ last old.present a.moments =
+      ap (λ (life : Life). life.present) a.goes ∙ last_present old a.moments in
+      record {
+        moments = a.moments ++ b.moments;
+        goes =
+            b.goes ∙ ap (λ (life : Life). life_after life b.moments) a.goes
+            ∙ sym (life_after-append old a.moments b.moments);
+        after = b.after;
+        ran = ran_joins sum P steps more first.added second.added old.present a.moments b.moments
+            before a.after b.after a.ran
+            (subst (λ (d : Disk). Ran sum P more second.added d b.moments a.after b.after) at b.ran);
+        stands = b.stands;
+      };
+}
+
+-- a run keeps its promise
+pub promised : (sum : List ℕ → ℕ) (steps : List Step) (was now : SessionState) (old new : Life)
+    (earlier replies : List Reply) → RunsAlways sum steps was now old new earlier replies
+    → Promises sum steps was now old new earlier replies
+promised sum steps was now old new earlier replies runs =
+    kept sum steps was now old new earlier replies runs

@@ -1,0 +1,180 @@
+-- What the steps do that read, or tell a size.
+use Rattle.std.proofs.Common.{◌≡◌, ◌⊎◌, ℕ, ◌+◌, ◌<◌, ◌≤◌, List, ◌∷◌, ◌++◌, length, take, drop, refl, sym, ap, ◌∙◌, subst, arith, Ok, Err, Result, ◌*◌, ◌^◌, ◌/◌, ◌%◌, lit<}
+use Rattle.std.specs.Prelude.{Some, None, if◌then◌else◌, ◌==◌, ◌||◌, ◌&&◌}
+use Rattle.std.specs.List.{Contains, concat}
+use Rattle.disk.specs.Disk.{Disk, Life, coverings}
+use Rattle.disk.specs.declared.error.Error.{Error}
+use Rattle.disk.specs.declared.error.Error.TheVariants.{ReadFailed, WriteFailed, ResizeFailed, SyncFailed, InvalidChecksum, BlobInsufficientLength, OffsetOverflow, OutOfMemory, IdsExhausted}
+use Rattle.crash.specs.Kept.{AllKeep, Through, Moments}
+use Rattle.crash.specs.Started.{CoversStay, CoversThrough, StartsStand}
+use Rattle.writer_state.specs.WriterState.{WriterState}
+use Rattle.writer_state.specs.Sound.{IsSound, content as content_of}
+use Rattle.crash.specs.Stays.{Stays, StaysThrough}
+use Rattle.crash.specs.Looks.{SameButLog, Looked}
+use Rattle.crash.specs.Moments.{each_then}
+use Rattle.crash.proofs.Moments.{stays_itself, stays_alike}
+use Rattle.writer_state.proofs.StartedLaws.{alike_would}
+use Rattle.paged.proofs.Flushes.{size_is_length, begins}
+use Rattle.cache.specs.CacheState.{CacheState}
+use Rattle.paged_read.specs.Tail.{Tail, size_of as size_of_tail}
+use Rattle.paged_read.specs.Ranges.{Reads}
+use Rattle.paged.specs.Caches.{tail_of}
+use Rattle.paged.specs.Reads.{size_of}
+use Rattle.session.specs.declared.steps.Step.{Step}
+use Rattle.session.specs.declared.steps.Step.TheVariants.{Size, Read}
+use Rattle.session.specs.declared.steps.Reply.{Reply}
+use Rattle.session.specs.declared.steps.Reply.TheVariants.{At, Nothing, Done, Started, Answer, Length, Bytes, Fault, Closed, NotRecovering, NoSuch, Served, Missed, BadRanges, Taken, Sealed, NotAppending, Replaying}
+use Rattle.session.specs.Run.{Standing, SessionState, begun, turned_away, faults, HasCause, content_after, Takes, Foretells, touch, Touches, AllCover}
+use Rattle.session.specs.Calls.{IsBytes, ReadsBytes, ReadSays}
+use Rattle.session.proofs.Apart.{AlwaysApart, StandsApart, SteppedApart}
+use Rattle.session.proofs.StepLaws.{held, turned_here, leaves, each_end, stepped, unasked, stands_now, Halves}
+use Rattle.session.proofs.SyncLaws.{same_halves}
+
+-- ---- reads and sizes
+
+-- where only the log changed, started syncs stay as they were
+pub alike_stays_started : (d e : Disk) → SameButLog d e → StartsStand d → StartsStand e
+alike_stays_started d e alike stand = subst StartsStand (sym alike) stand
+
+-- a step that only reads and leaves the standing
+pub looked_steps : (sum : List ℕ → ℕ) (was : SessionState) (P : ℕ) (w : WriterState) (step : Step) (reply : Reply) (old new : Life) (before : Standing) → content_after step before.content ≡ before.content → begun step before ≡ before → turned_away step before ≡ None
+    → IsSound sum w old.present → Looked old new → (seen : Moments (SameButLog old.present) old new) → Touches (touch P step before) old.present seen.moments → StandsApart sum P (held was (Some w)) before old.present → Takes sum P step reply old.present new.present before before → Foretells P step reply before
+    → SteppedApart sum P step reply (held was (Some w)) old new before before.snapshots before.replays
+unfolding Through IsSound
+looked_steps sum was P w step reply old new before same begins here sound looked seen touches stands takes foretells =
+    let fits = stands.fits in
+    let start : Stays sum P before.content old.present old.present =
+    subst (λ (n : ℕ). Stays sum n before.content old.present old.present) fits.page_size
+    (subst (λ (l : List ℕ). Stays sum w.page_size l old.present old.present) (sym fits.content) (stays_itself sum w.page_size (content_of w old.present.readable) old.present sound.truthful)) in
+    let owed : (d : Disk) → SameButLog old.present d → Stays sum P before.content old.present d =
+    λ d alike. stays_alike sum P before.content old.present old.present d (ap (λ (x : Disk). x.base) alike) (ap (λ (x : Disk). x.since) alike) start in
+    let cover : (d : Disk) → SameButLog old.present d → CoversStay sum P before.content old.present d =
+    λ d alike. λ name cover enough would.
+    alike_would sum P before.content old.present d (ap (λ (x : Disk). x.base) alike) (ap (λ (x : Disk). x.since) alike) (ap (λ (x : Disk). x.settled) alike) (ap (λ (x : Disk). coverings x) alike) name cover would in
+    let through : StaysThrough sum P before.content old new = record {
+      moments = seen.moments;
+      goes = seen.goes;
+      start = start;
+      each = each_then (SameButLog old.present) (Stays sum P before.content old.present) seen.moments owed seen.each;
+    } in
+    let covering : CoversThrough sum P before.content old new = record {
+      moments = seen.moments;
+      goes = seen.goes;
+      start = λ name cover enough would. would;
+      each = each_then (SameButLog old.present) (CoversStay sum P before.content old.present) seen.moments cover seen.each;
+    } in
+    let h = same_halves sum was P w old new before stands through covering in
+    stepped sum P step reply (held was (Some w)) old new before before through.moments fits.has_writer here (subst (λ (s : Standing). Halves sum P before.content (content_after step before.content) s.floor s.covers old new through.moments) (sym begins)
+    (subst (λ (l : List ℕ). Halves sum P before.content l before.floor before.covers old new through.moments) (sym same) h)) touches takes
+    foretells
+    (stands_now sum P was w old new before
+    (record {
+      page_size = fits.page_size;
+      has_writer = fits.has_writer;
+      content = fits.content ∙ sym (ap (λ (x : Disk). content_of w x.readable) looked.same);
+      otherwise = fits.otherwise;
+      capacity = fits.capacity;
+      buffered = fits.buffered;
+      within = fits.within;
+      written = fits.written;
+      awaited = fits.awaited;
+    })
+    stands.phase stands.names stands.floor stands.within (each_end (AllKeep sum P before.content before.floor) old new through.moments h.goes h.kept)
+    (each_end (AllCover sum P before.content before.covers) old new through.moments h.goes h.covered) h.stays)
+
+-- why a read is refused: a sound writer has no page below its tip that isn't full
+read_cause : (sum : List ℕ → ℕ) (P : ℕ) (w : WriterState) (cache : CacheState) (offset len : ℕ) (before : Standing) (old new : Life) (e : Error) → size_of w ≡ length before.content → (e ≡ InvalidChecksum → ⊥)
+    → Reads sum (tail_of w) cache (offset, len) concat old new (Err e) → Contains (faults (Read offset len)) e × HasCause P (Read offset len) before old.present new.present e
+read_cause sum P w cache offset len before old new ReadFailed size full goes = ((0, lit< tt, refl), goes)
+read_cause sum P w cache offset len before old new WriteFailed size full goes = absurd goes
+read_cause sum P w cache offset len before old new ResizeFailed size full goes = absurd goes
+read_cause sum P w cache offset len before old new SyncFailed size full goes = absurd goes
+read_cause sum P w cache offset len before old new InvalidChecksum size full goes = absurd (full refl)
+read_cause sum P w cache offset len before old new BlobInsufficientLength size full goes = ((1, lit< tt, refl), (goes.1, omega (arith, size, goes.2)))
+read_cause sum P w cache offset len before old new OffsetOverflow size full goes = ((2, lit< tt, refl), goes.1)
+read_cause sum P w cache offset len before old new OutOfMemory size full goes = ((3, lit< tt, refl), tt)
+read_cause sum P w cache offset len before old new IdsExhausted size full goes = absurd goes
+
+-- what was read is told, or that there was no memory for it
+pub read_says : (sum : List ℕ → ℕ) (t : Tail) (cache : CacheState) (offset len : ℕ) (old new : Life) (bufs : List (List ℕ)) (reply : Reply) → Reads sum t cache (offset, len) concat old new (Ok bufs)
+    → (2 ^ 64 ≤ offset + len → Ok bufs ≡ Err OffsetOverflow) → (offset + len < 2 ^ 64 → size_of_tail t < offset + len → Ok bufs ≡ Err BlobInsufficientLength) → Looked old new → IsBytes (concat bufs) reply → ReadSays sum t cache offset len old new reply
+read_says sum t cache offset len old new bufs (Bytes bytes) reads overflow end looked is = record {
+  reads = (bufs, is, reads);
+  full = λ other. cc other;
+  overflow = λ passes. absurd (cc (overflow passes));
+  end = λ within passes. absurd (cc (end within passes));
+  looked = looked;
+}
+read_says sum t cache offset len old new bufs (Fault e) reads overflow end looked is =
+    subst (λ (x : Error). ReadSays sum t cache offset len old new (Fault x)) (sym is)
+    (record {
+      reads = tt;
+      full = λ other. cc other;
+      overflow = λ passes. absurd (cc (overflow passes));
+      end = λ within passes. absurd (cc (end within passes));
+      looked = looked;
+    })
+read_says sum t cache offset len old new bufs (At n) reads overflow end looked is = absurd is
+read_says sum t cache offset len old new bufs Nothing reads overflow end looked is = absurd is
+read_says sum t cache offset len old new bufs Done reads overflow end looked is = absurd is
+read_says sum t cache offset len old new bufs (Started sync) reads overflow end looked is = absurd is
+read_says sum t cache offset len old new bufs (Answer answer) reads overflow end looked is = absurd is
+read_says sum t cache offset len old new bufs (Length n) reads overflow end looked is = absurd is
+read_says sum t cache offset len old new bufs Closed reads overflow end looked is = absurd is
+read_says sum t cache offset len old new bufs NoSuch reads overflow end looked is = absurd is
+read_says sum t cache offset len old new bufs NotRecovering reads overflow end looked is = absurd is
+read_says sum t cache offset len old new bufs (Served count read) reads overflow end looked is = absurd is
+read_says sum t cache offset len old new bufs (Missed numbers) reads overflow end looked is = absurd is
+read_says sum t cache offset len old new bufs BadRanges reads overflow end looked is = absurd is
+read_says sum t cache offset len old new bufs (Taken index) reads overflow end looked is = absurd is
+read_says sum t cache offset len old new bufs (Sealed index sync) reads overflow end looked is = absurd is
+read_says sum t cache offset len old new bufs NotAppending reads overflow end looked is = absurd is
+read_says sum t cache offset len old new bufs (Replaying number) reads overflow end looked is = absurd is
+
+-- so is why none was
+abbrev pub no_bufs : Error → Result (List (List ℕ)) Error
+no_bufs e = Err e
+
+pub read_fails : (sum : List ℕ → ℕ) (t : Tail) (cache : CacheState) (offset len : ℕ) (old new : Life) (e : Error) → Reads sum t cache (offset, len) concat old new (no_bufs e) → (2 ^ 64 ≤ offset + len → no_bufs e ≡ no_bufs OffsetOverflow)
+    → (offset + len < 2 ^ 64 → size_of_tail t < offset + len → no_bufs e ≡ no_bufs BlobInsufficientLength) → (e ≡ InvalidChecksum → ⊥) → Looked old new → ReadSays sum t cache offset len old new (Fault e)
+read_fails sum t cache offset len old new e reads overflow end never looked = record {
+  reads = reads;
+  full = λ same. never (cc same);
+  overflow = λ passes. cc (overflow passes);
+  end = λ within passes. cc (end within passes);
+  looked = looked;
+}
+
+-- a read
+pub read_steps : (sum : List ℕ → ℕ) (was : SessionState) (w : WriterState) (cache : CacheState) (offset len : ℕ) (old new : Life) (reply : Reply) → IsSound sum w old.present → ReadSays sum (tail_of w) cache offset len old new reply
+    → AlwaysApart sum (Read offset len) reply (held was (Some w)) (held was (Some w)) old new
+unfolding Through
+read_steps sum was w cache offset len old new reply sound says = λ P before stands.
+    let size : size_of w ≡ length before.content = size_is_length sum w old sound ∙ ap length (sym stands.fits.content) in
+    let foretold : Foretells P (Read offset len) reply before = (says.overflow, λ passes. says.end passes.0 (omega (arith, size, passes.1))) in
+    looked_steps sum was P w (Read offset len) reply old new before refl refl (turned_here before.has_writer stands.fits.has_writer) sound says.looked says.looked.through says.looked.through.each stands (taken reply P before stands size says.full says.reads) foretold
+  where
+    taken : (r : Reply) (P : ℕ) (before : Standing) → StandsApart sum P (held was (Some w)) before old.present → size_of w ≡ length before.content → (r ≡ Fault InvalidChecksum → ⊥) → ReadsBytes sum (tail_of w) cache offset len old new r → Takes sum P (Read offset len) r old.present new.present before before
+    taken (Bytes bytes) P before stands size full (bufs, is, reads) = ((omega (arith, size, reads.0), is ∙ reads.1 ∙ ap (λ (l : List ℕ). take len (drop offset l)) (sym stands.fits.content)), refl)
+    taken (Fault e) P before stands size full reads = let cause = read_cause sum P w cache offset len before old new e size (λ is. full (ap Fault is)) reads in (cause.0, cause.1, refl)
+    taken (At n) P before stands size full reads = absurd reads
+    taken Nothing P before stands size full reads = absurd reads
+    taken Done P before stands size full reads = absurd reads
+    taken (Started sync) P before stands size full reads = absurd reads
+    taken (Answer answer) P before stands size full reads = absurd reads
+    taken NoSuch P before stands size full reads = absurd reads
+    taken NotRecovering P before stands size full reads = absurd reads
+    taken (Served count read) P before stands size full reads = absurd reads
+    taken (Missed numbers) P before stands size full reads = absurd reads
+    taken BadRanges P before stands size full reads = absurd reads
+    taken (Taken index) P before stands size full reads = absurd reads
+    taken (Sealed index sync) P before stands size full reads = absurd reads
+    taken NotAppending P before stands size full reads = absurd reads
+    taken (Replaying number) P before stands size full reads = absurd reads
+    taken (Length n) P before stands size full reads = absurd reads
+    taken Closed P before stands size full reads = absurd reads
+
+-- the size
+pub size_steps : (sum : List ℕ → ℕ) (was : SessionState) (w : WriterState) (life : Life) → IsSound sum w life.present → AlwaysApart sum Size (Length (size_of w)) (held was (Some w)) (held was (Some w)) life life
+size_steps sum was w life sound = λ P before stands.
+    unasked sum P was w Size (Length (size_of w)) (held was (Some w)) life before before (turned_here before.has_writer stands.fits.has_writer) stands (size_is_length sum w life sound ∙ ap length (sym stands.fits.content), refl) (λ none. absurd none, λ none. absurd none) stands

@@ -1,0 +1,588 @@
+-- Each definition that the promise rests on, at a few bytes. Pages have 4 bytes, and the checksum is their sum, where it
+-- isn't said otherwise.
+use Rattle.std.proofs.Common.{◌≡◌, ◌⊎◌, inl, inr, ℕ, zero, suc, ◌+◌, ◌<◌, ◌≤◌, List, [], ◌∷◌, ◌++◌, length, take, drop, refl, sym, ◌∙◌, ap, subst, arith, length-take-le, lit<}
+use Rattle.std.specs.Prelude.{Some, None, Ok, true, false, slice_get, get_or}
+use Rattle.std.proofs.lemmas.Option.{same_Some}
+use Rattle.disk.specs.Images.{only_image}
+use Rattle.disk.specs.Disk.{Disk, Operation, Operated, Request, Life, IsWhole, IsImage, LeavesNoMore, IsPartial, applied, failures, logged, next, life_after, settled_disk, disk_settled_to, starts}
+use Rattle.disk.specs.Disk.Operation.{Write, Resize}
+use Rattle.disk.specs.Disk.Request.{ReadAt, WriteAt, SyncAll}
+use Rattle.page.specs.Page.{text, pages, verified_len}
+use Rattle.page.specs.Sums.{add_sum, small_add_sum, const_sum}
+use Rattle.page.specs.declared.slot.Slot.{Slot}
+use Rattle.page.specs.declared.slot.Slot.TheVariants.{First, Second}
+use Rattle.page.specs.declared.slot.ActiveChecksum.{ActiveChecksum}
+use Rattle.page.proofs.Examples.{abcd_page, ef_page, efg_page}
+use Rattle.writer_state.specs.WriterState.{WriterState, after_write}
+use Rattle.writer_state.specs.declared.sync_state.SyncState.TheVariants.{Clean, Dirty, Pending}
+use Rattle.crash.specs.Full.{AreFull}
+use Rattle.crash.specs.Built.{built}
+use Rattle.crash.specs.Guard.{Fixed, Held, Guards, IsTruthful, IsChanceFree}
+use Rattle.crash.specs.Kept.{ImageKeeps, AllKeep, AllOnly, Each, Through}
+use Rattle.crash.specs.Stays.{Stays, StaysThrough, KeepsFloors, KeepsAllFloors, LeavesOnly, KeepsAll}
+use Rattle.writer_state.proofs.FloorLaws.{floors_of_sound}
+use Rattle.crash.specs.Looks.{SameButLog, Looked}
+use Rattle.crash.specs.Shrink.{staged, published, cleared, HeldBy, HoldsText, SaysText, CutStays}
+use Rattle.crash.specs.Moments.{through_end}
+use Rattle.writer_state.proofs.ShortenLaws.{holds_at_rest, holds_keeps, stage_holds}
+use Rattle.crash.proofs.ShrinkLaws.{held_stays_cut}
+use Rattle.crash.proofs.Promise.{guards_less, keeps_at_rest, guards_at_rest, whole_is_chance_free}
+use Rattle.crash.specs.Contents.{latest, stored}
+use Rattle.writer_state.specs.Sound.{content, HasPage, Stands, guard_slot, IsSafe, Soundness, IsSound, LeavesItsContent, IsPending}
+use Rattle.crash.specs.Started.{WouldKeep, CoversStay, StartsStand}
+use Rattle.crash.specs.Below.{SamePages, PagesStay}
+use Rattle.crash.proofs.Lists.{joined_element, taken_element, slice_get-drop}
+use Rattle.crash.proofs.Disks.{whole_is_image, torn_is_image, base_is_image, partial_whole, fixed_at_rest}
+use Rattle.crash.proofs.Moments.{stays_itself, kept_through, only_through}
+use Rattle.crash.proofs.Spared.{held_through_flush}
+use Rattle.writer_state.proofs.Soundness.{sound_leaves, page_sound, empty_sound, operated_stays, operated_sound}
+use Rattle.writer_state.proofs.StartedLaws.{start_sound, settle_covers}
+use Rattle.writer_state.proofs.StandLaws.{starts_stand}
+use Rattle.crash.proofs.BelowLaws.{pages_one}
+
+-- ---- disks
+
+-- these bytes are readable and durable
+abbrev pub at_rest : List ℕ → Disk
+at_rest bytes = record { readable = bytes; base = bytes; since = []; settled = 0; started = []; log = [] }
+
+-- and then this operation was done, and isn't durable
+abbrev pub and_then : Operation → Request → Disk → Disk
+and_then o request d = record d { readable = applied o d.readable; since = d.since ++ o ∷ []; log = d.log ++ record { request = request; failed = false } ∷ [] }
+
+-- a write after the end: the gap is filled with zeros
+pub a_write_after : applied (Write 3 (9 ∷ 9 ∷ [])) (1 ∷ []) ≡ 1 ∷ 0 ∷ 0 ∷ 9 ∷ 9 ∷ []
+a_write_after = refl
+
+-- a write within
+pub a_write_within : applied (Write 1 (9 ∷ 9 ∷ [])) (1 ∷ 2 ∷ 3 ∷ 4 ∷ []) ≡ 1 ∷ 9 ∷ 9 ∷ 4 ∷ []
+a_write_within = refl
+
+-- a resize to fewer bytes cuts
+pub a_cut : applied (Resize 2) (1 ∷ 2 ∷ 3 ∷ []) ≡ 1 ∷ 2 ∷ []
+a_cut = refl
+
+-- and one to more adds zeros
+pub an_extension : applied (Resize 3) (1 ∷ []) ≡ 1 ∷ 0 ∷ 0 ∷ []
+an_extension = refl
+
+-- both of two operations
+pub the_latest : latest (1 ∷ 2 ∷ []) (Write 1 (9 ∷ []) ∷ Resize 3 ∷ []) ≡ 1 ∷ 9 ∷ 0 ∷ []
+the_latest = refl
+
+-- where a write isn't synced there are two whole states: the old bytes
+pub the_old_whole : IsWhole (1 ∷ 2 ∷ []) (Write 0 (9 ∷ []) ∷ []) (1 ∷ 2 ∷ [])
+the_old_whole = inl refl
+
+-- and the new ones
+pub the_new_whole : IsWhole (1 ∷ 2 ∷ []) (Write 0 (9 ∷ []) ∷ []) (9 ∷ 2 ∷ [])
+the_new_whole = inr refl
+
+-- of two calls one failed
+pub one_failure : failures (record { request = WriteAt 0 2 false; failed = true } ∷ record { request = SyncAll; failed = false } ∷ []) ≡ 1
+one_failure = refl
+
+-- a list's first bytes and the rest of another one have a byte of either list at each offset
+spliced : (k : ℕ) (front back : List ℕ) → k ≤ length front → (at byte : ℕ) → slice_get (take k front ++ drop k back) at ≡ Some byte → (slice_get front at ≡ Some byte) ⊎ (slice_get back at ≡ Some byte)
+spliced k front back le at byte is = elim (joined_element (take k front) (drop k back) at byte is) [
+  | inl first ↦ inl (taken_element k front at byte first)
+  | inr second ↦ inr (
+      let there : at ≡ k + second.0 = second.1 ∙ ap (λ (n : ℕ). n + second.0) (length-take-le k front le) in
+      subst (λ (n : ℕ). slice_get back n ≡ Some byte) (sym there) (sym (slice_get-drop k back second.0) ∙ second.2))
+]
+
+-- a write of three bytes of which only the first is done
+pub a_torn_write : IsPartial (Write 0 (7 ∷ 8 ∷ 9 ∷ [])) (1 ∷ 2 ∷ 3 ∷ []) (7 ∷ 2 ∷ 3 ∷ [])
+a_torn_write = record {
+  length = inl (omega arith, omega arith);
+  each = λ at byte is. elim (spliced 1 (7 ∷ 8 ∷ 9 ∷ []) (1 ∷ 2 ∷ 3 ∷ []) (omega arith) at byte is) [ inl new ↦ inr new | inr old ↦ inl old ];
+}
+
+-- a cut from three bytes to one that stopped at two
+pub a_torn_cut : IsPartial (Resize 1) (1 ∷ 2 ∷ 3 ∷ []) (1 ∷ 2 ∷ [])
+a_torn_cut = record {
+  length = inr (omega arith, omega arith);
+  each = λ at byte is. inl (taken_element 2 (1 ∷ 2 ∷ 3 ∷ []) at byte is);
+}
+
+-- an extension from one byte to three that stopped at two
+pub a_torn_extension : IsPartial (Resize 3) (1 ∷ []) (1 ∷ 0 ∷ [])
+a_torn_extension = record {
+  length = inl (omega arith, omega arith);
+  each = λ at byte is. inr (taken_element 2 (1 ∷ 0 ∷ 0 ∷ []) at byte is);
+}
+
+-- of three bytes the first was rewritten without a sync: a crash may leave it old
+pub an_old_image : IsImage (and_then (Write 0 (7 ∷ [])) (WriteAt 0 1 false) (at_rest (1 ∷ 2 ∷ 3 ∷ []))) (1 ∷ 2 ∷ 3 ∷ [])
+an_old_image = base_is_image (and_then (Write 0 (7 ∷ [])) (WriteAt 0 1 false) (at_rest (1 ∷ 2 ∷ 3 ∷ [])))
+
+-- three bytes were rewritten without a sync: a crash may leave the first one new and the others old
+pub a_torn_image : IsImage (and_then (Write 0 (7 ∷ 8 ∷ 9 ∷ [])) (WriteAt 0 3 false) (at_rest (1 ∷ 2 ∷ 3 ∷ []))) (7 ∷ 2 ∷ 3 ∷ [])
+a_torn_image = torn_is_image (and_then (Write 0 (7 ∷ 8 ∷ 9 ∷ [])) (WriteAt 0 3 false) (at_rest (1 ∷ 2 ∷ 3 ∷ []))) (7 ∷ 2 ∷ 3 ∷ []) (7 ∷ 2 ∷ 3 ∷ [], a_torn_write, refl)
+
+-- a crash leaves no byte that is neither durable nor written there since
+pub no_other_byte : IsImage (at_rest (1 ∷ [])) (2 ∷ []) → ⊥
+no_other_byte is_image = elim (is_image.each 0 2 refl) [
+  | inl base ↦ absurd (omega (arith, same_Some 1 2 base))
+  | inr (inl written) ↦ written
+  | inr (inr zero_byte) ↦ absurd (omega (arith, zero_byte.0))
+]
+
+-- ---- what a crash keeps
+
+-- a durable blob: "abcd" and "ef"
+abbrev pub durable : Disk
+durable = at_rest (abcd_page ++ ef_page)
+
+-- "abcdef"
+abbrev pub six : List ℕ
+six = 97 ∷ 98 ∷ 99 ∷ 100 ∷ 101 ∷ 102 ∷ []
+
+-- "abcdefg"
+abbrev pub seven : List ℕ
+seven = 97 ∷ 98 ∷ 99 ∷ 100 ∷ 101 ∷ 102 ∷ 103 ∷ []
+
+-- the page of "ef" was then rewritten as "efg", without a sync
+abbrev pub rewritten : Disk
+rewritten = and_then (Write 16 efg_page) (WriteAt 16 16 false) durable
+
+-- the six bytes of these two pages begin with the first five of "abcdefg"
+pub a_kept_floor : ImageKeeps add_sum 4 seven 5 (abcd_page ++ ef_page)
+a_kept_floor = refl
+
+-- but not with seven
+pub a_lost_floor : ImageKeeps add_sum 4 seven 7 (abcd_page ++ ef_page) → ⊥
+a_lost_floor keeps = omega (arith, ap length keeps)
+
+-- whatever a crash leaves of the durable blob says "abcdef"
+pub all_keep : AllKeep add_sum 4 six 6 durable
+all_keep = keeps_at_rest add_sum 4 durable refl
+
+-- the payloads of the first page
+pub the_stored : stored 4 1 (abcd_page ++ ef_page) ≡ 97 ∷ 98 ∷ 99 ∷ 100 ∷ []
+the_stored = refl
+
+-- the first page is full, by its four bytes
+pub are_full : AreFull add_sum 4 (abcd_page ∷ [])
+are_full = (refl, tt)
+
+-- the second isn't
+pub are_not_full : AreFull add_sum 4 (ef_page ∷ []) → ⊥
+are_not_full full = omega (arith, full.0)
+
+-- ---- why
+
+-- the slot of "ef", as its writer knows it
+abbrev pub ef_slot : ActiveChecksum
+ef_slot = record { slot = First; len = 2; crc = 203 }
+
+-- page 1 of the durable blob is held by its first slot: "ef", its six bytes and the page's end are fixed
+pub ef_is_held : Held add_sum 4 durable 1 First (0 ∷ 2 ∷ 0 ∷ 0 ∷ 0 ∷ 203 ∷ []) (101 ∷ 102 ∷ [])
+ef_is_held = record {
+  some = omega arith;
+  fits = omega arith;
+  payload = fixed_at_rest durable 16 (101 ∷ 102 ∷ []) refl (omega arith) refl;
+  is_slot = record { size = refl; len = refl; crc = refl };
+  fixed_slot = fixed_at_rest durable 20 (0 ∷ 2 ∷ 0 ∷ 0 ∷ 0 ∷ 203 ∷ []) refl (omega arith) refl;
+  end = fixed_at_rest durable 32 [] refl (omega arith) refl;
+}
+
+-- each page that the first six bytes touch is held
+pub six_are_guarded : Guards add_sum 4 six 6 durable
+six_are_guarded = guards_at_rest add_sum 4 durable (omega arith) refl
+
+-- ---- writers
+
+-- the writer of that blob once "g" was appended: one full page, a tip of "efg", of which "ef" was written
+abbrev pub with_g : WriterState
+with_g = record { page_size = 4; id = 0; capacity = 8; full_pages = 1; tip = 101 ∷ 102 ∷ 103 ∷ []; flushed = Some ef_slot; durable = Some ef_slot; sync = Clean }
+
+-- it stands for "abcdefg"
+pub the_content : content with_g (abcd_page ++ ef_page) ≡ seven
+the_content = refl
+
+-- a clean writer's flush repeats the flushed slot
+pub the_guard_slot : guard_slot Clean (Some ef_slot) None ≡ Some ef_slot
+the_guard_slot = refl
+
+-- and a dirty one's the durable slot, here none
+pub the_dirty_guard_slot : guard_slot Dirty (Some ef_slot) None ≡ None
+the_dirty_guard_slot = refl
+
+-- what its flush writes: the old slot stays in its place
+pub the_flush : built add_sum 4 (Some ef_slot) 1 (101 ∷ 102 ∷ 103 ∷ []) ≡ efg_page
+the_flush = refl
+
+-- the blob has its page
+has_ef : HasPage add_sum 4 1 (101 ∷ 102 ∷ 103 ∷ []) (abcd_page ++ ef_page) ef_slot
+has_ef = record { size = refl; some = omega arith; there = omega arith; part = omega arith; crc = refl; value = refl; begins = refl; slot = refl }
+
+-- that writer is sound
+pub a_sound_writer : Soundness add_sum with_g durable
+a_sound_writer = page_sound add_sum with_g durable refl refl (omega arith) (lit< tt) (refl, tt) refl (λ name c is. absurd (cc is)) small_add_sum ef_slot refl has_ef
+
+-- so it stands for what is readable
+pub it_stands : Stands add_sum with_g durable
+it_stands = a_sound_writer.stands
+
+-- its durable bytes are guarded
+pub it_is_safe : IsSafe add_sum with_g seven durable
+it_is_safe = a_sound_writer.safe
+
+-- and the blob says nothing but "abcdefg" in any slot
+pub it_is_truthful : IsTruthful add_sum 4 seven durable
+it_is_truthful = a_sound_writer.truthful
+
+-- a writer that tells an empty tip over a page of two bytes isn't sound: it would write over them
+pub an_unsound_writer : Soundness add_sum (record with_g { tip = []; flushed = None; durable = None }) durable → ⊥
+an_unsound_writer sound = let size : 32 ≡ 16 = sound.stands.tip_page in omega (arith, size)
+
+-- the writer of an empty blob is sound
+pub an_empty_writer : Soundness add_sum (record { page_size = 4; id = 0; capacity = 8; full_pages = 0; tip = []; flushed = None; durable = None; sync = Clean }) (at_rest [])
+an_empty_writer = empty_sound add_sum (record { page_size = 4; id = 0; capacity = 8; full_pages = 0; tip = []; flushed = None; durable = None; sync = Clean }) (at_rest []) refl refl refl (omega arith) (lit< tt) refl refl refl (λ name c is. absurd (cc is))
+
+-- ---- a flush that a crash tears
+
+-- the flush of that writer is a write that isn't durable
+flush_is_done : Operated (Write 16 efg_page) (WriteAt 16 16 false) false durable rewritten
+flush_is_done = record { readable = partial_whole (Write 16 efg_page) (abcd_page ++ ef_page); done = λ fine. refl; rest = refl }
+
+-- the writer after it is sound
+pub a_sound_dirty_writer : Soundness add_sum (after_write add_sum with_g 0 true) rewritten
+a_sound_dirty_writer = operated_sound add_sum with_g durable rewritten 0 true efg_page small_add_sum a_sound_writer refl (omega arith, omega arith) refl (WriteAt 16 16 false) flush_is_done
+
+-- each floor that was kept before the flush is kept in the midst of it, and there is only content
+pub it_stays : Stays add_sum 4 seven durable rewritten
+it_stays = operated_stays add_sum with_g durable rewritten 0 true efg_page small_add_sum a_sound_writer refl (omega arith, omega arith) refl (WriteAt 16 16 false) false flush_is_done
+
+-- the old slot of "ef" is repeated, so page 1 is held by it in the midst of the flush
+pub ef_stays_held : Held add_sum 4 rewritten 1 First (0 ∷ 2 ∷ 0 ∷ 0 ∷ 0 ∷ 203 ∷ []) (101 ∷ 102 ∷ [])
+ef_stays_held = held_through_flush add_sum 4 1 durable rewritten ef_slot 1 (101 ∷ 102 ∷ 103 ∷ []) (101 ∷ 102 ∷ []) refl refl refl ef_is_held
+
+-- the new slot isn't fixed until a sync
+pub new_slot_moves : Fixed rewritten 26 (0 ∷ 3 ∷ 0 ∷ 0 ∷ 1 ∷ 50 ∷ []) → ⊥
+new_slot_moves fixed = omega (arith, same_Some 0 3 (fixed.base 1 3 refl))
+
+-- a life that begins with the durable blob
+abbrev pub before : Life
+before = record { present = durable; past = [] }
+
+-- and goes on by this flush
+abbrev pub after : Life
+after = next before rewritten
+
+-- by one moment
+pub one_moment : after ≡ life_after before (rewritten ∷ [])
+one_moment = refl
+
+-- what is promised of a disk, here that its base is 32 bytes long, at each disk of a list
+pub at_each : Each (λ d. length d.base ≡ 32) (durable ∷ rewritten ∷ [])
+at_each = (refl, (refl, tt))
+
+-- and from a life's moment on
+pub all_through : Through (λ d. length d.base ≡ 32) before after
+unfolding Through
+all_through = record { moments = rewritten ∷ []; goes = refl; start = refl; each = (refl, tt) }
+
+-- nothing was unsynced before the flush, so it stays at its start too
+stays_at_start : Stays add_sum 4 seven durable durable
+stays_at_start = stays_itself add_sum 4 seven durable it_is_truthful
+
+-- at each moment of the flush
+pub it_stays_through : StaysThrough add_sum 4 seven before after
+unfolding Through
+it_stays_through = record { moments = rewritten ∷ []; goes = refl; start = stays_at_start; each = (it_stays, tt) }
+
+-- so the flush keeps each floor up to the seven bytes that every image kept, that is to six
+pub keeps_floors : KeepsFloors add_sum 4 seven before after
+keeps_floors = kept_through add_sum 4 seven before after it_stays_through
+
+-- the six bytes in a content of seven
+six_of_seven : AllKeep add_sum 4 seven 6 durable
+six_of_seven = all_keep
+
+-- in the midst of the flush, whatever a crash tears off, it leaves "abcdef" at least
+pub six_are_kept : Through (AllKeep add_sum 4 seven 6) before after
+six_are_kept = keeps_floors 6 (omega arith) six_of_seven
+
+-- and each floor of any other content, since the writer was sound: that can only begin as "abcdef" does
+pub keeps_all_floors : KeepsAllFloors add_sum 4 before after
+unfolding IsSound
+keeps_all_floors = floors_of_sound add_sum with_g before after a_sound_writer keeps_floors
+
+-- chance aside, a crash before it leaves of its writer's content a beginning
+pub leaves_its_content : LeavesItsContent add_sum with_g durable
+unfolding IsSound
+leaves_its_content = sound_leaves add_sum with_g durable a_sound_writer
+
+-- a crash that did nothing of the flush left `durable`, of which a later one leaves nothing else
+pub leaves_no_more : LeavesNoMore rewritten durable
+leaves_no_more = λ image is_image. subst (IsImage rewritten) (sym (only_image durable image refl is_image)) (base_is_image rewritten)
+
+-- while the flush may leave what was not there before it
+pub leaves_more : LeavesNoMore durable rewritten → ⊥
+leaves_more less =
+    let flushed = less rewritten.readable (whole_is_image rewritten rewritten.readable (inr refl)) in
+    let same = only_image durable rewritten.readable refl flushed in
+    let byte : 103 ≡ 0 = ap (λ (l : List ℕ). get_or l 18 0) same in
+    omega (arith, byte)
+
+-- and chance aside a prefix of "abcdefg", the content on both sides of the flush
+pub leaves_only : LeavesOnly add_sum 4 seven seven before after
+leaves_only = only_through add_sum 4 seven seven before after it_stays_through
+
+-- as at the moment of it
+pub all_only : AllOnly add_sum 4 seven seven rewritten
+all_only = λ image is_image free. inl (it_stays.only image is_image free)
+
+-- a sync of the flush makes all of it durable: from then on every image keeps "abcdefg"
+pub keeps_all : KeepsAll add_sum 4 seven (next after (settled_disk (logged SyncAll false rewritten)))
+keeps_all = keeps_at_rest add_sum 4 (settled_disk (logged SyncAll false rewritten)) refl
+
+-- ---- chance
+
+-- a blob of one page has that page alone, in front
+only_page : (x page : List ℕ) (p : ℕ) → slice_get (x ∷ []) p ≡ Some page → (x ≡ page) × (p ≡ 0)
+only_page x page zero is = (same_Some x page is, refl)
+only_page x page (suc p) is = absurd (cc is)
+
+-- "ef" was rewritten as "efg", without a sync
+abbrev pub one_page : Disk
+one_page = and_then (Write 0 efg_page) (WriteAt 0 16 false) (at_rest ef_page)
+
+-- the rewrite torn before its last byte: the new slot says another sum, 256
+abbrev pub torn_page : List ℕ
+torn_page = 101 ∷ 102 ∷ 103 ∷ 0 ∷ 0 ∷ 2 ∷ 0 ∷ 0 ∷ 0 ∷ 203 ∷ 0 ∷ 3 ∷ 0 ∷ 0 ∷ 1 ∷ 0 ∷ []
+
+-- it doesn't verify, so the image still says "ef"
+pub a_torn_text : text add_sum 4 torn_page ≡ 101 ∷ 102 ∷ []
+a_torn_text = refl
+
+-- what each slot of it says was said in the durable page
+says_before : (s : Slot) → 0 < verified_len add_sum 4 s torn_page
+    → (whole held : List ℕ) × IsWhole ef_page (Write 0 efg_page ∷ []) whole × (slice_get (pages 4 whole) 0 ≡ Some held) × (verified_len add_sum 4 s held ≡ verified_len add_sum 4 s torn_page) × (take (verified_len add_sum 4 s torn_page) held ≡ take (verified_len add_sum 4 s torn_page) torn_page)
+says_before First some = (ef_page, ef_page, inl refl, refl, refl, refl)
+says_before Second some = absurd (omega (arith, some))
+
+-- so it is chance-free
+pub a_chance_free_image : IsChanceFree add_sum 4 one_page torn_page
+a_chance_free_image = λ p page is.
+    let one = only_page torn_page page p is in
+    subst (λ (n : ℕ). (s : Slot) → 0 < verified_len add_sum 4 s page
+    → (whole held : List ℕ) × IsWhole ef_page (Write 0 efg_page ∷ []) whole × (slice_get (pages 4 whole) n ≡ Some held) × (verified_len add_sum 4 s held ≡ verified_len add_sum 4 s page) × (take (verified_len add_sum 4 s page) held ≡ take (verified_len add_sum 4 s page) page)) (sym one.1)
+    (subst (λ (l : List ℕ). (s : Slot) → 0 < verified_len add_sum 4 s l
+    → (whole held : List ℕ) × IsWhole ef_page (Write 0 efg_page ∷ []) whole × (slice_get (pages 4 whole) 0 ≡ Some held) × (verified_len add_sum 4 s held ≡ verified_len add_sum 4 s l) × (take (verified_len add_sum 4 s l) held ≡ take (verified_len add_sum 4 s l) l)) one.0 says_before)
+
+-- as is each whole state, here the durable one
+pub a_whole_image : IsChanceFree add_sum 4 one_page ef_page
+a_whole_image = whole_is_chance_free add_sum 4 one_page ef_page (inl refl)
+
+-- a page of "ef" under a sum that is always 0
+abbrev pub weak_ef : List ℕ
+weak_ef = 101 ∷ 102 ∷ 0 ∷ 0 ∷ 0 ∷ 2 ∷ 0 ∷ 0 ∷ 0 ∷ 0 ∷ 0 ∷ 0 ∷ 0 ∷ 0 ∷ 0 ∷ 0 ∷ []
+
+-- and its rewrite as "efg"
+abbrev pub weak_efg : List ℕ
+weak_efg = 101 ∷ 102 ∷ 103 ∷ 0 ∷ 0 ∷ 2 ∷ 0 ∷ 0 ∷ 0 ∷ 0 ∷ 0 ∷ 3 ∷ 0 ∷ 0 ∷ 0 ∷ 0 ∷ []
+
+-- of the rewrite only the new slot is done
+abbrev pub weak_torn : List ℕ
+weak_torn = 101 ∷ 102 ∷ 0 ∷ 0 ∷ 0 ∷ 2 ∷ 0 ∷ 0 ∷ 0 ∷ 0 ∷ 0 ∷ 3 ∷ 0 ∷ 0 ∷ 0 ∷ 0 ∷ []
+
+-- "ef" was rewritten so, without a sync
+abbrev pub weak_page : Disk
+weak_page = and_then (Write 0 weak_efg) (WriteAt 0 16 false) (at_rest weak_ef)
+
+-- a crash may leave that
+pub weak_torn_is_image : IsImage weak_page weak_torn
+weak_torn_is_image = torn_is_image weak_page weak_torn (
+  weak_torn,
+  record {
+    length = inl (omega arith, omega arith);
+    each = λ at byte is. spliced 10 weak_ef weak_efg (omega arith) at byte is;
+  },
+  refl,
+)
+
+-- and it says "ef" and a zero, which nobody appended
+pub a_chance_text : text const_sum 4 weak_torn ≡ 101 ∷ 102 ∷ 0 ∷ []
+a_chance_text = refl
+
+-- the page of a blob of one page
+held_is : (x whole held : List ℕ) → whole ≡ x → slice_get (pages 4 x) 0 ≡ Some x → slice_get (pages 4 whole) 0 ≡ Some held → x ≡ held
+held_is x whole held same is there = same_Some x held (sym is ∙ ap (λ (l : List ℕ). slice_get (pages 4 l) 0) (sym same) ∙ there)
+
+-- it isn't chance-free: "ef" and a zero stand under a slot of three bytes in no whole state
+pub not_chance_free : IsChanceFree const_sum 4 weak_page weak_torn → ⊥
+not_chance_free free =
+    let was = free 0 weak_torn refl Second (omega arith) in
+    elim was.2 [
+      | inl old ↦
+          let e : 0 ≡ 3 = ap (λ (l : List ℕ). verified_len const_sum 4 Second l) (held_is weak_ef was.0 was.1 old refl was.3) ∙ was.4 in absurd (omega (arith, e))
+      | inr new ↦
+          let e : 103 ≡ 0 = ap (λ (l : List ℕ). get_or (take 3 l) 2 0) (held_is weak_efg was.0 was.1 new refl was.3) ∙ ap (λ (l : List ℕ). get_or l 2 0) was.5 in absurd (omega (arith, e))
+    ]
+
+-- a blob that says "ef" isn't truthful of the content "xy"
+pub not_truthful : IsTruthful add_sum 4 (120 ∷ 121 ∷ []) (at_rest ef_page) → ⊥
+not_truthful truthful = let e : 101 ≡ 120 = ap (λ (l : List ℕ). get_or l 0 0) (truthful ef_page refl 0 ef_page refl First) in omega (arith, e)
+
+-- ---- a read
+
+-- a read of the first page was made
+abbrev pub was_read : Disk
+was_read = logged (ReadAt 0 16) false durable
+
+-- the disk is the same but for its log
+pub same_but_log : SameButLog durable was_read
+same_but_log = refl
+
+-- at each moment of the read
+pub a_look : Looked before (next before was_read)
+unfolding Through
+a_look = record {
+  same = refl;
+  log = (record { request = ReadAt 0 16; failed = false } ∷ [], refl);
+  through = record { moments = was_read ∷ []; goes = refl; start = refl; each = (refl, tt) };
+}
+
+-- ---- started syncs
+
+-- after the flush a sync is started
+abbrev pub flush_started : Disk
+flush_started = starts false rewritten
+
+-- it covers all that isn't durable, the flush, and has the bytes that are readable
+pub it_is_pending : IsPending 0 flush_started
+it_is_pending = record { covers = (1, abcd_page ++ efg_page); named = refl; all = refl; bytes = refl; others = λ other c is. other_name other c is }
+  where
+    other_name : (other : ℕ) (c : ℕ × List ℕ) → slice_get ((1, abcd_page ++ efg_page) ∷ []) other ≡ Some c → (c.0 ≤ 0) ⊎ (other ≡ 0)
+    other_name zero c is = inr refl
+    other_name (suc other) c is = absurd (cc is)
+
+-- none is pending where none was started
+pub none_is_pending : IsPending 0 rewritten → ⊥
+none_is_pending pending = absurd (cc (pending.named))
+
+-- were it complete, every image would say "abcdefg"
+pub all_is_covered : WouldKeep add_sum 4 seven 0 7 flush_started
+all_is_covered = record { covers = (1, abcd_page ++ efg_page); named = refl; keeps = keeps_at_rest add_sum 4 (disk_settled_to (1, abcd_page ++ efg_page) flush_started) refl }
+
+-- a sync that was started before the flush covers "abcdef" alone: a crash may leave the flush undone
+pub g_is_not_covered : WouldKeep add_sum 4 seven 0 7 (and_then (Write 16 efg_page) (WriteAt 16 16 false) (starts false durable)) → ⊥
+g_is_not_covered would =
+    let d = and_then (Write 16 efg_page) (WriteAt 16 16 false) (starts false durable) in
+    let covers : (0, abcd_page ++ ef_page) ≡ would.covers = same_Some (0, abcd_page ++ ef_page) would.covers would.named in
+    let keeps : AllKeep add_sum 4 seven 7 (disk_settled_to (0, abcd_page ++ ef_page) d) = subst (λ (c : ℕ × List ℕ). AllKeep add_sum 4 seven 7 (disk_settled_to c d)) (sym covers) would.keeps in
+    a_lost_floor (keeps (abcd_page ++ ef_page) (base_is_image d))
+
+-- a sync of the blob takes nothing from what it covers
+pub covers_stay : CoversStay add_sum 4 seven flush_started (settled_disk (logged SyncAll false flush_started))
+covers_stay =
+    settle_covers add_sum (record (after_write add_sum with_g 0 true) { sync = Pending 0 }) flush_started
+    (start_sound add_sum (after_write add_sum with_g 0 true) rewritten false a_sound_dirty_writer (λ name c is. absurd (cc is)))
+    (settled_disk (logged SyncAll false flush_started)) (record { readable = refl; base = refl; since = refl; settled = refl; covers = refl })
+
+-- a device that forgot it would
+pub covers_are_lost : CoversStay add_sum 4 seven flush_started rewritten → ⊥
+covers_are_lost stay = absurd (cc ((stay 0 7 (omega arith) all_is_covered).named))
+
+-- it stands so that a wait for it, also where the writer is gone, makes nothing durable that a crash might not have left
+pub it_stands_so : StartsStand flush_started
+it_stands_so = starts_stand flush_started (Pending 0) refl it_is_pending
+
+-- not where it has other bytes: a wait would make an empty blob of it
+pub it_stands_not_so : StartsStand (record rewritten { started = record { covers = 1; bytes = []; failed = false } ∷ [] }) → ⊥
+it_stands_not_so stands = elim (stands 0 (1, []) refl) [
+  | inl settled ↦ absurd (omega (arith, settled))
+  | inr all ↦ absurd (omega (arith, ap length all.1))
+]
+
+-- ---- pages that stay
+
+-- the flush leaves the first page
+pub the_first_page_stays : SamePages 4 1 durable rewritten
+the_first_page_stays = refl
+
+-- and rewrites the second
+pub the_second_page_goes : SamePages 4 2 durable rewritten → ⊥
+the_second_page_goes same = let byte : 103 ≡ 0 = ap (λ (l : List ℕ). get_or l 18 0) same in omega (arith, byte)
+
+-- at each moment of it
+pub pages_stay : PagesStay 4 1 before after
+pages_stay = pages_one 4 1 before after rewritten refl the_first_page_stays
+
+-- ---- a value that is cut short
+
+-- page 1 is to tell fewer bytes than its first slot does: the second slot gets the checksum with no length, and then the length; and
+-- the first is emptied
+pub a_staged_slot : staged 4 1 First 203 ≡ Write 26 (0 ∷ 0 ∷ 0 ∷ 0 ∷ 0 ∷ 203 ∷ [])
+a_staged_slot = refl
+
+pub a_published_slot : published 4 1 First 2 ≡ Write 26 (0 ∷ 2 ∷ [])
+a_published_slot = refl
+
+pub a_cleared_slot : cleared 4 1 First ≡ Write 20 (0 ∷ 0 ∷ 0 ∷ 0 ∷ 0 ∷ 0 ∷ [])
+a_cleared_slot = refl
+
+-- a crash keeps the page before that one, and of it what its first slot tells
+pub ef_holds : HeldBy add_sum 4 six 1 ef_slot durable
+ef_holds = record {
+  pages = guards_less add_sum 4 six 6 4 durable (omega arith) six_are_guarded;
+  guard = record { there = omega arith; held = ef_is_held };
+}
+
+-- the blob says nothing but "abcdef" in any slot
+six_are_truthful : IsTruthful add_sum 4 six durable
+six_are_truthful =
+    let page : HasPage add_sum 4 1 (101 ∷ 102 ∷ []) (abcd_page ++ ef_page) ef_slot = record { size = refl; some = omega arith; there = omega arith; part = omega arith; crc = refl; value = refl; begins = refl; slot = refl } in
+    (page_sound add_sum (record with_g { tip = 101 ∷ 102 ∷ [] }) durable refl refl (omega arith) (lit< tt) (refl, tt) refl (λ name c is. absurd (cc is)) small_add_sum ef_slot refl page).truthful
+
+-- so a moment at which that slot holds owes nothing to a cut to six bytes
+pub a_cut_that_owes_nothing : CutStays add_sum 4 six 6 durable durable
+a_cut_that_owes_nothing = held_stays_cut add_sum 4 six 6 1 ef_slot durable durable (omega arith) ef_holds six_are_truthful
+
+-- ---- what a moment of a cut holds
+
+-- a blob that says "ef", and has a page after that no reader comes to
+abbrev pub ef_and_more : Disk
+ef_and_more = at_rest (ef_page ++ abcd_page)
+
+pub its_text_ends : text add_sum 4 (ef_page ++ abcd_page) ≡ 101 ∷ 102 ∷ []
+its_text_ends = refl
+
+-- a crash keeps "ef", and leaves nothing else
+pub ef_is_all : HoldsText add_sum 4 (101 ∷ 102 ∷ []) 2 ef_and_more
+ef_is_all = holds_at_rest add_sum 4 (ef_page ++ abcd_page) 2 ef_and_more (omega arith) refl refl (omega arith)
+
+-- what the page after says is nothing to that, though it isn't of "ef"
+pub it_says_ef : SaysText add_sum 4 (101 ∷ 102 ∷ []) ef_and_more
+it_says_ef = ef_is_all.says
+
+pub it_says_more : IsTruthful add_sum 4 (101 ∷ 102 ∷ []) ef_and_more → ⊥
+it_says_more truthful = let none : 4 ≡ 0 = ap length (truthful (ef_page ++ abcd_page) refl 1 abcd_page refl First) in absurd (omega (arith, none))
+
+-- a blob that says "ef" doesn't say "xy"
+pub it_says_ef_alone : SaysText add_sum 4 (120 ∷ 121 ∷ []) (at_rest ef_page) → ⊥
+it_says_ef_alone says = let e : 101 ≡ 120 = ap (λ (l : List ℕ). get_or l 0 0) (says ef_page refl 0 ef_page refl (omega arith) First) in omega (arith, e)
+
+-- no more is held than the text has
+pub no_more_than_ef : HoldsText add_sum 4 (101 ∷ 102 ∷ []) 3 ef_and_more → ⊥
+no_more_than_ef holds = absurd (omega (arith, holds.within))
+
+-- nor what a crash may lose
+pub g_is_not_held : HoldsText add_sum 4 seven 7 rewritten → ⊥
+g_is_not_held holds = a_lost_floor (holds_keeps add_sum 4 seven 7 rewritten holds 7 (omega arith) (abcd_page ++ ef_page) (base_is_image rewritten))
+
+-- the first of the three writes was done, and isn't durable
+abbrev pub one_staged : Disk
+one_staged = and_then (staged 4 1 First 203) (WriteAt 26 6 false) durable
+
+-- "abcdef" is held all the same
+pub six_are_held : HoldsText add_sum 4 six 6 one_staged
+six_are_held =
+    let o = staged 4 1 First 203 in
+    through_end (HoldsText add_sum 4 six 6) before (next before one_staged)
+    (stage_holds add_sum 4 six 6 1 ef_slot 203 false before (next before one_staged) (Ok tt)
+    (one_staged, refl, record { readable = partial_whole o durable.readable; done = λ is. refl; rest = refl })
+    (omega arith) refl (inr (ef_slot, ef_holds, refl, omega arith)) (holds_at_rest add_sum 4 (abcd_page ++ ef_page) 6 durable (omega arith) refl refl (omega arith)))

@@ -1,0 +1,9 @@
+pub mod FlushLaws
+pub mod Soundness
+pub mod CallLaws
+pub mod FloorLaws
+pub mod StartedLaws
+pub mod CoverLaws
+pub mod StandLaws
+pub mod ShortenLaws
+pub mod Examples

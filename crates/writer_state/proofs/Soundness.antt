@@ -1,0 +1,541 @@
+-- What keeps a writer sound, so that a crash keeps what was synced: a flush, a sync, a read, a longer tip, the durable
+-- slot brought up to date; and what makes one sound.
+use Rattle.std.proofs.Common.{◌≡◌, inl, inr, ◌⊎◌, ℕ, zero, suc, ◌+◌, ◌-◌, ◌*◌, ◌^◌, ◌<◌, ◌≤◌, List, [], ◌∷◌, ◌++◌, length, take, drop, slice_get, refl, sym, ◌∙◌, ap, subst, arith, length-append, length-take, length-take-le, mul-le-mul_right}
+use Rattle.std.specs.Prelude.{Option, Some, None, Bool, false}
+use Rattle.std.proofs.lemmas.Bool.{cases_order}
+use Rattle.std.proofs.lemmas.List.{append-nil, take_all, take_at}
+use Rattle.disk.specs.Disk.{Disk, Operation, Operated, Request, Life, IsImage, applied, coverings}
+use Rattle.disk.specs.Disk.Operation.{Write}
+use Rattle.page.specs.Slot.{slot_offset}
+use Rattle.page.specs.Page.{pages, slot_bytes, verified_len, value_len, text}
+use Rattle.page.specs.declared.slot.Slot.{Slot}
+use Rattle.page.specs.declared.slot.ActiveChecksum.{ActiveChecksum}
+use Rattle.writer_state.specs.WriterState.{WriterState, after_write}
+use Rattle.writer_state.specs.declared.sync_state.SyncState.{SyncState}
+use Rattle.writer_state.specs.declared.sync_state.SyncState.TheVariants.{Clean, Dirty, Pending}
+use Rattle.crash.specs.Full.{AreFull}
+use Rattle.crash.specs.Guard.{Held, Guards, IsTruthful, TipGuard}
+use Rattle.crash.specs.Built.{kept_len, built, durable_after, written_pages}
+use Rattle.crash.specs.Kept.{AllKeep}
+use Rattle.crash.specs.Stays.{Stays, StaysThrough}
+use Rattle.crash.specs.Looks.{SameButLog, Looked}
+use Rattle.crash.specs.Contents.{latest, stored}
+use Rattle.writer_state.specs.Sound.{content, HasPage, TipPage, StateFits, Stands, guard_slot, StartsFit, IsRepeated, MayFlush, IsSafe, Soundness, IsSound, LeavesItsContent, CanWrite}
+use Rattle.crash.proofs.Lists.{take_past, take_same}
+use Rattle.crash.proofs.Pages.{length-stored, pages_at, page_fits, page_is, pages_fit, length-pages}
+use Rattle.crash.proofs.Texts.{text_exact, text_of_part, value_at, verified_le_value, verified_len_le}
+use Rattle.crash.proofs.BuiltLaws.{IsSmall, slot_len_of, slot_crc_of}
+use Rattle.writer_state.proofs.FlushLaws.{tip_reach, flush_reach, pages_written, flush_content, operated_stands, settle_stands, state_stands, fits_alike, starts_alike, alike_content, longer_stands, longer_content, carry_stands, settled_stands, exact_stands, length-content, content_in_page, content_in_tip}
+use Rattle.crash.proofs.Disks.{fixed_at_rest, operated_base, operated_since}
+use Rattle.disk.specs.Images.{only_image}
+use Rattle.crash.proofs.PageFacts.{page_begins, slot_at, slot_offset_le, own_beginning}
+use Rattle.crash.proofs.Promise.{guards_at_rest, guards_longer, guards_less, guards_alike, held_alike, held_stays, leaves_page_below, write_leaves_below, part_of_beginning, SaysOnly, truthful_at_rest, truthful_alike, truthful_longer, only_content}
+use Rattle.crash.specs.Moments.{through_then}
+use Rattle.crash.proofs.Moments.{stays_itself, stays_alike, stays_settled, stays_guarded}
+use Rattle.crash.proofs.Spared.{flush_keeps_full, held_through_flush, guards_with_tip, truthful_through_flush}
+
+-- ---- what is written
+
+module _ (sum : List ℕ → ℕ) (P full : ℕ) (tip readable : List ℕ) where
+  -- the text of what is readable: the pages below the tip, and what was written of the tip
+  pub written_text : (flushed : Option ActiveChecksum) → AreFull sum P (take full (pages P readable)) → TipPage sum P full tip readable flushed → text sum P readable ≡ stored P full readable ++ take (kept_len flushed) tip
+  written_text None are is = text_exact sum P full readable are is ∙ sym (append-nil (stored P full readable))
+  written_text (Some f) are is =
+      text_of_part sum P full readable are (omega (arith, is.size)) (omega (arith, is.value, is.part))
+      ∙ ap (λ (l : List ℕ). stored P full readable ++ l) (value_at sum P full readable ∙ ap (λ (n : ℕ). take n (drop (full * (P + 12)) readable)) is.value ∙ is.begins)
+
+  -- so much of the tip was written
+  pub kept_in_tip : (flushed : Option ActiveChecksum) → TipPage sum P full tip readable flushed → kept_len flushed ≤ length tip
+  kept_in_tip None is = omega arith
+  kept_in_tip (Some f) is = is.there
+
+-- ---- at rest
+
+module _ (sum : List ℕ → ℕ) (w : WriterState) (readable : List ℕ) (full : AreFull sum w.page_size (take w.full_pages (pages w.page_size readable)))
+    (tip_page : TipPage sum w.page_size w.full_pages w.tip readable w.flushed) where
+  reach : w.full_pages * (w.page_size + 12) ≤ length readable
+  reach = (tip_reach sum w.page_size w.full_pages w.tip readable w.flushed tip_page).0
+
+  -- how long the text is
+  pub length-written_text : length (text sum w.page_size readable) ≡ w.full_pages * w.page_size + kept_len w.flushed
+  length-written_text =
+      let kept = kept_in_tip sum w.page_size w.full_pages w.tip readable w.flushed tip_page in
+      ap length (written_text sum w.page_size w.full_pages w.tip readable w.flushed full tip_page)
+      ∙ (let e : length (stored w.page_size w.full_pages readable ++ take (kept_len w.flushed) w.tip) ≡ w.full_pages * w.page_size + kept_len w.flushed =
+      omega (arith, length-append (stored w.page_size w.full_pages readable) (take (kept_len w.flushed) w.tip), length-take (kept_len w.flushed) w.tip, length-stored w.page_size w.full_pages readable reach) in e)
+
+  -- it is a beginning of the content
+  pub text_begins_content : text sum w.page_size readable ≡ take (length (text sum w.page_size readable)) (content w readable)
+  text_begins_content =
+      let n = kept_len w.flushed in
+      let front = stored w.page_size w.full_pages readable in
+      let size : length front ≡ w.full_pages * w.page_size = length-stored w.page_size w.full_pages readable reach in
+      written_text sum w.page_size w.full_pages w.tip readable w.flushed full tip_page
+      ∙ ap (λ (k : ℕ). front ++ take k w.tip) (let e : n ≡ length (text sum w.page_size readable) - length front = omega (arith, length-written_text, size) in e)
+      ∙ sym (take_past (length (text sum w.page_size readable)) front w.tip (omega (arith, length-written_text, size)))
+
+-- of the tip's page each slot that verifies does so over bytes of the tip
+tip_says : (sum : List ℕ → ℕ) (P full : ℕ) (tip readable page : List ℕ) (flushed : Option ActiveChecksum) (s : Slot) → TipPage sum P full tip readable flushed → slice_get (pages P readable) full ≡ Some page
+    → take (verified_len sum P s page) page ≡ take (verified_len sum P s page) tip
+tip_says sum P full tip readable page None s is there = absurd (omega (arith, page_fits P full readable page there))
+tip_says sum P full tip readable page (Some f) s is there =
+    let n = verified_len sum P s page in
+    let same : take (P + 12) (drop (full * (P + 12)) readable) ≡ page = sym (page_is P full readable page there) in
+    let few : n ≤ f.len = omega (arith, verified_le_value sum P s page, ap (λ (l : List ℕ). value_len sum P l) same, is.value) in
+    page_begins P full n readable page there (omega (arith, verified_len_le sum P s page))
+    ∙ take_same n f.len (drop (full * (P + 12)) readable) tip few is.begins
+
+-- what is readable says only the content
+pub says_written : (sum : List ℕ → ℕ) (w : WriterState) (readable : List ℕ) → TipPage sum w.page_size w.full_pages w.tip readable w.flushed → SaysOnly sum w.page_size (content w readable) readable
+says_written sum w readable tip_page p page is s =
+    let P = w.page_size in
+    let n = verified_len sum P s page in
+    let ends = tip_reach sum P w.full_pages w.tip readable w.flushed tip_page in
+    let fits : n ≤ P = verified_len_le sum P s page in
+    elim (cases_order p w.full_pages) [
+      | inl same ↦
+          let offset : drop (p * P) (content w readable) ≡ w.tip =
+          ap (λ (k : ℕ). drop k (content w readable)) (let e : p * P ≡ w.full_pages * P + 0 = omega (arith, ap (λ (k : ℕ). k * P) same) in e) ∙ content_in_tip w readable ends.0 0 in
+          tip_says sum P w.full_pages w.tip readable page w.flushed s tip_page (ap (λ (k : ℕ). slice_get (pages P readable) k) (sym same) ∙ is)
+          ∙ ap (λ (l : List ℕ). take n l) (sym offset)
+      | inr (inl below) ↦
+          let e : p * P + 0 ≡ p * P = omega arith in
+          let f : p * (P + 12) + 0 ≡ p * (P + 12) = omega arith in
+          page_begins P p n readable page is (omega arith)
+          ∙ ap (λ (k : ℕ). take n (drop k readable)) (sym f)
+          ∙ sym (content_in_page w readable ends.0 p 0 n below (omega arith))
+          ∙ ap (λ (k : ℕ). take n (drop k (content w readable))) e
+      | inr (inr after) ↦
+          let past : suc w.full_pages * (P + 12) ≤ p * (P + 12) = mul-le-mul_right (P + 12) after in
+          absurd (omega (arith, page_fits P p readable page is))
+    ]
+
+-- with nothing unsynced the slot that was flushed last is held
+held_at_rest : (sum : List ℕ → ℕ) (P full : ℕ) (tip : List ℕ) (f : ActiveChecksum) (d : Disk) → IsSmall sum → P < 2 ^ 16 → d.since ≡ [] → HasPage sum P full tip d.base f → Held sum P d full f.slot (slot_bytes f.len f.crc) (take f.len tip)
+held_at_rest sum P full tip f d small small_page since is =
+    let as_long : length (take f.len tip) ≡ f.len = length-take-le f.len tip is.there in
+    let page = take (P + 12) (drop (full * (P + 12)) d.base) in
+    let there : slice_get (pages P d.base) full ≡ Some page = pages_at P full d.base (omega (arith, is.size)) in
+    record {
+      some = omega (arith, as_long, is.some);
+      fits = omega (arith, as_long, is.part);
+      payload = fixed_at_rest d (full * (P + 12)) (take f.len tip) since (omega (arith, as_long, is.part, is.size))
+          (ap (λ (n : ℕ). take n (drop (full * (P + 12)) d.base)) as_long ∙ is.begins);
+      is_slot = record {
+        size = refl;
+        len = slot_len_of f.len f.crc (omega (arith, is.part)) ∙ sym as_long;
+        crc = slot_crc_of f.len f.crc (omega (arith, is.crc, small (take f.len tip))) ∙ is.crc;
+      };
+      fixed_slot = fixed_at_rest d (full * (P + 12) + P + slot_offset f.slot) (slot_bytes f.len f.crc) since (omega (arith, slot_offset_le f.slot, is.size))
+          (sym (slot_at P full f.slot d.base page there) ∙ is.slot);
+      end = fixed_at_rest d ((full + 1) * (P + 12)) [] since (omega (arith, is.size)) refl;
+    }
+
+-- if there is one
+guard_at_rest : (sum : List ℕ → ℕ) (P full : ℕ) (tip content : List ℕ) (flushed : Option ActiveChecksum) (d : Disk) → IsSmall sum → P < 2 ^ 16 → d.since ≡ [] → TipPage sum P full tip d.base flushed
+    → drop (full * P) content ≡ tip → full * P + length tip ≤ length content → TipGuard sum P content d full flushed
+guard_at_rest sum P full tip content None d small small_page since is after long = tt
+guard_at_rest sum P full tip content (Some f) d small small_page since is after long = record {
+  there = omega (arith, is.there);
+  held = subst (λ (l : List ℕ). Held sum P d full f.slot (slot_bytes f.len f.crc) (take f.len l)) (sym after) (held_at_rest sum P full tip f d small small_page since is);
+}
+
+module _ (sum : List ℕ → ℕ) (w : WriterState) (d : Disk) (since : d.since ≡ []) (base : d.base ≡ d.readable) (full : AreFull sum w.page_size (take w.full_pages (pages w.page_size d.readable)))
+    (tip_page : TipPage sum w.page_size w.full_pages w.tip d.readable w.flushed) where
+  -- with nothing unsynced all that is written is guarded
+  guards_written : 0 < w.page_size → Guards sum w.page_size (content w d.readable) (w.full_pages * w.page_size + kept_len w.flushed) d
+  guards_written some =
+      let P = w.page_size in
+      let begins : text sum P d.base ≡ take (length (text sum P d.base)) (content w d.readable) =
+      subst (λ (l : List ℕ). text sum P l ≡ take (length (text sum P l)) (content w d.readable)) (sym base) (text_begins_content sum w d.readable full tip_page) in
+      let size : length (text sum P d.base) ≡ w.full_pages * P + kept_len w.flushed = ap (λ (l : List ℕ). length (text sum P l)) base ∙ length-written_text sum w d.readable full tip_page in
+      guards_less sum P (content w d.readable) (length (text sum P d.base)) (w.full_pages * P + kept_len w.flushed) d (omega arith)
+      (guards_longer sum P (text sum P d.base) (content w d.readable) (length (text sum P d.base)) d begins (guards_at_rest sum P d some since))
+
+  reaches : w.full_pages * (w.page_size + 12) ≤ length d.readable
+  reaches = (tip_reach sum w.page_size w.full_pages w.tip d.readable w.flushed tip_page).0
+
+  -- of the tip's page, what was flushed last
+  guard_written : IsSmall sum → w.page_size < 2 ^ 16 → TipGuard sum w.page_size (content w d.readable) d w.full_pages w.flushed
+  guard_written small small_page =
+      let P = w.page_size in
+      let start : w.full_pages * P + 0 ≡ w.full_pages * P = omega arith in
+      let after : drop (w.full_pages * P) (content w d.readable) ≡ w.tip = ap (λ (k : ℕ). drop k (content w d.readable)) (sym start) ∙ content_in_tip w d.readable reaches 0 in
+      guard_at_rest sum P w.full_pages w.tip (content w d.readable) w.flushed d small small_page since
+      (subst (λ (l : List ℕ). TipPage sum P w.full_pages w.tip l w.flushed) (sym base) tip_page) after (omega (arith, length-content w d.readable reaches))
+
+  -- so a crash keeps it
+  safe_at_rest : 0 < w.page_size → TipGuard sum w.page_size (content w d.readable) d w.full_pages w.flushed → IsRepeated w.sync w.flushed w.durable w.flushed → IsSafe sum w (content w d.readable) d
+  safe_at_rest some guard repeats =
+      let P = w.page_size in
+      record {
+        full = w.full_pages;
+        tip = w.flushed;
+        there = omega (arith, length-content w d.readable reaches);
+        pages = guards_less sum P (content w d.readable) (w.full_pages * P + kept_len w.flushed) (w.full_pages * P) d (omega arith) (guards_written some);
+        guard = guard;
+        base = omega (arith, ap (λ (l : List ℕ). length (text sum P l)) base, length-written_text sum w d.readable full tip_page);
+        position = inr (refl, repeats);
+      }
+
+  -- and no whole state says anything else
+  truthful_written : IsTruthful sum w.page_size (content w d.readable) d
+  truthful_written =
+      truthful_at_rest sum w.page_size (content w d.readable) d since (subst (λ (l : List ℕ). SaysOnly sum w.page_size (content w d.readable) l) (sym base) (says_written sum w d.readable tip_page))
+
+-- ---- what is safe
+
+-- all that is safe is guarded
+pub safe_guards : (sum : List ℕ → ℕ) (P : ℕ) (content : List ℕ) (d : Disk) (full : ℕ) (tip : Option ActiveChecksum) → full * P ≤ length content → Guards sum P content (full * P) d → TipGuard sum P content d full tip
+    → (full * P + kept_len tip ≤ length content) × Guards sum P content (full * P + kept_len tip) d
+safe_guards sum P content d full None there guards guard = (omega arith, guards_less sum P content (full * P) (full * P + 0) d (omega arith) guards)
+safe_guards sum P content d full (Some f) there guards guard = (guard.there, guards_with_tip sum P full content f.len d f.slot (slot_bytes f.len f.crc) guard.there guards guard.held)
+
+-- where no more was durable, and no whole state says anything else, nothing is owed
+pub safe_stays : (sum : List ℕ → ℕ) (w : WriterState) (content : List ℕ) (d e : Disk) → e.base ≡ d.base → IsSafe sum w content e → IsTruthful sum w.page_size content e → Stays sum w.page_size content d e
+safe_stays sum w content d e base safe truthful =
+    let P = w.page_size in
+    let guarded = safe_guards sum P content e safe.full safe.tip safe.there safe.pages safe.guard in
+    stays_guarded sum P content (safe.full * P + kept_len safe.tip) d e (omega (arith, safe.base, ap (λ (l : List ℕ). length (text sum P l)) base)) guarded.1 truthful
+
+-- a slot that stays, over to a content that goes on
+guard_longer : (sum : List ℕ → ℕ) (P : ℕ) (content longer : List ℕ) (d : Disk) (full : ℕ) (tip : Option ActiveChecksum) → content ≡ take (length content) longer → TipGuard sum P content d full tip → TipGuard sum P longer d full tip
+guard_longer sum P content longer d full None begins guard = tt
+guard_longer sum P content longer d full (Some f) begins guard = record {
+  there = omega (arith, guard.there, ap length begins, length-take (length content) longer);
+  held = subst (λ (l : List ℕ). Held sum P d full f.slot (slot_bytes f.len f.crc) l) (part_of_beginning f.len (full * P) content longer begins guard.there) guard.held;
+}
+
+-- over to a disk with the same base and operations
+guard_alike : (sum : List ℕ → ℕ) (P : ℕ) (content : List ℕ) (d e : Disk) (full : ℕ) (tip : Option ActiveChecksum) → e.base ≡ d.base → e.since ≡ d.since → TipGuard sum P content d full tip → TipGuard sum P content e full tip
+guard_alike sum P content d e full None base since guard = tt
+guard_alike sum P content d e full (Some f) base since guard = record {
+  there = guard.there;
+  held = held_alike sum P d e full f.slot (slot_bytes f.len f.crc) (take f.len (drop (full * P) content)) base since guard.held;
+}
+
+-- over a write after its page
+guard_below : (sum : List ℕ → ℕ) (P : ℕ) (content : List ℕ) (d e : Disk) (full offset : ℕ) (written : List ℕ) (tip : Option ActiveChecksum) → e.base ≡ d.base → e.since ≡ d.since ++ Write offset written ∷ [] → (full + 1) * (P + 12) ≤ offset
+    → TipGuard sum P content d full tip → TipGuard sum P content e full tip
+guard_below sum P content d e full offset written None base since after guard = tt
+guard_below sum P content d e full offset written (Some f) base since after guard =
+    let bytes = take f.len (drop (full * P) content) in
+    record {
+      there = guard.there;
+      held = held_stays sum P d e (Write offset written) full f.slot (slot_bytes f.len f.crc) bytes base since
+          (leaves_page_below (Write offset written) P full offset f.slot (slot_bytes f.len f.crc) bytes (write_leaves_below offset written) after refl guard.held.fits) guard.held;
+    }
+
+-- over a flush that repeats it
+guard_repeated : (sum : List ℕ → ℕ) (P : ℕ) (content : List ℕ) (d e : Disk) (full m : ℕ) (rest : List ℕ) (tip : Option ActiveChecksum) → e.base ≡ d.base → e.since ≡ d.since ++ Write (full * (P + 12)) (built sum P tip m rest) ∷ []
+    → drop (full * P) content ≡ rest → TipGuard sum P content d full tip → TipGuard sum P content e full tip
+guard_repeated sum P content d e full m rest None base since after guard = tt
+guard_repeated sum P content d e full m rest (Some f) base since after guard =
+    let bytes = take f.len (drop (full * P) content) in
+    record {
+      there = guard.there;
+      held = held_through_flush sum P full d e f m rest bytes base since (own_beginning f.len bytes rest (ap (λ (l : List ℕ). take f.len l) after)) guard.held;
+    }
+
+-- ---- a flush
+
+-- where a flush may begin the slot that it is to repeat is the durable one
+repeated_is : (s : SyncState) (flushed durable tip : Option ActiveChecksum) → MayFlush s flushed durable → IsRepeated s flushed durable tip → tip ≡ durable
+repeated_is Clean flushed durable tip ready is = is ∙ sym ready
+repeated_is Dirty flushed durable tip ready is = is
+repeated_is (Pending name) flushed durable tip ready is = absurd ready
+
+-- the tip's page is below the tip once a page went out, and else the durable slot is the same
+offset_after : (full k : ℕ) (durable : Option ActiveChecksum) → (full < full + k) ⊎ ((full ≡ full + k) × (durable ≡ durable_after durable k))
+offset_after full zero durable = inr (omega arith, refl)
+offset_after full (suc k) durable = inl (omega arith)
+
+module _ (sum : List ℕ → ℕ) (w : WriterState) (d e : Disk) (k : ℕ) (rest : Bool) (bytes : List ℕ) (small : IsSmall sum) (sound : Soundness sum w d) (ready : MayFlush w.sync w.flushed w.durable)
+    (can : CanWrite w.page_size w.tip k rest) (is : bytes ≡ built sum w.page_size w.durable (written_pages k rest) w.tip) where
+  after : drop (w.full_pages * w.page_size) (content w d.readable) ≡ w.tip
+  after =
+      let start : w.full_pages * w.page_size + 0 ≡ w.full_pages * w.page_size = omega arith in
+      ap (λ (n : ℕ). drop n (content w d.readable)) (sym start)
+      ∙ content_in_tip w d.readable (tip_reach sum w.page_size w.full_pages w.tip d.readable w.flushed sound.stands.tip_page).0 0
+
+  -- a flush leaves safe what was, done or failed
+  pub flush_safe : e.base ≡ d.base → e.since ≡ d.since ++ Write (w.full_pages * (w.page_size + 12)) bytes ∷ [] → IsSafe sum (after_write sum w k rest) (content w d.readable) e
+  flush_safe base since =
+      let P = w.page_size in
+      let q = w.full_pages in
+      let all = content w d.readable in
+      let safe = sound.safe in
+      let few : safe.full * P ≤ q * P = elim safe.position [
+        | inl below ↦ mul-le-mul_right P (let le : safe.full ≤ q = omega arith in le)
+        | inr here ↦ mul-le-mul_right P (let le : safe.full ≤ q = omega (arith, here.0) in le)
+      ] in
+      let kept : Guards sum P all (safe.full * P) e = flush_keeps_full sum P q all (safe.full * P) d e bytes base since few safe.pages in
+      let text_base : length (text sum P e.base) ≤ safe.full * P + kept_len safe.tip = omega (arith, safe.base, ap (λ (l : List ℕ). length (text sum P l)) base) in
+      elim safe.position [
+        | inl below ↦
+            let in_front : (safe.full + 1) * (P + 12) ≤ q * (P + 12) = mul-le-mul_right (P + 12) (let le : safe.full + 1 ≤ q = omega arith in le) in
+            record {
+              full = safe.full;
+              tip = safe.tip;
+              there = safe.there;
+              pages = kept;
+              guard = guard_below sum P all d e safe.full (q * (P + 12)) bytes safe.tip base since in_front safe.guard;
+              base = text_base;
+              position = inl (omega arith);
+            }
+        | inr here ↦
+            let repeated : safe.tip ≡ w.durable = repeated_is w.sync w.flushed w.durable safe.tip ready here.1 in
+            let guard : TipGuard sum P all d q w.durable = subst (λ (n : ℕ). TipGuard sum P all d n w.durable) here.0 (subst (λ (f : Option ActiveChecksum). TipGuard sum P all d safe.full f) repeated safe.guard) in
+            record {
+              full = q;
+              tip = w.durable;
+              there = omega (arith, safe.there, ap (λ (n : ℕ). n * P) here.0);
+              pages = subst (λ (n : ℕ). Guards sum P all (n * P) e) here.0 kept;
+              guard = guard_repeated sum P all d e q (written_pages k rest) w.tip w.durable base (since ∙ ap (λ (l : List ℕ). d.since ++ Write (q * (P + 12)) l ∷ []) is) after guard;
+              base = omega (arith, text_base, ap (λ (n : ℕ). n * P) here.0, ap kept_len repeated);
+              position = offset_after q k w.durable;
+            }
+      ]
+
+  -- and no whole state says anything but the content
+  pub flush_truthful : e.base ≡ d.base → e.since ≡ d.since ++ Write (w.full_pages * (w.page_size + 12)) bytes ∷ [] → IsTruthful sum w.page_size (content w d.readable) e
+  flush_truthful base since =
+      let P = w.page_size in
+      let q = w.full_pages in
+      let m = written_pages k rest in
+      let old = latest d.base d.since in
+      let reach = subst (λ (l : List ℕ). (q * (P + 12) ≤ length l) × (length l ≤ (q + m) * (P + 12))) sound.stands.done (flush_reach sum P q k w.tip d.readable w.flushed rest sound.stands.tip_page can) in
+      truthful_through_flush sum P q (content w d.readable) d e w.durable m w.tip bytes sound.stands.small sound.stands.carries.0 sound.stands.carries.1 base since after
+      (omega (arith, pages_fit P q old reach.0, length-pages P old))
+      (ap (λ (l : List ℕ). pages P (applied (Write (q * (P + 12)) l) old)) is ∙ pages_written sum P q m w.durable w.tip old reach.0 reach.1)
+      sound.truthful
+
+  -- a flush that is done keeps soundness
+  pub operated_sound : (request : Request) → Operated (Write (w.full_pages * (w.page_size + 12)) bytes) request false d e → Soundness sum (after_write sum w k rest) e
+  operated_sound request done =
+      let o : Operation = Write (w.full_pages * (w.page_size + 12)) bytes in
+      let base = operated_base o request false d e done in
+      let since = operated_since o request false d e done in
+      let readable = done.done refl in
+      let same : content w d.readable ≡ content (after_write sum w k rest) e.readable = sym (flush_content sum w d e k rest bytes small sound.stands can is readable) in
+      record {
+        stands = operated_stands sum w d e k rest bytes small sound.stands can is readable request ready done;
+        safe = subst (λ (l : List ℕ). IsSafe sum (after_write sum w k rest) l e) same (flush_safe base since);
+        truthful = subst (λ (l : List ℕ). IsTruthful sum w.page_size l e) same (flush_truthful base since);
+      }
+
+  -- a flush owes nothing, done or failed
+  pub operated_stays : (request : Request) (failed : Bool) → Operated (Write (w.full_pages * (w.page_size + 12)) bytes) request failed d e → Stays sum w.page_size (content w d.readable) d e
+  operated_stays request failed operated =
+      let o : Operation = Write (w.full_pages * (w.page_size + 12)) bytes in
+      let base = operated_base o request failed d e operated in
+      let since = operated_since o request failed d e operated in
+      safe_stays sum (after_write sum w k rest) (content w d.readable) d e base (flush_safe base since) (flush_truthful base since)
+
+  -- nor does it where it is made durable
+  pub operated_settle_stays : (request : Request) (f : Disk) → Operated (Write (w.full_pages * (w.page_size + 12)) bytes) request false d e → f.base ≡ e.readable → f.since ≡ [] → Stays sum w.page_size (content w d.readable) d f
+  operated_settle_stays request f done base since =
+      stays_settled sum w.page_size (content w d.readable) d e f (base ∙ (operated_sound request done).stands.done) since (operated_stays request false done)
+
+-- ---- the same bytes in another state
+
+module _ (sum : List ℕ → ℕ) (w : WriterState) (d e : Disk) (sound : Soundness sum w d) (same : e.readable ≡ d.readable) where
+  -- a sync that is done keeps soundness, and leaves the writer clean
+  pub settle_sound : (s : SyncState) → IsSmall sum → e.base ≡ d.readable → e.since ≡ [] → StartsFit e s → IsRepeated s w.flushed w.durable w.flushed → Soundness sum (record w { sync = s }) e
+  settle_sound s small base since starts repeats =
+      let stands = settle_stands sum w d e sound.stands same s base since starts in
+      let at_rest : e.base ≡ e.readable = base ∙ sym same in
+      record {
+        stands = stands;
+        safe = safe_at_rest sum (record w { sync = s }) e since at_rest stands.full stands.tip_page stands.some
+            (guard_written sum (record w { sync = s }) e since at_rest stands.full stands.tip_page small stands.small) repeats;
+        truthful = truthful_written sum (record w { sync = s }) e since at_rest stands.full stands.tip_page;
+      }
+
+  -- and owes nothing
+  pub settle_stays : e.base ≡ d.readable → e.since ≡ [] → Stays sum w.page_size (content w d.readable) d e
+  settle_stays base since =
+      stays_settled sum w.page_size (content w d.readable) d d e (base ∙ sound.stands.done) since (stays_itself sum w.page_size (content w d.readable) d sound.truthful)
+
+  -- a disk with the same bytes, base and operations is as sound, in any state that fits it and lets no other slot be repeated
+  pub same_bytes_sound : (s : SyncState) → e.base ≡ d.base → e.since ≡ d.since → StateFits e s → StartsFit e s
+      → ((tip : Option ActiveChecksum) → IsRepeated w.sync w.flushed w.durable tip → IsRepeated s w.flushed w.durable tip) → Soundness sum (record w { sync = s }) e
+  same_bytes_sound s base since fits starts repeated =
+      let safe = sound.safe in
+      let now : content w d.readable ≡ content w e.readable = sym (alike_content sum w d e sound.stands same) in
+      record {
+        stands = state_stands sum w d e sound.stands same s (same ∙ sound.stands.done ∙ sym (cc (base, since))) fits starts;
+        safe = subst (λ (l : List ℕ). IsSafe sum (record w { sync = s }) l e) now (record {
+          full = safe.full;
+          tip = safe.tip;
+          there = safe.there;
+          pages = guards_alike sum w.page_size (content w d.readable) (safe.full * w.page_size) d e base since safe.pages;
+          guard = guard_alike sum w.page_size (content w d.readable) d e safe.full safe.tip base since safe.guard;
+          base = omega (arith, safe.base, ap (λ (l : List ℕ). length (text sum w.page_size l)) base);
+          position = elim safe.position [
+            | inl below ↦ inl below
+            | inr here ↦ inr (here.0, repeated safe.tip here.1)
+          ];
+        });
+        truthful = subst (λ (l : List ℕ). IsTruthful sum w.page_size l e) now (truthful_alike sum w.page_size (content w d.readable) d e base since sound.truthful);
+      }
+
+  -- so after a read
+  pub alike_sound : e.base ≡ d.base → e.since ≡ d.since → coverings e ≡ coverings d → e.settled ≡ d.settled → Soundness sum w e
+  alike_sound base since covers settled =
+      same_bytes_sound w.sync base since (fits_alike d e w.sync same base since sound.stands.state) (starts_alike d e w.sync same since covers settled sound.stands.starts) (λ tip is. is)
+
+  -- and nothing is owed
+  pub alike_stays : e.base ≡ d.base → e.since ≡ d.since → Stays sum w.page_size (content w d.readable) d e
+  alike_stays base since = stays_alike sum w.page_size (content w d.readable) d d e base since (stays_itself sum w.page_size (content w d.readable) d sound.truthful)
+
+-- ---- what a crash keeps
+
+module _ (sum : List ℕ → ℕ) (w : WriterState) (d : Disk) (sound : Soundness sum w d) (clean : w.sync ≡ Clean) where
+  at_rest : (d.since ≡ []) × (d.base ≡ d.readable)
+  at_rest = subst (λ (s : SyncState). StateFits d s) clean sound.stands.state
+
+  -- a crash of a clean writer's blob leaves what is readable
+  pub clean_image : (image : List ℕ) → IsImage d image → image ≡ d.readable
+  clean_image image is_image = only_image d image at_rest.0 is_image ∙ at_rest.1
+
+  -- so it keeps what is written
+  pub clean_keeps : AllKeep sum w.page_size (content w d.readable) (w.full_pages * w.page_size + kept_len w.flushed) d
+  clean_keeps =
+      let written = length-written_text sum w d.readable sound.stands.full sound.stands.tip_page in
+      let begins = text_begins_content sum w d.readable sound.stands.full sound.stands.tip_page in
+      λ image is_image.
+      let n = w.full_pages * w.page_size + kept_len w.flushed in
+      ap (λ (l : List ℕ). take n (text sum w.page_size l)) (clean_image image is_image)
+      ∙ take_all n (text sum w.page_size d.readable) (omega (arith, written))
+      ∙ begins ∙ ap (λ (k : ℕ). take k (content w d.readable)) written
+
+  -- and where all is written, all
+  pub settle_keeps : kept_len w.flushed ≡ length w.tip → AllKeep sum w.page_size (content w d.readable) (length (content w d.readable)) d
+  settle_keeps all =
+      let reach = (tip_reach sum w.page_size w.full_pages w.tip d.readable w.flushed sound.stands.tip_page).0 in
+      let size : w.full_pages * w.page_size + kept_len w.flushed ≡ length (content w d.readable) = omega (arith, all, length-content w d.readable reach) in
+      subst (λ (n : ℕ). AllKeep sum w.page_size (content w d.readable) n d) size clean_keeps
+
+-- ---- a writer that knows more
+
+-- a slot that is up to date stays so
+repeated_again : (s : SyncState) (flushed durable tip : Option ActiveChecksum) → IsRepeated s flushed durable tip → IsRepeated s flushed (guard_slot s flushed durable) tip
+repeated_again Clean flushed durable tip is = is
+repeated_again Dirty flushed durable tip is = is
+repeated_again (Pending name) flushed durable tip is = tt
+
+-- the durable slot brought up to date
+carried_stands : (sum : List ℕ → ℕ) (w : WriterState) (d : Disk) (s : SyncState) → Stands sum w d → Stands sum (record w { durable = guard_slot s w.flushed w.durable }) d
+carried_stands sum w d Clean stands = carry_stands sum w d stands
+carried_stands sum w d Dirty stands = stands
+carried_stands sum w d (Pending name) stands = stands
+
+module _ (sum : List ℕ → ℕ) (w : WriterState) (d : Disk) (sound : Soundness sum w d) where
+  -- a longer tip keeps soundness
+  pub longer_sound : (more : List ℕ) → Soundness sum (record w { tip = w.tip ++ more }) d
+  longer_sound more =
+      let P = w.page_size in
+      let all = content w d.readable in
+      let safe = sound.safe in
+      let now : all ++ more ≡ content (record w { tip = w.tip ++ more }) d.readable = sym (longer_content sum w d sound.stands more) in
+      let begins : all ≡ take (length all) (all ++ more) = sym (take_at all more (length all) refl) in
+      record {
+        stands = longer_stands sum w d sound.stands more;
+        safe = subst (λ (l : List ℕ). IsSafe sum (record w { tip = w.tip ++ more }) l d) now (record {
+          full = safe.full;
+          tip = safe.tip;
+          there = omega (arith, safe.there, length-append all more);
+          pages = guards_longer sum P all (all ++ more) (safe.full * P) d begins safe.pages;
+          guard = guard_longer sum P all (all ++ more) d safe.full safe.tip begins safe.guard;
+          base = safe.base;
+          position = safe.position;
+        });
+        truthful = subst (λ (l : List ℕ). IsTruthful sum P l d) now (truthful_longer sum P all (all ++ more) d begins sound.truthful);
+      }
+
+  -- so does a durable slot that is brought up to date: a flush may repeat it
+  pub carry_sound : Soundness sum (record w { durable = guard_slot w.sync w.flushed w.durable }) d
+  carry_sound =
+      let safe = sound.safe in
+      record {
+        stands = carried_stands sum w d w.sync sound.stands;
+        safe = record {
+          full = safe.full;
+          tip = safe.tip;
+          there = safe.there;
+          pages = safe.pages;
+          guard = safe.guard;
+          base = safe.base;
+          position = elim safe.position [
+            | inl below ↦ inl below
+            | inr here ↦ inr (here.0, repeated_again w.sync w.flushed w.durable safe.tip here.1)
+          ];
+        };
+        truthful = sound.truthful;
+      }
+
+-- ---- from what is readable
+
+module _ (sum : List ℕ → ℕ) (w : WriterState) (d : Disk) (since : d.since ≡ []) (base : d.base ≡ d.readable) (some : 0 < w.page_size) (small : w.page_size < 2 ^ 16)
+    (full : AreFull sum w.page_size (take w.full_pages (pages w.page_size d.readable))) (carried : w.durable ≡ w.flushed) where
+  repeats : (s : SyncState) → IsRepeated s w.flushed w.durable w.flushed
+  repeats Clean = refl
+  repeats Dirty = sym carried
+  repeats (Pending name) = tt
+
+  -- with nothing unsynced a writer is sound that knows the blob's pages
+  pub settled_sound : StartsFit d w.sync → IsSmall sum → TipPage sum w.page_size w.full_pages w.tip d.readable w.flushed → Soundness sum w d
+  settled_sound starts small_sum tip_page = record {
+    stands = settled_stands sum w d since base some small full carried starts tip_page;
+    safe = safe_at_rest sum w d since base full tip_page some (guard_written sum w d since base full tip_page small_sum small) (repeats w.sync);
+    truthful = truthful_written sum w d since base full tip_page;
+  }
+
+  -- the blob ends with a full page
+  pub exact_sound : StartsFit d w.sync → w.flushed ≡ None → length d.readable ≡ w.full_pages * (w.page_size + 12) → Soundness sum w d
+  exact_sound starts none size =
+      let tip_page : TipPage sum w.page_size w.full_pages w.tip d.readable w.flushed = subst (λ (f : Option ActiveChecksum). TipPage sum w.page_size w.full_pages w.tip d.readable f) (sym none) size in
+      record {
+        stands = exact_stands sum w d since base some small full carried starts none size;
+        safe = safe_at_rest sum w d since base full tip_page some
+            (subst (λ (f : Option ActiveChecksum). TipGuard sum w.page_size (content w d.readable) d w.full_pages f) (sym none) tt) (repeats w.sync);
+        truthful = truthful_written sum w d since base full tip_page;
+      }
+
+  -- the blob ends with the tip's page
+  pub page_sound : StartsFit d w.sync → IsSmall sum → (a : ActiveChecksum) → w.flushed ≡ Some a → HasPage sum w.page_size w.full_pages w.tip d.readable a → Soundness sum w d
+  page_sound starts small_sum a is has = settled_sound starts small_sum (subst (λ (f : Option ActiveChecksum). TipPage sum w.page_size w.full_pages w.tip d.readable f) (sym is) has)
+
+-- a writer over an empty blob is sound
+pub empty_sound : (sum : List ℕ → ℕ) (w : WriterState) (d : Disk) → d.readable ≡ [] → d.base ≡ [] → d.since ≡ [] → 0 < w.page_size → w.page_size < 2 ^ 16 → w.full_pages ≡ 0 → w.flushed ≡ None → w.durable ≡ None → StartsFit d w.sync → Soundness sum w d
+empty_sound sum w d readable base since some small full flushed durable starts =
+    exact_sound sum w d since (base ∙ sym readable) some small
+    (subst (λ (n : ℕ). AreFull sum w.page_size (take n (pages w.page_size d.readable))) (sym full) tt)
+    (durable ∙ sym flushed) starts flushed
+    (omega (arith, ap length readable, ap (λ (n : ℕ). n * (w.page_size + 12)) full))
+
+-- ---- a read
+
+-- a disk whose log alone differs
+same_parts : (d e : Disk) → SameButLog d e → (e.readable ≡ d.readable) × (e.base ≡ d.base) × (e.since ≡ d.since)
+same_parts d e is = (ap (λ (x : Disk). x.readable) is, ap (λ (x : Disk). x.base) is, ap (λ (x : Disk). x.since) is)
+
+-- chance aside, a crash leaves of a sound writer's content a beginning
+pub sound_leaves : (sum : List ℕ → ℕ) (w : WriterState) (d : Disk) → IsSound sum w d → LeavesItsContent sum w d
+unfolding IsSound
+sound_leaves sum w d sound = λ image is_image free. inl (only_content sum w.page_size (content w d.readable) d image sound.truthful free)
+
+module _ (sum : List ℕ → ℕ) (w : WriterState) (old new : Life) (sound : Soundness sum w old.present) (looked : Looked old new) where
+  -- a call that only reads keeps soundness
+  pub looked_sound : Soundness sum w new.present
+  looked_sound = let same = same_parts old.present new.present looked.same in alike_sound sum w old.present new.present sound same.0 same.1 same.2 (ap (λ (x : Disk). coverings x) looked.same) (ap (λ (x : Disk). x.settled) looked.same)
+
+  -- and the content
+  pub looked_content : content w new.present.readable ≡ content w old.present.readable
+  looked_content = ap (λ (l : List ℕ). content w l) (same_parts old.present new.present looked.same).0
+
+  -- and owes nothing
+  pub looked_stays : StaysThrough sum w.page_size (content w old.present.readable) old new
+  looked_stays = through_then (SameButLog old.present) (Stays sum w.page_size (content w old.present.readable) old.present) old new
+      (λ d is. let same = same_parts old.present d is in alike_stays sum w old.present d sound same.0 same.1 same.2) looked.through

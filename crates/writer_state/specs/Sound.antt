@@ -1,0 +1,131 @@
+-- What holds between a writer and its blob between two calls.
+use Rattle.std.specs.Prelude.{◌≡◌, ◌⊎◌, ◌≤◌, ◌<◌, ◌*◌, ◌+◌, ◌^◌, ℕ, List, [], ◌∷◌, ◌++◌, take, drop}
+use Rattle.std.specs.Prelude.{length, Some, None, Option, Bool, true, false, slice_get}
+use Rattle.disk.specs.Disk.{Disk, coverings}
+use Rattle.page.specs.Page.{slot_of, slot_bytes, text, pages, value_len}
+use Rattle.page.specs.declared.slot.ActiveChecksum.{ActiveChecksum}
+use Rattle.writer_state.specs.WriterState.{WriterState}
+use Rattle.writer_state.specs.declared.sync_state.SyncState.{SyncState}
+use Rattle.writer_state.specs.declared.sync_state.SyncState.TheVariants.{Clean, Dirty, Pending}
+use Rattle.crash.specs.Contents.{latest, stored}
+use Rattle.crash.specs.Started.{AllSettled}
+use Rattle.crash.specs.Guard.{Guards, IsTruthful, TipGuard}
+use Rattle.crash.specs.Full.{AreFull}
+use Rattle.crash.specs.Built.{kept_len}
+use Rattle.crash.specs.Kept.{AllOnly}
+
+-- the content: the payloads of the pages below the tip joined, and then the tip
+abbrev pub content : WriterState → List ℕ → List ℕ
+content w readable = stored w.page_size w.full_pages readable ++ w.tip
+
+-- the tip's page, of which something was written
+pub record HasPage (sum : List ℕ → ℕ) (P full : ℕ) (tip readable : List ℕ) (f : ActiveChecksum) :
+    Type 0 where
+  pub size : length readable ≡ (full + 1) * (P + 12)
+  pub some : 0 < f.len
+  pub there : f.len ≤ length tip
+  pub part : f.len < P
+  pub crc : f.crc ≡ sum (take f.len tip)
+  pub value : value_len sum P (take (P + 12) (drop (full * (P + 12)) readable)) ≡ f.len
+  pub begins : take f.len (drop (full * (P + 12)) readable) ≡ take f.len tip
+  pub slot :
+      slot_of P f.slot (take (P + 12) (drop (full * (P + 12)) readable)) ≡ slot_bytes f.len f.crc
+
+-- the tip's page as the blob has it: nothing of it was written, or its value is a beginning of the
+-- tip
+abbrev pub TipPage : (List ℕ → ℕ) → (P full : ℕ) (tip readable : List ℕ) → Option ActiveChecksum →
+    Type 0
+TipPage sum P full tip readable None = length readable ≡ full * (P + 12)
+TipPage sum P full tip readable (Some f) = HasPage sum P full tip readable f
+
+-- the started sync of this name covers all that isn't durable, and what it covers may be durable
+-- already, where the caller waited for it; each other one is settled
+pub record IsPending (name : ℕ) (d : Disk) : Type 0 where
+  pub covers : ℕ × List ℕ
+  pub named : slice_get (coverings d) name ≡ Some covers
+  pub all : covers.0 ≡ d.settled + length d.since
+  pub bytes : covers.1 ≡ d.readable
+  pub others : (other : ℕ) (c : ℕ × List ℕ) → slice_get (coverings d) other ≡ Some c
+      → (c.0 ≤ d.settled) ⊎ (other ≡ name)
+
+-- clean means that nothing is unsynced
+abbrev pub StateFits : Disk → SyncState → Type 0
+StateFits d Clean = (d.since ≡ []) × (d.base ≡ d.readable)
+StateFits d Dirty = Unit {0}
+StateFits d (Pending name) = Unit {0}
+
+-- and only a pending writer has a started sync that isn't settled
+abbrev pub StartsFit : Disk → SyncState → Type 0
+StartsFit d Clean = AllSettled d
+StartsFit d Dirty = AllSettled d
+StartsFit d (Pending name) = IsPending name d
+
+-- the writer stands for what is readable
+pub record Stands (sum : List ℕ → ℕ) (w : WriterState) (d : Disk) : Type 0 where
+  pub some : 0 < w.page_size
+  pub small : w.page_size < 2 ^ 16
+  -- each operation was done
+  pub done : d.readable ≡ latest d.base d.since
+  -- each page below the tip is there and full
+  pub full : AreFull sum w.page_size (take w.full_pages (pages w.page_size d.readable))
+  pub tip_page : TipPage sum w.page_size w.full_pages w.tip d.readable w.flushed
+  pub state : StateFits d w.sync
+  pub starts : StartsFit d w.sync
+  -- what a flush repeats of the tip's page is of the tip
+  pub carries : (kept_len w.durable ≤ w.page_size) × (kept_len w.durable ≤ length w.tip)
+
+-- the slot that a flush is to repeat: where nothing is unsynced, the one that was written last; a
+-- flush waits for a pending sync
+abbrev pub guard_slot : SyncState → Option ActiveChecksum → Option ActiveChecksum →
+    Option ActiveChecksum
+guard_slot Clean flushed durable = flushed
+guard_slot Dirty flushed durable = durable
+guard_slot (Pending name) flushed durable = durable
+
+-- this slot of the tip's page is that one; nothing is asked while a sync is pending, since no flush
+-- comes before it has ended
+abbrev pub IsRepeated : SyncState → (flushed durable tip : Option ActiveChecksum) → Type 0
+IsRepeated Clean flushed durable tip = tip ≡ flushed
+IsRepeated Dirty flushed durable tip = tip ≡ durable
+IsRepeated (Pending name) flushed durable tip = Unit {0}
+
+-- a flush may begin: no sync is pending, and the durable slot is up to date
+abbrev pub MayFlush : SyncState → (flushed durable : Option ActiveChecksum) → Type 0
+MayFlush Clean flushed durable = durable ≡ flushed
+MayFlush Dirty flushed durable = Unit {0}
+MayFlush (Pending name) flushed durable = ⊥
+
+-- how far the content is durable: so many full pages, and a slot of the next
+pub record IsSafe (sum : List ℕ → ℕ) (w : WriterState) (content : List ℕ) (d : Disk) : Type 0 where
+  pub full : ℕ
+  pub tip : Option ActiveChecksum
+  pub there : full * w.page_size ≤ length content
+  pub pages : Guards sum w.page_size content (full * w.page_size) d
+  pub guard : TipGuard sum w.page_size content d full tip
+  -- the base's text goes no further
+  pub base : length (text sum w.page_size d.base) ≤ full * w.page_size + kept_len tip
+  -- that page lies below the writer's tip, or it is the tip's page, and the slot the one that a
+  -- flush is to repeat
+  pub position : (full < w.full_pages)
+      ⊎ ((full ≡ w.full_pages) × IsRepeated w.sync w.flushed w.durable tip)
+
+-- the writer of a blob, between two calls: it stands for what is readable, a crash keeps what was
+-- synced, and no whole state says anything but the content
+pub record Soundness (sum : List ℕ → ℕ) (w : WriterState) (d : Disk) : Type 0 where
+  pub stands : Stands sum w d
+  pub safe : IsSafe sum w (content w d.readable) d
+  pub truthful : IsTruthful sum w.page_size (content w d.readable) d
+
+-- the word for it in contracts: a caller hands it from call to call, and has no need to see into it
+unfoldable pub IsSound : (List ℕ → ℕ) → WriterState → Disk → Type 0
+IsSound sum w d = Soundness sum w d
+
+-- chance aside, a crash leaves of a writer's content a beginning
+abbrev pub LeavesItsContent : (List ℕ → ℕ) → WriterState → Disk → Type 0
+LeavesItsContent sum w d =
+    let held = content w d.readable in AllOnly sum w.page_size held held d
+
+-- a flush of k full pages, and of the rest where asked, is one write
+abbrev pub CanWrite : ℕ → List ℕ → ℕ → Bool → Type 0
+CanWrite P tip k false = (0 < k) × (k * P ≤ length tip)
+CanWrite P tip k true = (k * P < length tip) × (length tip < (k + 1) * P)

@@ -1,0 +1,41 @@
+-- What contracts see of a writer, and how a write and a started sync leave it.
+use Rattle.std.specs.Prelude.{ℕ, ◌+◌, ◌*◌, List, Option, Bool, true, false, drop}
+use Rattle.disk.specs.declared.started_sync.StartedSync.{StartedSync}
+use Rattle.disk.specs.declared.started_sync.StartedSync.TheVariants.{Done, Named}
+use Rattle.page.specs.declared.slot.ActiveChecksum.{ActiveChecksum}
+use Rattle.crash.specs.Built.{durable_after, rest_written}
+use Rattle.writer_state.specs.declared.sync_state.SyncState.{SyncState}
+use Rattle.writer_state.specs.declared.sync_state.SyncState.TheVariants.{Clean, Dirty, Pending}
+
+-- a writer: its blob's id in the cache, the full pages in the blob, the bytes after them that it
+-- buffers, and of the page in which those begin the slot that was written last and the slot that
+-- was durable then
+pub record WriterState : Type 0 where
+  pub page_size : ℕ
+  pub id : ℕ
+  pub capacity : ℕ
+  pub full_pages : ℕ
+  pub tip : List ℕ
+  pub flushed : Option ActiveChecksum
+  pub durable : Option ActiveChecksum
+  pub sync : SyncState
+
+-- a write that is durable at once, of a blob in which nothing was unsynced, leaves nothing unsynced
+abbrev pub state_after_write : Bool → SyncState
+state_after_write true = Clean
+state_after_write false = Dirty
+
+-- the state of a writer that started a sync, by what that answered
+abbrev pub started_state : StartedSync → SyncState
+started_state Done = Clean
+started_state (Named name) = Pending name
+
+-- the writer after k full pages were written, and the rest where asked
+abbrev pub after_write : (List ℕ → ℕ) → WriterState → ℕ → Bool → WriterState
+after_write sum w k rest = record w {
+  full_pages = w.full_pages + k;
+  tip = drop (k * w.page_size) w.tip;
+  flushed = rest_written sum (durable_after w.durable k) (drop (k * w.page_size) w.tip) rest;
+  durable = durable_after w.durable k;
+  sync = Dirty;
+}

@@ -1,0 +1,80 @@
+"""Kills `pagedd` while it works: python3 kill.py PAGEDD [KILLS [SEED]]
+
+A client appends numbered records and syncs now and then; what an answered sync covers is noted. The
+program is killed by SIGKILL at a random moment and started again. What it recovers must begin with
+all that was synced, and be the beginning of what was appended, record by record.
+
+It shows what the program keeps when it is killed. It doesn't show what a disk keeps when its power
+fails: what the system was given is still there. `tear.py` is for that.
+"""
+import os
+import random
+import struct
+import sys
+import tempfile
+import threading
+
+from client import APPEND, BEGIN, READ, SYNC, TRUNCATE, Blob
+
+
+def record(number):
+    """A record: its number, its length and its bytes."""
+    length = number * 7919 % 3000
+    return struct.pack("<QI", number, length) + bytes((number + at) % 251 for at in range(length))
+
+
+def whole_records(content):
+    """How many records the content begins with, and how many bytes they have."""
+    number, offset = 0, 0
+    while content[offset:offset + len(record(number))] == record(number):
+        offset += len(record(number))
+        number += 1
+    return number, offset
+
+
+def work(blob, number, sent, synced, rng):
+    """Appends and syncs until the program is gone; answers what was sent and what was synced."""
+    try:
+        while True:
+            data = record(number)
+            sent += data
+            blob.ask(APPEND, data=data)
+            number += 1
+            if rng.random() < 0.3:
+                blob.ask(SYNC)
+                synced = len(sent)
+    except (OSError, struct.error, IndexError):
+        return sent, synced
+
+
+def main():
+    program = os.path.abspath(sys.argv[1])
+    kills = int(sys.argv[2]) if len(sys.argv) > 2 else 50
+    rng = random.Random(int(sys.argv[3]) if len(sys.argv) > 3 else 1)
+    sent, synced, most = b"", 0, 0
+    with tempfile.TemporaryDirectory() as folder:
+        path = os.path.join(folder, "log")
+        for kill in range(kills + 1):
+            blob = Blob(program, path)
+            content = blob.ask(READ, 0, blob.size)
+            if content[:synced] != sent[:synced]:
+                raise SystemExit(f"kill {kill}: synced bytes are gone: {len(content)} of {synced}")
+            if content != sent[:len(content)]:
+                raise SystemExit(f"kill {kill}: bytes that weren't appended")
+            most = max(most, len(content) - synced)
+            number, end = whole_records(content)
+            # A record may have been torn off within; what is left of it is cut.
+            blob.ask(TRUNCATE, end)
+            blob.ask(BEGIN)
+            timer = threading.Timer(rng.random() * 0.05, blob.process.kill)
+            timer.start()
+            sent, synced = work(blob, number, content[:end], end, rng)
+            timer.join()
+            blob.process.wait()
+            if end > 4_000_000:
+                os.remove(path)
+                sent, synced = b"", 0
+    print(f"{kills} kills: each synced record was there, and at most {most} bytes more")
+
+
+main()
