@@ -235,7 +235,7 @@ const RECORDS: [&[u8]; 5] = [
     b"",
     b"a record of more than two pages, as they have 16 bytes",
     b"four",
-    b"and one after it",
+    b"and one after all",
 ];
 
 /// A blob of a journal of these records, all committed.
