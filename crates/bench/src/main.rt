@@ -24,7 +24,6 @@ use crc32c::Crc32c;
 use page::{AddSum, ConstSum, Sum};
 use std::alloc::Global;
 use std::env;
-use std::num::NonZeroU64;
 use std::process::ExitCode;
 
 /// How often a workload is played where no time is asked for.

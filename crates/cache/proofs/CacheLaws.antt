@@ -1,12 +1,11 @@
 -- What stays true of the pages that a cache holds.
-use Rattle.std.proofs.Common.{◌≡◌, ◌≢◌, inl, inr, ◌⊎◌, ℕ, zero, suc, ◌+◌, ◌-◌, ◌*◌, ◌^◌, ◌<◌, ◌≤◌, List, [], ◌∷◌, ◌++◌, length, take, drop, refl, sym, ap, ◌∙◌, subst, arith, drop-drop, Bool, true, false}
-use Rattle.std.specs.Prelude.{Option, Some, None, nat_eq, ◌&&◌, is_some, min}
-use Rattle.std.proofs.lemmas.Bool.{cases_lt, cases_order}
-use Rattle.std.proofs.lemmas.Bool.Decides.{nat_tests}
+use Rattle.std.proofs.Common.{◌≡◌, ◌≢◌, inl, inr, ◌⊎◌, ℕ, zero, suc, ◌+◌, ◌-◌, ◌*◌, ◌^◌, ◌<◌, ◌≤◌, List, [], ◌∷◌, length, take, drop, refl, sym, ap, ◌∙◌, subst, arith, drop-drop}
+use Rattle.std.specs.Prelude.{Option, Some, None}
+use Rattle.std.proofs.lemmas.Bool.{cases_order}
 use Rattle.std.proofs.lemmas.Option.{same_Some}
 use Rattle.std.proofs.Math.Nat.{mul-le-mul_right}
-use Rattle.cache.specs.CacheState.{CacheState, same_key, held, empty_cache, SameSettings, OthersStay, IsHeld, one_skipped, PutGoes, Puts, PutsAll}
-use Rattle.cache.specs.Pages.{page_of_content, IsTrueFor, IsFresh, KeyGoes, CachesOnly}
+use Rattle.cache.specs.CacheState.{CacheState, held, empty_cache, SameSettings, IsHeld, one_skipped, PutGoes, Puts, PutsAll}
+use Rattle.cache.specs.Pages.{page_of_content, IsTrueFor, IsFresh, CachesOnly}
 
 -- two keys are the same or not
 same_keys : (a b : ℕ × ℕ) → (a ≡ b) ⊎ (a ≢ b)

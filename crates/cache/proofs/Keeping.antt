@@ -1,5 +1,5 @@
 -- What a put does to a cache.
-use Rattle.std.proofs.Common.{◌≡◌, ◌∙◌, ℕ, ◌<◌, ◌≤◌, ◌^◌, Bool, true, false, List, length, sym, subst, ap, refl, is_some}
+use Rattle.std.proofs.Common.{◌≡◌, ◌∙◌, ℕ, true, false, List, length, sym, subst, ap, refl, is_some}
 use Rattle.std.specs.Prelude.{Option, Some, None, Result, Ok, Err, OnOk, is_err}
 use Rattle.std.specs.Map.{lookup, set_value}
 use Rattle.cache.specs.CacheState.{CacheState, same_key, held, Puts}

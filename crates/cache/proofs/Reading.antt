@@ -4,7 +4,7 @@ use Rattle.std.proofs.Math.Seq.{drop-append_seam}
 use Rattle.std.proofs.lemmas.List.Elements.{filter-append}
 use Rattle.std.specs.Prelude.{Option, Some, None, slice_get}
 use Rattle.std.proofs.lemmas.Option.{slice_get_within}
-use Rattle.std.proofs.Math.Nat.{mod-lt, div-eq_of_lt, mod-eq_of_lt, add-mul-div_right, add-mul-mod_self_right, mod-add-div'}
+use Rattle.std.proofs.Math.Nat.{div-eq_of_lt, mod-eq_of_lt, add-mul-div_right, add-mul-mod_self_right, mod-add-div'}
 use Rattle.cache.specs.CacheState.{CacheState, held, HoldsByte, put_at, with_piece, with_pieces, pieces_left}
 use Rattle.cache.specs.declared.piece.Piece.{Piece}
 use Rattle.std.proofs.lemmas.List.{take_more}

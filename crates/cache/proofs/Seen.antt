@@ -1,17 +1,15 @@
 -- The kit's cache of pages in this crate's words.
-use Rattle.std.proofs.Common.{◌≡◌, ◌∙◌, ℕ, ◌-◌, ◌<◌, ◌≤◌, Bool, true, false, cond, List, [], ◌∷◌, length, take, zero, suc, Vec, refl, ap, sym, subst, arith, is_some}
-use Rattle.std.specs.Prelude.{Option, Some, None, option_map, map}
+use Rattle.std.proofs.Common.{◌≡◌, ◌∙◌, ℕ, ◌-◌, ◌≤◌, Bool, true, false, cond, List, [], ◌∷◌, length, take, zero, suc, Vec, refl, ap, sym, subst, arith}
+use Rattle.std.specs.Prelude.{Some, None, option_map}
 use Rattle.std.specs.List.{AllByRecursion, IsDistinct}
 use Rattle.std.specs.Map.{lookup, lookup_entry, set_value, keys_of}
 use Rattle.std.specs.declared.alloc.Global.{Global}
 use Rattle.std.proofs.lemmas.Map.Made.{lookup-map_values}
 use Rattle.std.proofs.lemmas.Map.Keys.{IsDistinct-head, IsDistinct-tail, IsDistinct-cons}
 use Rattle.std.proofs.lemmas.Map.{none_passes_from_lookup, keys-set_value, length-set_value}
-use Rattle.std.proofs.lemmas.List.{length-take-le}
 use Rattle.lru.specs.LruCache.{LruCache, put_entries}
 use Rattle.cache.specs.CacheState.{same_key}
 use Rattle.cache.specs.Kept.{pages_of, with_page, AreOfSize, IsOfCapacity}
-use Rattle.cache.proofs.LruLaws.{same_itself}
 
 abbrev Entries : Type 0
 Entries = List ((ℕ × ℕ) × Vec ℕ Global)

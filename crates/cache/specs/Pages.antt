@@ -1,6 +1,6 @@
 -- Pages of a blob's content that a cache holds.
 use Rattle.std.specs.Prelude.{◌≡◌, ◌⊎◌, ◌+◌, ◌*◌, ◌<◌, ◌≤◌, ℕ, List, length, take, drop}
-use Rattle.std.specs.Prelude.{Option, Some, None}
+use Rattle.std.specs.Prelude.{Some, None}
 use Rattle.cache.specs.CacheState.{CacheState, held, SameSettings}
 
 -- a page of a blob's content

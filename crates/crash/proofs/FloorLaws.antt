@@ -6,13 +6,12 @@ use Rattle.disk.specs.declared.error.Error.{Error}
 use Rattle.page.specs.Page.{text}
 use Rattle.crash.specs.Kept.{AllKeep, Through}
 use Rattle.crash.specs.Looks.{Looked, SameButLog}
-use Rattle.crash.specs.Stays.{KeepsFloors, KeepsAllFloors}
-use Rattle.crash.proofs.Promise.{whole_is_chance_free}
+use Rattle.crash.specs.Stays.{KeepsFloors}
 use Rattle.crash.proofs.CutLaws.{resize_cases, sync_cases}
-use Rattle.crash.proofs.Disks.{base_is_image, base_is_whole, image_alike, readable_stays}
+use Rattle.crash.proofs.Disks.{base_is_image, image_alike, readable_stays}
 use Rattle.disk.specs.Images.{only_image}
 use Rattle.crash.specs.Moments.{through_end, through_joins, through_more, through_start, through_then}
-use Rattle.crash.proofs.Moments.{keeps_alike, same_floor}
+use Rattle.crash.proofs.Moments.{keeps_alike}
 use Rattle.crash.proofs.ResizeLaws.{cut_keeps_floor}
 
 -- what is readable is an image

@@ -10,7 +10,7 @@ use Rattle.disk.specs.declared.started_sync.StartedSync.TheVariants.{Named}
 use Rattle.disk.specs.Past.{history_with}
 use Rattle.disk.specs.VecBlob.{VecState, Tells, TellsStart, TellsWait}
 use Rattle.disk.specs.declared.action.Action.TheVariants as actions
-use Rattle.file.specs.Asked.{event, requests_of, all_done, asked_by, HaveOutcome, WasAsked, WasAskedAll, WasAskedUntil, Passes}
+use Rattle.file.specs.Asked.{event, requests_of, all_done, asked_by, HaveOutcome, WasAsked, Passes}
 
 asked_more : (es : List Event) (e : Event) → asked_by (es ++ e ∷ []) ≡ asked_by es ++ all_done (requests_of e.action)
 asked_more [] e = append-nil (all_done (requests_of e.action))

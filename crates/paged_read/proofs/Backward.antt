@@ -1,12 +1,8 @@
 -- Searches from a blob's end back: what they read, told by the log.
-use Rattle.std.proofs.Common.{◌≡◌, ◌⊎◌, inl, inr, ℕ, ◌+◌, ◌-◌, ◌*◌, ◌/◌, ◌<◌, ◌≤◌, max, List, [], ◌∷◌, ◌++◌, length, map, Bool, true, false, Result, Ok, Err, refl, sym, ap, ◌∙◌, subst, arith, append-nil, append_assoc}
-use Rattle.std.proofs.Math.Nat.{mul-le-mul_left}
-use Rattle.std.proofs.lemmas.List.{map-append}
-use Rattle.disk.specs.Disk.{Request, Entry, Life, ReadAt, ReadMany, StartReadMany, AskedOnce, ReadGoes}
+use Rattle.std.proofs.Common.{◌≡◌, inl, inr, ℕ, ◌+◌, ◌-◌, ◌*◌, ◌<◌, ◌≤◌, List, [], ◌∷◌, ◌++◌, length, Result, refl, sym, ap, subst, arith}
+use Rattle.disk.specs.Disk.{Request, Life, ReadAt, ReadMany, StartReadMany, ReadGoes}
 use Rattle.disk.specs.declared.error.Error.{Error}
-use Rattle.disk.specs.declared.error.Error.TheVariants.{ReadFailed, WriteFailed, ResizeFailed, SyncFailed, InvalidChecksum, BlobInsufficientLength, OffsetOverflow, OutOfMemory, IdsExhausted}
-use Rattle.paged_read.specs.Scans.{AreForward, ReadsForward}
-use Rattle.paged_read.specs.Searches.{Gained, AreWithin, ReadsWithin, scan_bytes}
+use Rattle.paged_read.specs.Searches.{Gained, AreWithin, ReadsWithin}
 use Rattle.paged_read.specs.Backward.{FallFrom, ReadsBack}
 use Rattle.paged_read.proofs.Searching.{within_joins, gained_none, gained_once, gained_joins, gained_then, read_asks}
 

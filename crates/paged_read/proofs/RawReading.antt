@@ -1,5 +1,5 @@
 -- What the pages of a blob that nobody opened tell.
-use Rattle.std.proofs.Common.{◌≡◌, ◌≢◌, inl, inr, ℕ, zero, suc, ◌+◌, ◌-◌, ◌*◌, ◌/◌, ◌%◌, ◌<◌, ◌≤◌, ◌^◌, min, List, [], ◌∷◌, ◌++◌, length, take, drop, refl, sym, ◌∙◌, ap, subst, arith, append-nil, append_assoc, Result, Ok, Err}
+use Rattle.std.proofs.Common.{◌≡◌, ◌≢◌, inl, inr, ℕ, suc, ◌+◌, ◌-◌, ◌*◌, ◌/◌, ◌%◌, ◌<◌, ◌≤◌, ◌^◌, min, List, [], ◌++◌, length, take, drop, refl, sym, ◌∙◌, ap, subst, arith, append-nil, append_assoc, Result, Ok, Err}
 use Rattle.std.specs.Prelude.{Option, Some, None, ◌==◌, nat_le, nat_lt, if◌then◌else◌, slice_range, IfOk, IsOkUnless}
 use Rattle.std.specs.List.{concat}
 use Rattle.std.proofs.lemmas.Bool.{cases_lt, cond-true, cond-false, eq-eqb, ne_eqb, le-leb, lt-leb, lt-ltb, le-ltb}
@@ -11,7 +11,7 @@ use Rattle.disk.specs.declared.error.Error.TheVariants.{ReadFailed, WriteFailed,
 use Rattle.disk.proofs.Logs.{failed_once, failed_later}
 use Rattle.page.specs.Page.{active, value, value_len}
 use Rattle.page.specs.declared.slot.ActiveChecksum.{ActiveChecksum}
-use Rattle.crash.specs.Looks.{Looked, looked_joins, looked_start}
+use Rattle.crash.specs.Looks.{Looked, looked_joins}
 use Rattle.crash.proofs.LookLaws.{looked_read, looked_none, looked_readable}
 use Rattle.crash.proofs.Texts.{active_is, active_none}
 use Rattle.paged_read.specs.Ranges.{page_at}

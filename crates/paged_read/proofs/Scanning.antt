@@ -1,5 +1,5 @@
 -- What a scan counts, and how far a text goes.
-use Rattle.std.proofs.Common.{◌≡◌, ◌≢◌, ◌⊎◌, inl, inr, ℕ, zero, suc, ◌+◌, ◌-◌, ◌*◌, ◌/◌, ◌<◌, ◌≤◌, min, List, [], ◌∷◌, ◌++◌, length, take, drop, refl, sym, ◌∙◌, ap, subst, arith, append-nil, length-append}
+use Rattle.std.proofs.Common.{◌≡◌, ◌≢◌, ◌⊎◌, inl, inr, ℕ, ◌+◌, ◌-◌, ◌*◌, ◌/◌, ◌<◌, ◌≤◌, min, List, [], ◌∷◌, ◌++◌, length, take, refl, sym, ◌∙◌, ap, subst, arith, append-nil, length-append}
 use Rattle.std.specs.Prelude.{Option, Some, None, ◌==◌, ◌&&◌, nat_le, if◌then◌else◌}
 use Rattle.std.specs.Int.{div_ceil}
 use Rattle.std.specs.List.{flat_map}
@@ -11,12 +11,11 @@ use Rattle.page.specs.Slot.{slot_offset}
 use Rattle.page.specs.declared.slot.Slot.{Slot}
 use Rattle.page.specs.declared.slot.Slot.TheVariants.{First, Second}
 use Rattle.page.specs.declared.slot.ActiveChecksum.{ActiveChecksum}
-use Rattle.crash.specs.Built.{kept_len}
 use Rattle.crash.specs.Full.{AreFull}
 use Rattle.crash.proofs.Pages.{length-pieces, pieces-add, take-pieces}
 use Rattle.crash.proofs.Texts.{AreFull-take, active_is, active_none, text_full, text_of_full, text_part, value_len_le}
 use Rattle.paged_read.specs.declared.prefix.Prefix.{Prefix}
-use Rattle.paged_read.specs.Prefix.{after, prefix_of, prefix_size, tip_of, value_and_slot}
+use Rattle.paged_read.specs.Prefix.{prefix_of, prefix_size, tip_of, value_and_slot}
 use Rattle.paged_read.specs.Scans.{counted, IsProven, pages_from, prefix_from, scan_end, scan_start, scan_to, text_of_first}
 use Rattle.paged_read.proofs.Prefixes.{prefix_full, prefix_part}
 

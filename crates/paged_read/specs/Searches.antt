@@ -1,5 +1,5 @@
 -- What a search through a blob's pages answers, and what it reads, told by the log.
-use Rattle.std.specs.Prelude.{◌≡◌, ◌≤◌, ◌+◌, ◌*◌, ◌/◌, ℕ, List, [], ◌∷◌, ◌++◌, length, map, max}
+use Rattle.std.specs.Prelude.{◌≡◌, ◌≤◌, ◌+◌, ◌*◌, ◌/◌, ℕ, List, [], ◌∷◌, ◌++◌, map, max}
 use Rattle.std.specs.Prelude.{Result, Ok, Err}
 use Rattle.disk.specs.Disk.{Request, Entry, Life, HasFailed, ReadAt, ReadMany, StartReadMany}
 use Rattle.disk.specs.declared.error.Error.{Error}

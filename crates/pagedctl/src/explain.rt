@@ -1,7 +1,7 @@
 // What is wrong with a line that can't be read.
 use crate::script::{parse_page_size, parse_pages, parse_sum, parts, without_last_feed};
 use crate::word::{ReadError, parse_flags, parse_hex, parse_number, parse_range};
-use std::alloc::{AllocError, Global};
+use std::alloc::Global;
 use std::io::Write;
 use std::{fmt, io};
 

@@ -11,7 +11,7 @@ ghost use Rattle.pagedctl.specs.Script.{line_words, start_words, sum_word};
 use crate::stop::Stop;
 use crate::word::{ReadError, parse_flags, parse_hex, parse_number, parse_ranges};
 use session::Step;
-use std::alloc::{AllocError, AllocFailed, Global};
+use std::alloc::{AllocError, Global};
 use std::num::{NonZeroU16, NonZeroU64, NonZeroUsize};
 
 /// The most pages that the cache of a script may hold.

@@ -1,5 +1,5 @@
 -- What the steps do that append, and how much they buffer.
-use Rattle.std.proofs.Common.{◌≡◌, ◌⊎◌, ℕ, ◌+◌, ◌<◌, ◌≤◌, List, [], ◌∷◌, ◌++◌, length, refl, sym, ap, ◌∙◌, subst, arith, append-nil, length-append, inl, inr, Bool, true, false, Ok, Err, Result, Vec, ◌*◌, ◌^◌, ◌/◌, ◌%◌, min, lit<, lit≤}
+use Rattle.std.proofs.Common.{◌≡◌, ℕ, ◌+◌, ◌<◌, ◌≤◌, List, [], ◌∷◌, ◌++◌, length, refl, sym, ap, ◌∙◌, subst, arith, append-nil, length-append, inl, inr, Bool, true, false, Ok, Err, Result, Vec, ◌*◌, ◌/◌, ◌%◌, min, lit<, lit≤}
 use Rattle.std.specs.Prelude.{Option, Some, None, nat_le, nat_lt, nat_eq, if◌then◌else◌, is_some, ◌==◌, ◌||◌, ◌&&◌, not}
 use Rattle.std.specs.List.{Contains}
 use Rattle.std.specs.declared.alloc.Global.{Global}
@@ -31,7 +31,7 @@ use Rattle.session.specs.Run.{Standing, SessionState, has_room, buffered_after, 
 use Rattle.session.specs.Run.Touch.{Leaves, Changes}
 use Rattle.session.specs.Calls.{OwesStarts, AppendSays}
 use Rattle.session.proofs.Apart.{AlwaysApart, StandsApart, SteppedApart}
-use Rattle.session.proofs.StepLaws.{held, no_moments, turned_here, leaves, few_calls, cover_longer, halves, each_end, stepped, unasked, unasked_over, stands_now, stands_ended, Halves}
+use Rattle.session.proofs.StepLaws.{held, no_moments, turned_here, few_calls, cover_longer, halves, each_end, stepped, unasked, unasked_over, stands_now, stands_ended, Halves}
 
 -- ---- what is buffered
 

@@ -6,7 +6,7 @@ use Rattle.disk.specs.Disk.{Disk, Life, life_after}
 use Rattle.crash.specs.Moments.{life_after-append}
 use Rattle.session.specs.declared.steps.Step.{Step}
 use Rattle.session.specs.declared.steps.Reply.{Reply}
-use Rattle.session.specs.Run.{Standing, SessionState, last, raised, Ran, StandsFor, RunsAlways}
+use Rattle.session.specs.Run.{Standing, SessionState, last, raised, Ran, RunsAlways}
 use Rattle.session.specs.Promise.{Promises}
 pub use Rattle.session.proofs.RunLaws.{runs_none}
 use Rattle.session.proofs.PromiseLaws.{promises as kept}

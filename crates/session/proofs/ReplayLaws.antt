@@ -24,7 +24,7 @@ use Rattle.writer_state.specs.Sound.{IsSound, content as content_of}
 use Rattle.cache.specs.CacheState.{CacheState}
 use Rattle.paged_read.specs.Tail.{Tail, told, HasFullPages, size_of as size_of_tail}
 use Rattle.paged_read.specs.ReadAhead.{batch_of}
-use Rattle.paged_read.specs.Replay.{ReplayState, IsReplayOf, Fills, FillFault, IsHad, Seeks, advanced, new_replay, ReplaysOn, ReplaysThrough}
+use Rattle.paged_read.specs.Replay.{ReplayState, IsReplayOf, Fills, FillFault, IsHad, Seeks, advanced, new_replay, ReplaysOn}
 use Rattle.paged_read.proofs.Leaving.{length-told}
 use Rattle.paged_read.proofs.Outliving.{look_leaves_reads, look_leaves_tails, look_leaves_writers}
 use Rattle.paged_read.proofs.OutlivingReplays.{look_leaves_replays}

@@ -1,6 +1,6 @@
 -- One step of a session, whichever it is and whichever phase its writer is in.
-use Rattle.std.proofs.Common.{◌≡◌, ◌⊎◌, ℕ, ◌+◌, ◌<◌, ◌≤◌, List, [], ◌∷◌, ◌++◌, refl, sym, ap, ◌∙◌, subst, inl, inr, Bool, false, Vec, ◌*◌, ◌^◌, ◌/◌, ◌%◌}
-use Rattle.std.specs.Prelude.{Option, Some, None, if◌then◌else◌, ◌==◌, ◌||◌, ◌&&◌}
+use Rattle.std.proofs.Common.{◌≡◌, ◌⊎◌, ℕ, List, [], refl, sym, ap, ◌∙◌, subst, inl, inr, Bool, false, Vec}
+use Rattle.std.specs.Prelude.{Option, Some, None, if◌then◌else◌}
 use Rattle.std.specs.declared.alloc.Global.{Global}
 use Rattle.disk.specs.Disk.{Disk, Life}
 use Rattle.disk.specs.declared.error.Error.{Error}
@@ -20,7 +20,7 @@ use Rattle.session.specs.declared.steps.Reply.TheVariants.{At, Nothing, Done, St
 use Rattle.session.specs.Run.{Standing, SessionState, turned_away, HasCause, Takes, Foretells, Answers, last, HasSoundWriter, FitsWriter}
 use Rattle.session.specs.Calls.{IsClosed, KeepsRest, Appended, TriedAppend, Synced, Sized, DidRead}
 use Rattle.session.proofs.Apart.{AlwaysApart, AlwaysBy, IsReadyApart, StepsApart, StepsBy}
-use Rattle.session.proofs.StepLaws.{held, held_same, turned_closed, leaves, closed_steps}
+use Rattle.session.proofs.StepLaws.{held, held_same, turned_closed, closed_steps}
 use Rattle.session.proofs.AppendLaws.{append_steps, append_refused_steps, try_steps, try_nothing_steps, try_same, try_refused_steps}
 use Rattle.session.proofs.SyncLaws.{sync_steps, sync_refused_steps}
 use Rattle.session.proofs.SizeLaws.{alike_stays_started, read_steps, size_steps}

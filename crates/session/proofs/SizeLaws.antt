@@ -1,6 +1,6 @@
 -- What the steps do that read, or tell a size.
-use Rattle.std.proofs.Common.{◌≡◌, ◌⊎◌, ℕ, ◌+◌, ◌<◌, ◌≤◌, List, ◌∷◌, ◌++◌, length, take, drop, refl, sym, ap, ◌∙◌, subst, arith, Ok, Err, Result, ◌*◌, ◌^◌, ◌/◌, ◌%◌, lit<}
-use Rattle.std.specs.Prelude.{Some, None, if◌then◌else◌, ◌==◌, ◌||◌, ◌&&◌}
+use Rattle.std.proofs.Common.{◌≡◌, ℕ, ◌+◌, ◌<◌, ◌≤◌, List, length, take, drop, refl, sym, ap, ◌∙◌, subst, arith, Ok, Err, Result, ◌^◌, lit<}
+use Rattle.std.specs.Prelude.{Some, None}
 use Rattle.std.specs.List.{Contains, concat}
 use Rattle.disk.specs.Disk.{Disk, Life, coverings}
 use Rattle.disk.specs.declared.error.Error.{Error}
@@ -27,7 +27,7 @@ use Rattle.session.specs.declared.steps.Reply.TheVariants.{At, Nothing, Done, St
 use Rattle.session.specs.Run.{Standing, SessionState, begun, turned_away, faults, HasCause, content_after, Takes, Foretells, touch, Touches, AllCover}
 use Rattle.session.specs.Calls.{IsBytes, ReadsBytes, ReadSays}
 use Rattle.session.proofs.Apart.{AlwaysApart, StandsApart, SteppedApart}
-use Rattle.session.proofs.StepLaws.{held, turned_here, leaves, each_end, stepped, unasked, stands_now, Halves}
+use Rattle.session.proofs.StepLaws.{held, turned_here, each_end, stepped, unasked, stands_now, Halves}
 use Rattle.session.proofs.SyncLaws.{same_halves}
 
 -- ---- reads and sizes

@@ -1,6 +1,6 @@
 -- What the steps do that make snapshots, and read them.
 use Rattle.std.proofs.Common.{◌≡◌, ◌⊎◌, ℕ, zero, suc, ◌+◌, ◌<◌, ◌≤◌, ◌%◌, List, [], ◌∷◌, ◌++◌, length, map, take, drop, refl, sym, ap, ◌∙◌, subst, arith, append-nil, inl, inr, Bool, true, false, Ok, Err, lit<, lit≤}
-use Rattle.std.specs.Prelude.{All, Option, Some, None, nat_le, nat_lt, nat_eq, if◌then◌else◌, option_map, ◌||◌}
+use Rattle.std.specs.Prelude.{All, Option, Some, None, nat_le, nat_lt, nat_eq, if◌then◌else◌, option_map}
 use Rattle.std.specs.List.{Contains, concat, slice_get}
 use Rattle.std.proofs.Math.Bool.{or-false}
 use Rattle.std.proofs.lemmas.Bool.{false≢true}
@@ -38,7 +38,7 @@ use Rattle.session.specs.declared.steps.Step.{Step}
 use Rattle.session.specs.declared.steps.Step.TheVariants.{Snapshot, TrySnapshot, Snap, Seal}
 use Rattle.session.specs.declared.steps.Reply.{Reply}
 use Rattle.session.specs.declared.steps.Reply.TheVariants.{Nothing, Bytes, Fault, Closed, NoSuch, Taken, Sealed, NotAppending}
-use Rattle.session.specs.Run.{Replayed, Standing, SessionState, begun, noted, flushed, starting, left_by_seal, ended, sealed_by, snapshot_at, has_snapshot, turned_away, faults, HasCause, HadFailed, Takes, Foretells, Answers, Touches, wait_touch, last, AllCover, pending_in, WriterStandsFor, WriterFits, NamesFit, HasSoundWriter, FitsWriter, CacheFits, IsReady, IsBelow, IsSnapshot, StandsFor}
+use Rattle.session.specs.Run.{Replayed, Standing, SessionState, begun, noted, flushed, left_by_seal, ended, sealed_by, snapshot_at, has_snapshot, turned_away, faults, HasCause, Takes, Foretells, Answers, Touches, wait_touch, last, AllCover, pending_in, WriterStandsFor, HasSoundWriter, FitsWriter, CacheFits, IsReady, IsBelow, IsSnapshot, StandsFor}
 use Rattle.session.specs.Run.Touch.{Leaves, Looks, Changes}
 use Rattle.session.specs.Calls.{IfAppending, SnapshotSays, with_snapshot, TakesSnapshot, TriesSnapshot, SealSays, sealed_with, SealsSession, DidSnapshot, DidTrySnapshot, DidSeal, DidSnap, ReadsBytes, ReadSays, LeavesTaken, Steps}
 use Rattle.session.proofs.Apart.{AlwaysApart, IsReadyApart, StandsApart, SteppedApart, StepsApart, stands_apart, ready_apart}

@@ -1,6 +1,6 @@
 -- What one step of a session does, from what the calls of its writer did.
-use Rattle.std.proofs.Common.{◌≡◌, ◌⊎◌, ℕ, zero, suc, ◌+◌, ◌<◌, ◌≤◌, List, [], ◌∷◌, ◌++◌, length, take, map, refl, sym, ap, ◌∙◌, subst, arith, inl, inr, Bool, true, false, ◌*◌, ◌^◌, ◌/◌, ◌%◌, min, max}
-use Rattle.std.specs.Prelude.{All, Option, Some, None, if◌then◌else◌, is_some, ◌==◌, ◌||◌, ◌&&◌, not}
+use Rattle.std.proofs.Common.{◌≡◌, ℕ, zero, suc, ◌+◌, ◌≤◌, List, [], ◌∷◌, length, take, map, refl, sym, ap, ◌∙◌, subst, arith, inl, inr, Bool, true, false, min, max}
+use Rattle.std.specs.Prelude.{All, Option, Some, None, if◌then◌else◌, is_some, ◌&&◌}
 use Rattle.std.proofs.Math.Seq.{take-length}
 use Rattle.std.proofs.lemmas.List.{take-take}
 use Rattle.std.proofs.lemmas.Bool.{false≢true}
@@ -11,7 +11,6 @@ use Rattle.writer_state.specs.WriterState.{WriterState}
 use Rattle.crash.specs.Stays.{Stays}
 use Rattle.crash.specs.Moments.{each_last, through_end, each_then}
 use Rattle.crash.proofs.Moments.{keeps_longer, keeps_shorter}
-use Rattle.paged.proofs.Flushes.{begins}
 use Rattle.page.specs.Page.{text}
 use Rattle.session.specs.declared.steps.Step.{Step}
 use Rattle.session.specs.declared.steps.Step.TheVariants.{Append, Owned, TryAppend, Sync, StartSync, Wait, WaitSync, Needs, Size, Read, ReadUpTo, TryRead, ReadRanges, TryReadRanges, Begin, Truncate, Snapshot, TrySnapshot, Snap, Seal, Replay, Ensure, Take, Seek, Scan}

@@ -1,6 +1,6 @@
 -- What a sync does.
-use Rattle.std.proofs.Common.{◌≡◌, ◌⊎◌, ℕ, ◌+◌, ◌<◌, ◌≤◌, List, [], ◌∷◌, ◌++◌, length, refl, sym, ap, ◌∙◌, subst, arith, append-nil, inl, inr, Bool, true, false, Ok, Err, Result, ◌*◌, ◌^◌, ◌/◌, ◌%◌, lit<}
-use Rattle.std.specs.Prelude.{Option, Some, None, nat_eq, if◌then◌else◌, ◌==◌, ◌||◌, ◌&&◌}
+use Rattle.std.proofs.Common.{◌≡◌, ℕ, ◌+◌, ◌<◌, ◌≤◌, List, [], length, refl, sym, ap, ◌∙◌, subst, arith, append-nil, inl, inr, Bool, true, false, Ok, Err, Result, ◌%◌, lit<}
+use Rattle.std.specs.Prelude.{Option, Some, None, nat_eq, if◌then◌else◌}
 use Rattle.std.specs.List.{Contains}
 use Rattle.disk.specs.Disk.{Disk, Life, life_after}
 use Rattle.disk.specs.declared.error.Error.{Error}

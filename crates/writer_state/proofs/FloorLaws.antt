@@ -1,6 +1,6 @@
 -- Floors that every image keeps, of a sound writer's content and of any other.
 use Rattle.std.proofs.Common.{◌≡◌, inl, inr, ℕ, ◌≤◌, List, length, take, sym, ap, ◌∙◌, arith, length-take}
-use Rattle.disk.specs.Disk.{Disk, Life}
+use Rattle.disk.specs.Disk.{Life}
 use Rattle.page.specs.Page.{text}
 use Rattle.crash.specs.Kept.{AllKeep}
 use Rattle.crash.specs.Stays.{KeepsFloors, KeepsAllFloors}

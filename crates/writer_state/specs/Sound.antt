@@ -1,5 +1,5 @@
 -- What holds between a writer and its blob between two calls.
-use Rattle.std.specs.Prelude.{◌≡◌, ◌⊎◌, ◌≤◌, ◌<◌, ◌*◌, ◌+◌, ◌^◌, ℕ, List, [], ◌∷◌, ◌++◌, take, drop}
+use Rattle.std.specs.Prelude.{◌≡◌, ◌⊎◌, ◌≤◌, ◌<◌, ◌*◌, ◌+◌, ◌^◌, ℕ, List, [], ◌++◌, take, drop}
 use Rattle.std.specs.Prelude.{length, Some, None, Option, Bool, true, false, slice_get}
 use Rattle.disk.specs.Disk.{Disk, coverings}
 use Rattle.page.specs.Page.{slot_of, slot_bytes, text, pages, value_len}

@@ -2,7 +2,7 @@
 use super::kit::{
     ABCD, CAPACITY, Call, EF, Page, Store, blob_bytes, cache_of, new_cache, reads_many,
 };
-use disk::{Error, IoBuf, MemBlob};
+use disk::{Error, MemBlob};
 use page::AddSum;
 use paged::Writer;
 use std::alloc::Global;

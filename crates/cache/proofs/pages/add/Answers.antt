@@ -1,6 +1,5 @@
-use Rattle.std.proofs.Common.{◌≡◌, ◌∙◌, ap, sym, ℕ, List, length}
+use Rattle.std.proofs.Common.{◌∙◌, ap}
 use Rattle.cache.specs.Kept.{pages_of, with_page}
-use Rattle.cache.specs.CacheState.{same_key}
 use Rattle.cache.proofs.Seen.{added}
 use Rattle.cache.proofs.pages.add.Goals as goal
 

@@ -1,4 +1,4 @@
-use Rattle.std.proofs.Common.{◌≡◌, ◌∙◌, ap, sym, is_some, length}
+use Rattle.std.proofs.Common.{◌∙◌, ap, sym, is_some, length}
 use Rattle.std.specs.Map.{set_value}
 use Rattle.cache.specs.Kept.{pages_of}
 use Rattle.cache.specs.CacheState.{same_key}

@@ -6,7 +6,7 @@ use Rattle.journal.proofs.Journals.{refused_later}
 use Rattle.journal.proofs.Replays.{after, fault_refused, frame_refused, given, leaves_join, offset_taken, plays_on, plays_taken, replay_leaves, said}
 use Rattle.journal.proofs.replay.next_frame.Given.{Over}
 use Rattle.journal.proofs.replay.next_frame.Goals as goal
-use Rattle.journal.proofs.replay.next_frame.Goals.{After-ensure, After-copy_to_bytes, After-ensure-2}
+use Rattle.journal.proofs.replay.next_frame.Goals.{After-ensure, After-ensure-2}
 
 -- the first call of the device
 first : (g : Over) (c : After-ensure g) → LeavesReady g.H.Sum.sum_of (g.B.Blob.life c.args.blob.now) (g.B.Blob.life c.ensure.new.blob)

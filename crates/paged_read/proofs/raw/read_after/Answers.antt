@@ -1,9 +1,8 @@
-use Rattle.std.proofs.Common.{◌≡◌, ◌+◌, ◌-◌, ◌*◌, ◌<◌, ◌≤◌, ◌++◌, ℕ, List, length, take, sym, ◌∙◌, ap, subst, arith, Result, Ok, Err, refl}
+use Rattle.std.proofs.Common.{◌≡◌, ◌+◌, ◌-◌, ◌*◌, ◌++◌, ℕ, List, sym, ◌∙◌, ap, arith, Ok, Err, refl}
 use Rattle.std.proofs.lemmas.Result.{err_from_is_err_and}
 use Rattle.std.specs.Prelude.{slice_range}
 use Rattle.std.specs.Int.NonZero.{non_zero_u16_get}
 use Rattle.std.specs.List.{concat}
-use Rattle.disk.specs.declared.error.Error.{Error}
 use Rattle.crash.specs.Looks.{Looked, looked_joins}
 use Rattle.paged_read.specs.RawReads.{after_told, range_told, ReadsTold, value_told}
 use Rattle.paged_read.proofs.RawReading.{after_given, after_refused, range_before, told_fault, told_memory}

@@ -1,7 +1,7 @@
-use Rattle.std.proofs.Common.{rules, ◌≡◌, ◌*◌, ◌<◌, ◌≤◌, ℕ, length, ◌∙◌, ap, arith}
+use Rattle.std.proofs.Common.{rules, ◌≡◌, ◌*◌, ℕ, ◌∙◌, ap, arith}
 use Rattle.std.specs.Int.NonZero.{non_zero_u16_get}
 use Rattle.paged_read.specs.RawReads.{value_told}
-use Rattle.paged_read.proofs.RawReading.{part_missed, part_sliced}
+use Rattle.paged_read.proofs.RawReading.{part_sliced}
 use Rattle.paged_read.proofs.raw.read_part.Goals as goal
 
 pub returns : goal.returns

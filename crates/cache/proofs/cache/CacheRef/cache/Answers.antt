@@ -1,4 +1,4 @@
-use Rattle.std.proofs.Common.{◌≡◌, ◌∙◌, ◌+◌, ◌*◌, ◌-◌, ◌/◌, sym, ap, subst, ℕ, suc, List, take, drop, arith}
+use Rattle.std.proofs.Common.{◌≡◌, ◌∙◌, ◌+◌, ◌*◌, ◌-◌, ◌/◌, ap, subst, ℕ, suc, List, take, drop, arith}
 use Rattle.cache.specs.CacheState.{CacheState, Puts, PutsAll}
 use Rattle.cache.proofs.CacheLaws.{puts_one_more, put_weakly}
 use Rattle.cache.proofs.cache.CacheRef.cache.Goals as goal

@@ -1,6 +1,6 @@
-use Rattle.std.proofs.Common.{◌≡◌, ◌∙◌, ap, sym, subst, ℕ}
-use Rattle.cache.specs.CacheState.{CacheState, same_key, Puts}
-use Rattle.cache.specs.Kept.{pages_of, with_page}
+use Rattle.std.proofs.Common.{◌∙◌, ap, sym, subst, ℕ}
+use Rattle.cache.specs.CacheState.{CacheState, Puts}
+use Rattle.cache.specs.Kept.{pages_of}
 use Rattle.cache.specs.contracts.cache.CacheRef.{the_view}
 use Rattle.cache.proofs.Keeping.{overwrite_keeps, overwrite_puts, add_keeps, add_puts, held_at_ok, with_page_same}
 use Rattle.cache.proofs.cache.CacheRef.keep.Goals as goal

@@ -1,4 +1,4 @@
-use Rattle.std.proofs.Common.{◌≡◌, ◌∙◌, ap, sym, ℕ, List, length, take, slice_index_or}
+use Rattle.std.proofs.Common.{◌∙◌, ap, sym, ℕ, List, length, take, slice_index_or}
 use Rattle.std.proofs.lemmas.List.{take_rest}
 use Rattle.cache.specs.CacheState.{put_at}
 use Rattle.cache.specs.declared.piece.Piece.{Piece}

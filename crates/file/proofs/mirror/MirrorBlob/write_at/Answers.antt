@@ -1,7 +1,6 @@
-use Rattle.std.proofs.Common.{◌≡◌, ◌+◌, ◌<◌, ◌≤◌, ◌^◌, ℕ, List, Bool, length, sym, ap, ◌∙◌, subst, arith}
+use Rattle.std.proofs.Common.{Bool, length, sym, ◌∙◌, subst, arith}
 use Rattle.std.specs.List.{concat}
 use Rattle.disk.specs.declared.action.Action.TheVariants as actions
-use Rattle.disk.specs.declared.action.Event.{Event}
 use Rattle.disk.specs.VecBlob.{HasRoom}
 use Rattle.file.specs.Asked.{requests_of, Passes}
 use Rattle.file.proofs.Asking.{calls}

@@ -2,7 +2,6 @@ use Rattle.std.proofs.Common.{◌≡◌, ◌+◌, ◌*◌, ◌/◌, ◌<◌, ◌
 use Rattle.std.proofs.lemmas.Bool.Decides.{nat_tests}
 use Rattle.paged.proofs.Sizes.{fits_by_size, small_fits, size_fits}
 use Rattle.paged.proofs.writer.Writer.fits.Goals as goal
-use Rattle.paged.proofs.writer.Writer.fits.Goals.{In_default, Then-size, After-greatest_size}
 
 pub returns-in_default : goal.returns-in_default
 returns-in_default g c =

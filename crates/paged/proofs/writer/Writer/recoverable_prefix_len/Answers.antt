@@ -1,4 +1,4 @@
-use Rattle.std.proofs.Common.{◌≡◌, ◌*◌, ◌+◌, ℕ, length, ap, subst}
+use Rattle.std.proofs.Common.{◌*◌, ◌+◌, ℕ, length, subst}
 use Rattle.page.specs.Page.{text}
 use Rattle.crash.specs.Looks.{Looked}
 use Rattle.paged_read.specs.Scans.{scan_to, Scans, text_of_first}

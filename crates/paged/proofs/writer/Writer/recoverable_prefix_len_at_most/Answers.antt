@@ -1,8 +1,8 @@
-use Rattle.std.proofs.Common.{◌≡◌, ◌*◌, ◌+◌, ◌∙◌, ◌<◌, ℕ, min, length, ap, subst, arith}
+use Rattle.std.proofs.Common.{◌≡◌, ◌*◌, ◌+◌, ◌∙◌, ◌<◌, ℕ, min, ap, subst, arith}
 use Rattle.std.specs.Int.{div_ceil}
 use Rattle.writer_state.specs.WriterState.{WriterState}
 use Rattle.crash.specs.Looks.{Looked}
-use Rattle.paged_read.specs.Scans.{scan_end, scan_to, text_of_first}
+use Rattle.paged_read.specs.Scans.{scan_end, scan_to}
 use Rattle.paged_read.proofs.Outliving.{look_leaves_reads, look_leaves_tails, look_leaves_writers}
 use Rattle.paged_read.proofs.OutlivingReplays.{look_leaves_replays}
 use Rattle.paged_read.proofs.Scanning.{bounded_scan}

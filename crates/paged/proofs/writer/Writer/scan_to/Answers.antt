@@ -1,9 +1,9 @@
-use Rattle.std.proofs.Common.{rules, ◌≡◌, ◌≤◌, ◌<◌, ◌*◌, ◌+◌, ◌/◌, ◌^◌, ℕ, length, sym, ◌∙◌, ap, subst, arith, refl, Err}
+use Rattle.std.proofs.Common.{rules, ◌≡◌, ◌≤◌, ◌<◌, ◌*◌, ◌+◌, ◌/◌, ◌^◌, ℕ, length, ◌∙◌, ap, subst, arith, refl, Err}
 use Rattle.std.proofs.lemmas.Result.{err_from_is_err_and}
 use Rattle.std.specs.Int.NonZero.{non_zero_u16_get, non_zero_usize_get}
 use Rattle.disk.specs.declared.error.Error.TheVariants.{OffsetOverflow}
 use Rattle.writer_state.specs.WriterState.{WriterState}
-use Rattle.paged_read.specs.Scans.{IsWithinBlob, prefix_from, ReadsForward, Scans, scan_start, scan_to}
+use Rattle.paged_read.specs.Scans.{prefix_from, ReadsForward, Scans, scan_start, scan_to}
 use Rattle.paged_read.specs.Searches.{scan_bytes}
 use Rattle.paged.specs.Writer.{FitsBlob}
 use Rattle.paged.proofs.Scanned.{look_refused, scan_within, scanned_fits, scanned_short, scanned_size}
