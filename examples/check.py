@@ -50,12 +50,12 @@ def scripts():
     """Every script, with the output that is expected of it."""
     found = {"stdin": (contents(PROGRAM, "stdin"), contents(PROGRAM, "stdout"))}
     found |= texts_of_tests("tests.rt")
-    tests = texts_of_tests("tests", "scripts.rt")
+    tests = texts_of_tests("tests", "examples.rt")
     names = sorted(name[:-4] for name in os.listdir(FILES) if name.endswith(".txt"))
     files = {name.replace("-", "_"): (contents(FILES, name + ".txt"), contents(FILES, name + ".out"))
              for name in names}
     if files != tests:
-        raise SystemExit("examples/scripts and src/tests/scripts.rt differ")
+        raise SystemExit("examples/scripts and src/tests/examples.rt differ")
     return found | files
 
 

@@ -1,5 +1,5 @@
 // The kit's cache of pages, put to and looked up.
-ghost use Rattle.std.specs.Prelude.{◌≡◌, ◌<◌, ◌≤◌, None, OnOk, OnErr, is_some, if◌then◌else◌};
+ghost use Rattle.std.specs.Prelude.{◌≡◌, ◌<◌, None, OnOk, OnErr, is_some, if◌then◌else◌};
 ghost use Rattle.std.specs.Prelude.{length, option_copied};
 ghost use Rattle.std.specs.Map.{lookup, set_value};
 ghost use Rattle.cache.specs.CacheState.{same_key};

@@ -26,6 +26,3 @@ pub use past::Past;
 pub use started_read::StartedRead;
 pub use started_sync::StartedSync;
 pub use vec_blob::VecBlob;
-
-#[cfg(test)]
-mod tests;

@@ -1,4 +1,4 @@
-// ReadableIsImage that were started.
+// Reads that were started.
 ghost use Rattle.std.specs.Prelude.{◌≡◌};
 ghost use Rattle.disk.specs.StartedRead.{answer_of};
 

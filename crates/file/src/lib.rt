@@ -9,8 +9,6 @@
 mod host;
 mod mirror;
 mod opening;
-#[cfg(test)]
-mod tests;
 
 pub use host::{FileHost, Host};
 pub use mirror::Mirror;

@@ -14,7 +14,7 @@ pub const MOST_BYTES: usize = 65_535;
 pub const IN_FRONT: usize = 2;
 
 /// How many stand after it: the checksum and the mark.
-pub const BEHIND: usize = 5;
+pub const AFTER: usize = 5;
 
 /// A frame that was found in a journal.
 #[derive(Drop)]
@@ -32,7 +32,7 @@ pub fn frame_of<R: Sum>(alloc: Global, bytes: &[u8]) -> Result<Vec<u8>, Error>
     ensures framed { IfOk result (λ framed. framed.items ≡ frame R.sum_of bytes.now) }
     ensures err { IsOkUnless result Error.OutOfMemory }
 {
-    let mut framed = Vec::with_capacity(alloc, IN_FRONT + bytes.len() + BEHIND)?;
+    let mut framed = Vec::with_capacity(alloc, IN_FRONT + bytes.len() + AFTER)?;
     framed.extend_from_slice(&(bytes.len() as u16).to_be_bytes())?;
     framed.extend_from_slice(bytes)?;
     framed.extend_from_slice(&R::sum(bytes).to_be_bytes())?;

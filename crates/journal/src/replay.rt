@@ -5,7 +5,7 @@ ghost use Rattle.paged_read.specs.Tail.{size_of, told};
 ghost use Rattle.journal.specs.Frame.{listed};
 ghost use Rattle.journal.specs.Replay.{LeavesReady, Plays, PlaysAll, PlaysFrame};
 
-use crate::frame::{BEHIND, Found, IN_FRONT, record_after, record_len_of};
+use crate::frame::{AFTER, Found, IN_FRONT, record_after, record_len_of};
 use disk::{Blob, Error, IoBuf};
 use page::Sum;
 use paged_read::Replay;
@@ -30,14 +30,14 @@ fn next_frame<B: Blob, H: Sum, R: Sum>(
         return Ok(None);
     }
     let len = record_len_of(replay.copy_to_bytes(IN_FRONT)?.as_ref());
-    if !replay.ensure(blob, len + BEHIND)? {
+    if !replay.ensure(blob, len + AFTER)? {
         return Ok(None);
     }
-    let rest = replay.copy_to_bytes(len + BEHIND)?;
+    let rest = replay.copy_to_bytes(len + AFTER)?;
     let bytes = record_after::<R>(len, &rest, 0)?;
     Ok(Some(Found {
         bytes,
-        end: offset + (IN_FRONT + len + BEHIND) as u64,
+        end: offset + (IN_FRONT + len + AFTER) as u64,
     }))
 }
 

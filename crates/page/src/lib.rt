@@ -24,6 +24,3 @@ pub use geometry::{
 pub use pages::split_pages;
 pub use slot::{ActiveChecksum, Slot};
 pub use sum::{AddSum, ConstSum, Sum};
-
-#[cfg(test)]
-mod tests;

@@ -47,15 +47,3 @@ impl Sum for ConstSum {
         0
     }
 }
-
-#[cfg(test)]
-mod tests {
-    use super::*;
-
-    #[test]
-    fn sums(rt: HostRuntime) {
-        assert_eq!(rt; AddSum::sum(b"fallback data"), 0x4EA);
-        assert_eq!(rt; AddSum::sum(b""), 0);
-        assert_eq!(rt; ConstSum::sum(b"fallback data"), 0);
-    }
-}

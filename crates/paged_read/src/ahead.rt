@@ -4,7 +4,7 @@ ghost use Rattle.std.specs.Prelude.{min};
 ghost use Rattle.std.specs.Prelude.{All, IfSome, IsTrue, ◌↔◌, Ok, Err, vec_capacity, OnOk};
 ghost use Rattle.std.specs.Int.NonZero.{non_zero_u16_get};
 ghost use Rattle.crash.specs.Looks.{Looked};
-ghost use Rattle.disk.specs.Disk.{Disk, StartReadGoes, Life};
+ghost use Rattle.disk.specs.Disk.{Disk, StartReadGoes};
 ghost use Rattle.paged_read.specs.ReadAhead.{batch_range, after, batch_bytes, AreFullPages};
 ghost use Rattle.paged_read.specs.ReadAhead.{AddsBatch, AreNext, FetchesBatch, Follow, IsBatch};
 ghost use Rattle.paged_read.specs.ReadAhead.{IsQueue, page_after, ReadsBatch};

@@ -1,5 +1,5 @@
 // Reads of the bytes below a tail, page by page.
-ghost use Rattle.std.specs.Prelude.{◌≡◌, ◌+◌, ◌*◌, ◌<◌, ◌≤◌, ◌^◌, [], ◌∷◌, length, All};
+ghost use Rattle.std.specs.Prelude.{◌≡◌, ◌+◌, ◌*◌, ◌<◌, ◌≤◌, [], ◌∷◌, length, All};
 ghost use Rattle.std.specs.Int.NonZero.{non_zero_u16_get};
 ghost use Rattle.paged_read.specs.Tail.{tail_at, IsView, CanRead};
 ghost use Rattle.paged_read.specs.Ranges.{LeavesAll, AsksForMissing, missing};

@@ -25,12 +25,3 @@ pub use replay::Replay;
 pub use sealed::Sealed;
 pub use search::{last_pages, pages_of, physical_page_size, scan, scan_from};
 pub use view::View;
-
-#[cfg(test)]
-mod kit;
-#[cfg(test)]
-mod ranges_tests;
-#[cfg(test)]
-mod search_tests;
-#[cfg(test)]
-mod tests;

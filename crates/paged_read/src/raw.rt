@@ -4,7 +4,7 @@ ghost use Rattle.std.specs.Prelude.{IfOk};
 ghost use Rattle.std.specs.Int.NonZero.{non_zero_u16_get};
 ghost use Rattle.std.specs.List.{concat};
 ghost use Rattle.crash.specs.Looks.{Looked};
-ghost use Rattle.paged_read.specs.RawReads.{after_told, part_of, range_end, range_told, ReadsTold};
+ghost use Rattle.paged_read.specs.RawReads.{after_told, part_of, range_told, ReadsTold};
 ghost use Rattle.paged_read.specs.RawReads.{tail_told, value_told};
 ghost use Rattle.paged_read.specs.Snapshots.{LeavesWriters};
 

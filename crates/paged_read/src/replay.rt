@@ -1,7 +1,7 @@
 // Replays.
 ghost use Rattle.std.specs.Prelude.{◌≡◌, ◌≤◌, ◌<◌, ◌+◌, ◌*◌, [], ℕ, List, length, take, IfErr};
 ghost use Rattle.std.specs.Prelude.{IfOk};
-ghost use Rattle.std.specs.Prelude.{IsErrOf, IsOkUnless, OnErr, OnOk};
+ghost use Rattle.std.specs.Prelude.{IsOkUnless, OnErr, OnOk};
 ghost use Rattle.std.specs.Int.NonZero.{non_zero_usize_get};
 ghost use Rattle.cache.specs.CacheState.{CacheState};
 ghost use Rattle.crash.specs.Looks.{Looked};
@@ -12,7 +12,7 @@ ghost use Rattle.paged_read.specs.Replay.{advanced, CanReplay, Ensures, Gives, I
 ghost use Rattle.paged_read.specs.Replay.{IsHad, new_replay};
 ghost use Rattle.paged_read.specs.Replay.{end_of, FillsOnce, LeavesAllReplays, ReplaysOn};
 ghost use Rattle.paged_read.specs.Replay.{ReplaysThrough, Seeks};
-ghost use Rattle.paged_read.specs.Tail.{HasFullPages, size_of};
+ghost use Rattle.paged_read.specs.Tail.{size_of};
 
 use crate::ahead::{Ahead, Batches, MAX_READ_AHEAD};
 use crate::hand::{Hand, TooFew};

@@ -6,114 +6,11 @@
 //! the output failed or there was no memory for the script.
 #![tactic(auto)]
 
-ghost use Rattle.std.specs.Prelude.{◌≡◌, ◌<◌, [], ℕ, IfSome, IfOk};
-ghost use Rattle.std.specs.Io.KnownBytes.{Keeps};
-ghost use Rattle.pagedctl.specs.Play.{Plays, IsScript, IsNoScript};
-
-mod explain;
-mod script;
-mod stage;
-mod stop;
 #[cfg(test)]
 mod tests;
-mod text;
-mod word;
 
-use crate::explain::explain;
-use crate::script::{Script, SumName, parse};
-use crate::stage::Stage;
-use crate::stop::Stop;
-use page::{AddSum, ConstSum, Sum};
-use std::alloc::Global;
-use std::io;
-use std::io::{BufWriter, Read, Write};
+use scripts::play;
 use std::process::ExitCode;
-
-/// Plays the script that `input` holds, writes its replies to `out`, and answers the exit status.
-/// Where that isn't 0, `err` gets a line that says why, and where a line can't be read a second one
-/// that says what was expected there.
-pub fn play_on<R: Read, W: Write, E: Write>(
-    alloc: Global,
-    input: &mut R,
-    out: &mut W,
-    err: &mut E,
-) -> u8
-    ensures status { result < 3 }
-    ensures played { result ≡ 0 → IfSome (R.remaining input.old) IsScript }
-    ensures unreadable { result ≡ 2
-        → IfSome (R.remaining input.old) (λ bytes. (number : ℕ) × IsNoScript number bytes) }
-    ensures nothing { result ≡ 2 → Keeps (W.contents out.old) (W.contents out.new) }
-{
-    let mut text = Vec::new(alloc);
-    match play_input(alloc, input, &mut text, out) {
-        Ok(()) => 0,
-        Err(stop) => {
-            let _ = say(alloc, stop, &text, err);
-            stop.status()
-        }
-    }
-}
-
-/// The same, with a reader and writers of its own.
-pub fn play<R: Read + Drop, W: Write + Drop, E: Write + Drop>(
-    alloc: Global,
-    mut input: R,
-    mut out: W,
-    mut err: E,
-) -> u8
-    ensures status { result < 3 }
-    ensures played { result ≡ 0 → IfSome (R.remaining input) IsScript }
-    ensures unreadable { result ≡ 2
-        → IfSome (R.remaining input) (λ bytes. (number : ℕ) × IsNoScript number bytes) }
-{
-    play_on(alloc, &mut input, &mut out, &mut err)
-}
-
-// Says why a script stops, whose text this is; and where a line of it can't be read, in a line
-// below, what is wrong with that.
-fn say<E: Write>(alloc: Global, stop: Stop, text: &[u8], err: &mut E) -> io::Result<()> {
-    writeln!(err, "{stop}")?;
-    match stop {
-        Stop::Unreadable(number) => explain(alloc, text, number, err),
-        Stop::Failed => Ok(()),
-    }
-}
-
-// The input is put in `text`.
-fn play_input<R: Read, W: Write>(
-    alloc: Global,
-    input: &mut R,
-    text: &mut Vec<u8>,
-    out: &mut W,
-) -> Result<(), Stop>
-    requires { text.old.items ≡ [] }
-    ensures { Plays (R.remaining input.old) (W.contents out.old) (W.contents out.new) result }
-{
-    input.read_to_end(text)?;
-    let script = parse(alloc, text)?;
-    play_script(alloc, script, out)?;
-    Ok(())
-}
-
-fn play_script<W: Write>(alloc: Global, script: Script, out: &mut W) -> io::Result<()> {
-    let mut out = BufWriter::new(alloc, out)?;
-    match script.start.sum {
-        SumName::Add => play_over::<AddSum, _>(alloc, script, &mut out),
-        SumName::Const => play_over::<ConstSum, _>(alloc, script, &mut out),
-    }
-}
-
-// Each line's reply is out before the next line is played.
-fn play_over<H: Sum, W: Write>(alloc: Global, script: Script, out: &mut W) -> io::Result<()> {
-    let mut stage = Stage::<H>::new(alloc, script.start);
-    stage.open(out)?;
-    out.flush()?;
-    for line in script.lines {
-        stage.play(line, out)?;
-        out.flush()?;
-    }
-    Ok(())
-}
 
 fn main(rt: HostRuntime) -> ExitCode {
     ExitCode::from(play(rt.alloc(), rt.stdin(), rt.stdout(), rt.stderr()))

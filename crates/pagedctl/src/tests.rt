@@ -1,8 +1,8 @@
 // Scripts, and what the program writes for them.
+mod examples;
 mod lines;
-mod scripts;
 
-use crate::play;
+use scripts::play;
 use std::alloc::Global;
 use std::io;
 use std::io::{ErrorKind, Read};

@@ -6,18 +6,12 @@
 //! memory was refused. Where it isn't 0, standard error gets one line that says why.
 #![tactic(auto)]
 
-mod answer;
-mod input;
-mod request;
-mod serve;
-mod stop;
 #[cfg(test)]
 mod tests;
 
-use crate::serve::serve_file;
-use crate::stop::Stop;
 use crc32c::Crc32c;
 use file::FileBlob;
+use protocol::{Stop, serve_file};
 use std::io::{BufReader, BufWriter, Write};
 use std::process::ExitCode;
 use std::{env, io};

@@ -1,10 +1,9 @@
 // Worked sessions: what goes in, and what comes out.
 ghost use Rattle.std.specs.Prelude.{◌≡◌, length};
 
-use crate::serve::serve_file;
-use crate::stop::{Flaw, Stop};
 use crc32c::Crc32c;
 use disk::{Blob, Error, MemBlob, VecBlob};
+use protocol::{Flaw, Stop, serve_file};
 use std::alloc::Global;
 use std::fs;
 use std::io::BufReader;

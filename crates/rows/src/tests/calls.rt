@@ -41,35 +41,36 @@ const READS: [Read; 14] = [
     (1, usize::MAX, Err(Error::OffsetOverflow), 0),
 ];
 
-fn read_across(rt: &impl Abort, alloc: Global, read: &Read) -> Result<(), Error> {
-    let (offset, len, want, pages) = *read;
-    let mut store = a_to_k::<AddSum>(alloc)?;
-    assert_eq!(rt; store.blob().len(), 32);
-    // Nothing is held of a blob that was just recovered.
+/// The same, synced and recovered: nothing is held of a blob that was just recovered.
+fn a_to_k_recovered(alloc: Global) -> Result<Store<AddSum>, Error> {
+    let mut store = a_to_k(alloc)?;
     store.sync()?;
     store.recover(CAPACITY)?;
-    let before = store.blob().calls().len();
-    let got = store.read(offset, len);
-    assert!(rt; answers(&got, want), "{len} bytes at {offset}");
-    assert_eq!(rt;
-        store.calls_from(before)?.len(),
-        pages,
-        "{len} bytes at {offset}"
-    );
-    Ok(())
+    Ok(store)
 }
 
-// Here and in the other files a loop over a table stands in a function that is lent the table: in
-// the test's own body the prover unfolds all of it at each step.
+fn reads_as_told(alloc: Global, read: &Read) -> Result<bool, Error> {
+    let (offset, len, want, pages) = *read;
+    let mut store = a_to_k_recovered(alloc)?;
+    let before = store.blob().calls().len();
+    let got = store.read(offset, len);
+    Ok(answers(&got, want) && store.calls_from(before)?.len() == pages)
+}
+
+// Here and in the other files a loop over a table stands in a function that is lent the table, and
+// a row is one assertion: in the test's own body the prover unfolds all of the table at each step,
+// and each assertion is an exit at which all has to be let go.
 fn read_each(rt: &impl Abort, alloc: Global, reads: &[Read]) -> Result<(), Error> {
-    for read in reads {
-        read_across(rt, alloc, read)?;
+    for (number, read) in reads.iter().enumerate() {
+        assert!(rt; reads_as_told(alloc, read)?, "row {number}");
     }
     Ok(())
 }
 
 #[test]
 fn reads_cross_pages_and_the_buffer(rt: HostRuntime) -> Result<(), Fail> {
+    let store = a_to_k::<AddSum>(rt.alloc())?;
+    assert_eq!(rt; store.blob().len(), 32);
     read_each(&rt, rt.alloc(), &READS)?;
     Ok(())
 }
@@ -78,9 +79,7 @@ fn reads_cross_pages_and_the_buffer(rt: HostRuntime) -> Result<(), Fail> {
 fn a_failed_read_is_told(rt: HostRuntime) -> Result<(), Fail> {
     // Pages 0 and 1 are read in turn.
     for page in 0..2u64 {
-        let mut store = a_to_k::<AddSum>(rt.alloc())?;
-        store.sync()?;
-        store.recover(CAPACITY)?;
+        let mut store = a_to_k_recovered(rt.alloc())?;
         store.fail_at(page + 1);
         let got = store.read(3, 7);
         assert!(rt; answers(&got, Err(Error::ReadFailed)), "at page {page}");
@@ -191,13 +190,17 @@ fn about_to_fail(alloc: Global, row: &Row) -> Result<Store<AddSum>, Error> {
     Ok(store)
 }
 
+/// Whether the row is refused, at its last call.
+fn is_refused(store: &mut Store<AddSum>, row: &Row) -> Result<bool, Error> {
+    let before = store.blob().calls().len();
+    let answer = change(store, row);
+    Ok(answer == Err(row.error) && store.asks(before, row.calls)? && store.blob().failures() == 1)
+}
+
 /// A store whose row was refused.
 fn refused(rt: &impl Abort, alloc: Global, row: &Row) -> Result<Store<AddSum>, Error> {
     let mut store = about_to_fail(alloc, row)?;
-    let before = store.blob().calls().len();
-    assert_eq!(rt; change(&mut store, row), Err(row.error));
-    assert!(rt; store.asks(before, row.calls)?);
-    assert_eq!(rt; store.blob().failures(), 1);
+    assert!(rt; is_refused(&mut store, row)?);
     Ok(store)
 }
 
@@ -241,13 +244,14 @@ fn a_refused_call_is_recovered_at_once(rt: HostRuntime) -> Result<(), Fail> {
     Ok(())
 }
 
-/// The store holds these bytes and "yz".
-fn ends_in_yz(rt: &impl Abort, store: &mut Store<AddSum>, bytes: &[u8]) -> Result<(), Error> {
+/// Whether the store holds these bytes and "yz".
+fn ends_in_yz(store: &mut Store<AddSum>, bytes: &[u8]) -> Result<bool, Error> {
     let end = bytes.len();
-    assert_eq!(rt; store.size(), (end as u64).saturating_add(2));
-    assert!(rt; store.read(0, end)?.as_ref() == bytes);
-    assert!(rt; store.read(end as u64, 2)?.as_ref() == b"yz".as_slice());
-    Ok(())
+    Ok(
+        store.size() == (end as u64).saturating_add(2)
+            && store.read(0, end)?.as_ref() == bytes
+            && store.read(end as u64, 2)?.as_ref() == b"yz".as_slice(),
+    )
 }
 
 // The recovered writer goes on after what the blob holds.
@@ -258,7 +262,8 @@ fn go_on(rt: &impl Abort, alloc: Global, row: &Row) -> Result<(), Error> {
     store.sync()?;
     store.crash(&[])?;
     store.recover(CAPACITY)?;
-    ends_in_yz(rt, &mut store, row.readable)
+    assert!(rt; ends_in_yz(&mut store, row.readable)?);
+    Ok(())
 }
 
 fn go_on_after_each(rt: &impl Abort, alloc: Global, rows: &[Row]) -> Result<(), Error> {

@@ -159,22 +159,19 @@ fn is_made_of(alloc: Global, blob: &MemBlob, pages: &[Page]) -> Result<bool, Err
     Ok(blob.bytes() == want.as_slice())
 }
 
-fn cut_row(rt: &impl Abort, alloc: Global, row: &Row, number: usize) -> Result<(), Error> {
+fn goes(alloc: Global, row: &Row) -> Result<bool, Error> {
     let mut blob = blob_of(alloc, row.pages)?;
     let answer = open_and_truncate(&mut blob, alloc, row.size);
-    assert_eq!(rt; answer, row.answer, "row {number}");
-    assert_eq!(rt;
-        calls_from(alloc, &blob, 0)?.as_slice(),
-        row.calls,
-        "row {number}"
-    );
-    assert!(rt; is_made_of(alloc, &blob, row.left)?, "row {number}");
-    Ok(())
+    Ok(
+        answer == row.answer
+            && calls_from(alloc, &blob, 0)?.as_slice() == row.calls
+            && is_made_of(alloc, &blob, row.left)?,
+    )
 }
 
 fn cut_each(rt: &impl Abort, alloc: Global, rows: &[Row]) -> Result<(), Error> {
     for (number, row) in rows.iter().enumerate() {
-        cut_row(rt, alloc, row, number)?;
+        assert!(rt; goes(alloc, row)?, "row {number}");
     }
     Ok(())
 }
@@ -186,21 +183,23 @@ fn a_cut_asks_this_of_the_device(rt: HostRuntime) -> Result<(), Fail> {
 }
 
 // The call with this number, from 0 on, fails.
-fn fail_a_cut(rt: &impl Abort, alloc: Global, row: &Row, done: usize) -> Result<(), Error> {
+fn fails_at(alloc: Global, row: &Row, done: usize, call: Call) -> Result<bool, Error> {
     let mut blob = blob_of(alloc, row.pages)?;
     blob.fail_at((done as u64).saturating_add(1));
     let answer = open_and_truncate(&mut blob, alloc, row.size);
-    let call = row.calls.get(done).copied().unwrap_or(Call::Sync);
-    assert_eq!(rt; answer, Err(error_of(call)), "at call {done}");
-    assert_eq!(rt; blob.calls().len(), done.saturating_add(1));
+    Ok(answer == Err(error_of(call)) && blob.calls().len() == done.saturating_add(1))
+}
+
+fn fail_a_cut(rt: &impl Abort, alloc: Global, row: &Row) -> Result<(), Error> {
+    for (done, call) in row.calls.iter().enumerate() {
+        assert!(rt; fails_at(alloc, row, done, *call)?, "at call {done}");
+    }
     Ok(())
 }
 
 fn fail_each_cut(rt: &impl Abort, alloc: Global, rows: &[Row]) -> Result<(), Error> {
     for row in rows {
-        for done in 0..row.calls.len() {
-            fail_a_cut(rt, alloc, row, done)?;
-        }
+        fail_a_cut(rt, alloc, row)?;
     }
     Ok(())
 }
@@ -221,29 +220,22 @@ fn abcdefgh<H: Sum>(alloc: Global) -> Result<Store<H>, Error> {
     Ok(store)
 }
 
-/// Recovered again, it begins with the first six of the eight, and has no other bytes.
-fn begins_with_six<H: Sum>(rt: &impl Abort, store: &mut Store<H>, call: u64) -> Result<(), Error> {
+/// Whether it begins with the first six of the eight, recovered again, and has no other bytes.
+fn begins_with_six<H: Sum>(store: &mut Store<H>) -> Result<bool, Error> {
     store.recover(CAPACITY)?;
     let content = store.content()?;
-    assert!(rt; content.as_ref().starts_with(b"abcdef"), "at call {call}");
-    assert!(rt; b"abcdefgh".starts_with(content.as_ref()), "at call {call}");
-    Ok(())
+    Ok(content.as_ref().starts_with(b"abcdef") && b"abcdefgh".starts_with(content.as_ref()))
 }
 
 /// The blob of a cut to six bytes, whose device call with this number fails, after a crash that
 /// keeps these of its bytes: recovered again, it begins with the six.
-fn cut_torn<H: Sum>(rt: &impl Abort, alloc: Global, call: u64, keep: &[bool]) -> Result<(), Error> {
+fn cut_torn<H: Sum>(alloc: Global, call: u64, keep: &[bool]) -> Result<bool, Error> {
     let mut store = abcdefgh::<H>(alloc)?;
     store.fail_at(call);
     let answer = store.recover_and_truncate(6);
-    assert_eq!(rt; answer, Err(Error::WriteFailed), "at call {call}");
     store.crash(keep)?;
-    begins_with_six(rt, &mut store, call)
+    Ok(answer == Err(Error::WriteFailed) && begins_with_six(&mut store)?)
 }
-
-// The recovery makes four device calls, and the cut reads before it writes: six bytes, two, and
-// six.
-const WRITES: [(u64, usize); 3] = [(6, 6), (7, 2), (8, 6)];
 
 fn flags(bits: usize) -> [bool; 6] {
     let mut rest = bits;
@@ -255,13 +247,30 @@ fn flags(bits: usize) -> [bool; 6] {
     flags
 }
 
-fn every_choice_of_bytes<H: Sum>(rt: &impl Abort, alloc: Global) -> Result<(), Error> {
-    for (call, len) in WRITES {
-        for bits in 0..64 {
-            cut_torn::<H>(rt, alloc, call, &flags(bits)[..len])?;
-        }
+fn every_choice_of<H: Sum>(
+    rt: &impl Abort,
+    alloc: Global,
+    call: u64,
+    len: usize,
+) -> Result<(), Error>
+    requires { len ≤ 6 }
+{
+    for bits in 0..64 {
+        let flags = flags(bits);
+        assert!(rt;
+            cut_torn::<H>(alloc, call, &flags[..len])?,
+            "{bits} at call {call}"
+        );
     }
     Ok(())
+}
+
+// The recovery makes four device calls, and the cut reads before it writes: six bytes, two, and
+// six.
+fn every_choice_of_bytes<H: Sum>(rt: &impl Abort, alloc: Global) -> Result<(), Error> {
+    every_choice_of::<H>(rt, alloc, 6, 6)?;
+    every_choice_of::<H>(rt, alloc, 7, 2)?;
+    every_choice_of::<H>(rt, alloc, 8, 6)
 }
 
 #[test]
@@ -304,11 +313,6 @@ fn a_damaged_blob_is_cut(rt: HostRuntime) -> Result<(), Fail> {
     Ok(())
 }
 
-// Three pages of any of these sizes.
-const PAGE_SIZES: [u16; 4] = [1, 2, 4, 7];
-
-const LETTERS: &[u8] = b"abcdefghijklmnopqrstu";
-
 /// A store of these letters, synced, in pages of this size.
 fn store_of(alloc: Global, page_size: u16, letters: &[u8]) -> Result<Store<AddSum>, Error> {
     let mut store = Store::empty_of(alloc, page_size)?;
@@ -331,39 +335,34 @@ fn calls_of(
     let before = store.blob().calls().len();
     store.recover_and_truncate(size as u64)?;
     let calls = store.blob().calls().len().saturating_sub(before);
-    assert!(rt; store.has(&letters[..size])?, "to {size}");
-    assert!(rt; store.holds(&letters[..size])?, "to {size}");
+    let left = &letters[..size];
+    assert!(rt; store.has(left)? && store.holds(left)?, "to {size}");
     Ok(calls)
 }
 
-/// The same, with one of these calls failing, and a crash that keeps nothing that isn't durable, or
-/// all: what was to stay is there.
-fn cut_stopped(
-    rt: &impl Abort,
+/// Whether what was to stay is there, where one of these calls fails, and a crash keeps nothing that
+/// isn't durable, or all.
+fn stays(
     alloc: Global,
     page_size: u16,
     letters: &[u8],
     size: usize,
     done: usize,
     keep: bool,
-) -> Result<(), Error>
+) -> Result<bool, Error>
     requires { size ≤ length letters.now }
 {
     let mut store = store_of(alloc, page_size, letters)?;
     store.fail_at((done as u64).saturating_add(1));
-    assert!(rt; store.recover_and_truncate(size as u64).is_err());
+    let answer = store.recover_and_truncate(size as u64);
     store.crash(&[keep; 8])?;
     store.recover(CAPACITY)?;
     let content = store.content()?;
-    assert!(rt;
-        content.as_ref().starts_with(&letters[..size]),
-        "to {size} at call {done}"
-    );
-    assert!(rt;
-        letters.starts_with(content.as_ref()),
-        "to {size} at call {done}"
-    );
-    Ok(())
+    Ok(
+        answer.is_err()
+            && content.as_ref().starts_with(&letters[..size])
+            && letters.starts_with(content.as_ref()),
+    )
 }
 
 fn cut_at_each_call(
@@ -376,20 +375,34 @@ fn cut_at_each_call(
     requires { size ≤ length letters.now }
 {
     for done in 0..calls_of(rt, alloc, page_size, letters, size)? {
-        cut_stopped(rt, alloc, page_size, letters, size, done, false)?;
-        cut_stopped(rt, alloc, page_size, letters, size, done, true)?;
+        assert!(rt;
+            stays(alloc, page_size, letters, size, done, false)?
+                && stays(alloc, page_size, letters, size, done, true)?,
+            "to {size} at call {done}"
+        );
     }
     Ok(())
 }
 
+fn cut_to_each_size(
+    rt: &impl Abort,
+    alloc: Global,
+    page_size: u16,
+    letters: &[u8],
+) -> Result<(), Error> {
+    for size in 0..=letters.len() {
+        cut_at_each_call(rt, alloc, page_size, letters, size)?;
+    }
+    Ok(())
+}
+
+// Three pages of some sizes.
 #[test]
 fn a_cut_to_any_size_may_be_stopped(rt: HostRuntime) -> Result<(), Fail> {
-    for page_size in PAGE_SIZES {
-        let letters = &LETTERS[..usize::from(page_size) * 3];
-        for size in 0..=letters.len() {
-            cut_at_each_call(&rt, rt.alloc(), page_size, letters, size)?;
-        }
-    }
+    cut_to_each_size(&rt, rt.alloc(), 1, b"abc")?;
+    cut_to_each_size(&rt, rt.alloc(), 2, b"abcdef")?;
+    cut_to_each_size(&rt, rt.alloc(), 4, b"abcdefghijkl")?;
+    cut_to_each_size(&rt, rt.alloc(), 7, b"abcdefghijklmnopqrstu")?;
     Ok(())
 }
 
@@ -398,7 +411,7 @@ const AB: Page = [
     0x61, 0x62, 0x00, 0x00, 0x00, 0x02, 0x00, 0x00, 0x00, 0xC3, 0x00, 0x00, 0x00, 0x00, 0x00, 0x00,
 ];
 
-const BEHIND: Page = [
+const EFGH_AFTER: Page = [
     0x65, 0x66, 0x67, 0x68, 0x00, 0x04, 0x00, 0x00, 0x01, 0x9A, 0x00, 0x00, 0x00, 0x00, 0x00, 0x00,
 ];
 
@@ -420,7 +433,7 @@ const RECOVERY: [Call; 9] = [
 ];
 
 fn store_of_ab(alloc: Global) -> Result<Store<AddSum>, Error> {
-    let bytes = blob_bytes(alloc, &[AB, BEHIND], &[])?;
+    let bytes = blob_bytes(alloc, &[AB, EFGH_AFTER], &[])?;
     Store::of_bytes(alloc, &bytes)
 }
 
@@ -434,27 +447,22 @@ fn a_recovery_cuts_where_the_text_ends(rt: HostRuntime) -> Result<(), Fail> {
     Ok(())
 }
 
-// That recovery is stopped at a call, and a crash keeps nothing that isn't durable, or all.
-fn ab_stopped(
-    rt: &impl Abort,
-    alloc: Global,
-    done: usize,
-    call: Call,
-    keep: bool,
-) -> Result<(), Error> {
+// Whether "ab" stays where that recovery is stopped at a call, and a crash keeps nothing that isn't
+// durable, or all.
+fn ab_stays(alloc: Global, done: usize, call: Call, keep: bool) -> Result<bool, Error> {
     let mut store = store_of_ab(alloc)?;
     store.fail_at((done as u64).saturating_add(1));
-    assert_eq!(rt; store.recover(64), Err(error_of(call)), "at call {done}");
+    let answer = store.recover(64);
     store.crash(&[keep; 8])?;
-    assert!(rt; store.holds(b"ab")?, "at call {done}");
-    assert_eq!(rt; store.size(), 2, "at call {done}");
-    Ok(())
+    Ok(answer == Err(error_of(call)) && store.holds(b"ab")? && store.size() == 2)
 }
 
 fn ab_stopped_at_each(rt: &impl Abort, alloc: Global, calls: &[Call]) -> Result<(), Error> {
     for (done, call) in calls.iter().enumerate() {
-        ab_stopped(rt, alloc, done, *call, false)?;
-        ab_stopped(rt, alloc, done, *call, true)?;
+        assert!(rt;
+            ab_stays(alloc, done, *call, false)? && ab_stays(alloc, done, *call, true)?,
+            "at call {done}"
+        );
     }
     Ok(())
 }

@@ -130,26 +130,40 @@ fn blob_of(alloc: Global, pages: &[Page], stray: &[u8]) -> Result<MemBlob, Error
     MemBlob::from_bytes(alloc, &bytes)
 }
 
-// What is told, by reads of a page, of two, and of all at once; and then a recovery does just that.
-fn look_and_recover(rt: &impl Abort, alloc: Global, row: &Row) -> Result<(), Error> {
-    let mut blob = blob_of(alloc, row.pages, row.stray)?;
+// Whether this is told by reads of so many bytes, and the blob is as long as it was.
+fn tells(blob: &mut MemBlob, alloc: Global, buffer_size: usize, want: Outlook) -> bool {
     let before = blob.len();
-    for buffer_size in [1, 33, usize::MAX] {
-        let outlook = look_at::<AddSum>(&mut blob, alloc, PAGE_SIZE, buffer_size);
-        assert_eq!(rt; outlook, Ok(row.outlook), "by {buffer_size}");
-        assert_eq!(rt; blob.len(), before);
-    }
+    let outlook = look_at::<AddSum>(blob, alloc, PAGE_SIZE, buffer_size);
+    outlook == Ok(want) && blob.len() == before
+}
+
+// Whether it is told by reads of a page, of two, and of all at once.
+fn tells_by_any(blob: &mut MemBlob, alloc: Global, want: Outlook) -> bool {
+    tells(blob, alloc, 1, want)
+        && tells(blob, alloc, 33, want)
+        && tells(blob, alloc, usize::MAX, want)
+}
+
+// Whether a recovery does just that.
+fn recovers(blob: MemBlob, alloc: Global, told: Outlook) -> Result<bool, Error> {
+    let before = blob.len();
     let mut store = Store::<AddSum>::new(alloc, blob)?;
     store.recover(CAPACITY)?;
-    assert_eq!(rt; store.size(), row.outlook.len);
-    assert_eq!(rt; store.blob().len(), row.outlook.pages.wrapping_mul(16));
-    assert_eq!(rt; store.blob().len(), before.wrapping_sub(row.outlook.cut));
-    Ok(())
+    Ok(
+        store.size() == told.len
+            && store.blob().len() == told.pages.wrapping_mul(16)
+            && store.blob().len() == before.wrapping_sub(told.cut),
+    )
+}
+
+fn look_and_recover(alloc: Global, row: &Row) -> Result<bool, Error> {
+    let mut blob = blob_of(alloc, row.pages, row.stray)?;
+    Ok(tells_by_any(&mut blob, alloc, row.outlook) && recovers(blob, alloc, row.outlook)?)
 }
 
 fn look_and_recover_each(rt: &impl Abort, alloc: Global, rows: &[Row]) -> Result<(), Error> {
-    for row in rows {
-        look_and_recover(rt, alloc, row)?;
+    for (number, row) in rows.iter().enumerate() {
+        assert!(rt; look_and_recover(alloc, row)?, "row {number}");
     }
     Ok(())
 }
@@ -181,44 +195,43 @@ fn four_pages(alloc: Global) -> Result<MemBlob, Error> {
     blob_of(alloc, &[ABCD, ABCD, EF, ABCD], &[7])
 }
 
-fn scan(rt: &impl Abort, alloc: Global, scan: &Scan) -> Result<(), Error> {
-    let (buffer_size, calls) = *scan;
+fn asks(alloc: Global, buffer_size: usize, calls: &[Call]) -> Result<bool, Error> {
     let mut blob = four_pages(alloc)?;
-    let outlook = look_at::<AddSum>(&mut blob, alloc, PAGE_SIZE, buffer_size);
-    assert_eq!(rt; outlook, Ok(told(3, 10, 17)), "by {buffer_size}");
-    assert_eq!(rt;
-        calls_from(alloc, &blob, 0)?.as_slice(),
-        calls,
-        "by {buffer_size}"
-    );
-    Ok(())
+    let as_told = tells(&mut blob, alloc, buffer_size, told(3, 10, 17));
+    Ok(as_told && calls_from(alloc, &blob, 0)?.as_slice() == calls)
 }
 
-// The look's call with this number, from 0 on, fails.
-fn fail_a_look(
-    rt: &impl Abort,
-    alloc: Global,
-    buffer_size: usize,
-    done: usize,
-    call: Call,
-) -> Result<(), Error> {
+// Whether a look is refused whose call with this number, from 0 on, fails, and told again then.
+fn fails_at(alloc: Global, buffer_size: usize, done: usize, call: Call) -> Result<bool, Error> {
     let mut blob = four_pages(alloc)?;
     blob.fail_at((done as u64).saturating_add(1));
     let answer = look_at::<AddSum>(&mut blob, alloc, PAGE_SIZE, buffer_size);
-    assert_eq!(rt; answer, Err(error_of(call)), "at call {done}");
-    assert_eq!(rt; blob.calls().len(), done.saturating_add(1));
-    let again = look_at::<AddSum>(&mut blob, alloc, PAGE_SIZE, buffer_size);
-    assert_eq!(rt; again, Ok(told(3, 10, 17)), "after call {done}");
+    Ok(
+        answer == Err(error_of(call))
+            && blob.calls().len() == done.saturating_add(1)
+            && tells(&mut blob, alloc, buffer_size, told(3, 10, 17)),
+    )
+}
+
+fn fail_each_call(
+    rt: &impl Abort,
+    alloc: Global,
+    buffer_size: usize,
+    calls: &[Call],
+) -> Result<(), Error> {
+    for (done, call) in calls.iter().enumerate() {
+        assert!(rt;
+            fails_at(alloc, buffer_size, done, *call)?,
+            "by {buffer_size}, at {done}"
+        );
+    }
     Ok(())
 }
 
 fn scan_and_fail_each(rt: &impl Abort, alloc: Global, scans: &[Scan]) -> Result<(), Error> {
-    for row in scans {
-        scan(rt, alloc, row)?;
-        let (buffer_size, calls) = *row;
-        for (done, call) in calls.iter().enumerate() {
-            fail_a_look(rt, alloc, buffer_size, done, *call)?;
-        }
+    for (buffer_size, calls) in scans {
+        assert!(rt; asks(alloc, *buffer_size, calls)?, "by {buffer_size}");
+        fail_each_call(rt, alloc, *buffer_size, calls)?;
     }
     Ok(())
 }

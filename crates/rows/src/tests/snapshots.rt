@@ -218,33 +218,38 @@ const ROWS: [Row; 6] = [
     },
 ];
 
-fn goes(rt: &impl Abort, alloc: Global, row: &Row, number: usize) -> Result<(), Error> {
+fn goes(alloc: Global, row: &Row) -> Result<bool, Error> {
     let mut blob = MemBlob::new(alloc);
     let mut cache = cache_of(alloc, 4, row.pages)?;
     let writer = recovered::<AddSum>(alloc, &mut blob, &mut cache)?;
     let (writer, _) = writer.append(&mut blob, &mut cache, b"abcde")?;
-    assert!(rt; writer.try_snapshot()?.is_none(), "row {number}");
+    if writer.try_snapshot()?.is_some() {
+        return Ok(false);
+    }
     let before = blob.calls().len();
     blob.fail_at(row.fail.max(1));
     let after = match row.append {
         Some(bytes) => read_after_an_append(writer, &mut blob, &mut cache, bytes, (0, 5))?,
         None => read_after_a_sync(writer, &mut blob, &mut cache, (0, 5))?,
     };
-    assert_eq!(rt; after.answer, row.answer, "row {number}");
-    assert_eq!(rt; after.size, 5, "row {number}");
-    assert!(rt; is_made_of(after.read, b"abcde")?, "row {number}");
-    assert!(rt;
-        calls_from(alloc, &blob, before)?.as_slice() == row.calls,
-        "row {number}"
-    );
+    Ok(
+        after.answer == row.answer
+            && after.size == 5
+            && is_made_of(after.read, b"abcde")?
+            && calls_from(alloc, &blob, before)?.as_slice() == row.calls,
+    )
+}
+
+fn go_each(rt: &impl Abort, alloc: Global, rows: &[Row]) -> Result<(), Error> {
+    for (number, row) in rows.iter().enumerate() {
+        assert!(rt; goes(alloc, row)?, "row {number}");
+    }
     Ok(())
 }
 
 #[test]
 fn snapshots_stay(rt: HostRuntime) -> Result<(), Fail> {
-    for (number, row) in ROWS.iter().enumerate() {
-        goes(&rt, rt.alloc(), row, number)?;
-    }
+    go_each(&rt, rt.alloc(), &ROWS)?;
     Ok(())
 }
 
@@ -507,31 +512,41 @@ fn take(store: &mut Store<AddSum>, step: &Step) -> Result<(), Error> {
     Ok(())
 }
 
-fn ends(rt: &impl Abort, alloc: Global, end: &End, number: usize) -> Result<(), Error> {
+// Whether ending the writer goes as it says.
+fn seals(store: &mut Store<AddSum>, end: &End) -> Result<bool, Error> {
+    match store.seal(end.read.len()) {
+        Ok(sealing) => Ok(
+            Ok(sealing.started) == end.started
+                && sealing.waited == end.waited
+                && is_made_of(sealing.before, end.read)?
+                && is_made_of(sealing.after, end.read)?,
+        ),
+        Err(error) => Ok(Err(error) == end.started),
+    }
+}
+
+fn ends(alloc: Global, end: &End) -> Result<bool, Error> {
     let mut store = Store::<AddSum>::caching(alloc, 4)?;
     let before = store.blob().calls().len();
     for step in end.steps {
         take(&mut store, step)?;
     }
-    match store.seal(end.read.len()) {
-        Ok(sealing) => {
-            assert_eq!(rt; Ok(sealing.started), end.started, "row {number}");
-            assert_eq!(rt; sealing.waited, end.waited, "row {number}");
-            assert!(rt; is_made_of(sealing.before, end.read)?, "row {number}");
-            assert!(rt; is_made_of(sealing.after, end.read)?, "row {number}");
-        }
-        Err(error) => assert_eq!(rt; Err(error), end.started, "row {number}"),
+    if !seals(&mut store, end)? || !store.asks(before, end.calls)? {
+        return Ok(false);
     }
-    assert!(rt; store.asks(before, end.calls)?, "row {number}");
     store.crash(&[])?;
-    assert!(rt; store.holds(end.kept)?, "row {number}");
+    store.holds(end.kept)
+}
+
+fn end_each(rt: &impl Abort, alloc: Global, ends_of: &[End]) -> Result<(), Error> {
+    for (number, end) in ends_of.iter().enumerate() {
+        assert!(rt; ends(alloc, end)?, "row {number}");
+    }
     Ok(())
 }
 
 #[test]
 fn writers_end(rt: HostRuntime) -> Result<(), Fail> {
-    for (number, end) in ENDS.iter().enumerate() {
-        ends(&rt, rt.alloc(), end, number)?;
-    }
+    end_each(&rt, rt.alloc(), &ENDS)?;
     Ok(())
 }

@@ -211,15 +211,19 @@ const ROWS: [Row; 12] = [
     },
 ];
 
-fn take(rt: &impl Abort, store: &mut Store<AddSum>, step: &Step, row: usize) {
+// Whether a step answers as it says.
+fn goes(store: &mut Store<AddSum>, step: &Step) -> bool {
     match step {
-        Step::Append(bytes, want) => assert_eq!(rt; store.append(bytes), *want, "row {row}"),
-        Step::Start(want) => assert_eq!(rt; store.start_sync(), *want, "row {row}"),
-        Step::Wait(want) => assert_eq!(rt; store.wait_for_sync(), *want, "row {row}"),
-        Step::WaitSync(name, want) => assert_eq!(rt; store.wait_sync(*name), *want, "row {row}"),
-        Step::Sync(want) => assert_eq!(rt; store.sync(), *want, "row {row}"),
-        Step::Needs(want) => assert_eq!(rt; store.needs_sync(), Some(*want), "row {row}"),
-        Step::Fail(n) => store.fail_at(*n),
+        Step::Append(bytes, want) => store.append(bytes) == *want,
+        Step::Start(want) => store.start_sync() == *want,
+        Step::Wait(want) => store.wait_for_sync() == *want,
+        Step::WaitSync(name, want) => store.wait_sync(*name) == *want,
+        Step::Sync(want) => store.sync() == *want,
+        Step::Needs(want) => store.needs_sync() == Some(*want),
+        Step::Fail(n) => {
+            store.fail_at(*n);
+            true
+        }
     }
 }
 
@@ -227,8 +231,8 @@ fn take(rt: &impl Abort, store: &mut Store<AddSum>, step: &Step, row: usize) {
 fn taken(rt: &impl Abort, alloc: Global, row: &Row, number: usize) -> Result<Store<AddSum>, Error> {
     let mut store = Store::empty(alloc)?;
     let before = store.blob().calls().len();
-    for step in row.steps {
-        take(rt, &mut store, step, number);
+    for (at, step) in row.steps.iter().enumerate() {
+        assert!(rt; goes(&mut store, step), "row {number}, step {at}");
     }
     assert!(rt; store.asks(before, row.calls)?, "row {number}");
     Ok(store)

@@ -1,0 +1,14 @@
+//! An example of what is built on paged blobs: a journal of records, each with a checksum of its
+//! own, over any blob.
+#![tactic(auto)]
+
+mod crashes;
+mod frame;
+mod journal;
+mod reader;
+mod replay;
+
+pub use crashes::crash_and_recover;
+pub use frame::{Found, MOST_BYTES, frame_of};
+pub use journal::Journal;
+pub use reader::Reader;

@@ -1,6 +1,0 @@
-use Rattle.std.proofs.Common.{rules}
-use Rattle.pagedctl.proofs.ScriptLines.{read_script}
-use Rattle.pagedctl.proofs.play_input.Goals as goal
-
-pub returns : goal.returns
-returns g c = read_script (g.R.Read.remaining c.args.input.now) c.deref.result.now c.in_ok-script.script (search rules) c.in_ok-script.ensures.reads

@@ -1,6 +1,0 @@
-use Rattle.std.proofs.Common.{◌≡◌, take, map}
-use Rattle.pagedctl.specs.Script.{flag_digit}
-use Rattle.pagedctl.proofs.word.parse_flags.Given as goal
-
-abbrev pub invariant-loop-digit : goal.invariant-loop-digit
-invariant-loop-digit l = map flag_digit l.flags.items ≡ take l.digit-index l.word

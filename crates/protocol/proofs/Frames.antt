@@ -1,0 +1,155 @@
+-- What was read, from what was read before it and after it.
+use Rattle.std.proofs.Common.{◌≡◌, ◌≢◌, ℕ, ◌+◌, ◌*◌, ◌<◌, ◌≤◌, ◌^◌, List, [], ◌∷◌, ◌++◌, length, sym, ap, ◌∙◌, subst, get_or, append_assoc, append-nil, length-append, arith}
+use Rattle.std.specs.Prelude.{Option, Some, None, Result, Ok, Err, IfSome, IsErrAnd}
+use Rattle.std.specs.Io.KnownBytes.{Consumes, IsAtEnd}
+use Rattle.std.proofs.KnownBytes.{Consumes-trans}
+use Rattle.protocol.specs.declared.request.Request.{Request}
+use Rattle.protocol.specs.declared.stop.Flaw.{Flaw}
+use Rattle.protocol.specs.declared.stop.ReadError.{ReadError}
+use Rattle.protocol.specs.declared.stop.ReadError.TheVariants.{Malformed, Failed, OutOfMemory}
+use Rattle.protocol.specs.Input.{IsBroken}
+use Rattle.protocol.specs.Request.{length_bytes, kind_of, fields_of, request_bytes, field_count, IsNoRequest, HasNoRequest, ReadsFields, ReadsAfter, ReadsRequest, Builds}
+use Rattle.protocol.proofs.Requests.{no_empty, no_kind, no_cut, no_length, no_such_kind, no_such_length, no_such_fields}
+
+-- ---- bytes of the input
+
+-- a known input that gave so few bytes had no more
+pub came_all : (old new : Option (List ℕ)) (bytes : List ℕ) (P : List ℕ → Type 0) → Consumes old new bytes → IsAtEnd new → P bytes → IfSome old P
+came_all None new bytes P takes ends holds = tt
+came_all (Some xs) None bytes P takes ends holds = absurd takes
+came_all (Some xs) (Some ys) bytes P takes ends holds =
+    subst P (sym (takes ∙ ap (λ (rest : List ℕ). bytes ++ rest) ends ∙ append-nil bytes)) holds
+
+-- a fact of what a known input had, by what it gave and has left
+pub came_first : (old new : Option (List ℕ)) (bytes : List ℕ) (P : List ℕ → Type 0) → Consumes old new bytes → ((rest : List ℕ) → P (bytes ++ rest)) → IfSome old P
+came_first None new bytes P takes holds = tt
+came_first (Some xs) None bytes P takes holds = absurd takes
+came_first (Some xs) (Some ys) bytes P takes holds = subst P (sym takes) (holds ys)
+
+-- at most one byte, and not none
+pub one_byte : (bytes : List ℕ) (byte : ℕ) → length bytes ≤ 1 → length bytes ≢ 0 → byte ≡ get_or bytes 0 byte → bytes ≡ byte ∷ []
+one_byte [] byte most some is = absurd (omega arith)
+one_byte (b ∷ []) byte most some is = ap (λ (x : ℕ). x ∷ []) (sym is)
+one_byte (b ∷ c ∷ bytes) byte most some is = absurd (omega arith)
+
+-- ---- a request after a length
+
+-- where more of it was read first
+after_more : (front more : List ℕ) (old mid new : Option (List ℕ)) (result : Result Request ReadError) → Consumes old mid more → ReadsAfter (front ++ more) mid new result → ReadsAfter front old new result
+after_more front more old mid new (Ok request) takes reads =
+    (reads.0, more ++ reads.1, reads.2 ∙ append_assoc front more reads.1, Consumes-trans old mid new more reads.1 takes reads.3)
+after_more front more None mid new (Err (Malformed flaw)) takes reads = tt
+after_more front more (Some xs) None new (Err (Malformed flaw)) takes reads = absurd takes
+after_more front more (Some xs) (Some ys) new (Err (Malformed flaw)) takes reads =
+    subst (λ (bytes : List ℕ). IsNoRequest bytes) (append_assoc front more ys ∙ ap (λ (bytes : List ℕ). front ++ bytes) (sym takes)) reads
+after_more front more old mid new (Err Failed) takes reads = tt
+after_more front more old mid new (Err OutOfMemory) takes reads = tt
+
+-- where its kind was read first
+pub after_kind : (n len kind : ℕ) (bytes : List ℕ) (old mid new : Option (List ℕ)) (result : Result Request ReadError) → len + 1 ≡ n → bytes ≡ kind ∷ [] → Consumes old mid bytes
+    → ReadsAfter (length_bytes (len + 1) ++ kind ∷ []) mid new result → ReadsAfter (length_bytes n) old new result
+after_kind n len kind bytes old mid new result long is takes reads =
+    after_more (length_bytes n) (kind ∷ []) old mid new result (subst (λ (bs : List ℕ). Consumes old mid bs) is takes)
+    (subst (λ (m : ℕ). ReadsAfter (length_bytes m ++ kind ∷ []) mid new result) long reads)
+
+-- where the input failed, or memory did
+pub after_broken : (front : List ℕ) (old new : Option (List ℕ)) (error : ReadError) (result : Result Request ReadError) → IsErrAnd result (λ e. e ≡ error) → IsBroken error → ReadsAfter front old new result
+after_broken front old new error (Ok request) is broken = absurd is
+after_broken front old new error (Err (Malformed flaw)) is broken = absurd (subst (λ (e : ReadError). IsBroken e) (sym is) broken)
+after_broken front old new error (Err Failed) is broken = tt
+after_broken front old new error (Err OutOfMemory) is broken = tt
+
+-- nothing is after an empty frame
+pub after_empty : (n : ℕ) (old : Option (List ℕ)) → n ≡ 0 → HasNoRequest (length_bytes n) old
+after_empty n None none = tt
+after_empty n (Some xs) none = subst (λ (m : ℕ). IsNoRequest (length_bytes m ++ xs)) (sym none) (no_empty xs)
+
+-- where the input ends in front of its kind
+pub after_end : (n : ℕ) (bytes : List ℕ) (old new : Option (List ℕ)) → n < 2 ^ 32 → length bytes ≡ 0 → Consumes old new bytes → IsAtEnd new → HasNoRequest (length_bytes n) old
+after_end n [] old new small none takes ends = came_all old new [] (λ (bytes : List ℕ). IsNoRequest (length_bytes n ++ bytes)) takes ends (no_kind n small)
+after_end n (b ∷ bytes) old new small none takes ends = absurd (omega arith)
+
+-- ---- a request after a length and a kind
+
+-- no request is read so, where none is written so
+no_request_after : (n kind : ℕ) (bytes : List ℕ) → IsNoRequest (length_bytes n ++ kind ∷ bytes) → IsNoRequest ((length_bytes n ++ kind ∷ []) ++ bytes)
+no_request_after n kind bytes none =
+    subst (λ (all : List ℕ). IsNoRequest all) (sym (append_assoc (length_bytes n) (kind ∷ []) bytes)) none
+
+-- where the kind is none
+pub after_no_kind : (n kind : ℕ) (old : Option (List ℕ)) → n < 2 ^ 32 → kind ≢ 1 → field_count kind ≡ None → HasNoRequest (length_bytes n ++ kind ∷ []) old
+after_no_kind n kind None small other none = tt
+after_no_kind n kind (Some xs) small other none = no_request_after n kind xs (no_such_kind n kind xs small other none)
+
+-- where the length is not that of its kind
+pub after_wrong : (n kind count : ℕ) (old : Option (List ℕ)) → n < 2 ^ 32 → kind ≢ 1 → field_count kind ≡ Some count → n ≢ 8 * count + 1 → HasNoRequest (length_bytes n ++ kind ∷ []) old
+after_wrong n kind count None small other known wrong = tt
+after_wrong n kind count (Some xs) small other known wrong = no_request_after n kind xs (no_such_length n kind count xs small other known wrong)
+
+-- where fewer bytes are left than its fields have
+after_few : (len kind : ℕ) (old : Option (List ℕ)) → len + 1 < 2 ^ 32 → IfSome old (λ xs. length xs < len) → HasNoRequest (length_bytes (len + 1) ++ kind ∷ []) old
+after_few len kind None small short = tt
+after_few len kind (Some xs) small short = no_request_after (len + 1) kind xs (no_cut (len + 1) kind xs small (omega (arith, short)))
+
+-- where its fields were not read
+pub after_cut : (len kind : ℕ) (old new : Option (List ℕ)) (error : ReadError) (result : Result Request ReadError) → len + 1 < 2 ^ 32 → IsErrAnd result (λ e. e ≡ error)
+    → ReadsFields len old new (Err error) → ReadsAfter (length_bytes (len + 1) ++ kind ∷ []) old new result
+after_cut len kind old new error (Ok request) small is reads = absurd is
+after_cut len kind old new error (Err (Malformed flaw)) small is reads =
+    after_few len kind old small (subst (λ (e : ReadError). ReadsFields len old new (Err e)) (sym is) reads)
+after_cut len kind old new error (Err Failed) small is reads = tt
+after_cut len kind old new error (Err OutOfMemory) small is reads = tt
+
+-- where it is built of its fields
+pub framed : (len kind : ℕ) (fields : List ℕ) (old new : Option (List ℕ)) (request : Request) → length fields ≡ len → Consumes old new fields → Builds kind fields (Ok request)
+    → ReadsAfter (length_bytes (len + 1) ++ kind ∷ []) old new (Ok request)
+framed len kind fields old new request long takes builds =
+    let body : kind_of request ∷ fields_of request ≡ kind ∷ fields = cc (builds.1, builds.2) in
+    let more : length (kind_of request ∷ fields_of request) ≡ len + 1 = omega (arith, long, ap length body) in
+    let written : request_bytes request ≡ (length_bytes (len + 1) ++ kind ∷ []) ++ fields =
+    ap (λ (n : ℕ). length_bytes n ++ kind_of request ∷ fields_of request) more ∙ ap (λ (bytes : List ℕ). length_bytes (len + 1) ++ bytes) body
+    ∙ sym (append_assoc (length_bytes (len + 1)) (kind ∷ []) fields) in
+    (builds.0, fields, written, takes)
+
+-- where none is built of them
+pub no_fields : (len kind : ℕ) (fields : List ℕ) (old new : Option (List ℕ)) (flaw : Flaw) → len + 1 < 2 ^ 32 → length fields ≡ len → Consumes old new fields → Builds kind fields (Err flaw)
+    → HasNoRequest (length_bytes (len + 1) ++ kind ∷ []) old
+no_fields len kind fields old new flaw small long takes builds =
+    came_first old new fields (λ (bytes : List ℕ). IsNoRequest ((length_bytes (len + 1) ++ kind ∷ []) ++ bytes)) takes
+    (λ rest. no_request_after (len + 1) kind (fields ++ rest) (
+    subst (λ (n : ℕ). IsNoRequest (length_bytes (n + 1) ++ kind ∷ (fields ++ rest))) long
+    (no_such_fields kind fields rest (omega (arith, small, long)) builds)))
+
+-- ---- a request with its length
+
+-- where the input failed, or memory did
+pub request_broken : (old new : Option (List ℕ)) (error : ReadError) (result : Result (Option Request) ReadError) → IsErrAnd result (λ e. e ≡ error) → IsBroken error → ReadsRequest old new result
+request_broken old new error (Ok request) is broken = absurd is
+request_broken old new error (Err (Malformed flaw)) is broken = absurd (subst (λ (e : ReadError). IsBroken e) (sym is) broken)
+request_broken old new error (Err Failed) is broken = tt
+request_broken old new error (Err OutOfMemory) is broken = tt
+
+-- where the input ends inside its length
+pub request_cut : (old new : Option (List ℕ)) (bytes : List ℕ) → length bytes < 4 → 0 < length bytes → Consumes old new bytes → IsAtEnd new → IfSome old (λ all. (all ≢ []) × IsNoRequest all)
+request_cut old new bytes short some takes ends =
+    came_all old new bytes (λ (all : List ℕ). (all ≢ []) × IsNoRequest all) takes ends (λ none. absurd (omega (arith, some, ap length none)), no_length bytes short)
+
+-- where its frame was read
+pub request_came : (n : ℕ) (bytes : List ℕ) (old mid new : Option (List ℕ)) (request : Request) → length_bytes n ≡ bytes → Consumes old mid bytes → ReadsAfter (length_bytes n) mid new (Ok request)
+    → ReadsRequest old new (Ok (Some request))
+request_came n bytes old mid new request is takes reads =
+    (reads.0, subst (λ (all : List ℕ). Consumes old new all) (ap (λ (front : List ℕ). front ++ reads.1) (sym is) ∙ sym reads.2) (Consumes-trans old mid new bytes reads.1 takes reads.3))
+
+-- where its frame was not read
+pub request_refused : (n : ℕ) (bytes : List ℕ) (old mid new : Option (List ℕ)) (error : ReadError) (result : Result (Option Request) ReadError) → length bytes ≡ 4 → length_bytes n ≡ bytes
+    → Consumes old mid bytes → IsErrAnd result (λ e. e ≡ error) → ReadsAfter (length_bytes n) mid new (Err error) → ReadsRequest old new result
+request_refused n bytes old mid new error (Ok request) four is takes same reads = absurd same
+request_refused n bytes None mid new error (Err (Malformed flaw)) four is takes same reads = tt
+request_refused n bytes (Some xs) None new error (Err (Malformed flaw)) four is takes same reads = absurd takes
+request_refused n bytes (Some xs) (Some ys) new error (Err (Malformed flaw)) four is takes same reads =
+    let none : IsNoRequest (length_bytes n ++ ys) = subst (λ (e : ReadError). ReadsAfter (length_bytes n) (Some ys) new (Err e)) (sym same) reads in (
+      λ empty. absurd (omega (arith, four, length-append bytes ys, ap length (sym takes ∙ empty))),
+      subst (λ (all : List ℕ). IsNoRequest all) (ap (λ (front : List ℕ). front ++ ys) is ∙ sym takes) none,
+    )
+request_refused n bytes old mid new error (Err Failed) four is takes same reads = tt
+request_refused n bytes old mid new error (Err OutOfMemory) four is takes same reads = tt

@@ -1,0 +1,10 @@
+use Rattle.std.proofs.Common.{◌∷◌, ◌++◌, ◌+◌, [], take, ◌*◌, length}
+use Rattle.std.specs.List.{flat_map}
+use Rattle.std.specs.Io.KnownBytes.{Appends}
+use Rattle.protocol.specs.Request.{length_bytes, number_bytes}
+use Rattle.protocol.proofs.answer.write_numbers.Given as goal
+
+abbrev pub invariant-loop-number : goal.invariant-loop-number
+invariant-loop-number g l =
+    Appends (g.W.Write.contents l.fn.out) (g.W.Write.contents l.out)
+    ((length_bytes (8 * length l.numbers + 1) ++ 0 ∷ []) ++ flat_map number_bytes (take l.number-index l.numbers))

@@ -1,0 +1,31 @@
+-- What reads of some bytes do to the bytes that an input has left, where those are known.
+use Rattle.std.specs.Prelude.{◌≡◌, ◌≤◌, ◌<◌, ℕ, List, ◌++◌, length, slice_index}
+use Rattle.std.specs.Prelude.{Bool, false, Option}
+use Rattle.std.specs.Io.KnownBytes.{Consumes, IsAtEnd}
+use Rattle.protocol.specs.declared.stop.ReadError.{ReadError}
+use Rattle.protocol.specs.declared.stop.ReadError.TheVariants.{Malformed, Failed, OutOfMemory}
+
+-- each of these numbers is a byte
+abbrev pub AreBytes : List ℕ → Type 0
+AreBytes xs = (i : ℕ) → slice_index xs i < 256
+
+-- at most so many bytes came, after those that were there; where no more come, none is left
+pub record Gains (most : ℕ) (old new : Option (List ℕ)) (were are : List ℕ) (more : Bool) :
+    Type 0 where
+  pub added : List ℕ
+  pub adds : are ≡ were ++ added
+  pub within : length added ≤ most
+  pub takes : Consumes old new added
+  pub ends : more ≡ false → IsAtEnd new
+
+-- these came: so many, or all that were left where there were fewer
+pub record Came (count : ℕ) (old new : Option (List ℕ)) (bytes : List ℕ) : Type 0 where
+  pub within : length bytes ≤ count
+  pub takes : Consumes old new bytes
+  pub ends : length bytes < count → IsAtEnd new
+
+-- the input failed or memory did, whatever the bytes are
+abbrev pub IsBroken : ReadError → Type 0
+IsBroken (Malformed flaw) = ⊥
+IsBroken Failed = Unit {0}
+IsBroken OutOfMemory = Unit {0}

@@ -1,0 +1,166 @@
+-- How a request is written.
+use Rattle.std.specs.Prelude.{◌≡◌, ◌≢◌, ◌<◌, ◌+◌, ◌^◌, ◌++◌, ◌==◌, ◌*◌, ℕ, List, [], ◌∷◌, length}
+use Rattle.std.specs.Prelude.{Option, Some, None, IfSome, Result, Ok, Err, Vec, Bool}
+use Rattle.std.specs.Prelude.{if◌then◌else◌}
+use Rattle.std.specs.declared.alloc.Global.{Global}
+use Rattle.std.specs.Int.{w32, w64, to_le_bytes}
+use Rattle.std.specs.Int.NonZero.{non_zero_usize_get}
+use Rattle.std.specs.List.{list_any}
+use Rattle.std.specs.Io.KnownBytes.{Consumes}
+use Rattle.session.specs.declared.steps.Step.TheVariants.{Append, Sync, StartSync, WaitSync, Size}
+use Rattle.session.specs.declared.steps.Step.TheVariants.{Read, ReadUpTo, Begin, Truncate, Snapshot}
+use Rattle.session.specs.declared.steps.Step.TheVariants.{Snap, Replay, Ensure, Take, Seek}
+use Rattle.protocol.specs.Input.{AreBytes}
+use Rattle.protocol.specs.declared.request.Request.{Request}
+use Rattle.protocol.specs.declared.request.Request.TheVariants.{Step, Close}
+use Rattle.protocol.specs.declared.stop.Flaw.{Flaw}
+use Rattle.protocol.specs.declared.stop.ReadError.{ReadError}
+use Rattle.protocol.specs.declared.stop.ReadError.TheVariants.{Malformed, Failed, OutOfMemory}
+
+-- ---- what is written
+
+-- a number of 64 bits, its lowest byte first
+unfoldable pub number_bytes : ℕ → List ℕ
+number_bytes n = to_le_bytes w64 n
+
+-- a length of 32 bits, likewise
+unfoldable pub length_bytes : ℕ → List ℕ
+length_bytes n = to_le_bytes w32 n
+
+-- bytes with their length in front
+abbrev pub frame_bytes : List ℕ → List ℕ
+frame_bytes bytes = length_bytes (length bytes) ++ bytes
+
+-- the number of a request's kind; 0 for a step that no request asks for
+abbrev pub kind_of : Request → ℕ
+kind_of (Step (Append bytes)) = 1
+kind_of (Step Sync) = 2
+kind_of (Step StartSync) = 3
+kind_of (Step (WaitSync name)) = 4
+kind_of (Step Size) = 5
+kind_of (Step (Read offset len)) = 6
+kind_of (Step (ReadUpTo offset len)) = 7
+kind_of (Step Begin) = 8
+kind_of (Step (Truncate size)) = 9
+kind_of (Step Snapshot) = 10
+kind_of (Step (Snap index offset len)) = 11
+kind_of (Step (Replay buffer_size)) = 12
+kind_of (Step (Ensure index count)) = 13
+kind_of (Step (Take index count)) = 14
+kind_of (Step (Seek index offset)) = 15
+kind_of Close = 16
+kind_of _ = 0
+
+-- what is written after it
+abbrev pub fields_of : Request → List ℕ
+fields_of (Step (Append bytes)) = bytes.items
+fields_of (Step (WaitSync name)) = number_bytes name
+fields_of (Step (Read offset len)) = number_bytes offset ++ number_bytes len
+fields_of (Step (ReadUpTo offset len)) = number_bytes offset ++ number_bytes len
+fields_of (Step (Truncate size)) = number_bytes size
+fields_of (Step (Snap index offset len)) =
+    number_bytes index ++ number_bytes offset ++ number_bytes len
+fields_of (Step (Replay buffer_size)) = number_bytes (non_zero_usize_get buffer_size)
+fields_of (Step (Ensure index count)) = number_bytes index ++ number_bytes count
+fields_of (Step (Take index count)) = number_bytes index ++ number_bytes count
+fields_of (Step (Seek index offset)) = number_bytes index ++ number_bytes offset
+fields_of _ = []
+
+-- a request as it is written
+abbrev pub request_bytes : Request → List ℕ
+request_bytes request = frame_bytes (kind_of request ∷ fields_of request)
+
+-- a number of 64 bits
+abbrev pub IsNumber : ℕ → Type 0
+IsNumber n = n < 2 ^ 64
+
+-- so many bytes fit an answer, after its status
+abbrev pub FitsAnswer : ℕ → Type 0
+FitsAnswer len = len + 1 < 2 ^ 32
+
+-- what a client may ask for: the numbers are of 64 bits, a frame holds the bytes of an append, an
+-- answer those of a read, and a replay has a buffer
+abbrev pub IsRequest : Request → Type 0
+IsRequest (Step (Append bytes)) = AreBytes bytes.items × FitsAnswer (length bytes.items)
+IsRequest (Step Sync) = Unit {0}
+IsRequest (Step StartSync) = Unit {0}
+IsRequest (Step (WaitSync name)) = IsNumber name
+IsRequest (Step Size) = Unit {0}
+IsRequest (Step (Read offset len)) = IsNumber offset × FitsAnswer len
+IsRequest (Step (ReadUpTo offset len)) = IsNumber offset × FitsAnswer len
+IsRequest (Step Begin) = Unit {0}
+IsRequest (Step (Truncate size)) = IsNumber size
+IsRequest (Step Snapshot) = Unit {0}
+IsRequest (Step (Snap index offset len)) = IsNumber index × IsNumber offset × FitsAnswer len
+IsRequest (Step (Replay size)) = (0 < non_zero_usize_get size) × IsNumber (non_zero_usize_get size)
+IsRequest (Step (Ensure index count)) = IsNumber index × IsNumber count
+IsRequest (Step (Take index count)) = IsNumber index × FitsAnswer count
+IsRequest (Step (Seek index offset)) = IsNumber index × IsNumber offset
+IsRequest Close = Unit {0}
+IsRequest _ = ⊥
+
+-- ---- what reading answers
+
+-- these kinds have this one
+abbrev pub has_kind : List ℕ → ℕ → Bool
+has_kind kinds kind = list_any (λ k. kind == k) kinds
+
+-- how many numbers a request of a kind has, but for an append; none where there is no such kind
+abbrev pub field_count : ℕ → Option ℕ
+field_count kind =
+    if has_kind (2 ∷ 3 ∷ 5 ∷ 8 ∷ 10 ∷ 16 ∷ []) kind then Some 0
+    else if has_kind (4 ∷ 9 ∷ 12 ∷ []) kind then Some 1
+    else if has_kind (6 ∷ 7 ∷ 13 ∷ 14 ∷ 15 ∷ []) kind then Some 2
+    else if kind == 11 then Some 3 else None
+
+-- these are as many numbers as a request of the kind has
+pub record HasFields (kind : ℕ) (fields : List ℕ) : Type 0 where
+  pub count : ℕ
+  pub known : field_count kind ≡ Some count
+  pub fits : length fields ≡ 8 * count
+
+-- the request of a kind with these fields, or none
+abbrev pub Builds : ℕ → List ℕ → Result Request Flaw → Type 0
+Builds kind fields (Ok request) =
+    IsRequest request × (kind ≡ kind_of request) × (fields ≡ fields_of request)
+Builds kind fields (Err flaw) =
+    (request : Request) → IsRequest request → kind ≡ kind_of request
+    → fields ≢ fields_of request
+
+-- bytes of this number, where there are so many
+abbrev pub ReadsFields : (len : ℕ) → Option (List ℕ) → Option (List ℕ)
+    → Result (Vec ℕ Global) ReadError → Type 0
+ReadsFields len old new (Ok bytes) = Consumes old new bytes.items × (length bytes.items ≡ len)
+ReadsFields len old new (Err (Malformed flaw)) = IfSome old (λ xs. length xs < len)
+ReadsFields len old new (Err Failed) = Unit {0}
+ReadsFields len old new (Err OutOfMemory) = Unit {0}
+
+-- no request is written so, whatever stands after
+abbrev pub IsNoRequest : List ℕ → Type 0
+IsNoRequest bytes =
+    (request : Request) (rest : List ℕ) → IsRequest request → bytes ≢ request_bytes request ++ rest
+
+-- the bytes after these are of no request
+abbrev pub HasNoRequest : (front : List ℕ) → Option (List ℕ) → Type 0
+HasNoRequest front old = IfSome old (λ bytes. IsNoRequest (front ++ bytes))
+
+-- a request was read after these bytes, its first ones
+abbrev pub ReadsAfter : (front : List ℕ) → Option (List ℕ) → Option (List ℕ)
+    → Result Request ReadError → Type 0
+ReadsAfter front old new (Ok request) =
+    IsRequest request
+    × (after : List ℕ) × (request_bytes request ≡ front ++ after) × Consumes old new after
+ReadsAfter front old new (Err (Malformed flaw)) = HasNoRequest front old
+ReadsAfter front old new (Err Failed) = Unit {0}
+ReadsAfter front old new (Err OutOfMemory) = Unit {0}
+
+-- a request was read, or there was none
+abbrev pub ReadsRequest : Option (List ℕ) → Option (List ℕ)
+    → Result (Option Request) ReadError → Type 0
+ReadsRequest old new (Ok None) = IfSome old (λ bytes. bytes ≡ [])
+ReadsRequest old new (Ok (Some request)) =
+    IsRequest request × Consumes old new (request_bytes request)
+ReadsRequest old new (Err (Malformed flaw)) =
+    IfSome old (λ bytes. (bytes ≢ []) × IsNoRequest bytes)
+ReadsRequest old new (Err Failed) = Unit {0}
+ReadsRequest old new (Err OutOfMemory) = Unit {0}

@@ -1,0 +1,112 @@
+// Answers: how the reply to a step is written.
+ghost use Rattle.std.specs.Prelude.{◌∷◌, [], ◌++◌, ◌+◌, OnOk, IfErr};
+ghost use Rattle.std.specs.List.{flat_map};
+ghost use Rattle.std.specs.Io.KnownBytes.{Appends};
+ghost use Rattle.protocol.specs.Answer.{answer_bytes, started_bytes, IsWriteError};
+ghost use Rattle.protocol.specs.Request.{frame_bytes, length_bytes, number_bytes};
+
+use crate::request::MOST_BYTES;
+use crate::stop::Stop;
+use disk::StartedSync;
+use session::Reply;
+use std::io::Write;
+
+/// Writes the answer to a step with this reply.
+#[tactic(auto, unfolding(crate::specs::Request::number_bytes))]
+pub fn write_answer<W: Write>(out: &mut W, reply: &Reply) -> Result<(), Stop>
+    ensures answers { OnOk result
+        (Appends (W.contents out.old) (W.contents out.new) (answer_bytes reply.now)) }
+    ensures err { IfErr result IsWriteError }
+{
+    match reply {
+        Reply::At(number) | Reply::Length(number) => write_number(out, *number),
+        Reply::Taken(index) | Reply::Replaying(index) => write_number(out, *index as u64),
+        Reply::Done => write_frame(out, 0, &[], &[]),
+        Reply::Started(started) => write_started(out, &[], *started),
+        Reply::Answer(answer) => write_frame(out, 0, &[u8::from(*answer)], &[]),
+        Reply::Bytes(bytes) => write_frame(out, 0, &[], bytes),
+        Reply::Served(count, bytes) => write_frame(out, 0, &(*count as u64).to_le_bytes(), bytes),
+        Reply::Missed(numbers) => write_numbers(out, numbers),
+        Reply::Sealed(index, started) => {
+            write_started(out, &(*index as u64).to_le_bytes(), *started)
+        }
+        Reply::Fault(error) => write_frame(out, error.number(), &[], &[]),
+        Reply::Nothing => write_frame(out, 16, &[], &[]),
+        Reply::Closed => write_frame(out, 17, &[], &[]),
+        Reply::NotRecovering => write_frame(out, 18, &[], &[]),
+        Reply::BadRanges => write_frame(out, 19, &[], &[]),
+        Reply::NoSuch => write_frame(out, 20, &[], &[]),
+        Reply::NotAppending => write_frame(out, 21, &[], &[]),
+    }
+}
+
+// An answer with one number.
+#[tactic(auto, unfolding(crate::specs::Request::number_bytes))]
+fn write_number<W: Write>(out: &mut W, number: u64) -> Result<(), Stop>
+    ensures answers { OnOk result (Appends (W.contents out.old) (W.contents out.new)
+        (frame_bytes (0 ∷ number_bytes number))) }
+    ensures err { IfErr result IsWriteError }
+{
+    write_frame(out, 0, &number.to_le_bytes(), &[])
+}
+
+// An answer with these bytes in front of what starting a sync answered.
+#[tactic(auto, unfolding(crate::specs::Request::number_bytes))]
+fn write_started<W: Write>(out: &mut W, front: &[u8], started: StartedSync) -> Result<(), Stop>
+    ensures answers { OnOk result (Appends (W.contents out.old) (W.contents out.new)
+        (frame_bytes (0 ∷ front.now ++ started_bytes started))) }
+    ensures err { IfErr result IsWriteError }
+{
+    match started {
+        StartedSync::Done => write_frame(out, 0, front, &[0]),
+        StartedSync::Named(name) => {
+            let [a, b, c, d, e, f, g, h] = name.to_le_bytes();
+            write_frame(out, 0, front, &[1, a, b, c, d, e, f, g, h])
+        }
+    }
+}
+
+// An answer with these numbers.
+fn write_numbers<W: Write>(out: &mut W, numbers: &[usize]) -> Result<(), Stop>
+    ensures answers { OnOk result (Appends (W.contents out.old) (W.contents out.new)
+        (frame_bytes (0 ∷ flat_map number_bytes numbers.now))) }
+    ensures err { IfErr result IsWriteError }
+{
+    let len = numbers.len().checked_mul(8).ok_or(Stop::LongAnswer)?;
+    write_head(out, 0, len)?;
+    for number in numbers {
+        out.write_all(&(*number as u64).to_le_bytes())?;
+    }
+    Ok(())
+}
+
+// An answer with this status and then these bytes.
+fn write_frame<W: Write>(out: &mut W, status: u8, front: &[u8], bytes: &[u8]) -> Result<(), Stop>
+    ensures answers { OnOk result (Appends (W.contents out.old) (W.contents out.new)
+        (frame_bytes (status ∷ front.now ++ bytes.now))) }
+    ensures err { IfErr result IsWriteError }
+{
+    let len = front
+        .len()
+        .checked_add(bytes.len())
+        .ok_or(Stop::LongAnswer)?;
+    write_head(out, status, len)?;
+    out.write_all(front)?;
+    out.write_all(bytes)?;
+    Ok(())
+}
+
+// The length and the status of an answer with so many bytes after them.
+#[tactic(auto, unfolding(crate::specs::Request::length_bytes))]
+fn write_head<W: Write>(out: &mut W, status: u8, len: usize) -> Result<(), Stop>
+    ensures answers { OnOk result (Appends (W.contents out.old) (W.contents out.new)
+        (length_bytes (len + 1) ++ status ∷ [])) }
+    ensures err { IfErr result IsWriteError }
+{
+    if len as u64 > MOST_BYTES {
+        return Err(Stop::LongAnswer);
+    }
+    let [a, b, c, d] = (len as u32 + 1).to_le_bytes();
+    out.write_all(&[a, b, c, d, status])?;
+    Ok(())
+}

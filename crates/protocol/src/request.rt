@@ -1,0 +1,215 @@
+// Requests: what a client asks for, and how it is read.
+ghost use Rattle.std.specs.Prelude.{◌≡◌, ◌+◌, ◌*◌, ◌≤◌, ◌^◌, ◌<◌, length, take, drop, OkIff, IfOk};
+ghost use Rattle.std.specs.Prelude.{◌++◌, ◌∷◌, [], Some, Ok};
+ghost use Rattle.protocol.specs.Input.{AreBytes};
+ghost use Rattle.protocol.specs.Request.{field_count, number_bytes, length_bytes, Builds, HasFields};
+ghost use Rattle.protocol.specs.Request.{FitsAnswer, ReadsAfter, ReadsFields, ReadsRequest};
+
+use crate::input::read_some;
+use crate::stop::{Flaw, ReadError};
+use session::Step;
+use std::alloc::Global;
+use std::io::Read;
+use std::num::NonZeroUsize;
+
+/// The most bytes that one answer may hold after its status.
+pub const MOST_BYTES: u64 = 0xFFFF_FFFE;
+
+/// What a client asks for.
+#[derive(Debug, PartialEq, Eq, Drop)]
+pub enum Request {
+    /// A step of the session.
+    Step(Step),
+    /// The end.
+    Close,
+}
+
+/// Reads a request; none at the end of the input.
+pub fn read_request<R: Read>(alloc: Global, input: &mut R) -> Result<Option<Request>, ReadError>
+    ensures reads { ReadsRequest (R.remaining input.old) (R.remaining input.new) result }
+{
+    let head = read_some(alloc, input, 4)?;
+    if head.is_empty() {
+        return Ok(None);
+    }
+    if head.len() < 4 {
+        return Err(ReadError::Malformed(Flaw::Cut));
+    }
+    let length = length_of(&head);
+    let request = read_frame(alloc, input, length)?;
+    Ok(Some(request))
+}
+
+// The length that four bytes tell.
+fn length_of(bytes: &[u8]) -> u32
+    requires { length bytes.now ≡ 4 }
+    ensures small { result < 2 ^ 32 }
+    ensures told { length_bytes result ≡ bytes.now }
+{
+    match bytes.first_chunk::<4>() {
+        Some(four) => u32::from_le_bytes(*four),
+        None => unreachable!(),
+    }
+}
+
+// Reads the rest of a request whose frame has so many bytes after their number.
+fn read_frame<R: Read>(alloc: Global, input: &mut R, length: u32) -> Result<Request, ReadError>
+    requires { length < 2 ^ 32 }
+    ensures reads { let old = R.remaining input.old in let new = R.remaining input.new in
+        ReadsAfter (length_bytes length) old new result }
+{
+    if length == 0 {
+        return Err(ReadError::Malformed(Flaw::Empty));
+    }
+    let kind = read_some(alloc, input, 1)?;
+    if kind.is_empty() {
+        return Err(ReadError::Malformed(Flaw::Cut));
+    }
+    read_body(alloc, input, kind[0], length as usize - 1)
+}
+
+// Reads what stands after the kind of a request: so many bytes. A wrong length is told before they
+// are awaited.
+fn read_body<R: Read>(
+    alloc: Global,
+    input: &mut R,
+    kind: u8,
+    len: usize,
+) -> Result<Request, ReadError>
+    requires { len + 1 < 2 ^ 32 }
+    ensures reads { let old = R.remaining input.old in let new = R.remaining input.new in
+        ReadsAfter (length_bytes (len + 1) ++ kind ∷ []) old new result }
+{
+    if kind == 1 {
+        let bytes = read_whole(alloc, input, len)?;
+        return Ok(Request::Step(Step::Append(bytes)));
+    }
+    let Some(count) = fields_of_kind(kind) else {
+        return Err(ReadError::Malformed(Flaw::Kind(kind)));
+    };
+    if len != 8 * count {
+        return Err(ReadError::Malformed(Flaw::Length));
+    }
+    let fields = read_whole(alloc, input, len)?;
+    match build(kind, &fields) {
+        Ok(request) => Ok(request),
+        Err(flaw) => Err(ReadError::Malformed(flaw)),
+    }
+}
+
+// Reads so many bytes, and not fewer.
+fn read_whole<R: Read>(alloc: Global, input: &mut R, len: usize) -> Result<Vec<u8>, ReadError>
+    ensures reads { ReadsFields len (R.remaining input.old) (R.remaining input.new) result }
+    ensures bytes { IfOk result (λ bytes. AreBytes bytes.items) }
+{
+    let bytes = read_some(alloc, input, len)?;
+    if bytes.len() < len {
+        return Err(ReadError::Malformed(Flaw::Cut));
+    }
+    Ok(bytes)
+}
+
+// How many numbers a request of this kind has, but for an append; none where there is no such kind.
+fn fields_of_kind(kind: u8) -> Option<usize>
+    ensures { result ≡ field_count kind }
+{
+    match kind {
+        2 | 3 | 5 | 8 | 10 | 16 => Some(0),
+        4 | 9 | 12 => Some(1),
+        6 | 7 | 13 | 14 | 15 => Some(2),
+        11 => Some(3),
+        _ => None,
+    }
+}
+
+// The request of this kind with these fields.
+fn build(kind: u8, fields: &[u8]) -> Result<Request, Flaw>
+    requires { HasFields kind fields.now }
+    ensures { Builds kind fields.now result }
+{
+    if fields.is_empty() {
+        return Ok(build_bare(kind));
+    }
+    let first = number_at(fields, 0);
+    if fields.len() == 8 {
+        return build_one(kind, first);
+    }
+    let second = number_at(fields, 1);
+    if fields.len() == 16 {
+        return build_two(kind, first, second);
+    }
+    build_snap(first, second, number_at(fields, 2))
+}
+
+// The number at this index among numbers.
+fn number_at(fields: &[u8], index: usize) -> u64
+    requires { 8 * index + 8 ≤ length fields.now }
+    ensures small { result < 2 ^ 64 }
+    ensures number { number_bytes result ≡ take 8 (drop (8 * index) fields.now) }
+{
+    match fields[8 * index..].first_chunk::<8>() {
+        Some(bytes) => u64::from_le_bytes(*bytes),
+        None => unreachable!(),
+    }
+}
+
+// The request of a kind without numbers.
+fn build_bare(kind: u8) -> Request
+    requires { field_count kind ≡ Some 0 }
+    ensures { Builds kind [] (Ok result) }
+{
+    match kind {
+        2 => Request::Step(Step::Sync),
+        3 => Request::Step(Step::StartSync),
+        5 => Request::Step(Step::Size),
+        8 => Request::Step(Step::Begin),
+        10 => Request::Step(Step::Snapshot),
+        _ => Request::Close,
+    }
+}
+
+// The request of a kind with one number.
+fn build_one(kind: u8, number: u64) -> Result<Request, Flaw>
+    requires { field_count kind ≡ Some 1 }
+    ensures { Builds kind (number_bytes number) result }
+{
+    let step = match kind {
+        4 => Step::WaitSync(number),
+        9 => Step::Truncate(number),
+        _ => Step::Replay(NonZeroUsize::new(number as usize).ok_or(Flaw::NoBuffer)?),
+    };
+    Ok(Request::Step(step))
+}
+
+// The request of a kind with two numbers.
+fn build_two(kind: u8, first: u64, second: u64) -> Result<Request, Flaw>
+    requires { field_count kind ≡ Some 2 }
+    ensures { Builds kind (number_bytes first ++ number_bytes second) result }
+{
+    let step = match kind {
+        6 => Step::Read(first, len_of(second)?),
+        7 => Step::ReadUpTo(first, len_of(second)?),
+        13 => Step::Ensure(first as usize, second as usize),
+        14 => Step::Take(first as usize, len_of(second)?),
+        _ => Step::Seek(first as usize, second),
+    };
+    Ok(Request::Step(step))
+}
+
+// The request with three numbers: there is but one kind.
+fn build_snap(index: u64, offset: u64, len: u64) -> Result<Request, Flaw>
+    ensures { Builds 11 (number_bytes index ++ number_bytes offset ++ number_bytes len) result }
+{
+    let len = len_of(len)?;
+    Ok(Request::Step(Step::Snap(index as usize, offset, len)))
+}
+
+// How many bytes are asked for, where an answer holds as many.
+fn len_of(number: u64) -> Result<usize, Flaw>
+    ensures { OkIff result (FitsAnswer number) number }
+{
+    if number > MOST_BYTES {
+        return Err(Flaw::LongRead);
+    }
+    Ok(number as usize)
+}

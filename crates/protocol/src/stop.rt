@@ -1,0 +1,136 @@
+// Why the program ends before the end of its input.
+ghost use Rattle.std.specs.Prelude.{◌≡◌, Some};
+ghost use Rattle.protocol.specs.Stop.{flaw_text, stop_at, status_of, stop_text};
+
+use disk::Error;
+use std::alloc::AllocError;
+use std::{fmt, io};
+
+/// What is wrong with a request.
+#[derive(Clone, Copy, Debug, PartialEq, Eq)]
+pub enum Flaw {
+    /// The input ends inside its frame.
+    Cut,
+    /// Its frame is empty, without even a kind.
+    Empty,
+    /// There is no kind of this number.
+    Kind(u8),
+    /// Its frame is longer or shorter than those of its kind.
+    Length,
+    /// A read of more bytes than an answer holds.
+    LongRead,
+    /// A replay without a buffer.
+    NoBuffer,
+}
+
+/// Why a request isn't read.
+#[derive(Clone, Copy, Debug, PartialEq, Eq)]
+pub enum ReadError {
+    /// It is no request.
+    Malformed(Flaw),
+    /// The input failed.
+    Failed,
+    /// There was no memory for it.
+    OutOfMemory,
+}
+
+/// Why the program ends before the end of its input.
+#[derive(Clone, Copy, Debug, PartialEq, Eq)]
+pub enum Stop {
+    /// The request of this number isn't one. The first has the number 1. Each before it was
+    /// answered.
+    Malformed(u64, Flaw),
+    /// The input begins with this byte in place of the version.
+    Version(u8),
+    /// The recovery of the file was refused.
+    Refused(Error),
+    /// The answer to a request is longer than a frame.
+    LongAnswer,
+    /// The input or the output failed.
+    Failed,
+    /// There was no memory for a request or its answer.
+    OutOfMemory,
+}
+
+impl Stop {
+    /// Why a session stops whose request of this number isn't read.
+    pub(crate) fn at(number: u64, error: ReadError) -> Self
+        ensures { result ≡ stop_at number error }
+    {
+        match error {
+            ReadError::Malformed(flaw) => Stop::Malformed(number, flaw),
+            ReadError::Failed => Stop::Failed,
+            ReadError::OutOfMemory => Stop::OutOfMemory,
+        }
+    }
+
+    /// The exit status.
+    pub fn status(self) -> u8
+        ensures { result ≡ status_of self }
+    {
+        match self {
+            Stop::Malformed(_, _) | Stop::Version(_) => 2,
+            Stop::Refused(_) | Stop::LongAnswer | Stop::Failed | Stop::OutOfMemory => 1,
+        }
+    }
+}
+
+impl fmt::Display for Flaw {
+    ghost output = { λ flaw. Some (flaw_text flaw) };
+
+    fn fmt<W: fmt::Write>(&self, f: &mut fmt::Formatter<W>) -> fmt::Result {
+        match self {
+            Flaw::Cut => write!(f, "the input ends inside it"),
+            Flaw::Empty => write!(f, "it is empty"),
+            Flaw::Kind(kind) => write!(f, "there is no kind {kind}"),
+            Flaw::Length => write!(f, "its length is not that of its kind"),
+            Flaw::LongRead => write!(f, "it reads more than an answer holds"),
+            Flaw::NoBuffer => write!(f, "its buffer has no byte"),
+        }
+    }
+}
+
+impl fmt::Display for Stop {
+    ghost output = { λ stop. Some (stop_text stop) };
+
+    fn fmt<W: fmt::Write>(&self, f: &mut fmt::Formatter<W>) -> fmt::Result {
+        match self {
+            Stop::Malformed(number, flaw) => write!(f, "pagedd: request {number}: {flaw}"),
+            Stop::Version(byte) => write!(f, "pagedd: version {byte} of the protocol is not 1"),
+            Stop::Refused(error) => write!(f, "pagedd: the recovery failed: {}", error.name()),
+            Stop::LongAnswer => write!(f, "pagedd: an answer is too long"),
+            Stop::Failed => write!(f, "pagedd: the input or the output failed"),
+            Stop::OutOfMemory => write!(f, "pagedd: out of memory"),
+        }
+    }
+}
+
+impl From<AllocError> for ReadError {
+    ghost use Rattle.protocol.specs.declared.stop.ReadError.TheVariants.{OutOfMemory};
+
+    ghost from_gives = { λ _ error. error ≡ OutOfMemory };
+
+    fn from(_: AllocError) -> Self {
+        ReadError::OutOfMemory
+    }
+}
+
+impl From<io::Error> for Stop {
+    ghost use Rattle.protocol.specs.declared.stop.Stop.TheVariants.{Failed};
+
+    ghost from_gives = { λ _ stop. stop ≡ Failed };
+
+    fn from(_: io::Error) -> Self {
+        Stop::Failed
+    }
+}
+
+impl From<AllocError> for Stop {
+    ghost use Rattle.protocol.specs.declared.stop.Stop.TheVariants.{OutOfMemory};
+
+    ghost from_gives = { λ _ stop. stop ≡ OutOfMemory };
+
+    fn from(_: AllocError) -> Self {
+        Stop::OutOfMemory
+    }
+}

@@ -1,0 +1,23 @@
+-- How a play ends.
+use Rattle.std.specs.Prelude.{ℕ, List, Option, Result, Ok, Err, IfSome}
+use Rattle.std.specs.Io.KnownBytes.{Keeps}
+use Rattle.scripts.specs.declared.stop.Stop.{Stop}
+use Rattle.scripts.specs.declared.stop.Stop.TheVariants.{Unreadable, Failed}
+use Rattle.scripts.specs.declared.script.Script.{Script}
+use Rattle.scripts.specs.Script.{ReadsScript, lines_of}
+
+-- these bytes are a script
+abbrev pub IsScript : List ℕ → Type 0
+IsScript bytes = (read : Script) × ReadsScript (lines_of bytes) (Ok read)
+
+-- they are none, since the line of this number can't be read
+abbrev pub IsNoScript : ℕ → List ℕ → Type 0
+IsNoScript number bytes = ReadsScript (lines_of bytes) (Err (Unreadable number))
+
+-- a play of this input, where it is known, and what was written then: the whole script, or nothing
+-- where a line can't be read
+abbrev pub Plays : Option (List ℕ) → Option (List ℕ) → Option (List ℕ) → Result (Unit {0}) Stop
+    → Type 0
+Plays input old new (Ok u) = IfSome input IsScript
+Plays input old new (Err (Unreadable number)) = IfSome input (IsNoScript number) × Keeps old new
+Plays input old new (Err Failed) = Unit {0}

@@ -1,0 +1,206 @@
+-- How a script is written.
+use Rattle.std.specs.Prelude.{◌≡◌, ◌⊎◌, length, ◌≢◌, ◌<◌, ◌^◌, ℕ, Bool, List, [], ◌∷◌, Result, Ok}
+use Rattle.std.specs.Prelude.{Err, slice_index, slice_index_or, codes, map, take, drop, ◌-◌, ◌+◌}
+use Rattle.std.specs.Prelude.{◌≤◌, ◌==◌, ◌++◌, zero, suc, nat_eq, All, if◌then◌else◌}
+use Rattle.std.specs.List.{slice_split, starts_with}
+use Rattle.std.specs.Fmt.{decimal}
+use Rattle.std.specs.Int.NonZero.{non_zero_u16_get, non_zero_u64_get, non_zero_usize_get}
+use Rattle.hex.specs.declared.error.FromHexError.{FromHexError}
+use Rattle.hex.specs.declared.error.FromHexError.TheVariants as hex
+use Rattle.scripts.specs.declared.word.ReadError.{ReadError}
+use Rattle.scripts.specs.declared.word.ReadError.TheVariants.{Unreadable, OutOfMemory}
+use Rattle.scripts.specs.declared.script.Line.{Line}
+use Rattle.scripts.specs.declared.script.Line.TheVariants.{Step, Fail, Crash, Recover, Dump}
+use Rattle.scripts.specs.declared.script.Script.{Script}
+use Rattle.scripts.specs.declared.stop.Stop.{Stop}
+use Rattle.scripts.specs.declared.stop.Stop.TheVariants as stop
+use Rattle.scripts.specs.declared.script.Start.{Start}
+use Rattle.scripts.specs.declared.script.SumName.{SumName}
+use Rattle.scripts.specs.declared.script.SumName.TheVariants.{Add, Const}
+use Rattle.session.specs.declared.steps.Step as step
+use Rattle.session.specs.declared.steps.Step.TheVariants.{Append, Owned, TryAppend, Sync, StartSync}
+use Rattle.session.specs.declared.steps.Step.TheVariants.{Wait, WaitSync, Needs, Size, Read, Begin}
+use Rattle.session.specs.declared.steps.Step.TheVariants.{ReadUpTo, TryRead, Truncate}
+use Rattle.session.specs.declared.steps.Step.TheVariants.{ReadRanges, TryReadRanges}
+use Rattle.session.specs.declared.steps.Step.TheVariants.{Snapshot, TrySnapshot, Snap, Seal}
+use Rattle.session.specs.declared.steps.Step.TheVariants.{Replay, Ensure, Take, Seek, Scan}
+use Rattle.scripts.specs.Text.{hex_of}
+
+-- what reading answers, where each value has a text: the value of which this is the text, or that
+-- it is the text of none
+abbrev pub IsReadAs : {V T : Type 0} → (V → T) → (V → Type 0) → T → Result V ReadError → Type 0
+IsReadAs text IsOne read (Ok v) = (read ≡ text v) × IsOne v
+IsReadAs {V} text IsOne read (Err Unreadable) = (v : V) → IsOne v → read ≢ text v
+IsReadAs text IsOne read (Err OutOfMemory) = Unit {0}
+
+-- why a word isn't read where it isn't decoded
+abbrev pub hex_refused : FromHexError → ReadError
+hex_refused hex.OutOfMemory = OutOfMemory
+hex_refused _ = Unreadable
+
+-- a number of 64 bits
+abbrev pub IsU64 : ℕ → Type 0
+IsU64 n = n < 2 ^ 64
+
+-- there is a sign, or a zero in front of another digit
+abbrev pub HasLead : List ℕ → Type 0
+HasLead word = (slice_index word 0 ≡ 43) ⊎ ((slice_index word 0 ≡ 48) × (1 < length word))
+
+-- each of these numbers is a byte
+abbrev pub AreBytes : List ℕ → Type 0
+AreBytes xs = (i : ℕ) → slice_index xs i < 256
+
+-- a flag as a digit
+abbrev pub flag_digit : Bool → ℕ
+flag_digit flag = if flag then 49 else 48
+
+-- flags as digits
+abbrev pub flags_text : List Bool → List ℕ
+flags_text [] = codes "-"
+flags_text (flag ∷ flags) = map flag_digit (flag ∷ flags)
+
+-- the parts between the bytes that are this one
+abbrev pub parts_of : ℕ → List ℕ → List (List ℕ)
+parts_of at bytes = slice_split (λ byte. byte == at) bytes
+
+-- the words of a line: one space parts two of them
+abbrev pub words_of : List ℕ → List (List ℕ)
+words_of line = parts_of 32 line
+
+-- all but the line feed at the end, where there is one
+abbrev pub without_last_feed : List ℕ → List ℕ
+without_last_feed input =
+    if starts_with nat_eq (drop (length input - 1) input) (10 ∷ [])
+    then take (length input - 1) input
+    else input
+
+-- the lines of an input: each ends in a line feed, which the last may lack
+abbrev pub lines_of : List ℕ → List (List ℕ)
+lines_of input = parts_of 10 (without_last_feed input)
+
+-- a checksum function's name
+abbrev pub sum_word : SumName → List ℕ
+sum_word Add = codes "add"
+sum_word Const = codes "const"
+
+-- the words of a script's first line
+abbrev pub start_words : Start → List (List ℕ)
+start_words start =
+    codes "start" ∷ decimal (non_zero_u16_get start.page_size) ∷ decimal start.capacity
+    ∷ decimal (non_zero_usize_get start.pages) ∷ sum_word start.sum ∷ []
+
+-- a range of bytes as a word: its index, a colon and its length
+abbrev pub range_word : ℕ × ℕ → List ℕ
+range_word range = decimal range.0 ++ 58 ∷ decimal range.1
+
+-- ranges as words
+abbrev pub ranges_words : List (ℕ × ℕ) → List (List ℕ)
+ranges_words ranges = map range_word ranges
+
+-- the words of a step
+abbrev pub step_words : step.Step → List (List ℕ)
+step_words (Append bytes) = codes "append" ∷ hex_of bytes.items ∷ []
+step_words (Owned bytes) = codes "owned" ∷ hex_of bytes.items ∷ []
+step_words (TryAppend bytes) = codes "try" ∷ hex_of bytes.items ∷ []
+step_words Sync = codes "sync" ∷ []
+step_words StartSync = codes "start-sync" ∷ []
+step_words Wait = codes "wait" ∷ []
+step_words (WaitSync name) = codes "wait-sync" ∷ decimal name ∷ []
+step_words Needs = codes "needs" ∷ []
+step_words Size = codes "size" ∷ []
+step_words (Read offset len) = codes "read" ∷ decimal offset ∷ decimal len ∷ []
+step_words (ReadUpTo offset len) = codes "upto" ∷ decimal offset ∷ decimal len ∷ []
+step_words (TryRead offset len) = codes "cached" ∷ decimal offset ∷ decimal len ∷ []
+step_words (ReadRanges ranges) = codes "ranges" ∷ ranges_words ranges.items
+step_words (TryReadRanges ranges) = codes "cached-ranges" ∷ ranges_words ranges.items
+step_words Begin = codes "begin" ∷ []
+step_words (Truncate size) = codes "truncate" ∷ decimal size ∷ []
+step_words Snapshot = codes "snapshot" ∷ []
+step_words TrySnapshot = codes "try-snapshot" ∷ []
+step_words (Snap index offset len) =
+    codes "snap" ∷ decimal index ∷ decimal offset ∷ decimal len ∷ []
+step_words (Replay size) = codes "replay" ∷ decimal (non_zero_usize_get size) ∷ []
+step_words (Ensure index count) = codes "ensure" ∷ decimal index ∷ decimal count ∷ []
+step_words (Take index count) = codes "take" ∷ decimal index ∷ decimal count ∷ []
+step_words (Seek index offset) = codes "seek" ∷ decimal index ∷ decimal offset ∷ []
+step_words (Scan proven most size) =
+    codes "scan" ∷ decimal proven ∷ decimal most ∷ decimal (non_zero_usize_get size) ∷ []
+step_words Seal = codes "seal" ∷ []
+
+-- the words of a line after the first
+abbrev pub line_words : Line → List (List ℕ)
+line_words (Step step) = step_words step
+line_words (Fail number) = codes "fail" ∷ decimal (non_zero_u64_get number) ∷ []
+line_words (Crash keep) = codes "crash" ∷ flags_text keep.items ∷ []
+line_words Recover = codes "recover" ∷ []
+line_words Dump = codes "dump" ∷ []
+
+-- the numbers of a range are of 64 bits
+abbrev pub IsRange : ℕ × ℕ → Type 0
+IsRange range = IsU64 range.0 × IsU64 range.1
+
+-- there are ranges, and their numbers are in range
+abbrev pub AreRanges : List (ℕ × ℕ) → Type 0
+AreRanges ranges = (0 < length ranges) × All IsRange ranges
+
+-- a buffer's size in bytes
+abbrev pub IsBufferSize : ℕ → Type 0
+IsBufferSize n = (0 < n) × IsU64 n
+
+-- the numbers and the bytes of a line are in range, and no list of ranges is empty
+abbrev pub IsLine : Line → Type 0
+IsLine (Step (Append bytes)) = AreBytes bytes.items
+IsLine (Step (Owned bytes)) = AreBytes bytes.items
+IsLine (Step (TryAppend bytes)) = AreBytes bytes.items
+IsLine (Step (WaitSync name)) = IsU64 name
+IsLine (Step (Truncate size)) = IsU64 size
+IsLine (Step (Read offset len)) = IsU64 offset × IsU64 len
+IsLine (Step (ReadUpTo offset len)) = IsU64 offset × IsU64 len
+IsLine (Step (TryRead offset len)) = IsU64 offset × IsU64 len
+IsLine (Step (ReadRanges ranges)) = AreRanges ranges.items
+IsLine (Step (TryReadRanges ranges)) = AreRanges ranges.items
+IsLine (Step (Snap index offset len)) = IsU64 index × IsU64 offset × IsU64 len
+IsLine (Step (Replay size)) = IsBufferSize (non_zero_usize_get size)
+IsLine (Step (Ensure index count)) = IsU64 index × IsU64 count
+IsLine (Step (Take index count)) = IsU64 index × IsU64 count
+IsLine (Step (Seek index offset)) = IsU64 index × IsU64 offset
+IsLine (Step (Scan proven most size)) =
+    IsU64 proven × IsU64 most × IsBufferSize (non_zero_usize_get size)
+IsLine (Fail number) = (0 < non_zero_u64_get number) × IsU64 (non_zero_u64_get number)
+IsLine _ = Unit {0}
+
+-- a size of pages in bytes
+abbrev pub IsPageSize : ℕ → Type 0
+IsPageSize n = (0 < n) × (n < 2 ^ 16)
+
+-- a number of pages for the cache
+abbrev pub IsPages : ℕ → Type 0
+IsPages n = (0 < n) × (n ≤ 4096)
+
+-- the numbers of a first line are in range
+abbrev pub IsStart : Start → Type 0
+IsStart start =
+    IsPageSize (non_zero_u16_get start.page_size) × IsU64 start.capacity
+    × IsPages (non_zero_usize_get start.pages)
+
+-- the line at this index can be read: index 0 has the first line
+abbrev pub IsReadable : ℕ → List ℕ → Type 0
+IsReadable zero line = (start : Start) × (words_of line ≡ start_words start) × IsStart start
+IsReadable (suc index) line = (read : Line) × (words_of line ≡ line_words read)
+
+-- the line at this index is one of no script
+abbrev pub IsUnreadable : ℕ → List ℕ → Type 0
+IsUnreadable zero line = (start : Start) → IsStart start → words_of line ≢ start_words start
+IsUnreadable (suc index) line = (read : Line) → IsLine read → words_of line ≢ line_words read
+
+-- what reading these lines answers: the script whose lines they are, or the number of the first
+-- that can't be read, from 1
+abbrev pub ReadsScript : List (List ℕ) → Result Script Stop → Type 0
+ReadsScript lines (Ok script) =
+    (map words_of lines ≡ start_words script.start ∷ map line_words script.lines.items)
+    × IsStart script.start
+ReadsScript lines (Err (stop.Unreadable number)) =
+    (0 < number) × (number ≤ length lines)
+    × IsUnreadable (number - 1) (slice_index_or lines (number - 1) [])
+    × ((index : ℕ) → index + 1 < number → IsReadable index (slice_index_or lines index []))
+ReadsScript lines (Err stop.Failed) = Unit {0}

@@ -1,0 +1,22 @@
+-- Why a script isn't played to its end.
+use Rattle.std.specs.Prelude.{ℕ, List, ◌++◌, codes}
+use Rattle.std.specs.Fmt.{decimal}
+use Rattle.scripts.specs.declared.stop.Stop.{Stop}
+use Rattle.scripts.specs.declared.stop.Stop.TheVariants as stop
+use Rattle.scripts.specs.declared.word.ReadError.{ReadError}
+use Rattle.scripts.specs.declared.word.ReadError.TheVariants.{Unreadable, OutOfMemory}
+
+-- where the line of this number isn't read
+abbrev pub error_at : ℕ → ReadError → Stop
+error_at number Unreadable = stop.Unreadable number
+error_at number OutOfMemory = stop.Failed
+
+-- the exit status
+abbrev pub status_of : Stop → ℕ
+status_of (stop.Unreadable number) = 2
+status_of stop.Failed = 1
+
+-- what is written on standard error
+abbrev pub stop_text : Stop → List ℕ
+stop_text (stop.Unreadable number) = codes "unreadable line " ++ decimal number
+stop_text stop.Failed = codes "pagedctl: stopped"

@@ -1,0 +1,13 @@
+//! Scripts of steps over a blob in memory, with failing device calls and crashes: how they are read,
+//! and what is written for them, one line a reply.
+#![tactic(auto)]
+
+mod explain;
+mod player;
+mod script;
+mod stage;
+mod stop;
+mod text;
+mod word;
+
+pub use player::{play, play_on};

@@ -1,0 +1,451 @@
+// Scripts: what each line asks for.
+ghost use Rattle.std.specs.Prelude.{◌≡◌, ◌≢◌, ◌<◌, [], ◌∷◌, vec_len, codes, map, IfOk, ⊤};
+ghost use Rattle.std.specs.Fmt.{decimal};
+ghost use Rattle.std.specs.Int.NonZero.{non_zero_u16_get, non_zero_usize_get};
+ghost use Rattle.scripts.specs.Script.{IsReadAs, ReadsScript, IsLine, IsStart, IsPageSize};
+ghost use Rattle.scripts.specs.Script.{IsPages};
+ghost use Rattle.scripts.specs.Script.{IsBufferSize};
+ghost use Rattle.scripts.specs.Script.{parts_of, lines_of, words_of, without_last_feed};
+ghost use Rattle.scripts.specs.Script.{line_words, start_words, sum_word};
+
+use crate::stop::Stop;
+use crate::word::{ReadError, parse_flags, parse_hex, parse_number, parse_ranges};
+use session::Step;
+use std::alloc::{AllocError, Global};
+use std::num::{NonZeroU16, NonZeroU64, NonZeroUsize};
+
+/// The most pages that the cache of a script may hold.
+const MOST_PAGES: u64 = 4096;
+
+/// A whole script.
+#[derive(Debug, PartialEq, Eq, Drop)]
+pub struct Script {
+    /// Its first line.
+    pub start: Start,
+    /// The lines after it.
+    pub lines: Vec<Line>,
+}
+
+/// What a script runs over.
+#[derive(Clone, Copy, Debug, PartialEq, Eq)]
+pub struct Start {
+    /// The logical bytes of a page.
+    pub page_size: NonZeroU16,
+    /// The bytes that the writer may hold back.
+    pub capacity: usize,
+    /// The pages that the cache may hold.
+    pub pages: NonZeroUsize,
+    /// The checksum function of the pages.
+    pub sum: SumName,
+}
+
+/// A checksum function.
+#[derive(Clone, Copy, Debug, PartialEq, Eq)]
+pub enum SumName {
+    /// `AddSum`.
+    Add,
+    /// `ConstSum`.
+    Const,
+}
+
+/// A line after the first.
+#[derive(Debug, PartialEq, Eq, Drop)]
+pub enum Line {
+    /// A step of the session.
+    Step(Step),
+    /// The device call of this number from now on is to fail.
+    Fail(NonZeroU64),
+    /// A crash that keeps what these flags say of what isn't durable.
+    Crash(Vec<bool>),
+    /// A recovery after a crash.
+    Recover,
+    /// Shows the readable bytes.
+    Dump,
+}
+
+/// Reads a whole script. Its lines end in a line feed, which the last may lack.
+pub fn parse(alloc: Global, input: &[u8]) -> Result<Script, Stop>
+    ensures reads { ReadsScript (lines_of input.now) result }
+{
+    let text = without_last_feed(input);
+    let lines = parts(alloc, text, b'\n')?;
+    match lines.as_slice() {
+        [first, others @ ..] => parse_lines(alloc, first, others),
+        [] => unreachable!(),
+    }
+}
+
+pub fn without_last_feed(input: &[u8]) -> &[u8]
+    ensures { result.now ≡ without_last_feed input.now }
+{
+    input.strip_suffix(b"\n").unwrap_or(input)
+}
+
+// The parts of some bytes between those that are this one.
+pub fn parts<'a>(alloc: Global, bytes: &'a [u8], at: u8) -> Result<Vec<&'a [u8]>, AllocError>
+    ensures parts { IfOk result (λ parts.
+        map (λ part. part.now) parts.items ≡ parts_of at bytes.now) }
+    ensures some { IfOk result (λ parts. 0 < vec_len parts) }
+{
+    bytes.split(|byte| *byte == at).collect(alloc)
+}
+
+fn parse_lines(alloc: Global, first: &[u8], others: &[&[u8]]) -> Result<Script, Stop>
+    ensures reads { ReadsScript (first.now ∷ map (λ line. line.now) others.now) result }
+{
+    let start = match parse_start(alloc, first) {
+        Ok(start) => start,
+        Err(error) => return Err(Stop::at(1, error)),
+    };
+    let mut lines = Vec::with_capacity(alloc, others.len())?;
+    for (index, line) in others.iter().enumerate() {
+        match parse_line(alloc, line) {
+            Ok(line) => lines.push(line)?,
+            Err(error) => return Err(Stop::at(index as u64 + 2, error)),
+        }
+    }
+    Ok(Script { start, lines })
+}
+
+fn parse_start(alloc: Global, line: &[u8]) -> Result<Start, ReadError>
+    ensures reads { IsReadAs start_words IsStart (words_of line.now) result }
+{
+    let words = parts(alloc, line, b' ')?;
+    match words.as_slice() {
+        [b"start", page_size, capacity, pages, sum] => {
+            parse_settings(page_size, capacity, pages, sum)
+        }
+        _ => Err(ReadError::Unreadable),
+    }
+}
+
+// What a script runs over, by the words after the name of its first line.
+fn parse_settings(
+    page_size: &[u8],
+    capacity: &[u8],
+    pages: &[u8],
+    sum: &[u8],
+) -> Result<Start, ReadError>
+    ensures reads { IsReadAs start_words IsStart
+        (codes "start" ∷ page_size.now ∷ capacity.now ∷ pages.now ∷ sum.now ∷ []) result }
+{
+    let page_size = parse_page_size(page_size)?;
+    let capacity = parse_number(capacity)? as usize;
+    let pages = parse_pages(pages)?;
+    let sum = parse_sum(sum)?;
+    Ok(Start {
+        page_size,
+        capacity,
+        pages,
+        sum,
+    })
+}
+
+pub fn parse_page_size(word: &[u8]) -> Result<NonZeroU16, ReadError>
+    ensures reads { IsReadAs (λ size. decimal (non_zero_u16_get size))
+        (λ size. IsPageSize (non_zero_u16_get size)) word.now result }
+{
+    let Ok(size) = u16::try_from(parse_number(word)?) else {
+        return Err(ReadError::Unreadable);
+    };
+    match NonZeroU16::new(size) {
+        Some(size) => Ok(size),
+        None => Err(ReadError::Unreadable),
+    }
+}
+
+pub fn parse_pages(word: &[u8]) -> Result<NonZeroUsize, ReadError>
+    ensures reads { IsReadAs (λ pages. decimal (non_zero_usize_get pages))
+        (λ pages. IsPages (non_zero_usize_get pages)) word.now result }
+{
+    let pages = parse_number(word)?;
+    if MOST_PAGES < pages {
+        return Err(ReadError::Unreadable);
+    }
+    match NonZeroUsize::new(pages as usize) {
+        Some(pages) => Ok(pages),
+        None => Err(ReadError::Unreadable),
+    }
+}
+
+pub fn parse_sum(word: &[u8]) -> Result<SumName, ReadError>
+    ensures reads { IsReadAs sum_word (λ _. ⊤) word.now result }
+{
+    match word {
+        b"add" => Ok(SumName::Add),
+        b"const" => Ok(SumName::Const),
+        _ => Err(ReadError::Unreadable),
+    }
+}
+
+fn parse_line(alloc: Global, line: &[u8]) -> Result<Line, ReadError>
+    ensures reads { IsReadAs line_words IsLine (words_of line.now) result }
+{
+    let words = parts(alloc, line, b' ')?;
+    parse_words(alloc, &words)
+}
+
+fn parse_words(alloc: Global, words: &[&[u8]]) -> Result<Line, ReadError>
+    ensures reads { IsReadAs line_words IsLine (map (λ word. word.now) words.now) result }
+{
+    match words {
+        [name, others @ ..] => parse_named(alloc, name, others),
+        [] => Err(ReadError::Unreadable),
+    }
+}
+
+// A line by its first word, which names what it asks for, and the others.
+fn parse_named(alloc: Global, name: &[u8], others: &[&[u8]]) -> Result<Line, ReadError>
+    ensures reads { IsReadAs line_words IsLine
+        (name.now ∷ map (λ word. word.now) others.now) result }
+{
+    match name {
+        b"ranges" => parse_read_ranges(alloc, others),
+        b"cached-ranges" => parse_try_read_ranges(alloc, others),
+        _ => parse_few_words(alloc, name, others),
+    }
+}
+
+// A line of at most four words.
+fn parse_few_words(alloc: Global, name: &[u8], others: &[&[u8]]) -> Result<Line, ReadError>
+    requires read { name.now ≢ codes "ranges" }
+    requires cached { name.now ≢ codes "cached-ranges" }
+    ensures reads { IsReadAs line_words IsLine
+        (name.now ∷ map (λ word. word.now) others.now) result }
+{
+    match others {
+        [] => parse_one_word(name),
+        [word] => parse_two_words(alloc, name, word),
+        [first, second] => parse_three_words(name, first, second),
+        [first, second, third] => parse_four_words(name, first, second, third),
+        _ => Err(ReadError::Unreadable),
+    }
+}
+
+// A line of one word.
+fn parse_one_word(name: &[u8]) -> Result<Line, ReadError>
+    ensures reads { IsReadAs line_words IsLine (name.now ∷ []) result }
+{
+    match name {
+        b"sync" => Ok(Line::Step(Step::Sync)),
+        b"start-sync" => Ok(Line::Step(Step::StartSync)),
+        b"wait" => Ok(Line::Step(Step::Wait)),
+        b"needs" => Ok(Line::Step(Step::Needs)),
+        b"size" => Ok(Line::Step(Step::Size)),
+        b"begin" => Ok(Line::Step(Step::Begin)),
+        b"snapshot" => Ok(Line::Step(Step::Snapshot)),
+        b"try-snapshot" => Ok(Line::Step(Step::TrySnapshot)),
+        b"seal" => Ok(Line::Step(Step::Seal)),
+        b"recover" => Ok(Line::Recover),
+        b"dump" => Ok(Line::Dump),
+        _ => Err(ReadError::Unreadable),
+    }
+}
+
+// A line of two words.
+fn parse_two_words(alloc: Global, name: &[u8], word: &[u8]) -> Result<Line, ReadError>
+    requires read { name.now ≢ codes "ranges" }
+    requires cached { name.now ≢ codes "cached-ranges" }
+    ensures reads { IsReadAs line_words IsLine (name.now ∷ word.now ∷ []) result }
+{
+    match name {
+        b"append" => parse_append(alloc, word),
+        b"owned" => parse_owned(alloc, word),
+        b"wait-sync" => parse_wait_sync(word),
+        b"truncate" => parse_truncate(word),
+        b"replay" => parse_replay(word),
+        b"try" => parse_try(alloc, word),
+        b"fail" => parse_fail(word),
+        b"crash" => parse_crash(alloc, word),
+        _ => Err(ReadError::Unreadable),
+    }
+}
+
+// A line of three words.
+fn parse_three_words(name: &[u8], first: &[u8], second: &[u8]) -> Result<Line, ReadError>
+    requires read { name.now ≢ codes "ranges" }
+    requires cached { name.now ≢ codes "cached-ranges" }
+    ensures reads { IsReadAs line_words IsLine (name.now ∷ first.now ∷ second.now ∷ []) result }
+{
+    match name {
+        b"read" => parse_read(first, second),
+        b"upto" => parse_read_up_to(first, second),
+        b"cached" => parse_try_read(first, second),
+        b"ensure" => parse_ensure(first, second),
+        b"take" => parse_take(first, second),
+        b"seek" => parse_seek(first, second),
+        _ => Err(ReadError::Unreadable),
+    }
+}
+
+// A line of four words.
+fn parse_four_words(
+    name: &[u8],
+    first: &[u8],
+    second: &[u8],
+    third: &[u8],
+) -> Result<Line, ReadError>
+    requires read { name.now ≢ codes "ranges" }
+    requires cached { name.now ≢ codes "cached-ranges" }
+    ensures reads { IsReadAs line_words IsLine
+        (name.now ∷ first.now ∷ second.now ∷ third.now ∷ []) result }
+{
+    match name {
+        b"snap" => parse_snap(first, second, third),
+        b"scan" => parse_scan(first, second, third),
+        _ => Err(ReadError::Unreadable),
+    }
+}
+
+fn parse_append(alloc: Global, word: &[u8]) -> Result<Line, ReadError>
+    ensures reads { IsReadAs line_words IsLine (codes "append" ∷ word.now ∷ []) result }
+{
+    let bytes = parse_hex(alloc, word)?;
+    Ok(Line::Step(Step::Append(bytes)))
+}
+
+fn parse_owned(alloc: Global, word: &[u8]) -> Result<Line, ReadError>
+    ensures reads { IsReadAs line_words IsLine (codes "owned" ∷ word.now ∷ []) result }
+{
+    let bytes = parse_hex(alloc, word)?;
+    Ok(Line::Step(Step::Owned(bytes)))
+}
+
+fn parse_wait_sync(word: &[u8]) -> Result<Line, ReadError>
+    ensures reads { IsReadAs line_words IsLine (codes "wait-sync" ∷ word.now ∷ []) result }
+{
+    let name = parse_number(word)?;
+    Ok(Line::Step(Step::WaitSync(name)))
+}
+
+fn parse_truncate(word: &[u8]) -> Result<Line, ReadError>
+    ensures reads { IsReadAs line_words IsLine (codes "truncate" ∷ word.now ∷ []) result }
+{
+    let size = parse_number(word)?;
+    Ok(Line::Step(Step::Truncate(size)))
+}
+
+fn parse_replay(word: &[u8]) -> Result<Line, ReadError>
+    ensures reads { IsReadAs line_words IsLine (codes "replay" ∷ word.now ∷ []) result }
+{
+    let buffer_size = parse_buffer_size(word)?;
+    Ok(Line::Step(Step::Replay(buffer_size)))
+}
+
+fn parse_buffer_size(word: &[u8]) -> Result<NonZeroUsize, ReadError>
+    ensures reads { IsReadAs (λ size. decimal (non_zero_usize_get size))
+        (λ size. IsBufferSize (non_zero_usize_get size)) word.now result }
+{
+    match NonZeroUsize::new(parse_number(word)? as usize) {
+        Some(size) => Ok(size),
+        None => Err(ReadError::Unreadable),
+    }
+}
+
+fn parse_try(alloc: Global, word: &[u8]) -> Result<Line, ReadError>
+    ensures reads { IsReadAs line_words IsLine (codes "try" ∷ word.now ∷ []) result }
+{
+    let bytes = parse_hex(alloc, word)?;
+    Ok(Line::Step(Step::TryAppend(bytes)))
+}
+
+fn parse_fail(word: &[u8]) -> Result<Line, ReadError>
+    ensures reads { IsReadAs line_words IsLine (codes "fail" ∷ word.now ∷ []) result }
+{
+    match NonZeroU64::new(parse_number(word)?) {
+        Some(number) => Ok(Line::Fail(number)),
+        None => Err(ReadError::Unreadable),
+    }
+}
+
+fn parse_crash(alloc: Global, word: &[u8]) -> Result<Line, ReadError>
+    ensures reads { IsReadAs line_words IsLine (codes "crash" ∷ word.now ∷ []) result }
+{
+    let keep = parse_flags(alloc, word)?;
+    Ok(Line::Crash(keep))
+}
+
+fn parse_read(offset: &[u8], len: &[u8]) -> Result<Line, ReadError>
+    ensures reads { IsReadAs line_words IsLine (codes "read" ∷ offset.now ∷ len.now ∷ []) result }
+{
+    let offset = parse_number(offset)?;
+    let len = parse_number(len)? as usize;
+    Ok(Line::Step(Step::Read(offset, len)))
+}
+
+fn parse_read_up_to(offset: &[u8], len: &[u8]) -> Result<Line, ReadError>
+    ensures reads { IsReadAs line_words IsLine (codes "upto" ∷ offset.now ∷ len.now ∷ []) result }
+{
+    let offset = parse_number(offset)?;
+    let len = parse_number(len)? as usize;
+    Ok(Line::Step(Step::ReadUpTo(offset, len)))
+}
+
+fn parse_try_read(offset: &[u8], len: &[u8]) -> Result<Line, ReadError>
+    ensures reads { IsReadAs line_words IsLine (codes "cached" ∷ offset.now ∷ len.now ∷ []) result }
+{
+    let offset = parse_number(offset)?;
+    let len = parse_number(len)? as usize;
+    Ok(Line::Step(Step::TryRead(offset, len)))
+}
+
+fn parse_ensure(index: &[u8], count: &[u8]) -> Result<Line, ReadError>
+    ensures reads { IsReadAs line_words IsLine (codes "ensure" ∷ index.now ∷ count.now ∷ [])
+        result }
+{
+    let index = parse_number(index)? as usize;
+    let count = parse_number(count)? as usize;
+    Ok(Line::Step(Step::Ensure(index, count)))
+}
+
+fn parse_take(index: &[u8], count: &[u8]) -> Result<Line, ReadError>
+    ensures reads { IsReadAs line_words IsLine (codes "take" ∷ index.now ∷ count.now ∷ []) result }
+{
+    let index = parse_number(index)? as usize;
+    let count = parse_number(count)? as usize;
+    Ok(Line::Step(Step::Take(index, count)))
+}
+
+fn parse_seek(index: &[u8], offset: &[u8]) -> Result<Line, ReadError>
+    ensures reads { IsReadAs line_words IsLine (codes "seek" ∷ index.now ∷ offset.now ∷ []) result }
+{
+    let index = parse_number(index)? as usize;
+    let offset = parse_number(offset)?;
+    Ok(Line::Step(Step::Seek(index, offset)))
+}
+
+fn parse_snap(index: &[u8], offset: &[u8], len: &[u8]) -> Result<Line, ReadError>
+    ensures reads { IsReadAs line_words IsLine
+        (codes "snap" ∷ index.now ∷ offset.now ∷ len.now ∷ []) result }
+{
+    let index = parse_number(index)? as usize;
+    let offset = parse_number(offset)?;
+    let len = parse_number(len)? as usize;
+    Ok(Line::Step(Step::Snap(index, offset, len)))
+}
+
+fn parse_scan(proven: &[u8], most: &[u8], buffer_size: &[u8]) -> Result<Line, ReadError>
+    ensures reads { IsReadAs line_words IsLine
+        (codes "scan" ∷ proven.now ∷ most.now ∷ buffer_size.now ∷ []) result }
+{
+    let proven = parse_number(proven)?;
+    let most = parse_number(most)?;
+    let buffer_size = parse_buffer_size(buffer_size)?;
+    Ok(Line::Step(Step::Scan(proven, most, buffer_size)))
+}
+
+fn parse_read_ranges(alloc: Global, words: &[&[u8]]) -> Result<Line, ReadError>
+    ensures reads { IsReadAs line_words IsLine
+        (codes "ranges" ∷ map (λ word. word.now) words.now) result }
+{
+    let ranges = parse_ranges(alloc, words)?;
+    Ok(Line::Step(Step::ReadRanges(ranges)))
+}
+
+fn parse_try_read_ranges(alloc: Global, words: &[&[u8]]) -> Result<Line, ReadError>
+    ensures reads { IsReadAs line_words IsLine
+        (codes "cached-ranges" ∷ map (λ word. word.now) words.now) result }
+{
+    let ranges = parse_ranges(alloc, words)?;
+    Ok(Line::Step(Step::TryReadRanges(ranges)))
+}

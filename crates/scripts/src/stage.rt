@@ -1,0 +1,160 @@
+// What a script runs over.
+ghost use Rattle.std.specs.Prelude.{◌≡◌};
+ghost use Rattle.paged.specs.Recovery.{IsDurable};
+
+use crate::script::{Line, Start};
+use crate::text::{Hex, Said};
+use cache::CacheRef;
+use disk::{Error, MemBlob};
+use page::Sum;
+use session::{Reply, Session, Step, run};
+use std::alloc::Global;
+use std::io;
+use std::io::Write;
+use std::marker::Model;
+use std::num::NonZeroUsize;
+
+/// A blob in memory with its cache, and the session on it.
+#[derive(Drop)]
+pub struct Stage<H: Sum> {
+    alloc: Global,
+    start: Start,
+    blob: MemBlob,
+    // None where there was no memory for it.
+    cache: Option<CacheRef>,
+    session: Session<MemBlob, H>,
+    // Whether a crash stands before, with no line between that rules a recovery out.
+    crashed: bool,
+}
+
+impl<H: Sum> Model for Stage<H> {
+    ghost use Rattle.disk.specs.History.{life_of};
+    ghost use Rattle.scripts.specs.Stage.{StageState, IsSet};
+
+    ghost Value = { StageState };
+
+    ghost view = { λ s. record {
+      session = s.session;
+      cache = s.cache;
+      crashed = s.crashed;
+      disk = (life_of s.blob).present;
+    } };
+
+    ghost invariant = { λ s. IsSet H.sum_of (record {
+      session = s.session;
+      cache = s.cache;
+      crashed = s.crashed;
+      disk = (life_of s.blob).present;
+    }) };
+}
+
+impl<H: Sum> Stage<H> {
+    /// An empty blob, and no session.
+    pub fn new(alloc: Global, start: Start) -> Self
+        ensures { IsDurable result.disk }
+    {
+        Stage {
+            alloc,
+            start,
+            blob: MemBlob::new(alloc),
+            cache: None,
+            session: Session::closed(alloc),
+            crashed: false,
+        }
+    }
+
+    /// Recovers the blob, and writes how many bytes are left. A session begins, but where the
+    /// recovery is refused.
+    pub fn open<W: Write>(&mut self, out: &mut W) -> io::Result<()>
+        requires { IsDurable self.old.disk }
+    {
+        match self.recover() {
+            Ok(size) => writeln!(out, "recovered {size}"),
+            Err(error) => writeln!(out, "{}", Said(&Reply::Fault(error))),
+        }
+    }
+
+    fn recover(&mut self) -> Result<u64, Error>
+        requires { IsDurable self.old.disk }
+    {
+        self.crashed = false;
+        self.session = Session::closed(self.alloc);
+        let mut cache = match self.cache.take() {
+            Some(cache) => cache,
+            None => CacheRef::new(self.alloc, self.start.page_size, self.start.pages)?,
+        };
+        let size = self.blob.len();
+        let capacity = self.start.capacity;
+        let buffer_size = NonZeroUsize::new(capacity).unwrap_or(NonZeroUsize::MIN);
+        let recovered = Session::recover(
+            self.alloc,
+            &mut self.blob,
+            size,
+            capacity,
+            &mut cache,
+            buffer_size,
+        );
+        self.cache = Some(cache);
+        self.session = recovered?;
+        Ok(self.session.size().unwrap_or(0))
+    }
+
+    /// Does what a line asks for, and writes the reply.
+    pub fn play<W: Write>(&mut self, line: Line, out: &mut W) -> io::Result<()> {
+        match line {
+            Line::Step(step) => self.step(step, out),
+            Line::Fail(number) => {
+                self.blob.fail_at(number.get());
+                writeln!(out, "ok")
+            }
+            Line::Crash(keep) => self.crash(&keep, out),
+            Line::Recover => {
+                if self.crashed {
+                    self.open(out)
+                } else {
+                    writeln!(out, "not-crashed")
+                }
+            }
+            Line::Dump => writeln!(out, "blob {}", Hex(self.blob.bytes())),
+        }
+    }
+
+    fn step<W: Write>(&mut self, step: Step, out: &mut W) -> io::Result<()> {
+        self.crashed = false;
+        let Some(cache) = &mut self.cache else {
+            return writeln!(out, "{}", Said(&Reply::Closed));
+        };
+        let mut replies = Vec::new(self.alloc);
+        match run(
+            &mut self.session,
+            &mut self.blob,
+            cache,
+            &[step],
+            &mut replies,
+        ) {
+            Ok(()) => write_all(&replies, out),
+            Err(error) => writeln!(out, "{}", Said(&Reply::Fault(error))),
+        }
+    }
+
+    // A refused crash is no crash, and a recovery can't follow it.
+    fn crash<W: Write>(&mut self, keep: &[bool], out: &mut W) -> io::Result<()> {
+        match self.session.crash(&mut self.blob, keep) {
+            Ok(()) => {
+                self.crashed = true;
+                writeln!(out, "crashed {}", self.blob.len())
+            }
+            Err(error) => {
+                self.crashed = false;
+                writeln!(out, "{}", Said(&Reply::Fault(error)))
+            }
+        }
+    }
+}
+
+fn write_all<W: Write>(replies: &[Reply], out: &mut W) -> io::Result<()> {
+    for reply in replies {
+        writeln!(out, "{}", Said(reply))?;
+    }
+    Ok(())
+}
