@@ -13,6 +13,10 @@ mod files;
 #[cfg(test)]
 mod kit;
 #[cfg(test)]
+mod many_ranges;
+#[cfg(test)]
+mod memory;
+#[cfg(test)]
 mod ranges;
 #[cfg(test)]
 mod reads;

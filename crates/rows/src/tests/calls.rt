@@ -1,10 +1,11 @@
 // What calls answer, and the error of each device call that fails in them.
-use super::kit::{CAPACITY, Call, Store};
+use super::store::Store;
 use disk::{Error, IoBuf};
 use page::{AddSum, Sum};
 use std::alloc::Global;
 use std::process::Abort;
 use std::test::Fail;
+use test_kit::{CAPACITY, Call};
 
 fn answers(got: &Result<IoBuf, Error>, want: Result<&[u8], Error>) -> bool {
     match got {

@@ -1,10 +1,11 @@
 // What a crash leaves of a write that failed, and what a recovery makes of it.
-use super::kit::{ABCD, CAPACITY, Page, Store};
+use super::store::Store;
 use disk::{Error, StartedSync};
 use page::{AddSum, ConstSum, Sum};
 use std::alloc::Global;
 use std::process::Abort;
 use std::test::Fail;
+use test_kit::{ABCD, CAPACITY, Page};
 
 // The write that tells "efg" rewrites page 1. Its first slot and its first two bytes are as they
 // were.

@@ -1,13 +1,14 @@
 // Cutting what a recovery keeps.
 ghost use Rattle.std.specs.Prelude.{◌≤◌, length};
 
-use super::kit::{ABCD, CAPACITY, Call, Page, Store, blob_bytes, calls_from, error_of, new_cache};
+use super::store::Store;
 use disk::{Error, MemBlob};
 use page::{AddSum, ConstSum, Sum};
 use paged::Recovery;
 use std::alloc::Global;
 use std::process::Abort;
 use std::test::Fail;
+use test_kit::{ABCD, CAPACITY, Call, Page, blob_bytes, calls_from, error_of, new_cache};
 
 // "efgh" in the first slot, and "efg" in the second.
 const EFGH: Page = [

@@ -1,10 +1,11 @@
 // Appends that are too big for the buffer.
-use super::kit::{ABCD, Call, Page, Store, error_of};
+use super::store::Store;
 use disk::Error;
 use page::AddSum;
 use std::alloc::Global;
 use std::process::Abort;
 use std::test::Fail;
+use test_kit::{ABCD, Call, Page, error_of};
 
 const EFGH: Page = [
     0x65, 0x66, 0x67, 0x68, 0x00, 0x04, 0x00, 0x00, 0x01, 0x9A, 0x00, 0x00, 0x00, 0x00, 0x00, 0x00,

@@ -1,10 +1,11 @@
 // What appends and syncs write.
-use super::kit::{ABCD, Call, EF, Page, Store};
+use super::store::Store;
 use disk::Error;
 use page::AddSum;
 use std::alloc::Global;
 use std::process::Abort;
 use std::test::Fail;
+use test_kit::{ABCD, Call, EF, Page};
 
 const EFG: Page = [
     0x65, 0x66, 0x67, 0x00, 0x00, 0x02, 0x00, 0x00, 0x00, 0xCB, 0x00, 0x03, 0x00, 0x00, 0x01, 0x32,

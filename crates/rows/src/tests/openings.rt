@@ -1,13 +1,14 @@
 // Opening and recovering a blob, whatever it holds.
-use super::kit::{
-    ABCD, CAPACITY, Call, EF, NO_VALUE, Page, Store, blob_bytes, calls_from, error_of, new_cache,
-};
+use super::store::Store;
 use disk::{Error, MemBlob};
 use page::AddSum;
 use paged::Recovery;
 use std::alloc::Global;
 use std::process::Abort;
 use std::test::Fail;
+use test_kit::{
+    ABCD, CAPACITY, Call, EF, NO_VALUE, Page, blob_bytes, calls_from, error_of, new_cache,
+};
 
 // A blob, the device calls of its opening, and the size that it has then.
 struct Row {

@@ -1,13 +1,12 @@
 // Reads of every kind, through the cache.
-use super::kit::{
-    ABCD, CAPACITY, Call, EF, Page, Store, blob_bytes, cache_of, new_cache, reads_many,
-};
+use super::store::Store;
 use disk::{Error, MemBlob};
 use page::AddSum;
 use paged::Writer;
 use std::alloc::Global;
 use std::num::NonZeroUsize;
 use std::process::Abort;
+use test_kit::{ABCD, CAPACITY, Call, EF, Page, blob_bytes, cache_of, new_cache, reads_many};
 
 // The page of "efgh", whose first byte was 65: the slot has the sum of the letters.
 const CHANGED: Page = [

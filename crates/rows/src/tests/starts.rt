@@ -1,10 +1,11 @@
 // Syncs that are started, and waited for later.
-use super::kit::{Call, Page, Store};
+use super::store::Store;
 use disk::{Error, StartedSync};
 use page::AddSum;
 use std::alloc::Global;
 use std::process::Abort;
 use std::test::Fail;
+use test_kit::{Call, Page};
 
 // "ab" in the first slot, and "abc" in the second: 61 + 62 is C3, and with 63 it is 126.
 const ABC: Page = [

@@ -1,10 +1,11 @@
 // Recoveries that stop at one of their device calls.
-use super::kit::{ABCD, CAPACITY, Call, EF, NO_VALUE, Page, Store, blob_bytes, error_of};
+use super::store::Store;
 use disk::Error;
 use page::AddSum;
 use std::alloc::Global;
 use std::process::Abort;
 use std::test::Fail;
+use test_kit::{ABCD, CAPACITY, Call, EF, NO_VALUE, Page, blob_bytes, error_of};
 
 const XYZ: Page = [
     0x78, 0x79, 0x7A, 0x00, 0x00, 0x03, 0x00, 0x00, 0x01, 0x6B, 0x00, 0x00, 0x00, 0x00, 0x00, 0x00,

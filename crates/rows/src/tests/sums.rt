@@ -1,5 +1,5 @@
 // CRC-32C, and a blob under it.
-use super::kit::Store;
+use super::store::Store;
 use crc32c::Crc32c;
 use page::Sum;
 use std::test::Fail;

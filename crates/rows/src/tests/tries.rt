@@ -1,9 +1,10 @@
 // Appends that are made only where they fit the buffer.
-use super::kit::{Call, Store};
+use super::store::Store;
 use bytes::BufMut;
 use page::{AddSum, EncodeSize, Write};
 use std::alloc::AllocError;
 use std::test::Fail;
+use test_kit::Call;
 
 /// Two numbers, of two bytes each.
 #[derive(Clone, Copy)]
