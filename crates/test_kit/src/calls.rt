@@ -4,16 +4,24 @@ use std::alloc::Global;
 
 /// A device call as a table of a test writes it: a blob's own has a vector of ranges, and isn't
 /// copied. The ranges are left out here, since a type with no lifetime is cheaper to prove: a test
-/// of them asks `reads_many`.
+/// of them asks [`reads_many`].
 #[derive(Clone, Copy, Debug, PartialEq, Eq)]
 pub enum Call {
+    /// A read from this offset of so many bytes.
     ReadAt(u64, usize),
+    /// A read of ranges.
     ReadMany,
+    /// A started read of ranges.
     StartReadMany,
+    /// A write at this offset of so many bytes, durable or not.
     WriteAt(u64, usize, bool),
+    /// A change of the length to so many bytes.
     Resize(u64),
+    /// A sync.
     Sync,
+    /// A started sync.
     StartSync,
+    /// A wait for the started sync of this name.
     WaitSync(u64),
 }
 

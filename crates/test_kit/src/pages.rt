@@ -11,13 +11,12 @@ pub const PAGE_SIZE: u16 = 4;
 /// The payload of two pages, in bytes: what a writer buffers.
 pub const CAPACITY: usize = 8;
 
-// The sums of the letters: 61 + 62 + 63 + 64 is 18A, and 65 + 66 is CB.
-/// The page of "abcd", in its first slot.
+/// The page of "abcd", in its first slot, under the sum of the letters: 61 + 62 + 63 + 64 is 18A.
 pub const ABCD: Page = [
     0x61, 0x62, 0x63, 0x64, 0x00, 0x04, 0x00, 0x00, 0x01, 0x8A, 0x00, 0x00, 0x00, 0x00, 0x00, 0x00,
 ];
 
-/// The page of "ef", in its first slot.
+/// The page of "ef", in its first slot: 65 + 66 is CB.
 pub const EF: Page = [
     0x65, 0x66, 0x00, 0x00, 0x00, 0x02, 0x00, 0x00, 0x00, 0xCB, 0x00, 0x00, 0x00, 0x00, 0x00, 0x00,
 ];
