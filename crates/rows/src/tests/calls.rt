@@ -15,7 +15,7 @@ fn answers(got: &Result<IoBuf, Error>, want: Result<&[u8], Error>) -> bool {
 }
 
 /// A store of eleven bytes: two pages are in the blob, and three bytes are buffered.
-fn a_to_k<H: Sum>(alloc: Global) -> Result<Store<H>, Error> {
+fn a_to_k<H: Sum>(alloc: Global) -> Result<Box<Store<H>>, Error> {
     let mut store = Store::empty(alloc)?;
     store.append(b"abcdefghi")?;
     store.append(b"jk")?;
@@ -43,7 +43,7 @@ const READS: [Read; 14] = [
 ];
 
 /// The same, synced and recovered: nothing is held of a blob that was just recovered.
-fn a_to_k_recovered(alloc: Global) -> Result<Store<AddSum>, Error> {
+fn a_to_k_recovered(alloc: Global) -> Result<Box<Store<AddSum>>, Error> {
     let mut store = a_to_k(alloc)?;
     store.sync()?;
     store.recover(CAPACITY)?;
@@ -90,7 +90,7 @@ fn a_failed_read_is_told(rt: HostRuntime) -> Result<(), Fail> {
 }
 
 /// A store of 21 bytes, which were appended at once.
-fn a_to_u(rt: &impl Abort, alloc: Global) -> Result<Store<AddSum>, Error> {
+fn a_to_u(rt: &impl Abort, alloc: Global) -> Result<Box<Store<AddSum>>, Error> {
     let mut store = Store::empty(alloc)?;
     let before = store.blob().calls().len();
     assert_eq!(rt; store.append(b"abcdefghijklmnopqrstu"), Ok(0));
@@ -183,7 +183,7 @@ fn change<H: Sum>(store: &mut Store<H>, row: &Row) -> Result<(), Error> {
 }
 
 /// A store in which "abc" is durable, and the row's last call is to fail.
-fn about_to_fail(alloc: Global, row: &Row) -> Result<Store<AddSum>, Error> {
+fn about_to_fail(alloc: Global, row: &Row) -> Result<Box<Store<AddSum>>, Error> {
     let mut store = Store::empty(alloc)?;
     store.append(b"abc")?;
     store.sync()?;
@@ -199,7 +199,7 @@ fn is_refused(store: &mut Store<AddSum>, row: &Row) -> Result<bool, Error> {
 }
 
 /// A store whose row was refused.
-fn refused(rt: &impl Abort, alloc: Global, row: &Row) -> Result<Store<AddSum>, Error> {
+fn refused(rt: &impl Abort, alloc: Global, row: &Row) -> Result<Box<Store<AddSum>>, Error> {
     let mut store = about_to_fail(alloc, row)?;
     assert!(rt; is_refused(&mut store, row)?);
     Ok(store)

@@ -14,7 +14,7 @@ const WRITE: usize = 16;
 const PAGE: usize = 16;
 
 /// A store in which "abcdef" is synced, and "g" is appended.
-fn abcdef_and_g<H: Sum>(alloc: Global) -> Result<Store<H>, Error> {
+fn abcdef_and_g<H: Sum>(alloc: Global) -> Result<Box<Store<H>>, Error> {
     let mut store = Store::<H>::empty(alloc)?;
     store.append(b"abcdef")?;
     store.sync()?;
@@ -24,7 +24,7 @@ fn abcdef_and_g<H: Sum>(alloc: Global) -> Result<Store<H>, Error> {
 
 /// Syncs "abcdef", and then "g", whose write fails, and crashes with these flags for the write's
 /// bytes.
-fn torn<H: Sum>(rt: &impl Abort, alloc: Global, keep: &[bool]) -> Result<Store<H>, Error> {
+fn torn<H: Sum>(rt: &impl Abort, alloc: Global, keep: &[bool]) -> Result<Box<Store<H>>, Error> {
     let mut store = abcdef_and_g::<H>(alloc)?;
     store.fail_at(1);
     assert_eq!(rt; store.sync(), Err(Error::WriteFailed));
@@ -37,7 +37,7 @@ fn torn_after_a_start<H: Sum>(
     rt: &impl Abort,
     alloc: Global,
     keep: &[bool],
-) -> Result<Store<H>, Error> {
+) -> Result<Box<Store<H>>, Error> {
     let mut store = abcdef_and_g::<H>(alloc)?;
     assert_eq!(rt; store.start_sync(), Ok(StartedSync::Named(0)));
     store.crash(keep)?;
@@ -149,7 +149,7 @@ fn left<H: Sum>(
     none: &Store<H>,
     all: &Store<H>,
     keep: &[bool; WRITE],
-) -> Result<Store<H>, Error> {
+) -> Result<Box<Store<H>>, Error> {
     let mut bytes = Vec::from_slice(alloc, none.blob().bytes())?;
     let written = all.blob().bytes().iter().skip(PAGE);
     for ((byte, new), flag) in bytes.iter_mut().skip(PAGE).zip(written).zip(keep) {

@@ -212,7 +212,7 @@ fn a_failed_call_of_a_cut_is_told(rt: HostRuntime) -> Result<(), Fail> {
 }
 
 /// A store of "abcdefgh" that was synced three times.
-fn abcdefgh<H: Sum>(alloc: Global) -> Result<Store<H>, Error> {
+fn abcdefgh<H: Sum>(alloc: Global) -> Result<Box<Store<H>>, Error> {
     let mut store = Store::<H>::empty(alloc)?;
     for bytes in [b"abcdef".as_slice(), b"g", b"h"] {
         store.append(bytes)?;
@@ -315,7 +315,7 @@ fn a_damaged_blob_is_cut(rt: HostRuntime) -> Result<(), Fail> {
 }
 
 /// A store of these letters, synced, in pages of this size.
-fn store_of(alloc: Global, page_size: u16, letters: &[u8]) -> Result<Store<AddSum>, Error> {
+fn store_of(alloc: Global, page_size: u16, letters: &[u8]) -> Result<Box<Store<AddSum>>, Error> {
     let mut store = Store::empty_of(alloc, page_size)?;
     store.append(letters)?;
     store.sync()?;
@@ -433,7 +433,7 @@ const RECOVERY: [Call; 9] = [
     Call::WriteAt(4, 6, true),
 ];
 
-fn store_of_ab(alloc: Global) -> Result<Store<AddSum>, Error> {
+fn store_of_ab(alloc: Global) -> Result<Box<Store<AddSum>>, Error> {
     let bytes = blob_bytes(alloc, &[AB, EFGH_AFTER], &[])?;
     Store::of_bytes(alloc, &bytes)
 }

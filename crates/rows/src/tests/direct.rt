@@ -115,7 +115,7 @@ impl Way {
 }
 
 // A store in which the row's bytes are to be appended.
-fn store_before(alloc: Global, row: &Row) -> Result<Store<AddSum>, Error> {
+fn store_before(alloc: Global, row: &Row) -> Result<Box<Store<AddSum>>, Error> {
     let mut store = Store::empty(alloc)?;
     store.append(row.before)?;
     if row.starts {
@@ -175,7 +175,7 @@ fn failed(
     row: &Row,
     way: Way,
     done: usize,
-) -> Result<Store<AddSum>, Error> {
+) -> Result<Box<Store<AddSum>>, Error> {
     let mut store = store_before(alloc, row)?;
     let before = store.blob().calls().len();
     store.fail_at((done as u64).saturating_add(1));

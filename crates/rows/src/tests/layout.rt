@@ -65,7 +65,7 @@ fn sync_nine(rt: &impl Abort, store: &mut Store<AddSum>, calls: &[Call]) -> Resu
 }
 
 /// A store of eight bytes, which are all in the buffer.
-fn a_to_h(rt: &impl Abort, alloc: Global) -> Result<Store<AddSum>, Error> {
+fn a_to_h(rt: &impl Abort, alloc: Global) -> Result<Box<Store<AddSum>>, Error> {
     let mut store = Store::empty(alloc)?;
     let before = store.blob().calls().len();
     assert_eq!(rt; store.append(b"abcdefgh"), Ok(0));

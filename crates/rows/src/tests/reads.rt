@@ -30,7 +30,7 @@ fn reads_a_to_j(rt: &impl Abort, store: &mut Store<AddSum>) -> Result<(), Error>
 
 #[test]
 fn appended_pages_are_read_from_the_cache(rt: HostRuntime) -> Result<(), Error> {
-    let mut store: Store<AddSum> = Store::caching(rt.alloc(), 4)?;
+    let mut store: Box<Store<AddSum>> = Store::caching(rt.alloc(), 4)?;
     let before = store.blob().calls().len();
     store.append(b"abcdefghij")?;
     let calls = [Call::WriteAt(0, 32, false)];
@@ -41,7 +41,7 @@ fn appended_pages_are_read_from_the_cache(rt: HostRuntime) -> Result<(), Error> 
 }
 
 /// A store of ten bytes, whose cache has room for one page: it holds the second.
-fn a_to_j(rt: &impl Abort, alloc: Global) -> Result<Store<AddSum>, Error> {
+fn a_to_j(rt: &impl Abort, alloc: Global) -> Result<Box<Store<AddSum>>, Error> {
     let mut store = Store::empty(alloc)?;
     store.append(b"abcdefghij")?;
     let mut buf = [0u8; 10];
@@ -81,7 +81,7 @@ fn reads_nothing(rt: &impl Abort, store: &mut Store<AddSum>) {
 
 #[test]
 fn nothing_is_read_up_to_the_end(rt: HostRuntime) -> Result<(), Error> {
-    let mut store: Store<AddSum> = Store::empty(rt.alloc())?;
+    let mut store: Box<Store<AddSum>> = Store::empty(rt.alloc())?;
     store.append(b"abcdef")?;
     store.sync()?;
     let (bytes, count) = store.read_up_to(9, 0)?;
@@ -115,7 +115,7 @@ fn many_are_read_at_once(rt: HostRuntime) -> Result<(), Error> {
 fn bytes_are_read_after_those_that_were_opened(rt: HostRuntime) -> Result<(), Error> {
     let alloc = rt.alloc();
     let bytes = blob_bytes(alloc, &[ABCD, EF], &[])?;
-    let mut store: Store<AddSum> = Store::of_bytes(alloc, &bytes)?;
+    let mut store: Box<Store<AddSum>> = Store::of_bytes(alloc, &bytes)?;
     store.recover(CAPACITY)?;
     assert_eq!(rt; store.append_owned(b"gh"), Ok(6));
     assert_eq!(rt; store.try_append(b"ij"), Ok(Some(8)));

@@ -229,7 +229,12 @@ fn goes(store: &mut Store<AddSum>, step: &Step) -> bool {
 }
 
 // A store on which these steps were taken.
-fn taken(rt: &impl Abort, alloc: Global, row: &Row, number: usize) -> Result<Store<AddSum>, Error> {
+fn taken(
+    rt: &impl Abort,
+    alloc: Global,
+    row: &Row,
+    number: usize,
+) -> Result<Box<Store<AddSum>>, Error> {
     let mut store = Store::empty(alloc)?;
     let before = store.blob().calls().len();
     for (at, step) in row.steps.iter().enumerate() {

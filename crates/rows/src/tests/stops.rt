@@ -59,7 +59,7 @@ const ROWS: [Row; 7] = [
     },
 ];
 
-fn store_of(alloc: Global, row: &Row) -> Result<Store<AddSum>, Error> {
+fn store_of(alloc: Global, row: &Row) -> Result<Box<Store<AddSum>>, Error> {
     let bytes = blob_bytes(alloc, row.pages, row.stray)?;
     Store::of_bytes(alloc, &bytes)
 }
@@ -88,7 +88,7 @@ fn stopped(
     row: &Row,
     done: usize,
     error: Error,
-) -> Result<Store<AddSum>, Error> {
+) -> Result<Box<Store<AddSum>>, Error> {
     let mut store = store_of(alloc, row)?;
     store.fail_at((done as u64).saturating_add(1));
     assert_eq!(rt; store.recover(CAPACITY), Err(error), "at call {done}");

@@ -17,6 +17,9 @@ const NO_WRITER: Error = Error::IdsExhausted;
 /// A call that takes the writer and is refused ends it. Where there is none, a call that needs one
 /// answers `IdsExhausted`, which no row expects. No call requires anything of a test, and none
 /// tells it what it did.
+///
+/// It is handed out in a box: what a function owns is let go at each of its exits, and the prover
+/// reads that there, field by field; of a box it is one call.
 #[derive(Drop)]
 pub struct Store<H: Sum> {
     alloc: Global,
@@ -39,48 +42,51 @@ impl<H: Sum> Model for Store<H> {
 
 impl<H: Sum> Store<H> {
     /// A store of this blob, without a writer.
-    pub fn new(alloc: Global, blob: MemBlob) -> Result<Self, Error> {
-        Ok(Store {
+    pub fn new(alloc: Global, blob: MemBlob) -> Result<Box<Self>, Error> {
+        let store = Store {
             alloc,
             blob,
             cache: new_cache(alloc)?,
             writer: None,
-        })
+        };
+        Ok(Box::new(alloc, store)?)
     }
 
     /// A store of an empty blob, recovered.
-    pub fn empty(alloc: Global) -> Result<Self, Error> {
+    pub fn empty(alloc: Global) -> Result<Box<Self>, Error> {
         let mut store = Store::new(alloc, MemBlob::new(alloc))?;
         store.recover(CAPACITY)?;
         Ok(store)
     }
 
     /// The same, with pages of this size.
-    pub fn empty_of(alloc: Global, page_size: u16) -> Result<Self, Error> {
-        let mut store = Store {
+    pub fn empty_of(alloc: Global, page_size: u16) -> Result<Box<Self>, Error> {
+        let store = Store {
             alloc,
             blob: MemBlob::new(alloc),
             cache: cache_of(alloc, page_size, 1)?,
             writer: None,
         };
+        let mut store = Box::new(alloc, store)?;
         store.recover(CAPACITY)?;
         Ok(store)
     }
 
     /// A store of an empty blob, recovered, with so many pages in its cache.
-    pub fn caching(alloc: Global, capacity: usize) -> Result<Self, Error> {
-        let mut store = Store {
+    pub fn caching(alloc: Global, capacity: usize) -> Result<Box<Self>, Error> {
+        let store = Store {
             alloc,
             blob: MemBlob::new(alloc),
             cache: cache_of(alloc, PAGE_SIZE, capacity)?,
             writer: None,
         };
+        let mut store = Box::new(alloc, store)?;
         store.recover(CAPACITY)?;
         Ok(store)
     }
 
     /// A store of a blob with these bytes, all durable, without a writer.
-    pub fn of_bytes(alloc: Global, bytes: &[u8]) -> Result<Self, Error> {
+    pub fn of_bytes(alloc: Global, bytes: &[u8]) -> Result<Box<Self>, Error> {
         Store::new(alloc, MemBlob::from_bytes(alloc, bytes)?)
     }
 
