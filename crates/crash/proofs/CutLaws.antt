@@ -9,6 +9,8 @@ use Rattle.disk.specs.declared.error.Error.{Error}
 use Rattle.disk.specs.declared.error.Error.TheVariants.{ReadFailed, WriteFailed, ResizeFailed, SyncFailed, InvalidChecksum, BlobInsufficientLength, OffsetOverflow, OutOfMemory, IdsExhausted}
 use Rattle.page.specs.Page.{pages, value, value_len, text, text_of_pages}
 use Rattle.crash.specs.Guard.{IsChanceFree}
+use Rattle.crash.specs.Distinct.{IsVouched}
+use Rattle.crash.proofs.DistinctLaws.{resize_vouched, vouched_at_rest}
 use Rattle.crash.specs.Kept.{AllKeep}
 use Rattle.crash.specs.Looks.{Looked, SameButLog}
 use Rattle.crash.specs.Stays.{Stays, StaysThrough}
@@ -18,7 +20,7 @@ use Rattle.crash.proofs.Texts.{text_full, text_part, value_len_le, verified_le_v
 use Rattle.crash.proofs.Disks.{fixed_at_rest, fixed_in_image, fixed_length, fixed_stays, length-applied_resize, operated_base, operated_since, resize_leaves}
 use Rattle.disk.specs.Images.{only_image}
 use Rattle.crash.proofs.PageFacts.{value_len_slot}
-use Rattle.crash.proofs.Promise.{guarded_is_kept, guards_at_rest, guards_below, keeps_at_rest, resize_leaves_below}
+use Rattle.crash.proofs.Promise.{guarded_is_kept, guards_at_rest, guards_below, keeps_at_rest, keeps_less, resize_leaves_below}
 use Rattle.crash.specs.Moments.{through_end, through_more, through_start, through_then}
 use Rattle.crash.proofs.Moments.{stays_alike, stays_through_joins}
 
@@ -150,9 +152,10 @@ cut_few sum P k bytes within =
 
 -- what keeps and says all of a content owes nothing
 pub stays_all : (sum : List ℕ → ℕ) (P : ℕ) (content : List ℕ) (d e : Disk) → AllKeep sum P content (length content) e
-    → ((image : List ℕ) → IsImage e image → IsChanceFree sum P e image → text sum P image ≡ content) → Stays sum P content d e
-stays_all sum P content d e keeps only = record {
-  kept = λ floor enough before. λ image is_image. take_same floor (length content) (text sum P image) content enough (keeps image is_image);
+    → ((image : List ℕ) → IsImage e image → IsChanceFree sum P e image → text sum P image ≡ content) → IsVouched sum P e → Stays sum P content d e
+stays_all sum P content d e keeps only vouched = record {
+  vouched = vouched;
+  kept = λ floor enough before. keeps_less sum P content (length content) floor e enough keeps;
   only = λ image is_image free.
       let same = only image is_image free in
       same ∙ sym (take_all (length (text sum P image)) content (omega (arith, ap length same)));
@@ -169,7 +172,7 @@ rest_only sum P content e image at_rest says is_image = ap (λ (l : List ℕ). t
 -- so it owes nothing
 pub rest_stays : (sum : List ℕ → ℕ) (P : ℕ) (content : List ℕ) (d e : Disk) → e.since ≡ [] → text sum P e.base ≡ content → Stays sum P content d e
 rest_stays sum P content d e at_rest says =
-    stays_all sum P content d e (rest_keeps sum P content e at_rest says) (λ image is_image free. rest_only sum P content e image at_rest says is_image)
+    stays_all sum P content d e (rest_keeps sum P content e at_rest says) (λ image is_image free. rest_only sum P content e image at_rest says is_image) (vouched_at_rest sum P e at_rest)
 
 -- a cut that isn't durable, done or failed: every image keeps the text
 pub cut_keeps : (sum : List ℕ → ℕ) (P k : ℕ) (content : List ℕ) (e : Disk) → 0 < P → e.since ≡ Resize (k * (P + 12)) ∷ [] → k * (P + 12) ≤ length e.base
@@ -224,6 +227,7 @@ pub cut_stays : (sum : List ℕ → ℕ) (P k : ℕ) (content : List ℕ) (d e :
     → text sum P e.base ≡ content → text sum P (take (k * (P + 12)) e.base) ≡ content → Stays sum P content d e
 cut_stays sum P k content d e some since within says cut_says =
     stays_all sum P content d e (cut_keeps sum P k content e some since within says cut_says) (λ image is_image free. cut_only sum P k content e image some since within says cut_says is_image free)
+    (resize_vouched sum P (record e { since = [] }) e (k * (P + 12)) refl since within (vouched_at_rest sum P (record e { since = [] }) refl))
 
 -- ---- what a cut leaves readable
 
@@ -334,6 +338,7 @@ sync_stays sum P content old new answer owes says goes = elim (sync_cases old ne
 -- what owes another moment nothing owes itself nothing
 pub stays_then_itself : (sum : List ℕ → ℕ) (P : ℕ) (content : List ℕ) (d e : Disk) → Stays sum P content d e → Stays sum P content e e
 stays_then_itself sum P content d e stays = record {
+  vouched = stays.vouched;
   kept = λ floor enough keeps. keeps;
   only = stays.only;
 }

@@ -12,7 +12,7 @@ use Rattle.crash.proofs.Disks.{base_is_image, image_alike, readable_stays}
 use Rattle.disk.specs.Images.{only_image}
 use Rattle.crash.specs.Moments.{through_end, through_joins, through_more, through_start, through_then}
 use Rattle.crash.proofs.Moments.{keeps_alike}
-use Rattle.crash.proofs.ResizeLaws.{cut_keeps_floor}
+use Rattle.crash.proofs.Promise.{guards_below, keeps_on, keeps_same, keeps_settle, resize_leaves_below}
 
 -- what is readable is an image
 abbrev pub ReadsImage : Life → Type 0
@@ -83,8 +83,7 @@ module _ (sum : List ℕ → ℕ) (P : ℕ) (content : List ℕ) where
   floors_sync old new answer image goes = elim (sync_cases old new answer goes) [
     | inl none ↦ floors_none old new none
     | inr (d, is, readable, inl (base, since)) ↦ floors_one old new d is (λ floor enough keeps. keeps_alike sum P content floor old.present d base since keeps)
-    | inr (d, is, readable, inr (base, since)) ↦ floors_one old new d is (λ floor enough keeps. λ left is_image.
-        subst (λ (l : List ℕ). take floor (text sum P l) ≡ take floor content) (sym (only_image d left since is_image ∙ base)) (keeps old.present.readable image))
+    | inr (d, is, readable, inr (base, since)) ↦ floors_one old new d is (λ floor enough keeps. keeps_settle sum P content floor old.present d (subst (λ (l : List ℕ). IsImage old.present l) (sym base) image) since keeps)
   ]
 
   -- a cut that leaves pages enough for the content
@@ -93,7 +92,8 @@ module _ (sum : List ℕ → ℕ) (P : ℕ) (content : List ℕ) where
   floors_resize k old new answer image within few goes = elim (resize_cases (k * (P + 12)) old new answer goes) [
     | inl none ↦ floors_none old new none
     | inr (d, is, base, since, partial) ↦
-        floors_one old new d is (λ floor enough keeps. cut_keeps_floor sum P k content floor old.present d old.present.readable base since image within (omega arith) keeps)
+        floors_one old new d is (λ floor enough keeps. keeps_on sum P content floor old.present d
+        (λ told inside guards. guards_below sum P k told floor (k * (P + 12)) old.present d (Resize (k * (P + 12))) base since (resize_leaves_below (k * (P + 12))) (omega arith) (omega (arith, enough, few)) guards) keeps)
   ]
 
   -- and is then made durable
@@ -102,15 +102,11 @@ module _ (sum : List ℕ → ℕ) (P : ℕ) (content : List ℕ) where
   floors_cut k old mid new cut synced image within few cuts syncs =
       floors_joins old mid new (floors_resize k old mid cut image within few cuts) (floors_sync mid new synced (resize_image (k * (P + 12)) old mid cut cuts image) syncs)
 
--- a floor of one content is one of another that begins alike
-pub keeps_same : (sum : List ℕ → ℕ) (P : ℕ) (content other : List ℕ) (floor : ℕ) (d : Disk) → take floor content ≡ take floor other → AllKeep sum P content floor d → AllKeep sum P other floor d
-keeps_same sum P content other floor d same keeps = λ image is_image. keeps image is_image ∙ same
-
 -- so where each floor of the text of what is readable is kept, each floor of any content is
 pub floors_of_content : (sum : List ℕ → ℕ) (P : ℕ) (content : List ℕ) (old new : Life) → ReadsImage old → KeepsFloors sum P (text sum P old.present.readable) old new → KeepsFloors sum P content old new
 floors_of_content sum P content old new image floors = λ floor enough keeps.
     let readable = text sum P old.present.readable in
-    let same : take floor readable ≡ take floor content = keeps old.present.readable image in
+    let same : take floor readable ≡ take floor content = keeps.kept old.present.readable image in
     let there : floor ≤ length readable = omega (arith, ap length same, length-take floor readable, length-take floor content) in
     through_then (AllKeep sum P readable floor) (AllKeep sum P content floor) old new (λ d kept. keeps_same sum P readable content floor d same kept)
     (floors floor there (keeps_same sum P content readable floor old.present (sym same) keeps))

@@ -5,11 +5,12 @@ pub mod BuiltLaws
 pub mod Disks
 pub mod PageFacts
 pub mod Promise
+pub mod DistinctLaws
 pub mod Moments
 pub mod Spared
 pub mod CutLaws
-pub mod ResizeLaws
 pub mod FloorLaws
 pub mod LookLaws
 pub mod BelowLaws
 pub mod ShrinkLaws
+pub mod SlotLaws

@@ -4,23 +4,26 @@ use Rattle.std.proofs.lemmas.List.{take-take}
 use Rattle.disk.specs.Disk.{Disk, Operation, Life, next}
 use Rattle.page.specs.Page.{text}
 use Rattle.crash.specs.Guard.{Guards, IsTruthful, IsChanceFree}
+use Rattle.crash.specs.Distinct.{IsVouched}
+use Rattle.crash.proofs.DistinctLaws.{vouched_alike, vouched_at_rest}
 use Rattle.crash.specs.Kept.{AllKeep, AllOnly, Through}
 use Rattle.crash.specs.Contents.{latest}
 use Rattle.crash.specs.Moments.{through_start, through_more, through_joins, through_end, through_then}
 use Rattle.crash.specs.Stays.{Stays, StaysThrough}
 use Rattle.crash.proofs.Disks.{base_is_whole, base_is_image, image_alike, image_covered, whole_covered}
-use Rattle.crash.proofs.Promise.{guarded_is_kept, floor_is_durable, guards_less, only_content, whole_is_chance_free}
+use Rattle.crash.proofs.Promise.{guarded_is_kept, floor_is_durable, guards_alike, guards_covered, guards_less, keeps_on, keeps_same, only_content, whole_is_chance_free}
 
 -- a truthful disk owes itself nothing
-pub stays_itself : (sum : List ℕ → ℕ) (P : ℕ) (content : List ℕ) (d : Disk) → IsTruthful sum P content d → Stays sum P content d d
-stays_itself sum P content d truthful = record {
+pub stays_itself : (sum : List ℕ → ℕ) (P : ℕ) (content : List ℕ) (d : Disk) → IsTruthful sum P content d → IsVouched sum P d → Stays sum P content d d
+stays_itself sum P content d truthful vouched = record {
+  vouched = vouched;
   kept = λ floor enough keeps. keeps;
   only = λ image is_image free. only_content sum P content d image truthful free;
 }
 
 -- what is kept is kept where only what is readable, the started syncs or the log differ
 pub keeps_alike : (sum : List ℕ → ℕ) (P : ℕ) (content : List ℕ) (floor : ℕ) (d e : Disk) → e.base ≡ d.base → e.since ≡ d.since → AllKeep sum P content floor d → AllKeep sum P content floor e
-keeps_alike sum P content floor d e base since keeps = λ image is_image. keeps image (image_alike d e image base since is_image)
+keeps_alike sum P content floor d e base since keeps = keeps_on sum P content floor d e (λ told within guards. guards_alike sum P told floor d e base since guards) keeps
 
 -- a chance-free image is one there too
 pub chance_free_alike : (sum : List ℕ → ℕ) (P : ℕ) (d e : Disk) (image : List ℕ) → e.base ≡ d.base → e.since ≡ d.since → IsChanceFree sum P e image → IsChanceFree sum P d image
@@ -30,13 +33,14 @@ chance_free_alike sum P d e image base since free =
 -- and nothing more is owed
 pub stays_alike : (sum : List ℕ → ℕ) (P : ℕ) (content : List ℕ) (c d e : Disk) → e.base ≡ d.base → e.since ≡ d.since → Stays sum P content c d → Stays sum P content c e
 stays_alike sum P content c d e base since stays = record {
+  vouched = vouched_alike sum P d e base since stays.vouched;
   kept = λ floor enough keeps. keeps_alike sum P content floor d e base since (stays.kept floor enough keeps);
   only = λ image is_image free. stays.only image (image_alike d e image base since is_image) (chance_free_alike sum P d e image base since free);
 }
 
 -- what is kept is kept when the operations that a sync covers become durable
 pub keeps_covered : (sum : List ℕ → ℕ) (P : ℕ) (content : List ℕ) (floor : ℕ) (d e : Disk) (os ps : List Operation) → d.since ≡ os ++ ps → e.base ≡ latest d.base os → e.since ≡ ps → AllKeep sum P content floor d → AllKeep sum P content floor e
-keeps_covered sum P content floor d e os ps since base rest keeps = λ image is_image. keeps image (image_covered d e os ps since base rest image is_image)
+keeps_covered sum P content floor d e os ps since base rest keeps = keeps_on sum P content floor d e (λ told within guards. guards_covered sum P told floor d e os ps since base rest guards) keeps
 
 -- a chance-free image was one before
 pub chance_free_covered : (sum : List ℕ → ℕ) (P : ℕ) (d e : Disk) (os ps : List Operation) (image : List ℕ) → d.since ≡ os ++ ps → e.base ≡ latest d.base os → e.since ≡ ps → IsChanceFree sum P e image → IsChanceFree sum P d image
@@ -44,19 +48,21 @@ chance_free_covered sum P d e os ps image since base rest free =
     λ p page is s some. let was = free p page is s some in (was.0, was.1, whole_covered d e os ps since base rest was.0 was.2, was.3, was.4, was.5)
 
 -- and nothing more is owed
-pub stays_covered : (sum : List ℕ → ℕ) (P : ℕ) (content : List ℕ) (c d e : Disk) (os ps : List Operation) → d.since ≡ os ++ ps → e.base ≡ latest d.base os → e.since ≡ ps → Stays sum P content c d → Stays sum P content c e
-stays_covered sum P content c d e os ps since base rest stays = record {
+pub stays_covered : (sum : List ℕ → ℕ) (P : ℕ) (content : List ℕ) (c d e : Disk) (os ps : List Operation) → d.since ≡ os ++ ps → e.base ≡ latest d.base os → e.since ≡ ps → IsVouched sum P e → Stays sum P content c d → Stays sum P content c e
+stays_covered sum P content c d e os ps since base rest vouched stays = record {
+  vouched = vouched;
   kept = λ floor enough keeps. keeps_covered sum P content floor d e os ps since base rest (stays.kept floor enough keeps);
   only = λ image is_image free. stays.only image (image_covered d e os ps since base rest image is_image) (chance_free_covered sum P d e os ps image since base rest free);
 }
 
 -- so for a sync of all that was done
 pub stays_settled : (sum : List ℕ → ℕ) (P : ℕ) (content : List ℕ) (c d e : Disk) → e.base ≡ latest d.base d.since → e.since ≡ [] → Stays sum P content c d → Stays sum P content c e
-stays_settled sum P content c d e base rest stays = stays_covered sum P content c d e d.since [] (sym (append-nil d.since)) base rest stays
+stays_settled sum P content c d e base rest stays = stays_covered sum P content c d e d.since [] (sym (append-nil d.since)) base rest (vouched_at_rest sum P e rest) stays
 
 -- what guards as much as the base's text had, and is truthful, owes nothing
-pub stays_guarded : (sum : List ℕ → ℕ) (P : ℕ) (content : List ℕ) (floor : ℕ) (d e : Disk) → length (text sum P d.base) ≤ floor → Guards sum P content floor e → IsTruthful sum P content e → Stays sum P content d e
-stays_guarded sum P content floor d e durable guards truthful = record {
+pub stays_guarded : (sum : List ℕ → ℕ) (P : ℕ) (content : List ℕ) (floor : ℕ) (d e : Disk) → length (text sum P d.base) ≤ floor → Guards sum P content floor e → IsTruthful sum P content e → IsVouched sum P e → Stays sum P content d e
+stays_guarded sum P content floor d e durable guards truthful vouched = record {
+  vouched = vouched;
   kept = λ less enough keeps. guarded_is_kept sum P content less e (guards_less sum P content floor less e (omega (arith, floor_is_durable sum P content less d keeps enough)) guards) enough;
   only = λ image is_image free. only_content sum P content e image truthful free;
 }
@@ -66,6 +72,7 @@ pub stays_joins : (sum : List ℕ → ℕ) (P : ℕ) (content : List ℕ) (c d e
 stays_joins sum P content c d e first second = record {
   kept = λ floor enough keeps. second.kept floor enough (first.kept floor enough keeps);
   only = second.only;
+  vouched = second.vouched;
 }
 
 -- one call after another
@@ -82,8 +89,8 @@ stays_through_more sum P content old new d through later =
     through_more (Stays sum P content old.present) old new d through (stays_joins sum P content old.present new.present d reached later)
 
 -- no moment has passed
-pub stays_through_start : (sum : List ℕ → ℕ) (P : ℕ) (content : List ℕ) (life : Life) → IsTruthful sum P content life.present → StaysThrough sum P content life life
-stays_through_start sum P content life truthful = through_start (Stays sum P content life.present) life (stays_itself sum P content life.present truthful)
+pub stays_through_start : (sum : List ℕ → ℕ) (P : ℕ) (content : List ℕ) (life : Life) → IsTruthful sum P content life.present → IsVouched sum P life.present → StaysThrough sum P content life life
+stays_through_start sum P content life truthful vouched = through_start (Stays sum P content life.present) life (stays_itself sum P content life.present truthful vouched)
 
 -- so each floor that was kept is kept at each moment
 pub kept_through : (sum : List ℕ → ℕ) (P : ℕ) (content : List ℕ) (old new : Life) → StaysThrough sum P content old new → (floor : ℕ) → floor ≤ length content → AllKeep sum P content floor old.present → Through (AllKeep sum P content floor) old new
@@ -93,12 +100,12 @@ kept_through sum P content old new through floor enough keeps =
 -- and chance aside there is only content
 pub only_through : (sum : List ℕ → ℕ) (P : ℕ) (content after : List ℕ) (old new : Life) → StaysThrough sum P content old new → Through (AllOnly sum P content after) old new
 only_through sum P content after old new through =
-    through_then (Stays sum P content old.present) (AllOnly sum P content after) old new (λ d stays. λ image is_image free. inl (stays.only image is_image free)) through
+    through_then (Stays sum P content old.present) (AllOnly sum P content after) old new (λ d stays. record { only = λ image is_image free. inl (stays.only image is_image free); vouched = stays.vouched }) through
 
 -- also where the content is the one after the call
 pub only_after : (sum : List ℕ → ℕ) (P : ℕ) (before content : List ℕ) (old new : Life) → StaysThrough sum P content old new → Through (AllOnly sum P before content) old new
 only_after sum P before content old new through =
-    through_then (Stays sum P content old.present) (AllOnly sum P before content) old new (λ d stays. λ image is_image free. inr (stays.only image is_image free)) through
+    through_then (Stays sum P content old.present) (AllOnly sum P before content) old new (λ d stays. record { only = λ image is_image free. inr (stays.only image is_image free); vouched = stays.vouched }) through
 
 -- a content that grows keeps its beginning
 pub same_floor : (content longer : List ℕ) (floor : ℕ) → content ≡ take (length content) longer → floor ≤ length content → take floor content ≡ take floor longer
@@ -106,15 +113,16 @@ same_floor content longer floor begins enough = ap (λ (l : List ℕ). take floo
 
 -- so a floor of the content before is one of the longer content
 pub keeps_longer : (sum : List ℕ → ℕ) (P : ℕ) (content longer : List ℕ) (floor : ℕ) (d : Disk) → content ≡ take (length content) longer → floor ≤ length content → AllKeep sum P content floor d → AllKeep sum P longer floor d
-keeps_longer sum P content longer floor d begins enough keeps = λ image is_image. keeps image is_image ∙ same_floor content longer floor begins enough
+keeps_longer sum P content longer floor d begins enough keeps = keeps_same sum P content longer floor d (same_floor content longer floor begins enough) keeps
 
 -- and the other way round
 pub keeps_shorter : (sum : List ℕ → ℕ) (P : ℕ) (content longer : List ℕ) (floor : ℕ) (d : Disk) → content ≡ take (length content) longer → floor ≤ length content → AllKeep sum P longer floor d → AllKeep sum P content floor d
-keeps_shorter sum P content longer floor d begins enough keeps = λ image is_image. keeps image is_image ∙ sym (same_floor content longer floor begins enough)
+keeps_shorter sum P content longer floor d begins enough keeps = keeps_same sum P longer content floor d (sym (same_floor content longer floor begins enough)) keeps
 
 -- what is owed for a content is owed for a longer one: where only the content is there, no more of it can have been kept
 pub stays_longer : (sum : List ℕ → ℕ) (P : ℕ) (content longer : List ℕ) (d e : Disk) → content ≡ take (length content) longer → Stays sum P content d d → Stays sum P content d e → Stays sum P longer d e
 stays_longer sum P content longer d e begins before stays = record {
+  vouched = stays.vouched;
   kept = λ floor enough keeps.
       let base_only = before.only d.base (base_is_image d) (whole_is_chance_free sum P d d.base (base_is_whole d.base d.since)) in
       let durable = floor_is_durable sum P longer floor d keeps enough in

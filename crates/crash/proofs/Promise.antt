@@ -1,13 +1,14 @@
 -- The laws of the promise: what is guarded is kept, and a truthful disk says only the content.
-use Rattle.std.proofs.Common.{◌≡◌, inl, inr, ℕ, ◌+◌, ◌-◌, ◌*◌, ◌<◌, ◌≤◌, min, List, [], ◌∷◌, ◌++◌, length, take, drop, slice_get, Some, refl, sym, ap, ◌∙◌, subst, arith, length-take, length-take-le, length-drop, mul-le-mul_right, le_trans}
+use Rattle.std.proofs.Common.{◌≡◌, inl, inr, ℕ, ◌+◌, ◌-◌, ◌*◌, ◌<◌, ◌≤◌, min, List, [], ◌∷◌, ◌++◌, length, take, drop, slice_get, Some, refl, sym, ap, ◌∙◌, subst, arith, length-take, length-take-le, length-drop, length-append, mul-le-mul_right, le_trans, Bool, true, false}
+use Rattle.std.specs.Prelude.{if◌then◌else◌, ◌==◌}
 use Rattle.std.proofs.lemmas.Bool.{cases_lt}
 use Rattle.disk.specs.Disk.{Disk, Operation, IsImage, IsWhole, applied}
 use Rattle.disk.specs.Disk.Operation.{Write, Resize}
 use Rattle.page.specs.Slot.{slot_offset}
-use Rattle.page.specs.Page.{slot_of, verified_len, value_len, pages, text}
+use Rattle.page.specs.Page.{slot_of, verified_len, value, value_len, pages, text, text_of_pages}
 use Rattle.page.specs.declared.slot.Slot.{Slot}
 use Rattle.crash.specs.Guard.{Held, IsSlotFor, IsGuarded, Guards, IsTruthful, IsChanceFree}
-use Rattle.crash.specs.Kept.{AllKeep}
+use Rattle.crash.specs.Kept.{AllKeep, AreHeld}
 use Rattle.crash.specs.Contents.{latest}
 use Rattle.crash.proofs.Disks.{fixed_length, fixed_in_image, fixed_stays, fixed_settles, fixed_at_rest, fixed_alike, Leaves, resize_leaves, write_after_leaves, base_is_image, one_more_whole, fixed_covered, whole_covered, length-applied_resize}
 use Rattle.disk.specs.Images.{only_image}
@@ -49,15 +50,22 @@ guarded_says sum P content floor d p image g is_image =
       begins = take_same (min P (floor - p * P)) g.len page (drop (p * P) content) g.enough begins;
     }
 
--- what is guarded is kept
+-- what slots hold is kept
+pub held_is_kept : (sum : List ℕ → ℕ) (P : ℕ) (content : List ℕ) (floor : ℕ) (d : Disk) → AreHeld sum P content floor d → AllKeep sum P content floor d
+held_is_kept sum P content floor d held = record {
+  kept = λ image is_image.
+      text_begins sum P (pages P image) held.told floor held.within (λ p below. guarded_says sum P held.told floor d p image (held.guards p below) is_image) ∙ held.same;
+  held = held;
+}
+
+-- what is guarded is
 pub guarded_is_kept : (sum : List ℕ → ℕ) (P : ℕ) (content : List ℕ) (floor : ℕ) (d : Disk) → Guards sum P content floor d → floor ≤ length content → AllKeep sum P content floor d
-guarded_is_kept sum P content floor d guards enough =
-    λ image is_image. text_begins sum P (pages P image) content floor enough (λ p below. guarded_says sum P content floor d p image (guards p below) is_image)
+guarded_is_kept sum P content floor d guards enough = held_is_kept sum P content floor d (record { told = content; within = enough; same = refl; guards = guards })
 
 -- a floor that is kept is at most what is durable
 pub floor_is_durable : (sum : List ℕ → ℕ) (P : ℕ) (content : List ℕ) (floor : ℕ) (d : Disk) → AllKeep sum P content floor d → floor ≤ length content → floor ≤ length (text sum P d.base)
 floor_is_durable sum P content floor d keeps enough =
-    let same = ap length (keeps d.base (base_is_image d)) in
+    let same = ap length (keeps.kept d.base (base_is_image d)) in
     omega (arith, length-take floor (text sum P d.base), length-take floor content, same)
 
 -- an operation leaves a page that is held: its bytes, its slot and its end
@@ -232,7 +240,44 @@ guards_at_rest sum P d some at_rest =
 
 -- so every image has that text
 pub keeps_at_rest : (sum : List ℕ → ℕ) (P : ℕ) (d : Disk) → d.since ≡ [] → AllKeep sum P (text sum P d.base) (length (text sum P d.base)) d
-keeps_at_rest sum P d at_rest = λ image is_image. ap (λ (l : List ℕ). take (length (text sum P d.base)) (text sum P l)) (only_image d image at_rest is_image)
+keeps_at_rest sum P d at_rest = guarded_is_kept sum P (text sum P d.base) (length (text sum P d.base)) d (elim (cases_lt 0 P) [
+  | inl some ↦ guards_at_rest sum P d some at_rest
+  | inr none ↦ λ p below. absurd (omega (arith, below, text_of_none (pages P d.base) none))
+]) (omega arith)
+  where
+    -- pages without a payload say nothing
+    text_of_none : (ps : List (List ℕ)) → P ≤ 0 → length (text_of_pages sum P ps) ≤ 0
+    text_of_none [] none = omega arith
+    text_of_none (p ∷ ps) none =
+        omega (arith, length-append (value sum P p) (if value_len sum P p == P then text_of_pages sum P ps else []), length-take (value_len sum P p) p, value_len_le sum P p, none, at_most (value_len sum P p == P) (text_of_none ps none))
+      where
+        at_most : (b : Bool) → length (text_of_pages sum P ps) ≤ 0 → length (if b then text_of_pages sum P ps else []) ≤ 0
+        at_most true few = few
+        at_most false few = omega arith
+
+-- what is held on one disk and on another is kept there
+pub keeps_on : (sum : List ℕ → ℕ) (P : ℕ) (content : List ℕ) (floor : ℕ) (d e : Disk) → ((told : List ℕ) → floor ≤ length told → Guards sum P told floor d → Guards sum P told floor e) → AllKeep sum P content floor d → AllKeep sum P content floor e
+keeps_on sum P content floor d e turned keeps =
+    let held = keeps.held in
+    held_is_kept sum P content floor e (record { told = held.told; within = held.within; same = held.same; guards = turned held.told held.within held.guards })
+
+-- a floor of one content is one of another that begins alike
+pub keeps_same : (sum : List ℕ → ℕ) (P : ℕ) (content other : List ℕ) (floor : ℕ) (d : Disk) → take floor content ≡ take floor other → AllKeep sum P content floor d → AllKeep sum P other floor d
+keeps_same sum P content other floor d same keeps = held_is_kept sum P other floor d (record { told = keeps.held.told; within = keeps.held.within; same = keeps.held.same ∙ same; guards = keeps.held.guards })
+
+-- and fewer bytes are one
+pub keeps_less : (sum : List ℕ → ℕ) (P : ℕ) (content : List ℕ) (floor less : ℕ) (d : Disk) → less ≤ floor → AllKeep sum P content floor d → AllKeep sum P content less d
+keeps_less sum P content floor less d few keeps =
+    let held = keeps.held in
+    held_is_kept sum P content less d (record { told = held.told; within = omega (arith, few, held.within); same = take_same less floor held.told content few held.same; guards = guards_less sum P held.told floor less d few held.guards })
+
+-- none are
+pub keeps_nothing : (sum : List ℕ → ℕ) (P : ℕ) (content : List ℕ) (d : Disk) → AllKeep sum P content 0 d
+keeps_nothing sum P content d = held_is_kept sum P content 0 d (record { told = []; within = omega arith; same = refl; guards = λ p below. absurd (omega (arith, below)) })
+
+-- when an image becomes the base, as after a crash
+pub keeps_settle : (sum : List ℕ → ℕ) (P : ℕ) (content : List ℕ) (floor : ℕ) (d e : Disk) → IsImage d e.base → e.since ≡ [] → AllKeep sum P content floor d → AllKeep sum P content floor e
+keeps_settle sum P content floor d e is_image at_rest keeps = keeps_on sum P content floor d e (λ told within guards. guards_settle sum P told floor d e is_image at_rest guards) keeps
 
 -- each slot of these bytes that verifies does so over bytes of the content
 abbrev pub SaysOnly : (List ℕ → ℕ) → ℕ → List ℕ → List ℕ → Type 0

@@ -11,6 +11,7 @@ use Rattle.page.specs.declared.slot.Slot.TheVariants.{First, Second}
 use Rattle.page.specs.declared.slot.ActiveChecksum.{ActiveChecksum}
 use Rattle.crash.specs.Built.{kept_slot, kept_len, page_of, built_pages, built}
 use Rattle.crash.specs.Guard.{Held, IsGuarded, Guards, IsTruthful}
+use Rattle.crash.specs.Distinct.{IsVouched}
 use Rattle.crash.specs.Contents.{latest}
 use Rattle.crash.specs.Stays.{Stays}
 use Rattle.crash.proofs.Disks.{latest_is_whole, write_in_front_leaves, write_again_leaves}
@@ -173,13 +174,13 @@ truthful_through_flush sum P full content d e durable m tip written small fits t
 
 -- a flush owes nothing, done or failed, where what was durable lies below the tip
 pub flush_stays_full : (sum : List ℕ → ℕ) (P full : ℕ) (content : List ℕ) (floor : ℕ) (d e : Disk) (written : List ℕ) → e.base ≡ d.base → e.since ≡ d.since ++ Write (full * (P + 12)) written ∷ [] → floor ≤ full * P → length (text sum P d.base) ≤ floor
-    → Guards sum P content floor d → IsTruthful sum P content e → Stays sum P content d e
-flush_stays_full sum P full content floor d e written base since few durable guards truthful =
-    stays_guarded sum P content floor d e durable (flush_keeps_full sum P full content floor d e written base since few guards) truthful
+    → Guards sum P content floor d → IsTruthful sum P content e → IsVouched sum P e → Stays sum P content d e
+flush_stays_full sum P full content floor d e written base since few durable guards truthful vouched =
+    stays_guarded sum P content floor d e durable (flush_keeps_full sum P full content floor d e written base since few guards) truthful vouched
 
 -- or reaches into the tip's page, as far as the durable slot
 pub flush_stays_tip : (sum : List ℕ → ℕ) (P full : ℕ) (content : List ℕ) (len : ℕ) (d e : Disk) (w : ActiveChecksum) (m : ℕ) (tip : List ℕ) → e.base ≡ d.base → e.since ≡ d.since ++ Write (full * (P + 12)) (built sum P (Some w) m tip) ∷ []
     → drop (full * P) content ≡ tip → full * P + len ≤ length content → length (text sum P d.base) ≤ full * P + len
-    → Guards sum P content (full * P) d → Held sum P d full w.slot (slot_bytes w.len w.crc) (take len (drop (full * P) content)) → IsTruthful sum P content e → Stays sum P content d e
-flush_stays_tip sum P full content len d e w m tip base since after there durable guards held truthful =
-    stays_guarded sum P content (full * P + len) d e durable (flush_keeps_tip sum P full content len d e w m tip base since after there guards held) truthful
+    → Guards sum P content (full * P) d → Held sum P d full w.slot (slot_bytes w.len w.crc) (take len (drop (full * P) content)) → IsTruthful sum P content e → IsVouched sum P e → Stays sum P content d e
+flush_stays_tip sum P full content len d e w m tip base since after there durable guards held truthful vouched =
+    stays_guarded sum P content (full * P + len) d e durable (flush_keeps_tip sum P full content len d e w m tip base since after there guards held) truthful vouched

@@ -1,5 +1,5 @@
 -- The bytes of a flush: physical pages, of which the first carries the durable slot.
-use Rattle.std.specs.Prelude.{ℕ, zero, suc, ◌+◌, ◌-◌, List, [], ◌∷◌, ◌++◌, take, drop, length}
+use Rattle.std.specs.Prelude.{ℕ, zero, suc, ◌-◌, List, [], ◌∷◌, ◌++◌, take, drop, length}
 use Rattle.std.specs.Prelude.{replicate, Option, Some, None, Bool, true, false}
 use Rattle.page.specs.Slot.{other}
 use Rattle.page.specs.Page.{slot_bytes}

@@ -1,24 +1,35 @@
 -- What a crash keeps of a content, and at each moment.
-use Rattle.std.specs.Prelude.{◌≡◌, ◌⊎◌, ℕ, List, [], ◌∷◌, take, length}
+use Rattle.std.specs.Prelude.{◌≡◌, ◌⊎◌, ◌≤◌, ℕ, List, [], ◌∷◌, take, length}
 use Rattle.disk.specs.Disk.{Disk, IsImage, Life, life_after}
 use Rattle.page.specs.Page.{text}
-use Rattle.crash.specs.Guard.{IsChanceFree}
+use Rattle.crash.specs.Guard.{Guards, IsChanceFree}
+use Rattle.crash.specs.Distinct.{IsVouched}
 
 -- the text of an image begins with the content's first bytes
 abbrev pub ImageKeeps : (List ℕ → ℕ) → ℕ → List ℕ → ℕ → List ℕ → Type 0
 ImageKeeps sum P content floor image = take floor (text sum P image) ≡ take floor content
 
--- whatever a crash leaves does
-abbrev pub AllKeep : (List ℕ → ℕ) → ℕ → List ℕ → ℕ → Disk → Type 0
-AllKeep sum P content floor d =
-    (image : List ℕ) → IsImage d image → ImageKeeps sum P content floor image
+-- slots hold the content's first bytes: the first of some bytes that begin alike
+pub record AreHeld (sum : List ℕ → ℕ) (P : ℕ) (content : List ℕ) (floor : ℕ) (d : Disk)
+    : Type 0 where
+  pub told : List ℕ
+  pub within : floor ≤ length told
+  pub same : take floor told ≡ take floor content
+  pub guards : Guards sum P told floor d
+
+-- whatever a crash leaves does; and slots hold these bytes, which a recovery leaves alone
+pub record AllKeep (sum : List ℕ → ℕ) (P : ℕ) (content : List ℕ) (floor : ℕ) (d : Disk)
+    : Type 0 where
+  pub kept : (image : List ℕ) → IsImage d image → ImageKeeps sum P content floor image
+  pub held : AreHeld sum P content floor d
 
 -- chance aside, the text of whatever a crash leaves is a prefix of the content before, or of that
--- after
-abbrev pub AllOnly : (List ℕ → ℕ) → ℕ → List ℕ → List ℕ → Disk → Type 0
-AllOnly sum P before after d = (image : List ℕ) → IsImage d image → IsChanceFree sum P d image
-    → (text sum P image ≡ take (length (text sum P image)) before) ⊎
-    (text sum P image ≡ take (length (text sum P image)) after)
+-- after; and where no checksum collides there is no chance
+pub record AllOnly (sum : List ℕ → ℕ) (P : ℕ) (before after : List ℕ) (d : Disk) : Type 0 where
+  pub only : (image : List ℕ) → IsImage d image → IsChanceFree sum P d image
+      → (text sum P image ≡ take (length (text sum P image)) before) ⊎
+      (text sum P image ≡ take (length (text sum P image)) after)
+  pub vouched : IsVouched sum P d
 
 -- Q holds of each disk in the list
 abbrev pub Each : (Disk → Type 0) → List Disk → Type 0

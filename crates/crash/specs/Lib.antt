@@ -2,6 +2,7 @@ pub mod Contents
 pub mod Full
 pub mod Built
 pub mod Guard
+pub mod Distinct
 pub mod Kept
 pub mod Moments
 pub mod Below

@@ -6,12 +6,14 @@ use Rattle.std.specs.declared.alloc.Global.{Global}
 use Rattle.std.proofs.lemmas.List.{append_assoc, take-append-le, take-take, take_all, drop_at}
 use Rattle.std.proofs.lemmas.Bool.{cases_lt}
 use Rattle.std.proofs.Math.Seq.{take-length}
-use Rattle.disk.specs.Disk.{Disk, Life, IsImage, LeavesNoMore, Entry, SomeFailed, HasFailed, LogGrows}
+use Rattle.disk.specs.Disk.{Disk, Life, IsImage, Entry, SomeFailed, HasFailed, LogGrows}
 use Rattle.disk.specs.declared.error.Error.{Error}
 use Rattle.disk.specs.declared.error.Error.TheVariants.{ReadFailed, WriteFailed, ResizeFailed, SyncFailed, InvalidChecksum, BlobInsufficientLength, OffsetOverflow, OutOfMemory, IdsExhausted}
 use Rattle.page.specs.Page.{text}
 use Rattle.cache.specs.CacheState.{CacheState}
 use Rattle.cache.specs.Pages.{IsFresh}
+use Rattle.crash.proofs.DistinctLaws.{distinct_is_chance_free}
+use Rattle.crash.proofs.Promise.{keeps_less, keeps_same, keeps_settle}
 use Rattle.crash.specs.Kept.{AllKeep, AllOnly, Through}
 use Rattle.crash.specs.Stays.{KeepsAllFloors, LeavesOnly, KeepsAll}
 use Rattle.crash.specs.Looks.{Looked, looked_start, looked_joins}
@@ -63,10 +65,13 @@ text_prefix own read content is = subst (λ (l : List ℕ). IsPrefix (records ow
 -- contents that are left leave their records
 pub only_records : (sum own : List ℕ → ℕ) (P : ℕ) (before after : List ℕ) (all : List (List ℕ)) (d : Disk) → IsPrefix (records own before) all → IsPrefix (records own after) all
     → AllOnly sum P before after d → OnlyRecords sum own P all d
-only_records sum own P before after all d first second only = λ image is_image free. elim (only image is_image free) [
-  | inl is ↦ prefix_trans (records own (text sum P image)) (records own before) all (text_prefix own (text sum P image) before is) first
-  | inr is ↦ prefix_trans (records own (text sum P image)) (records own after) all (text_prefix own (text sum P image) after is) second
-]
+only_records sum own P before after all d first second only = record {
+  only = λ image is_image free. elim (only.only image is_image free) [
+    | inl is ↦ prefix_trans (records own (text sum P image)) (records own before) all (text_prefix own (text sum P image) before is) first
+    | inr is ↦ prefix_trans (records own (text sum P image)) (records own after) all (text_prefix own (text sum P image) after is) second
+  ];
+  vouched = only.vouched;
+}
 
 pub leaves_records : (sum own : List ℕ → ℕ) (P : ℕ) (before after : List ℕ) (all : List (List ℕ)) (old new : Life) → IsPrefix (records own before) all → IsPrefix (records own after) all
     → LeavesOnly sum P before after old new → LeavesRecords sum own P all old new
@@ -85,7 +90,7 @@ pub commits_longer : (sum own : List ℕ → ℕ) (P : ℕ) (content more : List
 commits_longer sum own P content more n d commits = record {
   floor = commits.floor;
   within = omega (arith, commits.within, length-append content more);
-  kept = λ image is_image. commits.kept image is_image ∙ front content more commits.floor commits.within;
+  kept = keeps_same sum P content (content ++ more) commits.floor d (front content more commits.floor commits.within) commits.kept;
   there = subst (λ (l : List ℕ). n ≤ length (records own l)) (front content more commits.floor commits.within) commits.there;
 }
 
@@ -211,7 +216,7 @@ take_first n xs ys le = take-append-le n xs ys le
 -- what comes back begins with what was committed
 pub brings_back : (sum own : List ℕ → ℕ) (P : ℕ) (d : Disk) (image : List ℕ) → IsImage d image → BringsBack sum own P d (records own (text sum P image))
 brings_back sum own P d image is_image = λ content n commits.
-    let kept : take commits.floor (text sum P image) ≡ take commits.floor content = commits.kept image is_image in
+    let kept : take commits.floor (text sum P image) ≡ take commits.floor content = commits.kept.kept image is_image in
     let read = records-take own commits.floor (text sum P image) in
     let all = records-take own commits.floor content in
     let more = read.0 in
@@ -363,7 +368,7 @@ reads_join sum w cache between after old mid new first second =
 pub leaves_or : (sum : List ℕ → ℕ) (P : ℕ) (held after : List ℕ) (old new : Life) → LeavesContent sum P held old new → LeavesOnly sum P held after old new
 leaves_or sum P held after old new only =
     through_then (AllOnly sum P held held) (AllOnly sum P held after) old new
-    (λ d left. λ image is_image free. elim (left image is_image free) [ inl is ↦ inl is | inr is ↦ inl is ]) only
+    (λ d left. record { only = λ image is_image free. elim (left.only image is_image free) [ inl is ↦ inl is | inr is ↦ inl is ]; vouched = left.vouched }) only
 
 -- all floors are kept, so those within the first n bytes are
 pub floors_within : (sum : List ℕ → ℕ) (n P : ℕ) (old new : Life) → KeepsAllFloors sum P old new → KeepsFloorsWithin n sum P old new
@@ -439,15 +444,14 @@ not_found own held offset rest old new e (Err x) is refused = subst (λ (y : Err
 
 -- a floor is one of less, too
 less_kept : (sum : List ℕ → ℕ) (P : ℕ) (content : List ℕ) (floor less : ℕ) (d : Disk) → less ≤ floor → AllKeep sum P content floor d → AllKeep sum P content less d
-less_kept sum P content floor less d le kept = λ image is_image.
-    sym (take-take less floor (text sum P image) le) ∙ ap (λ (l : List ℕ). take less l) (kept image is_image) ∙ take-take less floor content le
+less_kept sum P content floor less d le kept = keeps_less sum P content floor less d le kept
 
 -- of a content and of its first n bytes the floors within these are the same
 first_kept : (sum : List ℕ → ℕ) (P n : ℕ) (content : List ℕ) (floor : ℕ) (d : Disk) → floor ≤ n → AllKeep sum P content floor d → AllKeep sum P (take n content) floor d
-first_kept sum P n content floor d le kept = λ image is_image. kept image is_image ∙ sym (take-take floor n content le)
+first_kept sum P n content floor d le kept = keeps_same sum P content (take n content) floor d (sym (take-take floor n content le)) kept
 
 all_kept : (sum : List ℕ → ℕ) (P n : ℕ) (content : List ℕ) (floor : ℕ) (d : Disk) → floor ≤ n → AllKeep sum P (take n content) floor d → AllKeep sum P content floor d
-all_kept sum P n content floor d le kept = λ image is_image. kept image is_image ∙ take-take floor n content le
+all_kept sum P n content floor d le kept = keeps_same sum P (take n content) content floor d (take-take floor n content le) kept
 
 -- floors within the first n bytes of any content are kept from mid on
 within_kept : (sum : List ℕ → ℕ) (P n : ℕ) (content : List ℕ) (floor : ℕ) (mid new : Life) → floor ≤ n → floor ≤ length content → KeepsFloorsWithin n sum P mid new
@@ -487,7 +491,7 @@ trim_commits sum own P T old mid new is_image is keeps within = λ content n com
     let less : floor ≤ commits.floor = omega arith in
     let most : floor ≤ m = omega arith in
     let enough : floor ≤ length content = omega (arith, less, commits.within) in
-    let same : take commits.floor T ≡ take commits.floor content = ap (λ (l : List ℕ). take commits.floor l) (sym is) ∙ commits.kept old.present.readable is_image in
+    let same : take commits.floor T ≡ take commits.floor content = ap (λ (l : List ℕ). take commits.floor l) (sym is) ∙ commits.kept.kept old.present.readable is_image in
     let first : Through (AllKeep sum P content floor) old mid = keeps content floor enough (less_kept sum P content commits.floor floor old.present less commits.kept) in
     through_then (AllKeep sum P content floor) (Commits sum own P content n) old new
     (λ d kept. record { floor = floor; within = enough; kept = kept; there = whole_commits sum own P T content commits.floor n commits.within same commits.there })
@@ -560,18 +564,18 @@ brought_back sum own cache after capacity d image old new (Err e) is_image is re
 
 pub brought_only : (sum own : List ℕ → ℕ) (cache after : CacheState) (capacity : ℕ) (d : Disk) (image : List ℕ) (old new : Life) (result : Result (WriterState × Vec (List ℕ) Global) Error) → IsImage d image
     → old.present.readable ≡ image → RecoversJournal sum own cache after capacity old new result → IfOk result (λ r. BringsOnly sum own cache.page_size d image r.1.items)
-brought_only sum own cache after capacity d image old new (Ok r) is_image is recovered = λ free all only.
+brought_only sum own cache after capacity d image old new (Ok r) is_image is recovered = λ distinct all only.
     let P = cache.page_size in
     let found : r.1.items ≡ records own (text sum P image) = recovered.given ∙ ap (λ (l : List ℕ). records own (text sum P l)) is in
-    subst (λ (rs : List (List ℕ)). IsPrefix rs all) (sym found) (only image is_image free)
+    subst (λ (rs : List (List ℕ)). IsPrefix rs all) (sym found) (only.only image is_image (distinct_is_chance_free sum P d image only.vouched is_image distinct))
 brought_only sum own cache after capacity d image old new (Err e) is_image is recovered = tt
 
 -- what was committed as a blob crashed still is: a crash of what it left leaves nothing else
-pub commits_left : (sum own : List ℕ → ℕ) (P : ℕ) (content : List ℕ) (n : ℕ) (d e : Disk) → LeavesNoMore d e → Commits sum own P content n d → Commits sum own P content n e
-commits_left sum own P content n d e less commits = record {
+pub commits_left : (sum own : List ℕ → ℕ) (P : ℕ) (content : List ℕ) (n : ℕ) (d e : Disk) → IsImage d e.base → e.since ≡ [] → Commits sum own P content n d → Commits sum own P content n e
+commits_left sum own P content n d e is_image at_rest commits = record {
   floor = commits.floor;
   within = commits.within;
-  kept = λ image is_image. commits.kept image (less image is_image);
+  kept = keeps_settle sum P content commits.floor d e is_image at_rest commits.kept;
   there = commits.there;
 }
 

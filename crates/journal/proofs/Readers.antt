@@ -8,6 +8,8 @@ use Rattle.disk.specs.declared.error.Error.{Error}
 use Rattle.cache.specs.CacheState.{CacheState}
 use Rattle.cache.specs.Pages.{IsFresh}
 use Rattle.crash.specs.Guard.{IsChanceFree}
+use Rattle.crash.proofs.DistinctLaws.{vouched_alike}
+use Rattle.crash.proofs.Moments.{keeps_alike}
 use Rattle.crash.specs.Kept.{AllKeep, AllOnly}
 use Rattle.crash.specs.Looks.{Looked, SameButLog, looked_start, looked_joins}
 use Rattle.crash.specs.Moments.{through_then}
@@ -145,12 +147,15 @@ image_before d e image same is =
 
 pub looked_keeps : (sum : List ℕ → ℕ) (P : ℕ) (old new : Life) → Looked old new → KeepsAllFloors sum P old new
 looked_keeps sum P old new looked = λ content floor enough kept.
-    through_then (SameButLog old.present) (AllKeep sum P content floor) old new (λ d same image is. kept image (image_before old.present d image same is)) looked.through
+    through_then (SameButLog old.present) (AllKeep sum P content floor) old new
+    (λ d same. keeps_alike sum P content floor old.present d (ap (λ (x : Disk). x.base) same) (ap (λ (x : Disk). x.since) same) kept) looked.through
 
 -- nor are other texts left
 only_later : (sum : List ℕ → ℕ) (P : ℕ) (held : List ℕ) (d e : Disk) → SameButLog d e → AllOnly sum P held held d → AllOnly sum P held held e
-only_later sum P held d e same only = λ image is free.
-    only image (image_before d e image same is) (subst (λ (x : Disk). IsChanceFree sum P x image) same free)
+only_later sum P held d e same only = record {
+  only = λ image is free. only.only image (image_before d e image same is) (subst (λ (x : Disk). IsChanceFree sum P x image) same free);
+  vouched = vouched_alike sum P d e (ap (λ (x : Disk). x.base) same) (ap (λ (x : Disk). x.since) same) only.vouched;
+}
 
 pub looked_leaves : (sum : List ℕ → ℕ) (P : ℕ) (held : List ℕ) (old new : Life) → Looked old new → AllOnly sum P held held old.present → LeavesOnly sum P held held old new
 looked_leaves sum P held old new looked only =

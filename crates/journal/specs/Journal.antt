@@ -10,6 +10,7 @@ use Rattle.page.specs.Page.{text}
 use Rattle.cache.specs.CacheState.{CacheState}
 use Rattle.cache.specs.Pages.{IsFresh}
 use Rattle.crash.specs.Guard.{IsChanceFree}
+use Rattle.crash.specs.Distinct.{IsDistinct, IsVouched}
 use Rattle.crash.specs.Kept.{AllKeep, Through}
 use Rattle.crash.specs.Looks.{Looked}
 use Rattle.writer_state.specs.Sound.{IsSound, LeavesItsContent, content}
@@ -97,11 +98,13 @@ pub record Commits (sum own : List ℕ → ℕ) (P : ℕ) (content : List ℕ) (
 abbrev pub CommitsAll : (sum own : List ℕ → ℕ) → ℕ → List ℕ → Disk → Type 0
 CommitsAll sum own P content d = Commits sum own P content (length (records own content)) d
 
--- chance aside, the records of whatever a crash leaves are the first of these
-abbrev pub OnlyRecords : (sum own : List ℕ → ℕ) → ℕ → List (List ℕ) → Disk → Type 0
-OnlyRecords sum own P all d =
-    (image : List ℕ) → IsImage d image → IsChanceFree sum P d image
-    → IsPrefix (records own (text sum P image)) all
+-- chance aside, the records of whatever a crash leaves are the first of these; and where no
+-- checksum collides there is no chance
+pub record OnlyRecords (sum own : List ℕ → ℕ) (P : ℕ) (all : List (List ℕ)) (d : Disk)
+    : Type 0 where
+  pub only : (image : List ℕ) → IsImage d image → IsChanceFree sum P d image
+      → IsPrefix (records own (text sum P image)) all
+  pub vouched : IsVouched sum P d
 
 -- what was committed as a call began is committed at each moment since
 abbrev pub KeepsCommitted : (sum own : List ℕ → ℕ) → ℕ → Life → Life → Type 0
@@ -269,8 +272,8 @@ BringsBack sum own P d back =
     (content : List ℕ) (n : ℕ) → Commits sum own P content n d
     → (n ≤ length back) × (take n back ≡ take n (records own content))
 
--- and, where what the crash left is chance-free, is the first of what was appended
+-- and, where no checksum collides in what the crash left, is the first of what was appended
 abbrev pub BringsOnly : (sum own : List ℕ → ℕ) → ℕ → Disk → List ℕ → List (List ℕ) → Type 0
 BringsOnly sum own P d image back =
-    IsChanceFree sum P d image
+    IsDistinct sum P d image
     → (all : List (List ℕ)) → OnlyRecords sum own P all d → IsPrefix back all

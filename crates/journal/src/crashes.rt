@@ -16,7 +16,8 @@ use std::num::NonZeroUsize;
 
 /// Crashes a blob, which keeps what these flags say, and recovers its journal: the records that
 /// come back begin with all that were committed as the crash came, whatever the checksum functions;
-/// and where what the crash left is chance-free they are the first of those that were appended.
+/// and where no checksum collides in what the crash left they are the first of those that were
+/// appended.
 ///
 /// The errors are those of [`Journal::recover`]; where memory for the crash is refused nothing
 /// changed. What was committed still is, whatever it answers: so it may be called again, however

@@ -1,12 +1,13 @@
 -- A footer's twelve bytes, and what its slots say.
 use Rattle.std.proofs.Common.{◌≡◌, ◌∙◌, ap, sym, subst, ℕ, ◌+◌, ◌<◌, ◌≤◌, ◌++◌, Bool, true, false, List, length, take, drop, get_or, arith, nat_lt, inl, inr}
-use Rattle.std.specs.Prelude.{if◌then◌else◌, Some}
+use Rattle.std.specs.Prelude.{if◌then◌else◌, Some, not, ◌==◌, ◌&&◌}
+use Rattle.page.specs.declared.slot.ActiveChecksum.{ActiveChecksum}
 use Rattle.std.specs.Bool.{then_some}
 use Rattle.std.proofs.lemmas.Bool.{le-ltb, lt-ltb, cases_lt}
 use Rattle.std.proofs.lemmas.List.{take-append-drop, length-take, length-drop, take_all, drop-drop, length-take-le}
 use Rattle.page.specs.Slot.{other}
-use Rattle.page.specs.Page.{slot_bytes, slot_len, slot_crc, slot_of, slot_verifies, verifies, verified_len, value_len, active}
-use Rattle.page.specs.Footer.{footer_bytes, footer_of, active_of, longer_slot, is_checksum_of}
+use Rattle.page.specs.Page.{bad_slot, bad_beside, slot_bytes, slot_len, slot_crc, slot_of, slot_verifies, verifies, verified_len, value_len, active}
+use Rattle.page.specs.Footer.{footer_bytes, footer_of, active_of, longer_slot, is_checksum_of, is_bad}
 use Rattle.page.specs.declared.checksum.Checksum.{Checksum}
 use Rattle.page.specs.declared.slot.Slot.{Slot}
 use Rattle.page.specs.declared.slot.Slot.TheVariants.{First, Second}
@@ -132,6 +133,15 @@ module _ (sum : List ℕ → ℕ) (P : ℕ) (page payload : List ℕ) (c : Check
 
   c-tells : (s : Slot) → is_checksum_of sum (active_of c s) payload ≡ verifies sum P s page
   c-tells s = ap (λ a. is_checksum_of sum a payload) (c-says s) ∙ ap (is_checksum_of sum (says P page s)) front ∙ is_checksum_of-verifies sum P s page whole
+
+  -- the slot beside the value's, where it is bad
+  pub bad-beside : (a : ActiveChecksum) (said : ActiveChecksum) → active sum P page ≡ Some a → said ≡ active_of c (other a.slot) → then_some (is_bad sum said payload) said.slot ≡ bad_slot sum P page
+  bad-beside a said is same =
+      let s = other a.slot in
+      ap (λ x. then_some (is_bad sum x payload) x.slot) same
+      ∙ ap (λ b. then_some (not ((active_of c s).len == 0 && (active_of c s).crc == 0) && not b) s) (c-tells s)
+      ∙ ap (λ x. then_some (not (x.len == 0 && x.crc == 0) && not (verifies sum P s page)) s) (c-says s)
+      ∙ sym (ap (bad_beside sum P page) is)
 
   c-longer : longer_slot c ≡ says_longer P page
   c-longer = ap longer_slot back ∙ longer_slot-says P page whole

@@ -1,6 +1,6 @@
 -- A footer of two slots, and its bytes.
 use Rattle.std.specs.Prelude.{ℕ, ◌++◌, ◌&&◌, ◌==◌, Bool, List, length, nat_le, nat_lt}
-use Rattle.std.specs.Prelude.{if◌then◌else◌, take, drop}
+use Rattle.std.specs.Prelude.{if◌then◌else◌, take, drop, not}
 use Rattle.page.specs.Page.{slot_bytes, slot_len, slot_crc}
 use Rattle.page.specs.declared.slot.Slot.{Slot}
 use Rattle.page.specs.declared.slot.Slot.TheVariants.{First, Second}
@@ -37,3 +37,8 @@ abbrev pub is_checksum_of : (List ℕ → ℕ) → ActiveChecksum → List ℕ �
 is_checksum_of sum checksum payload =
     nat_le 1 checksum.len && nat_le checksum.len (length payload) &&
     (sum (take checksum.len payload) == checksum.crc)
+
+-- whether it neither is that nor all zero
+abbrev pub is_bad : (List ℕ → ℕ) → ActiveChecksum → List ℕ → Bool
+is_bad sum checksum payload =
+    not (checksum.len == 0 && checksum.crc == 0) && not (is_checksum_of sum checksum payload)

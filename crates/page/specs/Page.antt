@@ -2,8 +2,10 @@
 -- checksum function.
 use Rattle.std.specs.Prelude.{◌&&◌, ◌==◌, ℕ, zero, suc, ◌+◌, ◌/◌, ◌++◌, List, [], ◌∷◌, length, take}
 use Rattle.std.specs.Prelude.{drop, Bool, Option, Some, None, if◌then◌else◌, nat_le, nat_lt, max}
+use Rattle.std.specs.Prelude.{not}
 use Rattle.std.specs.Int.{w16, w32, to_be_bytes, from_be_bytes}
-use Rattle.page.specs.Slot.{slot_offset}
+use Rattle.std.specs.Bool.{then_some}
+use Rattle.page.specs.Slot.{slot_offset, other}
 use Rattle.page.specs.declared.slot.Slot.{Slot}
 use Rattle.page.specs.declared.slot.Slot.TheVariants.{First, Second}
 use Rattle.page.specs.declared.slot.ActiveChecksum.{ActiveChecksum}
@@ -61,6 +63,22 @@ active sum P page =
     if len == 0
     then None
     else Some (record { slot = slot; len = len; crc = slot_crc (slot_of P slot page) })
+
+-- whether a slot is all zero
+abbrev pub is_clear : List ℕ → Bool
+is_clear slot = (slot_len slot == 0) && (slot_crc slot == 0)
+
+-- of the slot beside the one that tells a page's value: that one, where it neither verifies nor is
+-- all zero
+abbrev pub bad_beside : (List ℕ → ℕ) → ℕ → List ℕ → Option ActiveChecksum → Option Slot
+bad_beside sum P page None = None
+bad_beside sum P page (Some a) =
+    let s = other a.slot in
+    then_some (not (is_clear (slot_of P s page)) && not (verifies sum P s page)) s
+
+-- the slot that isn't the value's, where it is so; none where no slot verifies
+abbrev pub bad_slot : (List ℕ → ℕ) → ℕ → List ℕ → Option Slot
+bad_slot sum P page = bad_beside sum P page (active sum P page)
 
 -- consecutive pieces of one size
 abbrev pub pieces : ℕ → ℕ → List ℕ → List (List ℕ)

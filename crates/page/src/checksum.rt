@@ -1,8 +1,8 @@
 // The footer.
 ghost use Rattle.std.specs.Prelude.{◌≡◌, ◌-◌, length};
-ghost use Rattle.page.specs.Page.{active, slot_bytes};
+ghost use Rattle.page.specs.Page.{active, bad_slot, slot_bytes};
 ghost use Rattle.page.specs.Footer.{footer_bytes, footer_of, said, longer_slot, active_of};
-ghost use Rattle.page.specs.Footer.{is_checksum_of};
+ghost use Rattle.page.specs.Footer.{is_bad, is_checksum_of};
 ghost use Rattle.std.specs.Int.{w16, to_be_bytes};
 
 use crate::{ActiveChecksum, Slot, Sum};
@@ -116,6 +116,17 @@ impl Checksum {
         let shorter = footer.active(longer.slot.other());
         covers::<H>(shorter, payload).then_some(shorter)
     }
+
+    /// The slot of a physical page that isn't its value's, where it neither verifies nor is all
+    /// zero. `None` where no slot verifies, and for fewer bytes than a footer has.
+    pub fn bad_slot<H: Sum>(page: &[u8]) -> Option<Slot>
+        ensures { result ≡ bad_slot H.sum_of (length page.now - 12) page.now }
+    {
+        let value = Self::validate_page::<H>(page)?;
+        let (payload, footer) = page.split_last_chunk::<FOOTER>()?;
+        let beside = Self::from_bytes(*footer).active(value.slot.other());
+        is_bad::<H>(beside, payload).then_some(beside.slot)
+    }
 }
 
 /// Whether the checksum is that of the payload's first bytes, as many as it says, and at least one.
@@ -124,4 +135,11 @@ fn covers<H: Sum>(checksum: ActiveChecksum, payload: &[u8]) -> bool
 {
     let len = usize::from(checksum.len);
     1 <= len && len <= payload.len() && H::sum(&payload[..len]) == checksum.crc
+}
+
+/// Whether a slot that says this neither verifies over the payload nor is all zero.
+fn is_bad<H: Sum>(checksum: ActiveChecksum, payload: &[u8]) -> bool
+    ensures { result ≡ is_bad H.sum_of checksum payload.now }
+{
+    !(checksum.len == 0 && checksum.crc == 0) && !covers::<H>(checksum, payload)
 }

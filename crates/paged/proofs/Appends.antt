@@ -54,7 +54,7 @@ pub append_unasked : (sum : List ℕ → ℕ) (w : WriterState) (life : Life) (b
 unfolding IsSound
 append_unasked sum w life bytes sound =
     stays_through_longer sum w.page_size (content w life.present.readable) (content w life.present.readable ++ bytes) life life (begins (content w life.present.readable) bytes)
-    (stays_through_start sum w.page_size (content w life.present.readable) life sound.truthful)
+    (stays_through_start sum w.page_size (content w life.present.readable) life sound.truthful sound.vouched)
 
 -- bytes that weren't buffered
 pub append_unbuffered : (sum : List ℕ → ℕ) (w now : WriterState) (life : Life) (bytes : List ℕ) (e : Error) → IsSound sum w life.present → Buffers w bytes now (Err e) → Appends sum w bytes life life (Err e)

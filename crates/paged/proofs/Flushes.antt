@@ -116,7 +116,7 @@ goes_on_same sum w life sound = record {
   content = sym (append-nil (content w life.present.readable));
   same = record { page_size = refl; id = refl; capacity = refl; full_pages = omega arith };
   log = grows_same life.present life.present refl;
-  stays = stays_nil sum w.page_size (content w life.present.readable) life life (stays_through_start sum w.page_size (content w life.present.readable) life sound.truthful);
+  stays = stays_nil sum w.page_size (content w life.present.readable) life life (stays_through_start sum w.page_size (content w life.present.readable) life sound.truthful sound.vouched);
   waits = has_waited w.sync life;
 }
 

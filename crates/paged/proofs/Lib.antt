@@ -15,6 +15,9 @@ pub mod Recoveries
 pub mod Firsts
 pub mod Offsets
 pub mod Standing
+pub mod Emptied
+pub mod Mends
+pub mod EmptiedMoments
 pub mod QuietCuts
 pub mod Recovered
 pub mod Opened
@@ -29,6 +32,7 @@ pub mod Joins
 pub mod Shortening
 pub mod Shortened
 pub mod Truncated
+pub mod MendedTails
 pub mod Truncating
 pub mod Caching
 pub mod Refused

@@ -3,7 +3,7 @@ use Rattle.std.proofs.Common.{◌≡◌, ◌≢◌, inl, inr, ℕ, zero, suc, �
 use Rattle.std.specs.Prelude.{slice_get, Option, Some, None, Result, Ok, Err, IfOk}
 use Rattle.std.proofs.lemmas.Bool.{cases_eq}
 use Rattle.std.proofs.lemmas.Option.{slice_get_within}
-use Rattle.std.proofs.lemmas.List.{length-take-le}
+use Rattle.std.proofs.lemmas.List.{length-take-le, take_all}
 use Rattle.std.proofs.Math.Nat.{mul-le-mul_left}
 use Rattle.disk.specs.Disk.{AreCovered, Life, LogGrows}
 use Rattle.disk.specs.declared.error.Error.{Error}
@@ -16,64 +16,31 @@ use Rattle.writer_state.specs.WriterState.{WriterState}
 use Rattle.writer_state.specs.declared.sync_state.SyncState.{SyncState}
 use Rattle.writer_state.specs.declared.sync_state.SyncState.TheVariants.{Clean}
 use Rattle.writer_state.specs.Sound.{IsSound, TipPage}
+use Rattle.writer_state.proofs.FlushLaws.{flushed_fits}
+use Rattle.crash.specs.Distinct.{PageIsGood}
 use Rattle.crash.specs.Built.{kept_len}
 use Rattle.crash.proofs.BuiltLaws.{IsSmall}
-use Rattle.crash.proofs.Pages.{pages_at, pages_reach, page_is, length-page, length-pages}
-use Rattle.crash.proofs.Texts.{active_some}
+use Rattle.crash.proofs.Pages.{length-page, length-pieces, pages_whole}
 use Rattle.paged_read.specs.declared.prefix.Prefix.{Prefix}
 use Rattle.paged_read.specs.Ranges.{page_at}
-use Rattle.paged_read.specs.Prefix.{last_prefix, prefix_pages, partial_pages, tip_of, value_and_slot, HasBytes}
+use Rattle.paged_read.specs.Prefix.{prefix_pages, partial_pages, tip_of, HasBytes}
 use Rattle.paged.specs.Reads.{HasPages}
 use Rattle.paged.specs.Calls.{WaitsForNone}
-use Rattle.paged.specs.Recovery.{IsCutBack, GivesWriter, SoundWhereFull, IsAsOpened, IsOpened, Opens, opened_prefix, opened_size, slot_of_tip, at_prefix}
+use Rattle.paged.specs.Recovery.{BesideIsMended, IsCutBack, IsDurable, GivesWriter, SoundWhereFull, IsAsOpened, IsOpened, Opens, TailIsMended, opened_bytes, opened_prefix, opened_size, slot_of_tip, at_prefix}
 use Rattle.paged.specs.Recovery.IsCutBack.{whole, cut}
-use Rattle.paged_read.proofs.Prefixes.{last_is, last_none_suc, last_full_suc, last_part_suc}
+use Rattle.paged_read.proofs.Prefixes.{last_is}
+use Rattle.paged.proofs.Emptied.{length-opened, opened_beside, opened_full, opened_good, opened_has, opened_says, opened_stands}
 use Rattle.paged.proofs.Firsts.{After, told_len}
 use Rattle.paged.proofs.Standing.{stands_after, page_after}
 use Rattle.paged.proofs.Recovered.{kept_readable, kept_durable, opened_stays_durable, opened_readable, opened_length, opened_page_size}
 
-module _ (sum : List ℕ → ℕ) (P : ℕ) (bytes : List ℕ) where
-  -- a page that is there is the one at its offset
-  page_there : (k : ℕ) → k < length bytes / (P + 12) → slice_get (pages P bytes) k ≡ Some (page_at P k bytes)
-  page_there k lt = pages_at P k bytes (pages_reach P (k + 1) bytes (omega arith))
-
-  -- a page that has a value, and isn't full
-  after_told : (k : ℕ) → k < length bytes / (P + 12) → value_len sum P (page_at P k bytes) ≢ 0 → value_len sum P (page_at P k bytes) ≢ P
-      → After sum P (pages P bytes) k (value_and_slot (active sum P (page_at P k bytes)) (page_at P k bytes))
-  after_told k lt has part =
-      let page = page_at P k bytes in
-      let told = active_some sum P page (omega arith) in
-      subst (λ (s : Option ActiveChecksum). After sum P (pages P bytes) k (value_and_slot s page)) (sym told.1) (page, page_there k lt, told.1, refl, part)
-
-  -- no page from there on has a value
-  after_none : (k : ℕ) → ((m : ℕ) → k ≤ m → m < length bytes / (P + 12) → value_len sum P (page_at P m bytes) ≡ 0) → After sum P (pages P bytes) k None
-  after_none k none = λ page is.
-      ap (λ (l : List ℕ). value_len sum P l) (page_is P k bytes page is)
-      ∙ none k (omega arith) (omega (arith, slice_get_within (pages P bytes) k page is, length-pages P bytes))
-
-  -- what stands after the pages up to the last that has a value
-  after_last : (n : ℕ) → n ≤ length bytes / (P + 12) → ((m : ℕ) → n ≤ m → m < length bytes / (P + 12) → value_len sum P (page_at P m bytes) ≡ 0)
-      → After sum P (pages P bytes) (last_prefix sum P n bytes).full_pages (last_prefix sum P n bytes).partial
-  after_last zero within none = after_none 0 none
-  after_last (suc n) within none = elim (cases_eq (value_len sum P (page_at P n bytes)) 0) [
-    | inl empty ↦ subst (λ (p : Prefix). After sum P (pages P bytes) p.full_pages p.partial) (sym (last_none_suc sum P n bytes empty))
-        (after_last n (omega arith) (λ m le lt. elim (cases_eq m n) [
-          | inl is ↦ ap (λ (k : ℕ). value_len sum P (page_at P k bytes)) is ∙ empty
-          | inr other ↦ none m (omega arith) lt
-        ]))
-    | inr has ↦ elim (cases_eq (value_len sum P (page_at P n bytes)) P) [
-      | inl full ↦ subst (λ (p : Prefix). After sum P (pages P bytes) p.full_pages p.partial) (sym (last_full_suc sum P n bytes has full)) (after_none (n + 1) (λ m le lt. none m (omega arith) lt))
-      | inr part ↦ subst (λ (p : Prefix). After sum P (pages P bytes) p.full_pages p.partial) (sym (last_part_suc sum P n bytes has part)) (after_told n (omega arith) has part)
-    ]
-  ]
-
 -- ---- where a writer is sound
 
 -- a writer whose durable slot is the one that was written last is as sound in the state in which opening leaves it
-at_state : (sum : List ℕ → ℕ) (P id room : ℕ) (p : Prefix) (old new : Life) (n : ℕ) (s : SyncState) → IsCutBack old new n s → IsSound sum (at_prefix P id room p Clean) new.present → IsSound sum (at_prefix P id room p s) new.present
+at_state : (sum : List ℕ → ℕ) (P id room : ℕ) (p : Prefix) (old new : Life) (bytes : List ℕ) (s : SyncState) → IsCutBack old new bytes s → IsSound sum (at_prefix P id room p Clean) new.present → IsSound sum (at_prefix P id room p s) new.present
 unfolding IsSound
-at_state sum P id room p old new n s (cut more readable durable) sound = sound
-at_state sum P id room p old new n s (whole all looked) sound = record {
+at_state sum P id room p old new bytes s (cut more readable durable) sound = sound
+at_state sum P id room p old new bytes s (whole all looked) sound = record {
   stands = record {
     some = sound.stands.some;
     small = sound.stands.small;
@@ -94,9 +61,28 @@ at_state sum P id room p old new n s (whole all looked) sound = record {
     position = sound.safe.position;
   };
   truthful = sound.truthful;
+  vouched = sound.vouched;
+  good = sound.good;
 }
 
-module _ (sum : List ℕ → ℕ) (P : ℕ) (old new : Life) (s : SyncState) (kept : IsCutBack old new (opened_size sum P old.present.readable) s) (covered : AreCovered new.present) where
+-- the pages that a prefix has are all that is left
+module _ (sum : List ℕ → ℕ) (P : ℕ) (bytes readable : List ℕ) (is : readable ≡ opened_bytes sum P bytes) where
+  abbrev prefix : Prefix
+  prefix = opened_prefix sum P bytes
+
+  left_all : opened_bytes sum P bytes ≡ take (opened_size sum P bytes) (opened_bytes sum P bytes)
+  left_all = sym (take_all (opened_size sum P bytes) (opened_bytes sum P bytes) (omega (arith, length-opened sum P bytes)))
+
+  left_taken : readable ≡ take (opened_size sum P bytes) (opened_bytes sum P bytes)
+  left_taken = is ∙ left_all
+
+  left_pages : length (pages P (opened_bytes sum P bytes)) ≡ prefix_pages prefix
+  left_pages = ap length (pages_whole P (prefix_pages prefix) (opened_bytes sum P bytes) (length-opened sum P bytes)) ∙ length-pieces (prefix_pages prefix) (P + 12) (opened_bytes sum P bytes)
+
+  left_good : PageIsGood sum P prefix.full_pages readable
+  left_good = subst (λ (l : List ℕ). PageIsGood sum P prefix.full_pages l) (sym is) (opened_good sum P bytes)
+
+module _ (sum : List ℕ → ℕ) (P : ℕ) (old new : Life) (s : SyncState) (kept : IsCutBack old new (opened_bytes sum P old.present.readable) s) (covered : AreCovered new.present) where
   -- the writer that opening gives
   pub opened_sound : (id room : ℕ) → IsSmall sum → 0 < P → P < 2 ^ 16
       → HasBytes P (opened_prefix sum P old.present.readable).full_pages old.present.readable (opened_prefix sum P old.present.readable).partial
@@ -104,17 +90,17 @@ module _ (sum : List ℕ → ℕ) (P : ℕ) (old new : Life) (s : SyncState) (ke
   unfolding IsSound
   opened_sound id room small_sum positive small has durable are =
       let bytes = old.present.readable in
+      let left = opened_bytes sum P bytes in
       let p = opened_prefix sum P bytes in
-      let n = length bytes / (P + 12) in
-      let last = last_is sum P n bytes in
-      let stands = stands_after sum small_sum P id room bytes new.present positive small (opened_stays_durable old new (opened_size sum P bytes) s kept durable) covered p.full_pages p.partial
-      (omega (arith, last.within, length-pages P bytes)) are (after_last sum P bytes n (omega arith) (λ m le lt. absurd (omega arith))) has (kept_readable old new (opened_size sum P bytes) s kept) in
-      (at_state sum P id room p old new (opened_size sum P bytes) s kept stands.0, stands.1)
+      let is = kept_readable old new left s kept in
+      let stands = stands_after sum small_sum P id room left new.present positive small (opened_stays_durable old new left s kept durable) covered p.full_pages p.partial
+      (omega (arith, left_pages sum P bytes new.present.readable is)) (opened_full sum P bytes are) (opened_stands sum P bytes) (opened_has sum P bytes has) (left_taken sum P bytes new.present.readable is) (left_good sum P bytes new.present.readable is) in
+      (at_state sum P id room p old new left s kept stands.0, stands.1 ∙ opened_says sum P bytes positive)
 
 -- a writer stands after what was kept, or has no id
 pub opens_end : (sum : List ℕ → ℕ) (cache : CacheState) (capacity : ℕ) (old new : Life) (s : SyncState) (room : ℕ) (p : Prefix) (answer : Result WriterState Error) → AreCovered new.present → IsSmall sum → 0 < cache.page_size → cache.page_size < 2 ^ 16
     → room ≡ adjusted capacity cache.page_size → p ≡ opened_prefix sum cache.page_size old.present.readable
-    → HasBytes cache.page_size p.full_pages old.present.readable p.partial → IsCutBack old new (opened_size sum cache.page_size old.present.readable) s × LogGrows old.present new.present
+    → HasBytes cache.page_size p.full_pages old.present.readable p.partial → IsCutBack old new (opened_bytes sum cache.page_size old.present.readable) s × LogGrows old.present new.present
     → GivesWriter cache room p s answer → Opens sum cache capacity old new answer
 opens_end sum cache capacity old new s room p (Ok w) covered small_sum positive small room_is is bytes kept stands =
     let P = cache.page_size in
@@ -154,39 +140,63 @@ opened_there sum cache capacity old new (Ok w) opened =
 opened_there sum cache capacity old new (Err e) opened = tt
 
 -- what a cut of it asks for: the tip's page
-tip_page_opened : (sum : List ℕ → ℕ) (P full : ℕ) (bytes readable : List ℕ) (found : Option (List ℕ × ActiveChecksum)) → After sum P (pages P bytes) full found → HasBytes P full bytes found → full + partial_pages found ≤ length bytes / (P + 12)
+tip_page_opened : (sum : List ℕ → ℕ) (P full : ℕ) (bytes readable : List ℕ) (found : Option (List ℕ × ActiveChecksum)) → After sum P (pages P bytes) full found → HasBytes P full bytes found → length bytes ≡ (full + partial_pages found) * (P + 12)
     → readable ≡ take ((full + partial_pages found) * (P + 12)) bytes → TipPage sum P full (tip_of found) readable (slot_of_tip found)
-tip_page_opened sum P full bytes readable None after has within is =
-    let e : full + 0 ≡ full = omega arith in
-    ap length is ∙ length-take-le ((full + 0) * (P + 12)) bytes (pages_reach P (full + 0) bytes within) ∙ ap (λ (n : ℕ). n * (P + 12)) e
-tip_page_opened sum P full bytes readable (Some v) after has within is = page_after sum P bytes readable full v after has is
+tip_page_opened sum P full bytes readable None after has size is = ap length is ∙ length-take-le ((full + 0) * (P + 12)) bytes (omega (arith, size)) ∙ omega arith
+tip_page_opened sum P full bytes readable (Some v) after has size is = page_after sum P bytes readable full v after has is
 
 -- no wait is left
-none_awaited : (old new : Life) (kept : ℕ) (s : SyncState) → IsCutBack old new kept s → WaitsForNone s
-none_awaited old new kept s (whole all looked) = tt
-none_awaited old new kept s (cut more readable durable) = tt
+none_awaited : (old new : Life) (bytes : List ℕ) (s : SyncState) → IsCutBack old new bytes s → WaitsForNone s
+none_awaited old new bytes s (whole all looked) = tt
+none_awaited old new bytes s (cut more readable durable) = tt
 
-pub is_as_opened : (sum : List ℕ → ℕ) (cache : CacheState) (capacity : ℕ) (old new : Life) (w : WriterState) → 0 < cache.page_size → IsOpened sum cache capacity old new w → IsAsOpened sum w new.present
-is_as_opened sum cache capacity old new w positive opened =
-    let P = cache.page_size in
-    let bytes = old.present.readable in
-    let n = length bytes / (P + 12) in
-    let p = opened_prefix sum P bytes in
-    let last = last_is sum P n bytes in
-    let after = after_last sum P bytes n (omega arith) (λ m le lt. absurd (omega arith)) in
-    let has : HasBytes P p.full_pages bytes p.partial = subst (λ (k : ℕ). HasBytes P k bytes p.partial) (ap (λ (x : WriterState). x.full_pages) opened.state) opened.bytes in
-    let told : kept_len (slot_of_tip p.partial) ≡ length (tip_of p.partial) = told_len sum P (pages P bytes) p.full_pages p.partial (λ page is. omega (arith, length-page P p.full_pages bytes page is)) after in
-    subst (λ (x : WriterState). IsAsOpened sum x new.present) (sym opened.state) (record {
-      page = tip_page_opened sum P p.full_pages bytes new.present.readable p.partial after has last.within (opened_readable sum cache capacity old new w opened);
-      written = record {
-        short = last.tip positive;
-        flushed = told;
-      };
-      carries = omega (arith, told);
-      waits = none_awaited old new (opened_size sum P bytes) opened.sync opened.kept;
-      durable = λ clean. kept_durable old new (opened_size sum P bytes) opened.sync opened.kept clean;
-    })
+module _ (sum : List ℕ → ℕ) (cache : CacheState) (capacity : ℕ) (old new : Life) (w : WriterState) (opened : IsOpened sum cache capacity old new w) where
+  has_partial : HasBytes cache.page_size (opened_prefix sum cache.page_size old.present.readable).full_pages old.present.readable (opened_prefix sum cache.page_size old.present.readable).partial
+  has_partial = subst (λ (k : ℕ). HasBytes cache.page_size k old.present.readable (opened_prefix sum cache.page_size old.present.readable).partial) (ap (λ (x : WriterState). x.full_pages) opened.state) opened.bytes
+
+  pub is_as_opened : 0 < cache.page_size → IsAsOpened sum w new.present
+  is_as_opened positive =
+      let P = cache.page_size in
+      let bytes = old.present.readable in
+      let left = opened_bytes sum P bytes in
+      let p = opened_prefix sum P bytes in
+      let is = opened_readable sum cache capacity old new w opened in
+      let stands = opened_stands sum P bytes in
+      let last = last_is sum P (length bytes / (P + 12)) bytes in
+      let told : kept_len (slot_of_tip p.partial) ≡ length (tip_of p.partial) = told_len sum P (pages P left) p.full_pages p.partial (λ page there. omega (arith, length-page P p.full_pages left page there)) stands in
+      let page : TipPage sum P p.full_pages (tip_of p.partial) new.present.readable (slot_of_tip p.partial) =
+      tip_page_opened sum P p.full_pages left new.present.readable p.partial stands (opened_has sum P bytes has_partial) (length-opened sum P bytes) (left_taken sum P bytes new.present.readable is) in
+      subst (λ (x : WriterState). IsAsOpened sum x new.present) (sym opened.state) (record {
+        page = page;
+        written = record {
+          short = last.tip positive;
+          flushed = told;
+        };
+        carries = omega (arith, told);
+        tells = (flushed_fits sum P p.full_pages (tip_of p.partial) new.present.readable (slot_of_tip p.partial) page).2;
+        good = left_good sum P bytes new.present.readable is;
+        waits = none_awaited old new left opened.sync opened.kept;
+        durable = λ clean. kept_durable old new left opened.sync opened.kept clean;
+      })
+
+  -- no slot of the tip's page is bad
+  pub tail_is_mended : TailIsMended sum w new.present.readable
+  tail_is_mended =
+      let P = cache.page_size in
+      let bytes = old.present.readable in
+      let p = opened_prefix sum P bytes in
+      subst (λ (x : WriterState). TailIsMended sum x new.present.readable) (sym opened.state)
+      (subst (λ (l : List ℕ). BesideIsMended sum P p.full_pages l (slot_of_tip p.partial)) (sym (opened_readable sum cache capacity old new w opened)) (opened_beside sum P bytes has_partial))
+
+  -- durably
+  mended_durably : IsDurable old.present → TailIsMended sum w new.present.base
+  mended_durably durable =
+      subst (λ (l : List ℕ). TailIsMended sum w l) (sym (opened_stays_durable old new (opened_bytes sum cache.page_size old.present.readable) opened.sync opened.kept durable).base) tail_is_mended
 
 pub opens_as_opened : (sum : List ℕ → ℕ) (cache : CacheState) (capacity : ℕ) (old new : Life) (result : Result WriterState Error) → 0 < cache.page_size → Opens sum cache capacity old new result → IfOk result (λ w. IsAsOpened sum w new.present)
-opens_as_opened sum cache capacity old new (Ok w) positive opened = is_as_opened sum cache capacity old new w positive opened
+opens_as_opened sum cache capacity old new (Ok w) positive opened = is_as_opened sum cache capacity old new w opened positive
 opens_as_opened sum cache capacity old new (Err e) positive opened = tt
+
+pub opens_mended : (sum : List ℕ → ℕ) (cache : CacheState) (capacity : ℕ) (old new : Life) (result : Result WriterState Error) → Opens sum cache capacity old new result → IsDurable old.present → IfOk result (λ w. TailIsMended sum w new.present.base)
+opens_mended sum cache capacity old new (Ok w) opened durable = mended_durably sum cache capacity old new w opened durable
+opens_mended sum cache capacity old new (Err e) opened durable = tt

@@ -12,8 +12,8 @@ use Rattle.writer_state.specs.declared.sync_state.SyncState.TheVariants.{Clean}
 use Rattle.crash.specs.Looks.{Looked}
 use Rattle.paged.specs.Flush.{synced}
 use Rattle.paged.specs.Reads.{HasPages, size_of}
-use Rattle.paged.specs.Recovery.{Opens, cache_after, opened_writer}
-use Rattle.paged.specs.Recovers.{GivesId, Recovers, opened_bytes}
+use Rattle.paged.specs.Recovery.{Opens, cache_after, opened_bytes, opened_writer}
+use Rattle.paged.specs.Recovers.{GivesId, Recovers}
 use Rattle.paged.specs.Truncate.{shortened_writer}
 use Rattle.paged.specs.Caches.{ReadsOn, tail_of}
 use Rattle.paged_read.specs.Snapshots.{LeavesReads}

@@ -1,6 +1,7 @@
 -- A cut reads nothing, so a search back and a cut after it read as the search does.
-use Rattle.std.proofs.Common.{◌≡◌, inl, inr, ℕ, List, [], ◌∷◌, ◌++◌, length, Bool, true, false, Result, Ok, Err, ap, ◌∙◌}
-use Rattle.disk.specs.Disk.{Request, Life, ReadAt, ReadMany, StartReadMany, ResizeTo, SyncAll, ResizeGoes, SyncGoes}
+use Rattle.std.proofs.Common.{◌≡◌, inl, inr, ℕ, ◌+◌, ◌*◌, List, [], ◌∷◌, ◌++◌, length, Bool, true, false, Result, Ok, Err, ap, ◌∙◌}
+use Rattle.std.specs.Prelude.{Option, Some, None}
+use Rattle.disk.specs.Disk.{Request, Life, ReadAt, ReadMany, StartReadMany, ResizeTo, SyncAll, WriteAt, ResizeGoes, SyncGoes, WriteGoes}
 use Rattle.disk.specs.declared.error.Error.{Error}
 use Rattle.disk.specs.declared.error.Error.TheVariants.{ReadFailed, WriteFailed, ResizeFailed, SyncFailed, InvalidChecksum, BlobInsufficientLength, OffsetOverflow, OutOfMemory, IdsExhausted}
 use Rattle.paged_read.specs.Searches.{Gained}
@@ -8,7 +9,11 @@ use Rattle.paged_read.specs.Backward.{FallFrom, ReadsBack}
 use Rattle.paged_read.proofs.Searching.{gained_none, gained_once, gained_joins}
 use Rattle.writer_state.specs.declared.sync_state.SyncState.TheVariants.{Clean, Dirty, Pending}
 use Rattle.writer_state.specs.declared.sync_state.SyncState.{SyncState}
+use Rattle.page.specs.Slot.{slot_offset}
+use Rattle.page.specs.Page.{slot_bytes}
+use Rattle.page.specs.declared.slot.Slot.{Slot}
 use Rattle.paged.specs.Recovery.{Cuts, CutsBack}
+use Rattle.paged.specs.Mends.{Empties, KeepsPages, Mends, is_unsynced}
 
 -- none of these reads
 abbrev AreQuiet : List Request → Type 0
@@ -83,8 +88,41 @@ cuts_back_quiet kept old new (Ok Clean) cuts = cuts_quiet kept old new (Ok tt) c
 cuts_back_quiet kept old new (Ok (Pending name)) cuts = absurd cuts
 cuts_back_quiet kept old new (Err e) cuts = cuts_quiet kept old new (Err e) cuts
 
--- opening: a search back, and then a cut
-pub opens_back : (size kept : ℕ) (old mid new : Life) (answer : Result SyncState Error) → ReadsBack size old mid → CutsBack kept mid new answer → ReadsBack size old new
-opens_back size kept old mid new answer back cuts =
+-- ---- a slot that is emptied
+
+write_once : (offset : ℕ) (bytes : List ℕ) (sync failed : Bool) (old new : Life) → new.present.log ≡ old.present.log ++ record { request = WriteAt offset (length bytes) sync; failed = failed } ∷ [] → Quiet old new
+write_once offset bytes sync failed old new is = gained_once AreQuiet (WriteAt offset (length bytes) sync) failed old new is tt
+
+write_quiet : (offset : ℕ) (bytes : List ℕ) (sync : Bool) (old new : Life) (answer : Result (Unit {0}) Error) → WriteGoes offset bytes sync old new answer → Quiet old new
+write_quiet offset bytes false old new (Ok u) (d, is, done) = write_once offset bytes false false old new (ap (λ (l : Life). l.present.log) is ∙ ap (λ x. x.log) done.rest)
+write_quiet offset bytes false old new (Err OffsetOverflow) (same, passes) = gained_none AreQuiet old new same tt
+write_quiet offset bytes false old new (Err OutOfMemory) (same, has) = gained_none AreQuiet old new same tt
+write_quiet offset bytes false old new (Err e) (which, (d, is, done)) = write_once offset bytes false true old new (ap (λ (l : Life). l.present.log) is ∙ ap (λ x. x.log) done.rest)
+write_quiet offset bytes true old new (Ok u) (d, is, done) = write_once offset bytes true false old new (ap (λ (l : Life). l.present.log) is ∙ ap (λ x. x.log) done.rest)
+write_quiet offset bytes true old new (Err WriteFailed) (d, is, done) = write_once offset bytes true true old new (ap (λ (l : Life). l.present.log) is ∙ ap (λ x. x.log) done.rest)
+write_quiet offset bytes true old new (Err OffsetOverflow) (same, passes) = gained_none AreQuiet old new same tt
+write_quiet offset bytes true old new (Err OutOfMemory) (same, has) = gained_none AreQuiet old new same tt
+write_quiet offset bytes true old new (Err e) goes = absurd goes
+
+empties_quiet : (P page : ℕ) (s : Slot) (unsynced : Bool) (old new : Life) (answer : Result (Unit {0}) Error) → Empties P page s unsynced old new answer → Quiet old new
+empties_quiet P page s false old new answer goes = write_quiet (page * (P + 12) + P + slot_offset s) (slot_bytes 0 0) true old new answer goes
+empties_quiet P page s true old new (Ok u) (mid, first, second) = quiet_both old mid new (write_quiet (page * (P + 12) + P + slot_offset s) (slot_bytes 0 0) false old mid (Ok tt) first) (sync_quiet mid new (Ok tt) second)
+empties_quiet P page s true old new (Err e) (inl first) = write_quiet (page * (P + 12) + P + slot_offset s) (slot_bytes 0 0) false old new (Err e) first
+empties_quiet P page s true old new (Err e) (inr (mid, first, second)) =
+    quiet_both old mid new (write_quiet (page * (P + 12) + P + slot_offset s) (slot_bytes 0 0) false old mid (Ok tt) first) (sync_quiet mid new (Err e) second)
+
+mends_quiet : (P page : ℕ) (bad : Option Slot) (unsynced : Bool) (old new : Life) (answer : Result (Unit {0}) Error) → Mends P page bad unsynced old new answer → Quiet old new
+mends_quiet P page None unsynced old new answer mends = gained_none AreQuiet old new mends.1 tt
+mends_quiet P page (Some s) unsynced old new answer mends = empties_quiet P page s unsynced old new answer mends
+
+pages_quiet : (P kept page : ℕ) (bad : Option Slot) (old new : Life) (answer : Result SyncState Error) → KeepsPages P kept page bad old new answer → Quiet old new
+pages_quiet P kept page bad old new (Ok s) (state, mid, cuts, mends, is) = quiet_both old mid new (cuts_back_quiet kept old mid (Ok state) cuts) (mends_quiet P page bad (is_unsynced state) mid new (Ok tt) mends)
+pages_quiet P kept page bad old new (Err e) (inl cuts) = cuts_back_quiet kept old new (Err e) cuts
+pages_quiet P kept page bad old new (Err e) (inr (state, mid, cuts, mends)) =
+    quiet_both old mid new (cuts_back_quiet kept old mid (Ok state) cuts) (mends_quiet P page bad (is_unsynced state) mid new (Err e) mends)
+
+-- opening: a search back, and then a cut, and a slot emptied
+pub opens_back : (size P kept page : ℕ) (bad : Option Slot) (old mid new : Life) (answer : Result SyncState Error) → ReadsBack size old mid → KeepsPages P kept page bad mid new answer → ReadsBack size old new
+opens_back size P kept page bad old mid new answer back keeps =
     let top = length old.present.readable in
-    gained_joins (FallFrom size top) AreQuiet (FallFrom size top) old mid new (fall_then_quiet size top) back (cuts_back_quiet kept mid new answer cuts)
+    gained_joins (FallFrom size top) AreQuiet (FallFrom size top) old mid new (fall_then_quiet size top) back (pages_quiet P kept page bad mid new answer keeps)

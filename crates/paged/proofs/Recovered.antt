@@ -16,6 +16,7 @@ use Rattle.cache.specs.CacheState.{CacheState}
 use Rattle.writer_state.specs.WriterState.{WriterState}
 use Rattle.writer_state.specs.declared.sync_state.SyncState.{SyncState}
 use Rattle.writer_state.specs.declared.sync_state.SyncState.TheVariants.{Clean, Dirty, Pending}
+use Rattle.crash.specs.Distinct.{PageIsGood}
 use Rattle.crash.specs.Built.{kept_len}
 use Rattle.crash.specs.Full.{AreFull}
 use Rattle.crash.specs.Looks.{Looked}
@@ -34,24 +35,25 @@ use Rattle.paged_read.specs.Prefix.{prefix_of, prefix_pages, prefix_size, partia
 use Rattle.paged.specs.Reads.{size_of}
 use Rattle.paged.specs.Calls.{WaitsForNone, HadFailed}
 use Rattle.paged.specs.Truncate.{IsCut, IsTruncated, SoundAndKept, TruncateCause, Truncates, cut_writer, cut_bytes, shortened_writer}
-use Rattle.paged.specs.Recovers.{RecoverCause, IsRecovered, Recovers, opened_bytes}
-use Rattle.paged.specs.Recovery.{RecoveryCause, IsDurable, IsCutBack, IsOpened, IsAsOpened, slot_pages, opened_prefix, opened_size, opened_writer, slot_of_tip}
+use Rattle.paged.specs.Recovers.{IsRecovered, Recovers}
+use Rattle.paged.specs.Recovery.{RecoveryCause, IsDurable, IsCutBack, IsOpened, IsAsOpened, slot_pages, opened_prefix, opened_size, opened_bytes, opened_writer, slot_of_tip}
 use Rattle.paged.specs.Recovery.IsCutBack.{whole, cut}
-use Rattle.disk.proofs.Logs.{grows_joins, failed_later}
+use Rattle.disk.proofs.Logs.{grows_joins}
 use Rattle.crash.proofs.LookLaws.{looked_readable}
-use Rattle.paged.proofs.Firsts.{After, AreLong, prefix_is, prefix_size_is, text_begins, text_of_beginning, first_size_le}
+use Rattle.paged.proofs.Emptied.{length-opened, opened_says}
+use Rattle.paged.proofs.Firsts.{After, AreLong, prefix_is, prefix_size_is, text_begins}
 use Rattle.paged.proofs.Flushes.{size_is_length}
-use Rattle.paged.proofs.Recoveries.{opened_size_le}
+use Rattle.paged.proofs.Recoveries.{cause_later}
 
 -- what is kept is readable
-pub kept_readable : (old new : Life) (kept : ℕ) (s : SyncState) → IsCutBack old new kept s → new.present.readable ≡ take kept old.present.readable
-kept_readable old new kept s (whole all looked) = looked_readable old new looked ∙ sym (take_all kept old.present.readable (omega (arith, all)))
-kept_readable old new kept s (cut more readable durable) = readable
+pub kept_readable : (old new : Life) (bytes : List ℕ) (s : SyncState) → IsCutBack old new bytes s → new.present.readable ≡ bytes
+kept_readable old new bytes s (whole all looked) = looked_readable old new looked ∙ sym all
+kept_readable old new bytes s (cut more readable durable) = readable
 
--- a cut is durable
-pub kept_durable : (old new : Life) (kept : ℕ) (s : SyncState) → IsCutBack old new kept s → s ≡ Clean → IsDurable new.present
-kept_durable old new kept s (whole all looked) is = absurd (cc)
-kept_durable old new kept s (cut more readable durable) is = durable
+-- where something was written, all is durable
+pub kept_durable : (old new : Life) (bytes : List ℕ) (s : SyncState) → IsCutBack old new bytes s → s ≡ Clean → IsDurable new.present
+kept_durable old new bytes s (whole all looked) is = absurd (cc)
+kept_durable old new bytes s (cut more readable durable) is = durable
 
 -- a look leaves it so
 pub looked_durable : (old new : Life) → Looked old new → IsDurable old.present → IsDurable new.present
@@ -61,9 +63,9 @@ looked_durable old new looked durable = record {
 }
 
 -- so it is durable, where all was before
-pub opened_stays_durable : (old new : Life) (kept : ℕ) (s : SyncState) → IsCutBack old new kept s → IsDurable old.present → IsDurable new.present
-opened_stays_durable old new kept s (whole all looked) durable = looked_durable old new looked durable
-opened_stays_durable old new kept s (cut more readable is) durable = is
+pub opened_stays_durable : (old new : Life) (bytes : List ℕ) (s : SyncState) → IsCutBack old new bytes s → IsDurable old.present → IsDurable new.present
+opened_stays_durable old new bytes s (whole all looked) durable = looked_durable old new looked durable
+opened_stays_durable old new bytes s (cut more readable is) durable = is
 
 -- a value's slot takes as many pages as it does
 slot_pages_is : (found : Option (List ℕ × ActiveChecksum)) → slot_pages (slot_of_tip found) ≡ partial_pages found
@@ -86,15 +88,15 @@ module _ (sum : List ℕ → ℕ) (cache : CacheState) (capacity : ℕ) (old mid
       ∙ ap (λ (n : ℕ). (opened_prefix sum cache.page_size old.present.readable).full_pages + n) (slot_pages_is (opened_prefix sum cache.page_size old.present.readable).partial)
 
   -- the blob has these pages alone
-  pub opened_readable : mid.present.readable ≡ take (opened_size sum cache.page_size old.present.readable) old.present.readable
-  opened_readable = kept_readable old mid (opened_size sum cache.page_size old.present.readable) opened.sync opened.kept
+  pub opened_readable : mid.present.readable ≡ opened_bytes sum cache.page_size old.present.readable
+  opened_readable = kept_readable old mid (opened_bytes sum cache.page_size old.present.readable) opened.sync opened.kept
 
   pub opened_length : length mid.present.readable ≡ opened_size sum cache.page_size old.present.readable
-  opened_length = ap length opened_readable ∙ length-take-le (opened_size sum cache.page_size old.present.readable) old.present.readable (opened_size_le sum cache.page_size old.present.readable)
+  opened_length = ap length opened_readable ∙ length-opened sum cache.page_size old.present.readable
 
   -- where the writer is clean, so is the blob
   pub opened_durable : w.sync ≡ Clean → IsDurable mid.present
-  opened_durable is = kept_durable old mid (opened_size sum cache.page_size old.present.readable) opened.sync opened.kept (sym (ap (λ (x : WriterState). x.sync) opened.state) ∙ is)
+  opened_durable is = kept_durable old mid (opened_bytes sum cache.page_size old.present.readable) opened.sync opened.kept (sym (ap (λ (x : WriterState). x.sync) opened.state) ∙ is)
 
   -- the same numbers as a program has them
   pub counted_length : (count page_size : ℕ) → page_size ≡ cache.page_size → count ≡ w.full_pages + slot_pages w.flushed → length mid.present.readable ≡ count * (page_size + 12)
@@ -224,6 +226,8 @@ looked_as_opened sum w old new looked is = record {
   page = subst (λ (l : List ℕ). TipPage sum w.page_size w.full_pages w.tip l w.flushed) (sym (looked_readable old new looked)) is.page;
   written = is.written;
   carries = is.carries;
+  tells = is.tells;
+  good = subst (λ (l : List ℕ). PageIsGood sum w.page_size w.full_pages l) (sym (looked_readable old new looked)) is.good;
   waits = is.waits;
   durable = λ clean. looked_durable old new looked (is.durable clean);
 }
@@ -236,32 +240,8 @@ none_had_failed (Pending name) d none had = none
 
 -- ---- why a recovery isn't done
 
--- what fails in a later part of a call fails in it
-recover_later : (old mid new : Life) (e : Error) → LogGrows old.present mid.present → RecoverCause mid new e → RecoverCause old new e
-recover_later old mid new ReadFailed grows cause = failed_later ReadFailed old.present mid.present new.present grows cause
-recover_later old mid new WriteFailed grows cause = failed_later WriteFailed old.present mid.present new.present grows cause
-recover_later old mid new ResizeFailed grows cause = failed_later ResizeFailed old.present mid.present new.present grows cause
-recover_later old mid new SyncFailed grows cause = failed_later SyncFailed old.present mid.present new.present grows cause
-recover_later old mid new InvalidChecksum grows cause = cause
-recover_later old mid new BlobInsufficientLength grows cause = cause
-recover_later old mid new OffsetOverflow grows cause = cause
-recover_later old mid new OutOfMemory grows cause = tt
-recover_later old mid new IdsExhausted grows cause = cause
-
--- a part that doesn't write
-recover_cause : (old new : Life) (e : Error) → RecoveryCause old new e → RecoverCause old new e
-recover_cause old new ReadFailed cause = cause
-recover_cause old new WriteFailed cause = absurd cause
-recover_cause old new ResizeFailed cause = cause
-recover_cause old new SyncFailed cause = cause
-recover_cause old new InvalidChecksum cause = cause
-recover_cause old new BlobInsufficientLength cause = cause
-recover_cause old new OffsetOverflow cause = cause
-recover_cause old new OutOfMemory cause = tt
-recover_cause old new IdsExhausted cause = cause
-
 -- a cut to the text of what was opened
-cut_cause : (sum : List ℕ → ℕ) (n : ℕ) (w : WriterState) (old new : Life) (e : Error) → 0 < w.page_size → WaitsForNone w.sync → n ≡ length (text sum w.page_size old.present.readable) → TruncateCause sum n w old new e → RecoverCause old new e
+cut_cause : (sum : List ℕ → ℕ) (n : ℕ) (w : WriterState) (old new : Life) (e : Error) → 0 < w.page_size → WaitsForNone w.sync → n ≡ length (text sum w.page_size old.present.readable) → TruncateCause sum n w old new e → RecoveryCause old new e
 cut_cause sum n w old new ReadFailed some none is cause = cause
 cut_cause sum n w old new WriteFailed some none is cause = cause
 cut_cause sum n w old new ResizeFailed some none is cause = cause
@@ -276,7 +256,7 @@ cut_cause sum n w old new OutOfMemory some none is cause = tt
 cut_cause sum n w old new IdsExhausted some none is cause = cause
 
 module _ (sum : List ℕ → ℕ) (cache : CacheState) (capacity : ℕ) (old new : Life) where
-  recovers_cause : (e : Error) → RecoverCause old new e → Recovers sum cache capacity old new (Err e)
+  recovers_cause : (e : Error) → RecoveryCause old new e → Recovers sum cache capacity old new (Err e)
   recovers_cause ReadFailed cause = cause
   recovers_cause WriteFailed cause = cause
   recovers_cause ResizeFailed cause = cause
@@ -289,7 +269,7 @@ module _ (sum : List ℕ → ℕ) (cache : CacheState) (capacity : ℕ) (old new
 
   -- the search forward isn't answered
   pub recovers_unfound : (mid : Life) (e : Error) → LogGrows old.present mid.present → RecoveryCause mid new e → Recovers sum cache capacity old new (Err e)
-  recovers_unfound mid e grows cause = recovers_cause e (recover_later old mid new e grows (recover_cause mid new e cause))
+  recovers_unfound mid e grows cause = recovers_cause e (cause_later old mid new e grows cause)
 
 -- ---- how it ends
 
@@ -317,8 +297,7 @@ module _ (sum : List ℕ → ℕ) (cache : CacheState) (capacity n : ℕ) (old m
   scanned_text =
       let P = cache.page_size in
       let bytes = old.present.readable in
-      ap (λ (l : List ℕ). text sum P l) scanned_readable
-      ∙ text_of_beginning sum P (opened_size sum P bytes) bytes cuts.positive (opened_size_le sum P bytes) (first_size_le sum P bytes cuts.positive)
+      ap (λ (l : List ℕ). text sum P l) scanned_readable ∙ opened_says sum P bytes cuts.positive
 
   -- that it is cut to
   pub scanned_length : n ≡ length (text sum w.page_size scanned.present.readable)
@@ -388,7 +367,7 @@ module _ (sum : List ℕ → ℕ) (cache : CacheState) (capacity n : ℕ) (old m
     pub recovers_end : (answer : Result WriterState Error) → Truncates sum n w scanned new answer → IfOk answer (IsCut sum n w scanned new) → IfOk answer (SoundAndKept sum n w scanned new) → Recovers sum cache capacity old new answer
     recovers_end (Ok now) is exact kept = recovered new now is kept exact
     recovers_end (Err e) is exact kept =
-        recovers_cause sum cache capacity old new e (recover_later old scanned new e scanned_log (cut_cause sum n w scanned new e scanned_some scanned_as_opened.waits scanned_length is.0))
+        recovers_cause sum cache capacity old new e (cause_later old scanned new e scanned_log (cut_cause sum n w scanned new e scanned_some scanned_as_opened.waits scanned_length is.0))
 
     pub recovers_keep : (answer : Result WriterState Error) → Truncates sum n w scanned new answer → IfOk answer (SoundAndKept sum n w scanned new) → OnOk answer (KeepsAll sum cache.page_size (text sum cache.page_size old.present.readable) new)
     recovers_keep (Ok now) is kept = recovered_keeps new now is kept

@@ -2,6 +2,7 @@
 use Rattle.std.proofs.Common.{◌≡◌, ◌⊎◌, inl, inr, ℕ, ◌+◌, ◌*◌, ◌/◌, ◌^◌, ◌<◌, ◌≤◌, List, length, take, refl, sym, ◌∙◌, ap, subst, arith, false}
 use Rattle.std.specs.Prelude.{Result, Ok, Err, Option, Some, None}
 use Rattle.std.specs.Int.{div_ceil}
+use Rattle.std.proofs.lemmas.List.{length-take-le, take_all}
 use Rattle.std.proofs.Math.Nat.{div-eq_of_lt, mod-eq_of_lt, mul-le-mul_left}
 use Rattle.page.specs.declared.slot.ActiveChecksum.{ActiveChecksum}
 use Rattle.disk.specs.Disk.{Disk, Life, LogGrows, logged, settled_disk, ResizeGoes, SyncGoes}
@@ -70,7 +71,7 @@ sync_cause old new IdsExhausted goes = absurd goes
 -- what fails in a later part of a call fails in it
 pub cause_later : (old mid new : Life) (e : Error) → LogGrows old.present mid.present → RecoveryCause mid new e → RecoveryCause old new e
 cause_later old mid new ReadFailed grows cause = failed_later ReadFailed old.present mid.present new.present grows cause
-cause_later old mid new WriteFailed grows cause = cause
+cause_later old mid new WriteFailed grows cause = failed_later WriteFailed old.present mid.present new.present grows cause
 cause_later old mid new ResizeFailed grows cause = failed_later ResizeFailed old.present mid.present new.present grows cause
 cause_later old mid new SyncFailed grows cause = failed_later SyncFailed old.present mid.present new.present grows cause
 cause_later old mid new InvalidChecksum grows cause = cause
@@ -151,25 +152,17 @@ module _ (sum : List ℕ → ℕ) (P Q size physical : ℕ) (readable : List ℕ
       ∙ ap (λ (n : ℕ). prefix_pages p * n) (whole_page ∙ ap (λ (n : ℕ). n + 12) same)
       ∙ ap (λ (x : Prefix). prefix_pages x * (P + 12)) opened_is
 
--- the blob was only read, and then cut to so many bytes at most once
-abbrev pub TrimsTo : ℕ → Life → Life → Type 0
-TrimsTo kept old new = (mid : Life) × Looked old mid × ((new ≡ mid) ⊎ ((answer : Result (Unit {0}) Error) × Cuts kept mid new answer))
-
--- a look, and then a cut where there is more
-pub trims_back : (kept : ℕ) (old mid new : Life) (answer : Result SyncState Error) → Looked old mid → CutsBack kept mid new answer → TrimsTo kept old new
-trims_back kept old mid new (Ok Dirty) looked cuts = (mid, looked, inl cuts.1)
-trims_back kept old mid new (Ok Clean) looked cuts = (mid, looked, inr (Ok tt, cuts.1))
-trims_back kept old mid new (Ok (Pending name)) looked cuts = absurd cuts
-trims_back kept old mid new (Err e) looked cuts = (mid, looked, inr (Err e, cuts))
-
--- the same, done
-pub kept_back : (kept : ℕ) (old mid new : Life) (s : SyncState) → Looked old mid → kept ≤ length old.present.readable → CutsBack kept mid new (Ok s) → IsCutBack old new kept s × LogGrows old.present new.present
+-- a look, and then a cut where there is more, done
+pub kept_back : (kept : ℕ) (old mid new : Life) (s : SyncState) → Looked old mid → kept ≤ length old.present.readable → CutsBack kept mid new (Ok s) → IsCutBack old new (take kept old.present.readable) s × LogGrows old.present new.present
 kept_back kept old mid new Dirty looked le cuts =
-    (whole (cuts.0 ∙ ap length (looked_readable old mid looked)) (subst (λ (l : Life). Looked old l) (sym cuts.1) looked), subst (λ (l : Life). LogGrows old.present l.present) (sym cuts.1) looked.log)
+    let all : kept ≡ length old.present.readable = cuts.0 ∙ ap length (looked_readable old mid looked) in
+    (whole (take_all kept old.present.readable (omega (arith, all))) (subst (λ (l : Life). Looked old l) (sym cuts.1) looked), subst (λ (l : Life). LogGrows old.present l.present) (sym cuts.1) looked.log)
 kept_back kept old mid new Clean looked le cuts =
     let same = looked_readable old mid looked in
-    let done = cut_done kept mid new (omega (arith, ap length same)) cuts.1 in
-    (cut (λ is. cuts.0 (is ∙ sym (ap length same))) (done.0 ∙ ap (λ (l : List ℕ). take kept l) same) done.1, grows_joins old.present mid.present new.present looked.log done.2)
+    let done = cut_done kept mid new (omega (arith, ap length same)) cuts.1 in (
+      cut (λ is. cuts.0 (sym (length-take-le kept old.present.readable le) ∙ ap length is ∙ sym (ap length same))) (done.0 ∙ ap (λ (l : List ℕ). take kept l) same) done.1,
+      grows_joins old.present mid.present new.present looked.log done.2,
+    )
 kept_back kept old mid new (Pending name) looked le cuts = absurd cuts
 
 -- the same, not done

@@ -1,24 +1,27 @@
 -- What opening and recovering a blob keep, at a few bytes. Pages have 4 bytes, and the checksum is their sum.
-use Rattle.std.proofs.Common.{◌≡◌, inr, ℕ, List, [], ◌∷◌, ◌++◌, map, Ok, false, refl, sym, subst, lit<, arith, rules}
+use Rattle.std.proofs.Common.{◌≡◌, inl, inr, ℕ, List, [], ◌∷◌, ◌++◌, map, Ok, false, refl, sym, subst, lit<, arith, rules, ◌<◌, length, take, drop}
 use Rattle.std.specs.Prelude.{Some, None}
-use Rattle.disk.specs.Disk.{Life, Entry, ReadAt, ResizeTo, SyncAll, next, settled_disk, logged}
-use Rattle.page.specs.Page.{pages, text}
+use Rattle.disk.specs.Disk.{Disk, Life, Entry, ReadAt, ResizeTo, SyncAll, Write, applied, next, settled_disk, logged}
+use Rattle.page.specs.Page.{pages, text, verified_len}
+use Rattle.page.specs.declared.slot.Slot.{Slot}
 use Rattle.page.specs.Sums.{add_sum, small_add_sum}
 use Rattle.page.proofs.Examples.{abcd_page, ef_page}
 use Rattle.page.specs.declared.slot.Slot.TheVariants.{First, Second}
 use Rattle.page.specs.declared.slot.ActiveChecksum.{ActiveChecksum}
 use Rattle.writer_state.specs.WriterState.{WriterState}
 use Rattle.writer_state.specs.declared.sync_state.SyncState.TheVariants.{Clean, Dirty}
+use Rattle.crash.specs.Kept.{AllKeep}
 use Rattle.crash.specs.Stays.{KeepsFloors}
+use Rattle.crash.proofs.Promise.{held_verifies}
 use Rattle.crash.proofs.CutLaws.{rest_through_start}
-use Rattle.crash.proofs.Disks.{whole_is_image}
+use Rattle.crash.proofs.Disks.{base_is_image, whole_is_image}
 use Rattle.crash.proofs.FloorLaws.{ReadsImage, floors_none, floors_sync}
 use Rattle.crash.specs.Looks.{looked_start}
 use Rattle.crash.proofs.Texts.{bytes_from_all}
 use Rattle.writer_state.proofs.Examples.{durable, rewritten, seven, before, after}
-use Rattle.paged_read.specs.Prefix.{prefix_of, last_prefix, prefix_pages}
+use Rattle.paged_read.specs.Prefix.{bad_in, prefix_of, last_prefix, prefix_pages}
 use Rattle.paged.specs.Calls.{AsksAtMost, IsSettled}
-use Rattle.paged.specs.Recovery.{IsDurable, IsAsOpened, KeepsText, LeavesText, SoundWhereFull, opened_prefix, opened_size, opened_writer, at_prefix}
+use Rattle.paged.specs.Recovery.{IsDurable, IsAsOpened, KeepsText, LeavesText, SoundWhereFull, TailIsMended, opened_bytes, opened_prefix, opened_size, opened_writer, at_prefix}
 use Rattle.paged.specs.Recovers.{recovered_writer, recovered_bytes}
 use Rattle.cache.specs.CacheState.{CacheState, empty_cache}
 use Rattle.paged.specs.Recovery.IsCutBack.{whole}
@@ -98,7 +101,7 @@ both_are_opened = refl
 
 -- which a cut of it asks for
 pub an_opening_to_cut : IsAsOpened add_sum an_opened_writer (record durable { readable = ab_page ++ efgh_page })
-an_opening_to_cut = record { page = refl; written = record { short = omega arith; flushed = refl }; carries = omega arith; waits = tt; durable = λ clean. absurd (cc clean) }
+an_opening_to_cut = record { page = refl; written = record { short = omega arith; flushed = refl }; carries = omega arith; tells = tt; good = λ page is s. absurd (cc is); waits = tt; durable = λ clean. absurd (cc clean) }
 
 -- a recovery cuts after the first page, which is told by the slot that wasn't its value's: the other is zero
 pub a_page_before_the_last : recovered_bytes add_sum a_cache 8 (ab_page ++ efgh_page) ≡ 97 ∷ 98 ∷ 0 ∷ 0 ∷ 0 ∷ 0 ∷ 0 ∷ 0 ∷ 0 ∷ 0 ∷ 0 ∷ 2 ∷ 0 ∷ 0 ∷ 0 ∷ 195 ∷ []
@@ -134,6 +137,53 @@ unsynced_image = whole_is_image rewritten rewritten.readable (inr refl)
 -- a sync of it, as a recovery makes, keeps each floor: "abcdef" among them
 pub floors_of_a_sync : KeepsFloors add_sum 4 seven after (next after (settled_disk (logged SyncAll false rewritten)))
 floors_of_a_sync = floors_sync add_sum 4 seven after (next after (settled_disk (logged SyncAll false rewritten))) (Ok tt) unsynced_image refl
+
+-- ---- a bad slot
+
+-- the page of "ef", of which a torn write made a second slot that says three bytes, and the wrong checksum
+abbrev torn_page : List ℕ
+torn_page = 101 ∷ 102 ∷ 103 ∷ 0 ∷ 0 ∷ 2 ∷ 0 ∷ 0 ∷ 0 ∷ 203 ∷ 0 ∷ 3 ∷ 0 ∷ 0 ∷ 0 ∷ 0 ∷ []
+
+pub a_bad_slot : bad_in add_sum 4 (abcd_page ++ torn_page) (opened_prefix add_sum 4 (abcd_page ++ torn_page)) ≡ Some Second
+a_bad_slot = refl
+
+-- opening empties it, and cuts what follows
+pub an_emptied_slot : opened_bytes add_sum 4 (abcd_page ++ torn_page ++ no_page) ≡ abcd_page ++ 101 ∷ 102 ∷ 103 ∷ 0 ∷ 0 ∷ 2 ∷ 0 ∷ 0 ∷ 0 ∷ 203 ∷ 0 ∷ 0 ∷ 0 ∷ 0 ∷ 0 ∷ 0 ∷ []
+an_emptied_slot = refl
+
+-- a slot that is six zeros stays, and so do the slots of a full page
+pub an_empty_slot_stays : opened_bytes add_sum 4 (abcd_page ++ ef_page) ≡ abcd_page ++ ef_page
+an_empty_slot_stays = refl
+
+pub a_full_page_stays : opened_bytes add_sum 4 (97 ∷ 98 ∷ 99 ∷ 100 ∷ 0 ∷ 4 ∷ 0 ∷ 0 ∷ 1 ∷ 138 ∷ 0 ∷ 3 ∷ 0 ∷ 0 ∷ 0 ∷ 0 ∷ []) ≡ 97 ∷ 98 ∷ 99 ∷ 100 ∷ 0 ∷ 4 ∷ 0 ∷ 0 ∷ 1 ∷ 138 ∷ 0 ∷ 3 ∷ 0 ∷ 0 ∷ 0 ∷ 0 ∷ []
+a_full_page_stays = refl
+
+-- then it is six zeros, where it was bad before
+pub a_mended_tail : TailIsMended add_sum (opened_writer add_sum a_cache 8 (abcd_page ++ torn_page) Clean) (opened_bytes add_sum 4 (abcd_page ++ torn_page))
+a_mended_tail = inr refl
+
+pub a_tail_to_mend : TailIsMended add_sum (opened_writer add_sum a_cache 8 (abcd_page ++ torn_page) Clean) (abcd_page ++ torn_page) → ⊥
+a_tail_to_mend (inl verifies) = omega (arith, verifies)
+a_tail_to_mend (inr zeros) = absurd (cc zeros)
+
+-- "b" is durable under the first slot, and "c", which isn't, is over it: the second slot verifies over "ac", and the first is bad
+abbrev ab_ac_page : List ℕ
+ab_ac_page = 97 ∷ 98 ∷ 0 ∷ 0 ∷ 0 ∷ 2 ∷ 0 ∷ 0 ∷ 0 ∷ 195 ∷ 0 ∷ 2 ∷ 0 ∷ 0 ∷ 0 ∷ 196 ∷ []
+
+abbrev half_written : Disk
+half_written = record durable { readable = applied (Write 1 (99 ∷ [])) ab_ac_page; base = ab_ac_page; since = Write 1 (99 ∷ []) ∷ [] }
+
+-- every image begins with "a", but no slot holds it: emptying the bad one might leave "ab" under no slot
+pub no_slot_holds : AllKeep add_sum 4 (97 ∷ []) 1 half_written → ⊥
+no_slot_holds keeps =
+    let g = keeps.held.guards 0 (lit< tt) in
+    let bytes = take g.len (drop 0 keeps.held.told) in
+    by_slot g.slot (length bytes) (held_verifies add_sum 4 half_written 0 g.slot g.bytes bytes ab_ac_page ab_ac_page g.held (base_is_image half_written) refl)
+    (held_verifies add_sum 4 half_written 0 g.slot g.bytes bytes half_written.readable half_written.readable g.held (whole_is_image half_written half_written.readable (inr refl)) refl) g.held.some
+  where
+    by_slot : (s : Slot) (n : ℕ) → verified_len add_sum 4 s ab_ac_page ≡ n → verified_len add_sum 4 s half_written.readable ≡ n → 0 < n → ⊥
+    by_slot First n base readable some = omega (arith, readable, some)
+    by_slot Second n base readable some = omega (arith, base, some)
 
 -- the recovered writer is settled
 pub a_settled_recovery : IsSettled (at_prefix 4 0 8 (opened_prefix add_sum 4 (abcd_page ++ ef_page ++ no_page)) Clean)

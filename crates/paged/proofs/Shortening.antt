@@ -14,6 +14,7 @@ use Rattle.page.specs.Page.{slot_bytes, active, value_len}
 use Rattle.page.specs.declared.slot.Slot.{Slot}
 use Rattle.page.specs.declared.slot.ActiveChecksum.{ActiveChecksum}
 use Rattle.writer_state.specs.declared.sync_state.SyncState.TheVariants.{Clean}
+use Rattle.crash.proofs.ShrinkLaws.{inside_write, outside_write}
 use Rattle.crash.specs.Below.{SamePages, PagesStay}
 use Rattle.crash.specs.Kept.{Through}
 use Rattle.crash.specs.Looks.{Looked}
@@ -141,7 +142,7 @@ write_device old new IdsExhausted cause = absurd cause
 
 pub resize_device : (old new : Life) (e : Error) → RecoveryCause old new e → DeviceCause old new e
 resize_device old new ReadFailed cause = cause
-resize_device old new WriteFailed cause = absurd cause
+resize_device old new WriteFailed cause = cause
 resize_device old new ResizeFailed cause = cause
 resize_device old new SyncFailed cause = cause
 resize_device old new InvalidChecksum cause = absurd cause
@@ -441,6 +442,13 @@ module _ (sum : List ℕ → ℕ) (P : ℕ) (told : List ℕ) (F page : ℕ) (f 
   staged_size : length staged_bytes ≡ length R
   staged_size = let six : length (slot_bytes 0 crc) ≡ 6 = refl in omega (arith, six, reach, slot_offset_le (other f.slot), length-applied_write (page * (P + 12) + P + slot_offset (other f.slot)) (slot_bytes 0 crc) R)
 
+  staged_slot : take 6 (drop (page * (P + 12) + P + slot_offset (other f.slot)) staged_bytes) ≡ slot_bytes 0 crc
+  staged_slot = let six : length (slot_bytes 0 crc) ≡ 6 = refl in inside_write (page * (P + 12) + P + slot_offset (other f.slot)) (slot_bytes 0 crc) R (omega (arith, six, reach, slot_offset_le (other f.slot)))
+
+  staged_payload : take len (drop (page * (P + 12)) staged_bytes) ≡ take len (drop (page * (P + 12)) R)
+  staged_payload = let six : length (slot_bytes 0 crc) ≡ 6 = refl in
+      outside_write (page * (P + 12) + P + slot_offset (other f.slot)) (slot_bytes 0 crc) R (page * (P + 12)) len (omega (arith, six, reach, slot_offset_le (other f.slot))) (inl (omega (arith, part)))
+
   abbrev published_bytes : List ℕ
   published_bytes = applied (published P page f.slot len) staged_bytes
 
@@ -452,7 +460,9 @@ module _ (sum : List ℕ → ℕ) (P : ℕ) (told : List ℕ) (F page : ℕ) (f 
   publish_goes old new answer at_rest goes =
       let ready = at_rest.ready in
       let two : length (to_be_bytes w16 len) ≡ 2 = refl in
-      let through = publish_holds sum P told F page f len true old new answer goes (there_latest staged_bytes f old staged_size ready) ready.latest_is (omega (arith, part, small_page))
+      let through = publish_holds sum P told F page f len crc true old new answer goes (there_latest staged_bytes f old staged_size ready) ready.latest_is (omega (arith, part)) small_page (omega (arith, is_sum, small (take len (drop (page * (P + 12)) R))))
+      (ap (λ (l : List ℕ). take 6 (drop (page * (P + 12) + P + slot_offset (other f.slot)) l)) (sym ready.latest_is ∙ ready.readable) ∙ staged_slot)
+      (is_sum ∙ ap sum (sym (ap (λ (l : List ℕ). take len (drop (page * (P + 12)) l)) (sym ready.latest_is ∙ ready.readable) ∙ staged_payload)))
       (may_hold_payload sum P told page f len old.present less ready.may) (may_hold_spares sum P told page f F old.present within (omega (arith, enough, less)) ready.may) ready.holds in
       record {
         cuts = slot_cuts (other f.slot) (to_be_bytes w16 len) true old new answer (there_in staged_bytes f old staged_size ready) through goes;

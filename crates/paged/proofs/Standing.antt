@@ -6,6 +6,7 @@ use Rattle.disk.specs.Disk.{Disk, AreCovered}
 use Rattle.page.specs.Page.{pages, active, value_len, text}
 use Rattle.page.specs.declared.slot.ActiveChecksum.{ActiveChecksum}
 use Rattle.writer_state.specs.declared.sync_state.SyncState.TheVariants.{Clean}
+use Rattle.crash.specs.Distinct.{PageIsGood}
 use Rattle.crash.specs.Full.{AreFull}
 use Rattle.writer_state.specs.Sound.{Soundness, HasPage, content}
 use Rattle.crash.proofs.Lists.{within_take}
@@ -78,9 +79,9 @@ module _ (sum : List ℕ → ℕ) (small_sum : IsSmall sum) (P id capacity : ℕ
       )
 
   -- after full pages and a page with a shorter value
-  stands_some : (full : ℕ) (v : List ℕ × ActiveChecksum) → AreFull sum P (take full (pages P bytes)) → After sum P (pages P bytes) full (Some v) → HasBytes P full bytes (Some v) → d.readable ≡ take ((full + 1) * (P + 12)) bytes
+  stands_some : (full : ℕ) (v : List ℕ × ActiveChecksum) → AreFull sum P (take full (pages P bytes)) → After sum P (pages P bytes) full (Some v) → HasBytes P full bytes (Some v) → d.readable ≡ take ((full + 1) * (P + 12)) bytes → PageIsGood sum P full d.readable
       → StandsFor (record { full_pages = full; partial = Some v })
-  stands_some full v are after has cut =
+  stands_some full v are after has cut good =
       let w = at_prefix P id capacity (record { full_pages = full; partial = Some v }) Clean in
       let a = v.1 in
       let k = full * (P + 12) in
@@ -92,21 +93,21 @@ module _ (sum : List ℕ → ℕ) (small_sum : IsSmall sum) (P id capacity : ℕ
       let is = active_is sum P (page_at P full d.readable) a shown.told in
       let page : HasPage sum P full v.0 d.readable a = page_after sum P bytes d.readable full v after has cut in
       let less : value_len sum P (page_at P full bytes) < P = omega (arith, shown.part, is.len, ap (λ (l : List ℕ). value_len sum P l) shown.same) in (
-        page_sound sum w d durable.since durable.base positive small here refl (rest_settled d covered durable.since) small_sum a refl page,
+        page_sound sum w d durable.since durable.base positive small here refl (rest_settled d covered durable.since) small_sum a refl page good,
         page_content sum w d.readable a here (omega (arith, shown.size)) shown.told shown.part shown.tip
             ∙ ap (λ (l : List ℕ). text sum P l) cut
             ∙ text_cut_part sum P full bytes are fits less,
       )
 
   pub stands_after : (full : ℕ) (found : Option (List ℕ × ActiveChecksum)) → full + partial_pages found ≤ length (pages P bytes) → AreFull sum P (take full (pages P bytes)) → After sum P (pages P bytes) full found → HasBytes P full bytes found
-      → d.readable ≡ take ((full + partial_pages found) * (P + 12)) bytes → StandsFor (record { full_pages = full; partial = found })
-  stands_after full None within are after has cut =
+      → d.readable ≡ take ((full + partial_pages found) * (P + 12)) bytes → PageIsGood sum P full d.readable → StandsFor (record { full_pages = full; partial = found })
+  stands_after full None within are after has cut good =
       let e : full + 0 ≡ full = omega arith in
       stands_none full (omega (arith, within)) are after (cut ∙ ap (λ (n : ℕ). take (n * (P + 12)) bytes) e)
-  stands_after full (Some v) within are after has cut = stands_some full v are after has cut
+  stands_after full (Some v) within are after has cut good = stands_some full v are after has cut good
 
   -- after the prefix of the bytes' pages, which is all that the blob has
-  pub stands_first : (p : Prefix) → p ≡ prefix_of sum P (pages P bytes) → HasBytes P p.full_pages bytes p.partial → d.readable ≡ take (prefix_pages p * (P + 12)) bytes → StandsFor p
-  stands_first p is has cut =
+  pub stands_first : (p : Prefix) → p ≡ prefix_of sum P (pages P bytes) → HasBytes P p.full_pages bytes p.partial → d.readable ≡ take (prefix_pages p * (P + 12)) bytes → PageIsGood sum P p.full_pages d.readable → StandsFor p
+  stands_first p is has cut good =
       let first : IsFirst sum P (pages P bytes) p = subst (λ (q : Prefix). IsFirst sum P (pages P bytes) q) (sym is) (prefix_is sum P (pages P bytes)) in
-      stands_after p.full_pages p.partial first.within first.full first.after has cut
+      stands_after p.full_pages p.partial first.within first.full first.after has cut good

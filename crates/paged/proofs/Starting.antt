@@ -48,7 +48,7 @@ module _ (sum : List ℕ → ℕ) (w : WriterState) (old new : Life) (small : Is
   started_stays failed is =
       subst (λ (l : Life). StaysThrough sum w.page_size (content w old.present.readable) old l) (sym is)
       (through_more (Stays sum w.page_size (content w old.present.readable) old.present) old old (starts failed old.present)
-      (stays_through_start sum w.page_size (content w old.present.readable) old sound.truthful) (start_stays sum w old.present sound failed))
+      (stays_through_start sum w.page_size (content w old.present.readable) old sound.truthful sound.vouched) (start_stays sum w old.present sound failed))
 
   -- the new one stands for all, where all is written
   start_ok : (now : WriterState) (name : ℕ) (failed : Bool) → IsWritten w → name ≡ length old.present.started → new ≡ next old (starts failed old.present) → now ≡ record w { sync = Pending name }
@@ -90,7 +90,7 @@ module _ (sum : List ℕ → ℕ) (w : WriterState) (old new : Life) (small : Is
   }
     where
       refused_stays : (e : Error) → StartGoes old new (Err e) → StaysThrough sum w.page_size (content w old.present.readable) old new
-      refused_stays OutOfMemory is = subst (λ (l : Life). StaysThrough sum w.page_size (content w old.present.readable) old l) (sym is) (stays_through_start sum w.page_size (content w old.present.readable) old sound.truthful)
+      refused_stays OutOfMemory is = subst (λ (l : Life). StaysThrough sum w.page_size (content w old.present.readable) old l) (sym is) (stays_through_start sum w.page_size (content w old.present.readable) old sound.truthful sound.vouched)
       refused_stays e goes = absurd goes
 
   start_pages : (result : Result StartedSync Error) → StartGoes old new result → PagesStay w.page_size w.full_pages old new

@@ -59,7 +59,7 @@ unfolding IsSound
 reads_stay sum w old new sound looked =
     let held = content w old.present.readable in
     through_then (SameButLog old.present) (Stays sum w.page_size held old.present) old new
-    (λ d same. stays_alike sum w.page_size held old.present old.present d (ap (λ (x : Disk). x.base) same) (ap (λ (x : Disk). x.since) same) (stays_itself sum w.page_size held old.present sound.truthful))
+    (λ d same. stays_alike sum w.page_size held old.present old.present d (ap (λ (x : Disk). x.base) same) (ap (λ (x : Disk). x.since) same) (stays_itself sum w.page_size held old.present sound.truthful sound.vouched))
     looked.through
 
 pub reads_keep : (sum : List ℕ → ℕ) (w : WriterState) (old new : Life) → Looked old new → IsSound sum w old.present → KeepsAllFloors sum w.page_size old new

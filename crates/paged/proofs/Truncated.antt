@@ -1,5 +1,5 @@
 -- How a truncate ends: the blob and the writer that a cut leaves, and what the cut keeps after a sync.
-use Rattle.std.proofs.Common.{◌≡◌, inl, inr, ℕ, ◌+◌, ◌-◌, ◌*◌, ◌/◌, ◌%◌, ◌<◌, ◌≤◌, ◌^◌, List, [], ◌++◌, length, take, drop, Some, None, Ok, refl, sym, ap, ◌∙◌, subst, arith, append_assoc, append-nil, length-append, length-drop, length-take-le, lit<, mul-le-mul_right}
+use Rattle.std.proofs.Common.{◌≡◌, inl, inr, ℕ, ◌+◌, ◌-◌, ◌*◌, ◌/◌, ◌%◌, ◌<◌, ◌≤◌, ◌^◌, List, [], ◌++◌, length, take, drop, Some, None, Ok, refl, sym, ap, ◌∙◌, subst, arith, append_assoc, append-nil, length-append, length-drop, length-take-le, lit<, mul-le-mul_right, ◌⊎◌}
 use Rattle.std.specs.Prelude.{Option}
 use Rattle.std.proofs.lemmas.List.{take_at, drop_at, take-take, take_all, take-append-le}
 use Rattle.std.proofs.lemmas.Bool.{cases_lt}
@@ -13,12 +13,16 @@ use Rattle.page.specs.declared.slot.Slot.TheVariants.{First, Second}
 use Rattle.page.specs.declared.slot.ActiveChecksum.{ActiveChecksum}
 use Rattle.writer_state.specs.declared.sync_state.SyncState.{SyncState}
 use Rattle.writer_state.specs.WriterState.{WriterState}
+use Rattle.crash.proofs.ShrinkLaws.{other_other}
+use Rattle.crash.proofs.Disks.{latest_is_whole}
+use Rattle.crash.specs.Distinct.{IsGood, PageIsGood}
+use Rattle.crash.proofs.DistinctLaws.{slot_good, void_good, slot_cases}
 use Rattle.crash.specs.Built.{footer, kept_len}
 use Rattle.crash.specs.Guard.{IsSlotFor}
 use Rattle.crash.specs.Moments.{through_joins}
 use Rattle.crash.specs.Started.{AllSettled, CoversThrough, StartsStand}
 use Rattle.writer_state.specs.Sound.{HasPage, IsSound, Soundness, StartsFit, StateFits, TipPage, content}
-use Rattle.crash.specs.Contents.{stored}
+use Rattle.crash.specs.Contents.{stored, latest}
 use Rattle.crash.specs.Full.{AreFull}
 use Rattle.crash.specs.Kept.{AllOnly}
 use Rattle.crash.specs.Stays.{KeepsAll, LeavesOnly, StaysThrough}
@@ -28,14 +32,14 @@ use Rattle.crash.proofs.Lists.{drop_past, same_reach, take_same}
 use Rattle.writer_state.proofs.CoverLaws.{covers_shorter, covers_through_join}
 use Rattle.crash.proofs.Moments.{only_through}
 use Rattle.crash.proofs.PageFacts.{own_beginning, verified_len_held}
-use Rattle.crash.proofs.Pages.{length-stored, stored_same, take-stored}
+use Rattle.crash.proofs.Pages.{length-stored, stored_same, take-stored, page_is}
 use Rattle.crash.proofs.Texts.{AreFull_fewer, AreFull_same}
 use Rattle.writer_state.proofs.Soundness.{exact_sound, page_sound, settle_keeps}
 use Rattle.writer_state.proofs.ShortenLaws.{covers_through_shorten, shorten_floors, shorten_leaves, shorten_stands, sound_text}
 use Rattle.paged_read.specs.Ranges.{page_at}
 use Rattle.paged.specs.Calls.{IsSettled, Syncs, WaitsForNone}
 use Rattle.paged.specs.Reads.{HasPages, size_of}
-use Rattle.paged.specs.Recovery.{IsAsOpened, IsDurable, slot_pages}
+use Rattle.paged.specs.Recovery.{BesideIsMended, IsAsOpened, IsDurable, slot_pages}
 use Rattle.paged.specs.Truncate.{CutsTo, IsShortened, KeepsFloorsWithin, shortened, shortened_slot, shortened_writer}
 use Rattle.paged.proofs.Shortened.{shortened_whole, shortened_part, slot_whole, slot_part}
 
@@ -75,7 +79,7 @@ module _ (sum : List ℕ → ℕ) (small_sum : IsSmall sum) (P len : ℕ) (s : S
   pub rewritten_slot : slot_of P (other s) rewritten_page ≡ slot_bytes len crc
   rewritten_slot = slot_in_footer (other s) ∙ footer_other s (slot_bytes 0 0) (slot_bytes len crc) refl refl
 
-  emptied_slot : slot_of P s rewritten_page ≡ slot_bytes 0 0
+  pub emptied_slot : slot_of P s rewritten_page ≡ slot_bytes 0 0
   emptied_slot = slot_in_footer s ∙ footer_first s (slot_bytes 0 0) (slot_bytes len crc) refl refl
 
   rewritten_begins : take len rewritten_page ≡ take len payload
@@ -95,6 +99,17 @@ module _ (sum : List ℕ → ℕ) (small_sum : IsSmall sum) (P len : ℕ) (s : S
       let none : verified_len sum P s rewritten_page ≤ 0 = omega (arith, verified_le_slot sum P s rewritten_page, ap slot_len emptied_slot, slot_len_of 0 0 (lit< tt)) in
       value_of_slots sum P len s rewritten_page told none
 
+  -- neither slot of it is bad
+  rewritten_at : (t : Slot) → (t ≡ s) ⊎ (t ≡ other s) → IsGood sum P t rewritten_page
+  rewritten_at t (inl kept) = void_good sum P t rewritten_page (ap (λ (u : Slot). slot_len (slot_of P u rewritten_page)) kept ∙ ap slot_len emptied_slot ∙ slot_len_of 0 0 (lit< tt))
+  rewritten_at t (inr new) =
+      subst (λ (u : Slot). IsGood sum P u rewritten_page) (sym new)
+      (slot_good sum P (other s) rewritten_page len crc (omega (arith, size, length-append payload (footer s (slot_bytes 0 0) (slot_bytes len crc)), length-footer s (slot_bytes 0 0) (slot_bytes len crc) refl refl))
+      (omega (arith, fits, small)) (small_sum (take len payload)) rewritten_slot (λ few. ap sum (sym rewritten_begins)))
+
+  pub rewritten_good : (t : Slot) → IsGood sum P t rewritten_page
+  rewritten_good t = rewritten_at t (slot_cases s t)
+
 -- ---- a sound writer all of which is durable
 
 module _ (sum : List ℕ → ℕ) (w : WriterState) (d : Disk) (sound : IsSound sum w d) (settled : IsSettled w) where
@@ -105,6 +120,8 @@ module _ (sum : List ℕ → ℕ) (w : WriterState) (d : Disk) (sound : IsSound 
     page = sound.stands.tip_page;
     written = record { short = settled.short; flushed = settled.flushed };
     carries = sound.stands.carries.1;
+    tells = sound.stands.carries.2;
+    good = subst (λ (l : List ℕ). PageIsGood sum w.page_size w.full_pages l) (sym sound.stands.done) (sound.good (latest d.base d.since) (latest_is_whole d.base d.since) w.full_pages (omega arith));
     waits = subst (λ (s : SyncState). WaitsForNone s) (sym settled.clean) tt;
     durable = λ clean. let fits = subst (λ (s : SyncState). StateFits d s) clean sound.stands.state in record { since = fits.0; base = fits.1 };
   }
@@ -356,6 +373,27 @@ module _ (sum : List ℕ → ℕ) (n : ℕ) (w : WriterState) (old : Life) (some
               ∙ ap (λ (l : List ℕ). slot_bytes (n % P) (sum l)) payload_begins;
         }
 
+    last_page_good : PageIsGood sum P (n / P) (shortened sum P n R)
+    last_page_good page there t =
+        let same : page ≡ last_page = page_is P (n / P) (shortened sum P n R) page there ∙ page_left in
+        subst (λ (l : List ℕ). IsGood sum P t l) (sym same) (rewritten_good sum small_sum P (n % P) (value_slot sum P (page_at P (n / P) R)) payload length_payload small part (omega (arith, rest_less)) t)
+
+    -- the slot beside the one that tells it is empty
+    last_page_beside : slot_of P (value_slot sum P (page_at P (n / P) R)) (page_at P (n / P) (shortened sum P n R)) ≡ slot_bytes 0 0
+    last_page_beside =
+        let s = value_slot sum P (page_at P (n / P) R) in
+        ap (λ (l : List ℕ). slot_of P s l) page_left ∙ emptied_slot sum small_sum P (n % P) s payload length_payload small part (omega (arith, rest_less))
+
+  -- so no slot of the tip's page is bad then
+  pub shortened_mended : IsSmall sum → w.page_size < 2 ^ 16 → BesideIsMended sum w.page_size (n / w.page_size) (shortened sum w.page_size n old.present.readable) (shortened_slot sum w.page_size n old.present.readable)
+  shortened_mended small_sum small = elim (cases_lt 0 (n % P)) [
+    | inl part ↦
+        let s = value_slot sum P (page_at P (n / P) R) in
+        subst (λ (f : Option ActiveChecksum). BesideIsMended sum P (n / P) (shortened sum P n R) f) (sym (slot_within part))
+        (inr (ap (λ (u : Slot). slot_of P u (page_at P (n / P) (shortened sum P n R))) (other_other s) ∙ last_page_beside small_sum small part))
+    | inr past ↦ let whole : n % P ≡ 0 = omega (arith, past) in subst (λ (f : Option ActiveChecksum). BesideIsMended sum P (n / P) (shortened sum P n R) f) (sym (slot_after whole)) tt
+  ]
+
   -- the blob and the writer that a cut leaves
   module _ (new : Life) (now : WriterState) (is : IsShortened sum n w old new now) where
     pub left_content : content now new.present.readable ≡ take n (content w R)
@@ -397,6 +435,7 @@ module _ (sum : List ℕ → ℕ) (n : ℕ) (w : WriterState) (old : Life) (some
             | inl part ↦
                 page_sound sum v new.present is.durable.since is.durable.base some small full_left refl (rest_settled new.present covered is.durable.since) small_sum last_slot (slot_within part)
                 (subst (λ (l : List ℕ). HasPage sum P (n / P) (take (n % P) (drop (n / P * (P + 12)) R)) l last_slot) (sym is.readable) (has_last_page small_sum small part))
+                (subst (λ (l : List ℕ). PageIsGood sum P (n / P) l) (sym is.readable) (last_page_good small_sum small part))
             | inr past ↦
                 let whole : n % P ≡ 0 = omega (arith, past) in
                 exact_sound sum v new.present is.durable.since is.durable.base some small full_left refl (rest_settled new.present covered is.durable.since) (slot_after whole)

@@ -31,6 +31,8 @@ use Rattle.crash.proofs.CutLaws.{sync_cases}
 use Rattle.crash.proofs.FloorLaws.{ReadsImage, floors_joins, floors_none, floors_sync}
 use Rattle.writer_state.proofs.FlushLaws.{length-content, rest_settled, tip_reach}
 use Rattle.crash.proofs.Moments.{only_through}
+use Rattle.crash.specs.Distinct.{DurableTells, PageIsGood}
+use Rattle.crash.proofs.DistinctLaws.{vouched_at_rest}
 use Rattle.crash.proofs.PageFacts.{own_beginning}
 use Rattle.writer_state.proofs.ShortenLaws.{sound_text}
 use Rattle.crash.proofs.Texts.{AreFull_page}
@@ -95,9 +97,12 @@ settled_durable (Pending name) old new none durable settled_disk = absurd none
 
 -- the text of the only image of a blob of which all is durable
 rest_only : (sum : List ℕ → ℕ) (P : ℕ) (after bytes : List ℕ) (d : Disk) → d.since ≡ [] → d.base ≡ bytes → AllOnly sum P (text sum P bytes) after d
-rest_only sum P after bytes d since base = λ image is_image free.
-    let is : image ≡ bytes = only_image d image since is_image ∙ base in
-    inl (ap (λ (l : List ℕ). text sum P l) is ∙ sym (take_all (length (text sum P image)) (text sum P bytes) (omega (arith, ap (λ (l : List ℕ). length (text sum P l)) is))))
+rest_only sum P after bytes d since base = record {
+  only = λ image is_image free.
+      let is : image ≡ bytes = only_image d image since is_image ∙ base in
+      inl (ap (λ (l : List ℕ). text sum P l) is ∙ sym (take_all (length (text sum P image)) (text sum P bytes) (omega (arith, ap (λ (l : List ℕ). length (text sum P l)) is))));
+  vouched = vouched_at_rest sum P d since;
+}
 
 -- where all was durable there is nothing else at any moment
 pub settled_only : (sum : List ℕ → ℕ) (P : ℕ) (after : List ℕ) (s : SyncState) (old new : Life) (answer : Result (Unit {0}) Error) → IsDurable old.present → WaitsForNone s → SettlesBy s old new answer
@@ -209,8 +214,8 @@ pub record After (sum : List ℕ → ℕ) (w v : WriterState) (old mid : Life) :
   pub log : LogGrows old.present mid.present
 
 -- a tip that is all of the tip's page is as sound whatever slot is the durable one, where nothing is unsynced
-slot_sound : (sum : List ℕ → ℕ) (w : WriterState) (d : Disk) → Soundness sum (record w { durable = w.flushed; sync = Clean }) d → kept_len w.durable ≤ length w.tip → length w.tip < w.page_size → Soundness sum (record w { sync = Clean }) d
-slot_sound sum w d sound few short = record {
+slot_sound : (sum : List ℕ → ℕ) (w : WriterState) (d : Disk) → Soundness sum (record w { durable = w.flushed; sync = Clean }) d → kept_len w.durable ≤ length w.tip → DurableTells sum w.tip w.durable → length w.tip < w.page_size → Soundness sum (record w { sync = Clean }) d
+slot_sound sum w d sound few tells short = record {
   stands = record {
     some = sound.stands.some;
     small = sound.stands.small;
@@ -219,7 +224,7 @@ slot_sound sum w d sound few short = record {
     tip_page = sound.stands.tip_page;
     state = sound.stands.state;
     starts = sound.stands.starts;
-    carries = (omega (arith, few, short), few);
+    carries = (omega (arith, few, short), few, tells);
   };
   safe = record {
     full = sound.safe.full;
@@ -231,6 +236,8 @@ slot_sound sum w d sound few short = record {
     position = sound.safe.position;
   };
   truthful = sound.truthful;
+  vouched = sound.vouched;
+  good = sound.good;
 }
 
 module _ (sum : List ℕ → ℕ) (n : ℕ) (w : WriterState) (old : Life) (t : Truncating sum w old) where
@@ -277,6 +284,9 @@ module _ (sum : List ℕ → ℕ) (n : ℕ) (w : WriterState) (old : Life) (t : 
                 (subst (λ (l : List ℕ). TipPage sum w.page_size w.full_pages w.tip l w.flushed) (sym readable) opened.page));
             written = subst IsWritten (sym state) (record { short = opened.written.short; flushed = opened.written.flushed });
             carries = subst (λ (s : WriterState). kept_len s.durable ≤ length s.tip) (sym state) opened.carries;
+            tells = subst (λ (s : WriterState). DurableTells sum s.tip s.durable) (sym state) opened.tells;
+            good = (subst (λ (s : WriterState). PageIsGood sum s.page_size s.full_pages mid.present.readable) (sym state)
+                (subst (λ (l : List ℕ). PageIsGood sum w.page_size w.full_pages l) (sym readable) opened.good));
             waits = subst (λ (s : WriterState). WaitsForNone s.sync) (sym state) tt;
             durable = λ clean. durable;
           };
@@ -418,8 +428,9 @@ module _ (sum : List ℕ → ℕ) (n : ℕ) (w : WriterState) (old : Life) (t : 
         let durable : IsDurable new.present = settled_durable w.sync old new opened.waits opened.durable settles in
         slot_sound sum w new.present
         (settled_sound sum (record w { durable = w.flushed; sync = Clean }) new.present durable.since durable.base t.some t.small (subst (λ (l : List ℕ). AreFull sum w.page_size (take w.full_pages (pages w.page_size l))) (sym readable) full) refl
-        (rest_settled new.present covered durable.since) t.small_sum (subst (λ (l : List ℕ). TipPage sum w.page_size w.full_pages w.tip l w.flushed) (sym readable) opened.page))
-        opened.carries opened.written.short
+        (rest_settled new.present covered durable.since) t.small_sum (subst (λ (l : List ℕ). TipPage sum w.page_size w.full_pages w.tip l w.flushed) (sym readable) opened.page)
+        (subst (λ (l : List ℕ). PageIsGood sum w.page_size w.full_pages l) (sym readable) opened.good))
+        opened.carries opened.tells opened.written.short
 
     kept_full : has_work w true ≡ false → SoundAndKept sum n w old new v
     unfolding IsSound

@@ -160,7 +160,7 @@ wait_leaves_writers sum (Named name) old new result small goes w sound =
 wait_leaves_writers sum Done old new (Ok u) small is w sound = record {
   sound = subst (λ (l : Life). Soundness sum w l.present) (sym is) sound;
   readable = ap (λ (l : Life). l.present.readable) is;
-  stays = subst (λ (l : Life). StaysThrough sum w.page_size (content w old.present.readable) old l) (sym is) (stays_through_start sum w.page_size (content w old.present.readable) old sound.truthful);
+  stays = subst (λ (l : Life). StaysThrough sum w.page_size (content w old.present.readable) old l) (sym is) (stays_through_start sum w.page_size (content w old.present.readable) old sound.truthful sound.vouched);
   covers = covers_none sum w.page_size (content w old.present.readable) old new is;
 }
 wait_leaves_writers sum Done old new (Err e) small goes w sound = absurd goes

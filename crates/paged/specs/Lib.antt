@@ -5,6 +5,7 @@ pub mod Recovery
 pub mod Reads
 pub mod Direct
 pub mod Truncate
+pub mod Mends
 pub mod Recovers
 pub mod Caches
 pub mod Snapshots

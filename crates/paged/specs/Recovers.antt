@@ -1,32 +1,17 @@
 -- What recovering a blob does, by cases on the answer: it is opened, and cut to its text.
-use Rattle.std.specs.Prelude.{◌≡◌, ◌⊎◌, ◌≤◌, ◌+◌, ◌*◌, ◌^◌, ℕ, List, length, take, Result, Ok, Err}
+use Rattle.std.specs.Prelude.{◌≡◌, ◌⊎◌, ◌≤◌, ◌+◌, ◌*◌, ◌^◌, ℕ, List, length, Result, Ok, Err}
 use Rattle.page.specs.Geometry.{adjusted}
 use Rattle.page.specs.Page.{text}
-use Rattle.disk.specs.Disk.{Life, LogGrows, HasFailed}
+use Rattle.disk.specs.Disk.{Life, LogGrows}
 use Rattle.disk.specs.declared.error.Error.{Error}
-use Rattle.disk.specs.declared.error.Error.TheVariants.{ReadFailed, WriteFailed, ResizeFailed}
-use Rattle.disk.specs.declared.error.Error.TheVariants.{SyncFailed, OffsetOverflow, OutOfMemory}
-use Rattle.disk.specs.declared.error.Error.TheVariants.{IdsExhausted}
+use Rattle.disk.specs.declared.error.Error.TheVariants.{OffsetOverflow, IdsExhausted}
 use Rattle.cache.specs.CacheState.{CacheState}
 use Rattle.writer_state.specs.WriterState.{WriterState}
 use Rattle.writer_state.specs.declared.sync_state.SyncState.TheVariants.{Clean}
 use Rattle.writer_state.specs.Sound.{IsSound, LeavesItsContent, content}
 use Rattle.paged.specs.Calls.{IsSettled}
-use Rattle.paged.specs.Recovery.{IsDurable, opened_writer, opened_size, cache_after}
+use Rattle.paged.specs.Recovery.{IsDurable, RecoveryCause, opened_writer, opened_bytes, cache_after}
 use Rattle.paged.specs.Truncate.{cut_writer, cut_bytes}
-
--- why recovering a blob may answer this error: a device call failed in it, or memory was refused
-abbrev pub RecoverCause : Life → Life → Error → Type 0
-RecoverCause old new ReadFailed = HasFailed ReadFailed old.present new.present
-RecoverCause old new WriteFailed = HasFailed WriteFailed old.present new.present
-RecoverCause old new ResizeFailed = HasFailed ResizeFailed old.present new.present
-RecoverCause old new SyncFailed = HasFailed SyncFailed old.present new.present
-RecoverCause old new OutOfMemory = Unit {0}
-RecoverCause old new _ = ⊥
-
--- the pages that opening keeps of some bytes
-abbrev pub opened_bytes : (List ℕ → ℕ) → ℕ → List ℕ → List ℕ
-opened_bytes sum P bytes = take (opened_size sum P bytes) bytes
 
 -- the writer that stands where the text of some bytes ends, with nothing unsynced: the one that
 -- opening gives, or, where the text ends before those pages do, what a cut to the text makes of it
@@ -64,7 +49,7 @@ Recovers sum cache capacity old new (Ok w) = IsRecovered sum cache capacity old 
 Recovers sum cache capacity old new (Err OffsetOverflow) =
     (new ≡ old) × (2 ^ 64 ≤ adjusted capacity cache.page_size)
 Recovers sum cache capacity old new (Err IdsExhausted) = 2 ^ 64 ≤ cache.ids_given
-Recovers sum cache capacity old new (Err e) = RecoverCause old new e
+Recovers sum cache capacity old new (Err e) = RecoveryCause old new e
 
 -- the cache after a recovery: where that didn't end, an id may have been given or not
 abbrev pub GivesId : Result WriterState Error → CacheState → CacheState → Type 0

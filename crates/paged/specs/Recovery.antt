@@ -1,12 +1,15 @@
 -- What opening a blob does, by cases on the answer.
-use Rattle.std.specs.Prelude.{◌≡◌, ◌≢◌, ◌⊎◌, ◌≤◌, ◌+◌, ◌*◌, ◌/◌, ◌^◌, ℕ, List, [], length, take}
-use Rattle.std.specs.Prelude.{Option, Some, None, Result, Ok, Err}
+use Rattle.std.specs.Prelude.{◌≡◌, ◌≢◌, ◌⊎◌, ◌≤◌, ◌<◌, ◌+◌, ◌*◌, ◌/◌, ◌^◌, ℕ, List, [], length}
+use Rattle.std.specs.Prelude.{Option, Some, None, Result, Ok, Err, replicate, take}
 use Rattle.page.specs.Geometry.{adjusted}
-use Rattle.disk.specs.Disk.{Disk, Life, LogGrows, HasFailed, ResizeGoes, SyncGoes}
+use Rattle.disk.specs.Disk.{Disk, Life, LogGrows, HasFailed, ResizeGoes, SyncGoes, applied}
 use Rattle.disk.specs.declared.error.Error.{Error}
-use Rattle.disk.specs.declared.error.Error.TheVariants.{ReadFailed, ResizeFailed, SyncFailed}
-use Rattle.disk.specs.declared.error.Error.TheVariants.{OffsetOverflow, OutOfMemory, IdsExhausted}
-use Rattle.page.specs.Page.{pages, text}
+use Rattle.disk.specs.declared.error.Error.TheVariants.{ReadFailed, WriteFailed, ResizeFailed}
+use Rattle.disk.specs.declared.error.Error.TheVariants.{SyncFailed, OffsetOverflow, OutOfMemory}
+use Rattle.disk.specs.declared.error.Error.TheVariants.{IdsExhausted}
+use Rattle.page.specs.Slot.{other}
+use Rattle.page.specs.Page.{pages, slot_bytes, slot_of, text, verified_len}
+use Rattle.page.specs.declared.slot.Slot.{Slot}
 use Rattle.page.specs.declared.slot.ActiveChecksum.{ActiveChecksum}
 use Rattle.cache.specs.CacheState.{CacheState}
 use Rattle.writer_state.specs.WriterState.{WriterState}
@@ -17,15 +20,20 @@ use Rattle.writer_state.specs.Sound.{IsSound, TipPage, content}
 use Rattle.crash.specs.Kept.{AllKeep, Through}
 use Rattle.crash.specs.Full.{AreFull}
 use Rattle.crash.specs.Built.{kept_len}
+use Rattle.crash.specs.Distinct.{DurableTells, PageIsGood}
+use Rattle.crash.specs.Shrink.{slot_write}
 use Rattle.crash.specs.Stays.{LeavesOnly}
 use Rattle.paged_read.specs.declared.prefix.Prefix.{Prefix}
 use Rattle.writer_state.specs.declared.sync_state.SyncState.TheVariants.{Pending}
-use Rattle.paged_read.specs.Prefix.{last_prefix, prefix_pages, tip_of, HasBytes}
+use Rattle.paged_read.specs.Prefix.{bad_in, last_prefix, prefix_pages, tip_of, HasBytes}
+use Rattle.paged_read.specs.Ranges.{page_at}
 use Rattle.paged.specs.Calls.{IsWritten, WaitsForNone}
 
--- why opening a blob may answer this error: it doesn't write
+-- why opening or recovering a blob may answer this error: a device call failed in it, or memory was
+-- refused
 abbrev pub RecoveryCause : Life → Life → Error → Type 0
 RecoveryCause old new ReadFailed = HasFailed ReadFailed old.present new.present
+RecoveryCause old new WriteFailed = HasFailed WriteFailed old.present new.present
 RecoveryCause old new ResizeFailed = HasFailed ResizeFailed old.present new.present
 RecoveryCause old new SyncFailed = HasFailed SyncFailed old.present new.present
 RecoveryCause old new OutOfMemory = Unit {0}
@@ -51,11 +59,11 @@ CutsBack kept old new (Ok Clean) =
 CutsBack kept old new (Ok (Pending name)) = ⊥
 CutsBack kept old new (Err e) = Cuts kept old new (Err e)
 
--- the blob keeps its first bytes: all of them and nothing was written, or the cut is durable
-pub data IsCutBack (old new : Life) (kept : ℕ) : SyncState → Type 0 where
-  whole : kept ≡ length old.present.readable → Looked old new → IsCutBack old new kept Dirty
-  cut : kept ≢ length old.present.readable → new.present.readable ≡ take kept old.present.readable
-      → IsDurable new.present → IsCutBack old new kept Clean
+-- the blob has these bytes: all that it had, and nothing was written, or others, which are durable
+pub data IsCutBack (old new : Life) (bytes : List ℕ) : SyncState → Type 0 where
+  whole : bytes ≡ old.present.readable → Looked old new → IsCutBack old new bytes Dirty
+  cut : bytes ≢ old.present.readable → new.present.readable ≡ bytes → IsDurable new.present
+      → IsCutBack old new bytes Clean
 
 -- the slot that tells a partial page, where there is one
 abbrev pub slot_of_tip : Option (List ℕ × ActiveChecksum) → Option ActiveChecksum
@@ -98,6 +106,18 @@ opened_writer sum cache capacity bytes sync =
 abbrev pub opened_size : (List ℕ → ℕ) → ℕ → List ℕ → ℕ
 opened_size sum P bytes = prefix_pages (opened_prefix sum P bytes) * (P + 12)
 
+-- bytes once this slot of a page was emptied, if there is one
+abbrev pub emptied : (P page : ℕ) → Option Slot → List ℕ → List ℕ
+emptied P page None bytes = bytes
+emptied P page (Some s) bytes = applied (slot_write P page s (slot_bytes 0 0)) bytes
+
+-- what opening leaves of some bytes: those pages, and of the last, where its value is partial, the
+-- bad slot emptied
+abbrev pub opened_bytes : (List ℕ → ℕ) → ℕ → List ℕ → List ℕ
+opened_bytes sum P bytes =
+    let p = opened_prefix sum P bytes in
+    emptied P p.full_pages (bad_in sum P bytes p) (take (opened_size sum P bytes) bytes)
+
 -- the pages that a blob has of the tip's page, by its flushed slot
 abbrev pub slot_pages : Option ActiveChecksum → ℕ
 slot_pages None = 0
@@ -117,6 +137,9 @@ pub record IsAsOpened (sum : List ℕ → ℕ) (w : WriterState) (d : Disk) : Ty
   pub page : TipPage sum w.page_size w.full_pages w.tip d.readable w.flushed
   pub written : IsWritten w
   pub carries : kept_len w.durable ≤ length w.tip
+  pub tells : DurableTells sum w.tip w.durable
+  -- neither slot of the tip's page is bad
+  pub good : PageIsGood sum w.page_size w.full_pages d.readable
   pub waits : WaitsForNone w.sync
   pub durable : w.sync ≡ Clean → IsDurable d
 
@@ -125,7 +148,7 @@ pub record IsOpened (sum : List ℕ → ℕ) (cache : CacheState) (capacity : �
     (w : WriterState) : Type 0 where
   pub sync : SyncState
   pub state : w ≡ opened_writer sum cache capacity old.present.readable sync
-  pub kept : IsCutBack old new (opened_size sum cache.page_size old.present.readable) sync
+  pub kept : IsCutBack old new (opened_bytes sum cache.page_size old.present.readable) sync
   pub bytes : HasBytes cache.page_size w.full_pages old.present.readable
       (opened_prefix sum cache.page_size old.present.readable).partial
   pub sound : SoundWhereFull sum cache.page_size old new w
@@ -137,7 +160,7 @@ Opens sum cache capacity old new (Err OffsetOverflow) =
     (new ≡ old) × (2 ^ 64 ≤ adjusted capacity cache.page_size)
 Opens sum cache capacity old new (Err IdsExhausted) =
     (2 ^ 64 ≤ cache.ids_given) × (sync : SyncState)
-    × IsCutBack old new (opened_size sum cache.page_size old.present.readable) sync
+    × IsCutBack old new (opened_bytes sum cache.page_size old.present.readable) sync
 Opens sum cache capacity old new (Err e) = RecoveryCause old new e
 
 -- the cache once it was asked for an id, where the call came so far
@@ -156,3 +179,14 @@ abbrev pub LeavesText : (List ℕ → ℕ) → ℕ → Life → Life → Type 0
 LeavesText sum P old new =
     let held = text sum P old.present.readable in
     IsDurable old.present → LeavesOnly sum P held held old new
+
+-- in these bytes the slot beside the one that tells the tip's page verifies, or is six zeros
+abbrev pub BesideIsMended : (List ℕ → ℕ) → (P full : ℕ) → List ℕ → Option ActiveChecksum → Type 0
+BesideIsMended sum P full bytes None = Unit {0}
+BesideIsMended sum P full bytes (Some f) =
+    let page = page_at P full bytes in
+    let s = other f.slot in
+    (0 < verified_len sum P s page) ⊎ (slot_of P s page ≡ replicate 6 0)
+
+abbrev pub TailIsMended : (List ℕ → ℕ) → WriterState → List ℕ → Type 0
+TailIsMended sum w bytes = BesideIsMended sum w.page_size w.full_pages bytes w.flushed

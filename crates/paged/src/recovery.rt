@@ -1,5 +1,7 @@
 // Opening and recovering a blob.
 ghost use Rattle.std.specs.Prelude.{◌≡◌, ◌+◌, ◌*◌, ◌%◌, ◌≤◌, ◌<◌, ◌^◌, length, Err, IfOk, OnOk};
+ghost use Rattle.std.specs.Prelude.{Some, true, false, []};
+ghost use Rattle.page.specs.declared.slot.Slot.{Slot};
 ghost use Rattle.page.specs.Geometry.{adjusted};
 ghost use Rattle.std.specs.Int.NonZero.{non_zero_u16_get, non_zero_usize_get};
 ghost use Rattle.writer_state.specs.declared.sync_state.SyncState.TheVariants.{Clean};
@@ -9,6 +11,9 @@ ghost use Rattle.paged.specs.Calls.{HoldsWithin};
 ghost use Rattle.paged.specs.Recovery.{Opens, Cuts, CutsBack, GivesWriter, cache_after};
 ghost use Rattle.paged.specs.Recovery.{at_prefix, slot_of_tip};
 ghost use Rattle.paged.specs.Recovery.{IsAsOpened, KeepsText, LeavesText};
+ghost use Rattle.paged.specs.Recovery.{IsDurable, TailIsMended};
+ghost use Rattle.paged.specs.Mends.{Empties, KeepsPages};
+ghost use Rattle.paged.specs.Truncate.{WritesSlot};
 ghost use Rattle.paged.specs.Recovers.{Recovers, GivesId};
 ghost use Rattle.paged_read.specs.Backward.{ReadsBack};
 ghost use Rattle.paged_read.specs.Searches.{ReadsWithin, scan_bytes};
@@ -23,8 +28,8 @@ ghost use Rattle.paged_read.specs.Snapshots.{LeavesReads};
 
 use crate::{Recovery, Writer};
 use cache::CacheRef;
-use disk::{Blob, Error};
-use page::{ActiveChecksum, Buffer, Sum, adjusted_capacity};
+use disk::{Blob, Error, IoBuf, IoBufs, WriteOptions};
+use page::{ActiveChecksum, Buffer, Checksum, Slot, Sum, adjusted_capacity};
 use paged_read::{Partial, Prefix, last_pages, pages_of, physical_page_size, scan};
 use std::alloc::Global;
 use std::marker::PhantomData;
@@ -49,6 +54,81 @@ fn cut_back<B: Blob>(blob: &mut B, size: u64, kept: u64) -> Result<SyncState, Er
         return Ok(SyncState::Dirty);
     }
     cut(blob, kept)?;
+    Ok(SyncState::Clean)
+}
+
+/// Writes bytes into a slot of a page, durably or not.
+pub(crate) fn write_slot<B: Blob>(
+    alloc: Global,
+    blob: &mut B,
+    page_size: NonZeroU16,
+    page: u64,
+    slot: Slot,
+    bytes: &[u8],
+    sync: bool,
+) -> Result<(), Error>
+    requires few { length bytes.now ≤ 6 }
+    requires fits { (page + 1) * (non_zero_u16_get page_size + 12) < 2 ^ 64 }
+    requires settled { sync ≡ true → (B.life blob.old).present.since ≡ [] }
+    ensures { let old = B.life blob.old in let new = B.life blob.new in
+        WritesSlot (non_zero_u16_get page_size) page slot bytes.now sync old new result }
+{
+    let mut bufs = IoBufs::new(alloc);
+    bufs.append(IoBuf::copy_from_slice(alloc, bytes)?)?;
+    let footer = page * physical_page_size(page_size) + u64::from(page_size.get());
+    let options = WriteOptions {
+        sync,
+        dont_cache: true,
+    };
+    blob.write_at(footer + slot.offset() as u64, &bufs, options)
+}
+
+/// Empties a slot of a page, durably: where something else may be unsynced, by a sync after it.
+fn empty_slot<B: Blob>(
+    alloc: Global,
+    blob: &mut B,
+    page_size: NonZeroU16,
+    page: u64,
+    slot: Slot,
+    unsynced: bool,
+) -> Result<(), Error>
+    requires fits { (page + 1) * (non_zero_u16_get page_size + 12) < 2 ^ 64 }
+    requires settled { unsynced ≡ false → (B.life blob.old).present.since ≡ [] }
+    ensures { let old = B.life blob.old in let new = B.life blob.new in
+        Empties (non_zero_u16_get page_size) page slot unsynced old new result }
+{
+    let zeros = Checksum::slot_bytes(0, 0);
+    if unsynced {
+        write_slot(alloc, blob, page_size, page, slot, &zeros, false)?;
+        blob.sync()
+    } else {
+        write_slot(alloc, blob, page_size, page, slot, &zeros, true)
+    }
+}
+
+/// Cuts a blob of `size` bytes to so many where it has more, and then empties this slot of a page,
+/// if there is one, both durably. It answers the state of the blob's writer then: `Dirty` where
+/// nothing was done, since the blob may have something unsynced.
+fn keep_pages<B: Blob>(
+    alloc: Global,
+    blob: &mut B,
+    page_size: NonZeroU16,
+    size: u64,
+    kept: u64,
+    page: u64,
+    bad: Option<Slot>,
+) -> Result<SyncState, Error>
+    requires length { size ≡ length (B.life blob.old).present.readable }
+    requires fits { (slot : Slot) → bad ≡ Some slot
+        → (page + 1) * (non_zero_u16_get page_size + 12) < 2 ^ 64 }
+    ensures keeps { let old = B.life blob.old in let new = B.life blob.new in
+        KeepsPages (non_zero_u16_get page_size) kept page bad old new result }
+{
+    let sync_state = cut_back(blob, size, kept)?;
+    let Some(slot) = bad else {
+        return Ok(sync_state);
+    };
+    empty_slot(alloc, blob, page_size, page, slot, kept == size)?;
     Ok(SyncState::Clean)
 }
 
@@ -112,15 +192,17 @@ impl<B, H> Recovery<B, H> {
 
 impl<B: Blob, H: Sum> Recovery<B, H> {
     /// Opens a blob of `size` physical bytes, in which nothing need be sound or synced: keeps its
-    /// pages up to the last that has a value, and cuts what follows, durably. Each page is read
-    /// once at most, from the last one back, and those before the last that has a value aren't. The
-    /// page size is the cache's, the id its next one; the buffer has `capacity` bytes, taken up to
-    /// a multiple of the page size, and at least two pages.
+    /// pages up to the last that has a value, and cuts what follows, durably. Where the value of
+    /// that page isn't full, its other slot is emptied, durably, unless it verifies or is empty
+    /// already: so no slot that a torn write left bad stands beside what is appended. Each page is
+    /// read once at most, from the last one back, and those before the last that has a value
+    /// aren't. The page size is the cache's, the id its next one; the buffer has `capacity` bytes,
+    /// taken up to a multiple of the page size, and at least two pages.
     ///
     /// `OffsetOverflow` where that capacity passes `usize`: then no device was called.
-    /// `ReadFailed`, `ResizeFailed` and `SyncFailed` where the device failed, `OutOfMemory`;
-    /// `IdsExhausted` where the cache has no id left: the blob was cut then. After an error the
-    /// cache is as it was.
+    /// `ReadFailed`, `WriteFailed`, `ResizeFailed` and `SyncFailed` where the device failed,
+    /// `OutOfMemory`; `IdsExhausted` where the cache has no id left: the blob is as it is opened
+    /// then. After an error the cache is as it was.
     pub fn open(
         alloc: Global,
         blob: &mut B,
@@ -149,6 +231,11 @@ impl<B: Blob, H: Sum> Recovery<B, H> {
         ensures as_opened { let new = B.life blob.new in
             IfOk result (λ w. IsAsOpened H.sum_of w new.present) }
 
+        // Once it has answered, no slot of the tip's page is bad, durably.
+        ensures mended { let old = B.life blob.old in let new = B.life blob.new in
+            IsDurable old.present
+            → IfOk result (λ w. TailIsMended H.sum_of w new.present.base) }
+
         // At each moment since the call began, and at every answer.
         ensures floors { let old = B.life blob.old in let new = B.life blob.new in
             KeepsAllFloors H.sum_of cache.old.page_size old new }
@@ -163,16 +250,17 @@ impl<B: Blob, H: Sum> Recovery<B, H> {
         let page_size = cache.page_size();
         let capacity = adjusted_capacity(capacity, u64::from(page_size.get()))?;
         let physical_page_size = physical_page_size(page_size);
-        let last = last_pages::<B, H>(alloc, blob, page_size, size / physical_page_size)?;
+        let (last, bad) = last_pages::<B, H>(alloc, blob, page_size, size / physical_page_size)?;
         let kept = pages_of(&last) * physical_page_size;
-        let sync_state = cut_back(blob, size, kept)?;
+        let page = last.full_pages;
+        let sync_state = keep_pages(alloc, blob, page_size, size, kept, page, bad)?;
         Self::at_prefix(alloc, cache, capacity, last, sync_state)
     }
 }
 
 impl<B: Blob, H: Sum> Writer<B, H> {
     /// Opens a blob, as [`Recovery::open`] does, and ends the recovery at once: what follows the
-    /// last page that has a value is cut, and nothing else.
+    /// last page that has a value is cut, and a bad slot of that page emptied, and nothing else.
     ///
     /// Errors are those of [`Recovery::open`].
     pub fn new(
@@ -203,6 +291,11 @@ impl<B: Blob, H: Sum> Writer<B, H> {
         ensures as_opened { let new = B.life blob.new in
             IfOk result (λ w. IsAsOpened H.sum_of w new.present) }
 
+        // Once it has answered, no slot of the tip's page is bad, durably.
+        ensures mended { let old = B.life blob.old in let new = B.life blob.new in
+            IsDurable old.present
+            → IfOk result (λ w. TailIsMended H.sum_of w new.present.base) }
+
         // At each moment since the call began, and at every answer.
         ensures floors { let old = B.life blob.old in let new = B.life blob.new in
             KeepsAllFloors H.sum_of cache.old.page_size old new }
@@ -225,8 +318,8 @@ impl<B: Blob, H: Sum> Writer<B, H> {
 /// else the blob had is cut, as [`Recovery::truncate`] does, and all of it is durable. Each read
 /// has at most as many pages as fit `buffer_size`, and at least one.
 ///
-/// Errors are those of [`Recovery::open`], and `WriteFailed` where the device failed; what the blob
-/// then holds has the same text. After one the cache may have given an id.
+/// Errors are those of [`Recovery::open`]; what the blob then holds has the same text. After one
+/// the cache may have given an id.
 pub fn recover<B: Blob, H: Sum>(
     alloc: Global,
     blob: &mut B,
@@ -258,6 +351,10 @@ pub fn recover<B: Blob, H: Sum>(
     ensures durable { let old = B.life blob.old in let new = B.life blob.new in
         let all = text H.sum_of cache.old.page_size old.present.readable in
         OnOk result (KeepsAll H.sum_of cache.old.page_size all new) }
+
+    // Once it has answered, no slot of the tip's page is bad, durably.
+    ensures mended { let new = B.life blob.new in
+        IfOk result (λ w. TailIsMended H.sum_of w new.present.base) }
 
     // At each moment since the call began, and at every answer.
     ensures floors { let old = B.life blob.old in let new = B.life blob.new in

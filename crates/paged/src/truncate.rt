@@ -25,9 +25,9 @@ ghost use Rattle.cache.specs.Pages.{CachesOnly, IsFresh};
 ghost use Rattle.paged_read.specs.Snapshots.{LeavesOthers};
 
 use crate::Recovery;
-use crate::recovery::cut;
+use crate::recovery::{cut, write_slot};
 use cache::CacheRef;
-use disk::{Blob, Error, IoBuf, IoBufs, ReadOptions, WriteOptions};
+use disk::{Blob, Error, IoBuf, ReadOptions};
 use page::{ActiveChecksum, Checksum, Slot, Sum};
 
 /// The slot that tells a page's value, where that has so many bytes.
@@ -370,14 +370,7 @@ impl<B: Blob, H: Sum> Recovery<B, H> {
         ensures { let old = B.life blob.old in let new = B.life blob.new in
             WritesSlot self.now.page_size page slot bytes.now sync old new result }
     {
-        let mut bufs = IoBufs::new(self.alloc);
-        bufs.append(IoBuf::copy_from_slice(self.alloc, bytes)?)?;
-        let footer = page * self.physical_page_size() + u64::from(self.page_size.get());
-        let options = WriteOptions {
-            sync,
-            dont_cache: true,
-        };
-        blob.write_at(footer + slot.offset() as u64, &bufs, options)
+        write_slot(self.alloc, blob, self.page_size, page, slot, bytes, sync)
     }
 
     /// The writer stands after so many pages, and these bytes of the next, which this slot tells.

@@ -195,7 +195,7 @@ look_leaves_writers sum old new looked w sound =
       stays = through_then (SameButLog old.present) (Stays sum w.page_size held old.present) old new
           (λ d same. stays_alike sum w.page_size held old.present old.present d
           (ap (λ (x : Disk). x.base) same) (ap (λ (x : Disk). x.since) same)
-          (stays_itself sum w.page_size held old.present sound.truthful)) looked.through;
+          (stays_itself sum w.page_size held old.present sound.truthful sound.vouched)) looked.through;
       covers = through_then (SameButLog old.present)
           (CoversStay sum w.page_size held old.present) old new
           (λ d same. alike_covers sum w.page_size held old.present d

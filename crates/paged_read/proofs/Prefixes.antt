@@ -1,10 +1,11 @@
 -- What a search through a blob's pages finds.
-use Rattle.std.proofs.Common.{◌≡◌, ◌≢◌, inl, inr, ℕ, zero, suc, ◌+◌, ◌-◌, ◌*◌, ◌<◌, ◌≤◌, List, [], ◌∷◌, ◌++◌, length, take, drop, refl, sym, ◌∙◌, ap, subst, arith, Bool, true, false, length-take}
+use Rattle.std.proofs.Common.{◌≡◌, ◌≢◌, inl, inr, ℕ, zero, suc, ◌+◌, ◌-◌, ◌*◌, ◌<◌, ◌≤◌, List, [], ◌∷◌, ◌++◌, length, take, drop, refl, sym, ◌∙◌, ap, subst, arith, Bool, true, false, length-take, length-take-le, length-drop}
 use Rattle.std.specs.Prelude.{Option, Some, None, is_some, MatchOption, ◌==◌}
 use Rattle.std.proofs.Math.Nat.{mul-le-mul_left}
 use Rattle.std.proofs.lemmas.List.{take-take, drop-drop, length-drop}
 use Rattle.std.proofs.lemmas.Bool.{eq-eqb, ne_eqb, eqb-true, cases_eq, cond-true, cond-false, false≢true}
-use Rattle.page.specs.Page.{pieces, pages, active, value_len, value_slot, slot_crc, slot_of}
+use Rattle.page.specs.Page.{pieces, pages, active, value_len, value_slot, slot_crc, slot_of, bad_slot}
+use Rattle.page.specs.declared.slot.Slot.{Slot}
 use Rattle.page.specs.declared.slot.ActiveChecksum.{ActiveChecksum}
 use Rattle.crash.specs.Built.{kept_len}
 use Rattle.crash.proofs.Texts.{AreBytes, active_is, active_none, value_len_le}
@@ -12,7 +13,7 @@ use Rattle.crash.proofs.Lists.{within_take, within_drop}
 use Rattle.crash.proofs.Pages.{pieces-add, pages_of_take, take-pages, length-pieces}
 use Rattle.paged_read.specs.declared.prefix.Prefix.{Prefix}
 use Rattle.paged_read.specs.Ranges.{page_at}
-use Rattle.paged_read.specs.Prefix.{after, value_and_slot, prefix_of, last_prefix, prefix_pages, partial_pages, tip_of, HasBytes}
+use Rattle.paged_read.specs.Prefix.{after, value_and_slot, prefix_of, last_prefix, prefix_pages, partial_pages, tip_of, HasBytes, bad_in}
 
 -- pages in front of pages in front
 pub after-after : (m n : ℕ) (p : Prefix) → after m (after n p) ≡ after (m + n) p
@@ -154,6 +155,20 @@ module _ (sum : List ℕ → ℕ) (P : ℕ) where
   told_read size k seen bytes readable slot is same read told =
       told_at size k readable readable slot is refl
       (told ∙ ap (λ (l : List ℕ). active sum (size - 12) (take size l)) (same ∙ read) ∙ ap (λ (l : List ℕ). active sum (size - 12) l) (take-take size size (drop (k * size) readable) (omega arith)))
+
+  -- its bad slot
+  pub bad_read : (size k : ℕ) (seen bytes readable : List ℕ) (bad : Option Slot) → size ≡ P + 12 → seen ≡ bytes → bytes ≡ take size (drop (k * size) readable) → k * size + size ≤ length readable → bad ≡ bad_slot sum (length seen - 12) seen
+      → bad ≡ bad_slot sum P (page_at P k readable)
+  bad_read size k seen bytes readable bad is same read there told =
+      let page : seen ≡ page_at P k readable = same ∙ read ∙ ap (λ (n : ℕ). take n (drop (k * n) readable)) is in
+      let reach : k * (P + 12) + (P + 12) ≤ length readable = subst (λ (n : ℕ). k * n + n ≤ length readable) is there in
+      let len : length (page_at P k readable) ≡ P + 12 = length-take-le (P + 12) (drop (k * (P + 12)) readable) (omega (arith, reach, length-drop (k * (P + 12)) readable)) in
+      told ∙ ap (λ (l : List ℕ). bad_slot sum (length l - 12) l) page ∙ ap (λ (n : ℕ). bad_slot sum n (page_at P k readable)) (let e : length (page_at P k readable) - 12 ≡ P = omega (arith, len) in e)
+
+  -- and where the page has a part, that of a prefix that ends there
+  pub bad_part : (k : ℕ) (readable : List ℕ) (found : Option (List ℕ × ActiveChecksum)) → is_some found ≡ true → bad_slot sum P (page_at P k readable) ≡ bad_in sum P readable (record { full_pages = k; partial = found })
+  bad_part k readable None some = absurd (cc some)
+  bad_part k readable (Some v) some = refl
 
   -- its value
   pub value_read : (size k : ℕ) (bytes readable : List ℕ) (slot : Option ActiveChecksum) (found : Option (List ℕ × ActiveChecksum)) → size ≡ P + 12 → bytes ≡ take size (drop (k * size) readable) → slot ≡ active sum P (page_at P k readable)

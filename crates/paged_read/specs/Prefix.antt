@@ -1,7 +1,8 @@
 -- What a search through a blob's pages finds.
 use Rattle.std.specs.Prelude.{◌==◌, ◌+◌, ◌*◌, ◌<◌, ℕ, zero, suc, List, [], ◌∷◌, take, get_or}
 use Rattle.std.specs.Prelude.{length, Option, Some, None, if◌then◌else◌}
-use Rattle.page.specs.Page.{value_len, active}
+use Rattle.page.specs.Page.{value_len, active, bad_slot}
+use Rattle.page.specs.declared.slot.Slot.{Slot}
 use Rattle.page.specs.declared.slot.ActiveChecksum.{ActiveChecksum}
 use Rattle.paged_read.specs.declared.prefix.Prefix.{Prefix}
 use Rattle.paged_read.specs.Ranges.{page_at}
@@ -53,3 +54,13 @@ prefix_size P p = p.full_pages * P + length (tip_of p.partial)
 abbrev pub HasBytes : ℕ → ℕ → List ℕ → Option (List ℕ × ActiveChecksum) → Type 0
 HasBytes P page readable None = Unit {0}
 HasBytes P page readable (Some p) = (i : ℕ) → get_or (page_at P page readable) i 0 < 256
+
+-- the bad slot of the page of a prefix's partial value
+abbrev pub bad_beside_value : (List ℕ → ℕ) → ℕ → List ℕ → Option (List ℕ × ActiveChecksum)
+    → Option Slot
+bad_beside_value sum P page None = None
+bad_beside_value sum P page (Some v) = bad_slot sum P page
+
+-- that of the page after a prefix's full pages, in these bytes
+abbrev pub bad_in : (List ℕ → ℕ) → ℕ → List ℕ → Prefix → Option Slot
+bad_in sum P bytes p = bad_beside_value sum P (page_at P p.full_pages bytes) p.partial

@@ -1,6 +1,7 @@
 -- What a search through a blob's pages answers, and what it reads, told by the log.
 use Rattle.std.specs.Prelude.{◌≡◌, ◌≤◌, ◌+◌, ◌*◌, ◌/◌, ℕ, List, [], ◌∷◌, ◌++◌, map, max}
-use Rattle.std.specs.Prelude.{Result, Ok, Err}
+use Rattle.std.specs.Prelude.{Option, Result, Ok, Err}
+use Rattle.page.specs.declared.slot.Slot.{Slot}
 use Rattle.disk.specs.Disk.{Request, Entry, Life, HasFailed, ReadAt, ReadMany, StartReadMany}
 use Rattle.disk.specs.declared.error.Error.{Error}
 use Rattle.disk.specs.declared.error.Error.TheVariants.{ReadFailed, OutOfMemory}
@@ -35,3 +36,9 @@ Finds p old new (Ok found) = (found ≡ p) × Looked old new
 Finds p old new (Err ReadFailed) = HasFailed ReadFailed old.present new.present × Looked old new
 Finds p old new (Err OutOfMemory) = Looked old new
 Finds p old new (Err _) = ⊥
+
+-- the same, with the bad slot of the page of its partial value
+abbrev pub FindsLast : Prefix → Option Slot → Life → Life → Result (Prefix × Option Slot) Error
+    → Type 0
+FindsLast p bad old new (Ok found) = (found.0 ≡ p) × Looked old new × (found.1 ≡ bad)
+FindsLast p bad old new (Err e) = Finds p old new (Err e)

@@ -5,14 +5,14 @@ ghost use Rattle.std.specs.Int.NonZero.{non_zero_u16_get, non_zero_usize_get};
 ghost use Rattle.page.specs.Page.{active, pages, pieces};
 ghost use Rattle.crash.specs.Built.{kept_len};
 ghost use Rattle.paged_read.specs.Prefix.{prefix_of, last_prefix, prefix_pages, value_and_slot};
-ghost use Rattle.paged_read.specs.Prefix.{HasBytes};
+ghost use Rattle.paged_read.specs.Prefix.{HasBytes, bad_in};
 ghost use Rattle.paged_read.specs.Scans.{LooksThrough, prefix_from, ReadsForward};
-ghost use Rattle.paged_read.specs.Searches.{Finds, ReadsWithin, scan_bytes};
+ghost use Rattle.paged_read.specs.Searches.{Finds, FindsLast, ReadsWithin, scan_bytes};
 ghost use Rattle.paged_read.specs.Backward.{ReadsBack};
 
 use crate::prefix::{Partial, Prefix};
 use disk::{Blob, Error, IoBuf, ReadOptions};
-use page::{ActiveChecksum, CHECKSUM_SIZE, Checksum, Sum};
+use page::{ActiveChecksum, CHECKSUM_SIZE, Checksum, Slot, Sum};
 use std::alloc::Global;
 use std::num::{NonZeroU16, NonZeroUsize};
 
@@ -179,15 +179,16 @@ pub fn last_pages<B: Blob, H: Sum>(
     blob: &mut B,
     page_size: NonZeroU16,
     mut pages: u64,
-) -> Result<Prefix, Error>
+) -> Result<(Prefix, Option<Slot>), Error>
     requires there { let old = B.life blob.old in let P = non_zero_u16_get page_size in
         pages * (P + 12) ≤ length old.present.readable }
     requires fits { pages * (non_zero_u16_get page_size + 12) < 2 ^ 64 }
     ensures finds { let old = B.life blob.old in let new = B.life blob.new in
         let P = non_zero_u16_get page_size in
-        Finds (last_prefix H.sum_of P pages old.present.readable) old new result }
+        let last = last_prefix H.sum_of P pages old.present.readable in
+        FindsLast last (bad_in H.sum_of P old.present.readable last) old new result }
     ensures bytes { let old = B.life blob.old in let P = non_zero_u16_get page_size in
-        IfOk result (λ p. HasBytes P p.full_pages old.present.readable p.partial) }
+        IfOk result (λ r. HasBytes P r.0.full_pages old.present.readable r.0.partial) }
     ensures reads { let old = B.life blob.old in let new = B.life blob.new in
         let P = non_zero_u16_get page_size in
         ReadsBack (P + 12) old new }
@@ -198,22 +199,32 @@ pub fn last_pages<B: Blob, H: Sum>(
         let bytes = blob.read_at(alloc, offset, size as usize, ReadOptions::default())?;
         let slot = slot_at::<H>(bytes.as_ref(), 0, size as usize);
         if is_full(slot, page_size) {
-            return Ok(Prefix {
-                full_pages: pages,
-                partial: None,
-            });
+            return Ok((
+                Prefix {
+                    full_pages: pages,
+                    partial: None,
+                },
+                None,
+            ));
         }
         let partial = value_at(&bytes, 0, slot)?;
         if partial.is_some() {
-            return Ok(Prefix {
-                full_pages: pages - 1,
-                partial,
-            });
+            let bad = Checksum::bad_slot::<H>(bytes.as_ref());
+            return Ok((
+                Prefix {
+                    full_pages: pages - 1,
+                    partial,
+                },
+                bad,
+            ));
         }
         pages -= 1;
     }
-    Ok(Prefix {
-        full_pages: 0,
-        partial: None,
-    })
+    Ok((
+        Prefix {
+            full_pages: 0,
+            partial: None,
+        },
+        None,
+    ))
 }

@@ -294,6 +294,11 @@ pub version_read : (input rest : Option (List ℕ)) (right : Bool) → right ≡
 version_read input rest true is reads = reads
 version_read input rest false is reads = absurd (cc is)
 
+-- without it the input had no byte
+pub version_none : (input rest : Option (List ℕ)) (right : Bool) → right ≡ false → ReadsVersion input rest (Ok right) → IsAtEnd input
+version_none input rest true is reads = absurd (cc is)
+version_none input rest false is reads = reads
+
 -- its requests were served
 pub file_served : (sum : List ℕ → ℕ) (old between new : Life) (was now : SessionState) (input after rest out greeting written : Option (List ℕ)) (result : Result (Unit {0}) Stop) → Greeted sum old between was out greeting
     → Consumes input after (version_byte ∷ []) → Serves sum was now between new after rest greeting written result → ServesFile sum old new input rest out written result

@@ -12,10 +12,10 @@ use Rattle.disk.specs.declared.error.Error.TheVariants.{WriteFailed, SyncFailed,
 use Rattle.page.specs.Geometry.{EndWithin}
 use Rattle.page.specs.Page.{text}
 use Rattle.page.specs.Sums.{add_sum}
+use Rattle.crash.proofs.DistinctLaws.{distinct_at_rest, vouched_at_rest}
 use Rattle.crash.specs.Kept.{AllOnly}
 use Rattle.crash.proofs.CutLaws.{rest_only}
-use Rattle.crash.proofs.Disks.{base_is_image, base_is_whole}
-use Rattle.crash.proofs.Promise.{whole_is_chance_free}
+use Rattle.crash.proofs.Disks.{base_is_image}
 use Rattle.writer_state.proofs.Examples.{durable, six, all_keep}
 use Rattle.std.specs.declared.num.NonZeroUsize.{NonZeroUsize}
 use Rattle.session.specs.declared.steps.Step.{Step}
@@ -436,9 +436,12 @@ a_floor_of_a_run = refl
 
 -- the blob says nothing else
 six_only : AllOnly add_sum 4 six six durable
-six_only = λ image is_image free.
-    let says : text add_sum 4 image ≡ six = rest_only add_sum 4 six durable image refl refl is_image in
-    inl (says ∙ sym (ap (λ (l : List ℕ). take (length l) six) says))
+six_only = record {
+  only = λ image is_image free.
+      let says : text add_sum 4 image ≡ six = rest_only add_sum 4 six durable image refl refl is_image in
+      inl (says ∙ sym (ap (λ (l : List ℕ). take (length l) six) says));
+  vouched = vouched_at_rest add_sum 4 durable refl;
+}
 
 -- a run of one step: the size
 pub a_run_of_one : Ran add_sum 4 (Size ∷ []) (Length 6 ∷ []) durable [] six_stand six_stand
@@ -614,5 +617,5 @@ it_goes_on_closed = refl
 pub a_crash : Crashes add_sum 4 true durable durable
 a_crash = record {
   crashed = record { image = base_is_image durable; durable = record { since = refl; base = refl } };
-  free = λ fair. whole_is_chance_free add_sum 4 durable durable.base (base_is_whole durable.base durable.since);
+  free = λ fair. distinct_at_rest add_sum 4 durable durable.base refl (base_is_image durable);
 }

@@ -7,6 +7,8 @@ use Rattle.page.specs.Page.{text}
 use Rattle.page.specs.Geometry.{adjusted}
 use Rattle.cache.specs.CacheState.{CacheState}
 use Rattle.crash.specs.Guard.{IsChanceFree}
+use Rattle.crash.specs.Distinct.{IsDistinct}
+use Rattle.crash.proofs.DistinctLaws.{distinct_is_chance_free, vouched_at_rest}
 use Rattle.crash.specs.Kept.{AllKeep, AllOnly, Each, Through}
 use Rattle.crash.specs.Stays.{Stays, KeepsAll, KeepsAllFloors}
 use Rattle.writer_state.specs.WriterState.{WriterState}
@@ -15,7 +17,7 @@ use Rattle.crash.proofs.Disks.{base_is_whole}
 use Rattle.disk.specs.Images.{only_image}
 use Rattle.crash.specs.Moments.{each_last, through_end, life_after-append, each_then}
 use Rattle.crash.proofs.Moments.{stays_itself}
-use Rattle.crash.proofs.Promise.{whole_is_chance_free}
+use Rattle.crash.proofs.Promise.{keeps_nothing, keeps_same, keeps_settle, whole_is_chance_free}
 use Rattle.paged.specs.Calls.{HoldsWithin}
 use Rattle.paged.specs.Recovery.{IsDurable, LeavesText}
 use Rattle.paged.specs.Recovers.{Recovers}
@@ -84,13 +86,12 @@ given_text sum P fair d given r = r.content ∙ r.recovers.content ∙ ap (λ (n
 floor_of_text : (sum : List ℕ → ℕ) (P : ℕ) (content : List ℕ) (floor : ℕ) (d : Disk) → floor ≤ length content → IsImage d d.readable → AllKeep sum P content floor d
     → (floor ≤ length (text sum P d.readable)) × AllKeep sum P (text sum P d.readable) floor d
 floor_of_text sum P content floor d enough image keeps =
-    let now : take floor (text sum P d.readable) ≡ take floor content = keeps d.readable image in
-    (omega (arith, enough, ap length now, length-take floor (text sum P d.readable), length-take floor content), λ left is_image. keeps left is_image ∙ sym now)
+    let now : take floor (text sum P d.readable) ≡ take floor content = keeps.kept d.readable image in
+    (omega (arith, enough, ap length now, length-take floor (text sum P d.readable), length-take floor content), keeps_same sum P content (text sum P d.readable) floor d (sym now) keeps)
 
 -- a crash keeps the floor
 crash_keeps : (sum : List ℕ → ℕ) (P : ℕ) (content : List ℕ) (floor : ℕ) (d e : Disk) → HasCrashed d e → AllKeep sum P content floor d → AllKeep sum P content floor e
-crash_keeps sum P content floor d e c keeps = λ image is_image.
-    subst (λ (l : List ℕ). take floor (text sum P l) ≡ take floor content) (sym (durable_image e image c.durable is_image)) (keeps e.readable c.image)
+crash_keeps sum P content floor d e c keeps = keeps_settle sum P content floor d e (subst (λ (l : List ℕ). IsImage d l) (sym c.durable.base) c.image) c.durable.since keeps
 
 -- so does a recovery at each of its moments
 attempt_keeps : (sum : List ℕ → ℕ) (P : ℕ) (fair : Bool) (content : List ℕ) (floor : ℕ) (d m : Disk) → floor ≤ length content → Attempts sum P fair d m → AllKeep sum P content floor d → AllKeep sum P content floor m
@@ -99,36 +100,43 @@ attempt_keeps sum P fair content floor d m enough a keeps =
     let of_text = floor_of_text sum P content floor d enough a.image keeps in
     let begun : AllKeep sum P T floor a.old.present = subst (λ (e : Disk). AllKeep sum P T floor e) (sym a.began) of_text.1 in
     let later : AllKeep sum P T floor m = through_moment (AllKeep sum P T floor) a.old a.new m (a.kept floor of_text.0 begun) a.moment in
-    λ image is_image. later image is_image ∙ keeps d.readable a.image
+    keeps_same sum P T content floor m (keeps.kept d.readable a.image) later
 
 -- what comes back keeps the floor
 pub comes_kept : (sum : List ℕ → ℕ) (P : ℕ) (fair : Bool) (content : List ℕ) (floor : ℕ) (d : Disk) (given : List ℕ) → floor ≤ length content → AllKeep sum P content floor d → ComesBack sum P fair d given
     → take floor given ≡ take floor content
-comes_kept sum P fair content floor d given enough keeps (recovered at out r) = ap (λ (l : List ℕ). take floor l) (given_text sum P fair d given r) ∙ keeps d.readable r.image
+comes_kept sum P fair content floor d given enough keeps (recovered at out r) = ap (λ (l : List ℕ). take floor l) (given_text sum P fair d given r) ∙ keeps.kept d.readable r.image
 comes_kept sum P fair content floor d given enough keeps (crashed at out e c rest) = comes_kept sum P fair content floor e given enough (crash_keeps sum P content floor d e c.crashed keeps) rest
 comes_kept sum P fair content floor d given enough keeps (attempted at out m a rest) = comes_kept sum P fair content floor m given enough (attempt_keeps sum P fair content floor d m enough a keeps) rest
 
 -- chance aside a crash leaves only the contents
 crash_leaves : (sum : List ℕ → ℕ) (P : ℕ) (content other : List ℕ) (d e : Disk) → Crashes sum P true d e → AllOnly sum P content other d → AllOnly sum P content other e
-crash_leaves sum P content other d e c only = λ image is_image free.
-    subst (λ (l : List ℕ). Begins (text sum P l) content ⊎ Begins (text sum P l) other) (sym (durable_image e image c.crashed.durable is_image)) (only e.readable c.crashed.image (c.free refl))
+crash_leaves sum P content other d e c only = record {
+  only = λ image is_image free.
+      subst (λ (l : List ℕ). Begins (text sum P l) content ⊎ Begins (text sum P l) other) (sym (durable_image e image c.crashed.durable is_image))
+      (only.only e.readable c.crashed.image (distinct_is_chance_free sum P d e.readable only.vouched c.crashed.image (c.free refl)));
+  vouched = vouched_at_rest sum P e c.crashed.durable.since;
+}
 
 -- so does a recovery at each of its moments
 attempt_leaves : (sum : List ℕ → ℕ) (P : ℕ) (content other : List ℕ) (d m : Disk) → Attempts sum P true d m → AllOnly sum P content other d → AllOnly sum P content other m
 attempt_leaves sum P content other d m a only =
     let T = text sum P a.old.present.readable in
     let durable : IsDurable a.old.present = subst IsDurable (sym a.began) (a.durable refl) in
-    let now : Begins (text sum P d.readable) content ⊎ Begins (text sum P d.readable) other = only d.readable a.image (durable_free sum P d (a.durable refl)) in
+    let now : Begins (text sum P d.readable) content ⊎ Begins (text sum P d.readable) other = only.only d.readable a.image (durable_free sum P d (a.durable refl)) in
     let was : Begins T content ⊎ Begins T other = subst (λ (e : Disk). Begins (text sum P e.readable) content ⊎ Begins (text sum P e.readable) other) (sym a.began) now in
     let later : AllOnly sum P T T m = through_moment (AllOnly sum P T T) a.old a.new m (a.only durable) a.moment in
-    λ image is_image free.
-    let begins : Begins (text sum P image) T = elim (later image is_image free) [ inl h ↦ h | inr h ↦ h ] in
-    begins_either (text sum P image) T content other begins was
+    record {
+      only = λ image is_image free.
+          let begins : Begins (text sum P image) T = elim (later.only image is_image free) [ inl h ↦ h | inr h ↦ h ] in
+          begins_either (text sum P image) T content other begins was;
+      vouched = later.vouched;
+    }
 
 -- what comes back is a prefix of one of the contents
 pub comes_only : (sum : List ℕ → ℕ) (P : ℕ) (content other : List ℕ) (d : Disk) (given : List ℕ) → AllOnly sum P content other d → ComesBack sum P true d given → Begins given content ⊎ Begins given other
 comes_only sum P content other d given only (recovered at out r) =
-    subst (λ (l : List ℕ). Begins l content ⊎ Begins l other) (sym (given_text sum P true d given r)) (only d.readable r.image (durable_free sum P d (r.durable refl)))
+    subst (λ (l : List ℕ). Begins l content ⊎ Begins l other) (sym (given_text sum P true d given r)) (only.only d.readable r.image (durable_free sum P d (r.durable refl)))
 comes_only sum P content other d given only (crashed at out e c rest) = comes_only sum P content other e given (crash_leaves sum P content other d e c only) rest
 comes_only sum P content other d given only (attempted at out m a rest) = comes_only sum P content other m given (attempt_leaves sum P content other d m a only) rest
 
@@ -197,7 +205,7 @@ stands_where_sound sum w = λ d floor sound within enough keeps.
       written = refl;
       awaited = refl;
     })
-    refl (λ name. refl) enough (λ k x lt. absurd (omega (arith, lt))) keeps (λ k x lt. absurd (omega (arith, lt))) (stays_itself sum w.page_size (content_of w d.readable) d sound.truthful))
+    refl (λ name. refl) enough (λ k x lt. absurd (omega (arith, lt))) keeps (λ k x lt. absurd (omega (arith, lt))) (stays_itself sum w.page_size (content_of w d.readable) d sound.truthful sound.vouched))
 
 -- the size of a content is that of full pages and of a tip that is less
 pub tip_is : (sum : List ℕ → ℕ) (w : WriterState) (life : Life) → IsSound sum w life.present → length w.tip < w.page_size → length w.tip ≡ length (content_of w life.present.readable) % w.page_size
@@ -219,7 +227,7 @@ fresh_stands sum w cache capacity old new recovers within durable =
     tip_is sum w new recovers.sound recovers.settled.short ∙ ap (λ (l : List ℕ). length l % w.page_size) holds ∙ ap (λ (n : ℕ). length T % n) size in
     let stays : Stays sum P T new.present new.present =
     subst (λ (n : ℕ). Stays sum n T new.present new.present) size
-    (subst (λ (l : List ℕ). Stays sum w.page_size l new.present new.present) holds (stays_itself sum w.page_size (content_of w new.present.readable) new.present recovers.sound.truthful)) in
+    (subst (λ (l : List ℕ). Stays sum w.page_size l new.present new.present) holds (stays_itself sum w.page_size (content_of w new.present.readable) new.present recovers.sound.truthful recovers.sound.vouched)) in
     whole sum P (session_of w) (fresh P (adjusted capacity P) T) new.present refl refl (stands_now sum P (session_of w) w new new (fresh P (adjusted capacity P) T)
     (record {
       page_size = size;
@@ -287,7 +295,7 @@ gives_back sum w cache capacity old new image recovers =
 pub attempts_through : (sum : List ℕ → ℕ) (P : ℕ) (old new : Life) → IsImage old.present old.present.readable → KeepsAllFloors sum P old new → LeavesText sum P old new → AttemptsThrough sum P old new
 unfolding Through
 attempts_through sum P old new image kept only = λ fair durable.
-    let through : Through (AllKeep sum P (text sum P old.present.readable) 0) old new = kept (text sum P old.present.readable) 0 (omega arith) (λ left is_image. refl) in
+    let through : Through (AllKeep sum P (text sum P old.present.readable) 0) old new = kept (text sum P old.present.readable) 0 (omega arith) (keeps_nothing sum P (text sum P old.present.readable) old.present) in
     let at : (d : Disk) → IsMoment old new d → Attempts sum P fair old.present d = λ d moment. record {
       old = old;
       new = new;
@@ -315,10 +323,10 @@ crashed_keeps sum P d e left c is from = λ was s stands.
     subst (λ (l : List ℕ). take s.floor (text sum P l) ≡ take s.floor s.content) is kept
 
 -- and chance aside it is a prefix of what stood
-pub crashed_leaves : (sum : List ℕ → ℕ) (P : ℕ) (d e : Disk) (left : List ℕ) → HasCrashed d e → e.readable ≡ left → RecoversFrom sum P e → IsChanceFree sum P d left → LeavesContent sum P d (text sum P left)
+pub crashed_leaves : (sum : List ℕ → ℕ) (P : ℕ) (d e : Disk) (left : List ℕ) → HasCrashed d e → e.readable ≡ left → RecoversFrom sum P e → IsDistinct sum P d left → LeavesContent sum P d (text sum P left)
 crashed_leaves sum P d e left c is from free = λ was s stands.
     let comes : ComesBack sum P true d (text sum P e.readable) =
-    crashed d (text sum P e.readable) e (record { crashed = c; free = λ fair. subst (λ (l : List ℕ). IsChanceFree sum P d l) (sym is) free }) (recovered e (text sum P e.readable) (from true (λ fair. c.durable))) in
+    crashed d (text sum P e.readable) e (record { crashed = c; free = λ fair. subst (λ (l : List ℕ). IsDistinct sum P d l) (sym is) free }) (recovered e (text sum P e.readable) (from true (λ fair. c.durable))) in
     let only : Begins (text sum P e.readable) s.content ⊎ Begins (text sum P e.readable) s.otherwise = comes_only sum P s.content s.otherwise d (text sum P e.readable) stands.only comes in
     subst (λ (l : List ℕ). Begins (text sum P l) s.content ⊎ Begins (text sum P l) s.otherwise) is only
 
@@ -331,4 +339,4 @@ pub crashed_leads : (sum : List ℕ → ℕ) (P : ℕ) (d : Disk) (left : List �
     → LeadsOn sum P d left new.present
 crashed_leads sum P d left old new c is attempts = λ fair free given comes.
     let attempt : Attempts sum P fair old.present new.present = through_end (Attempts sum P fair old.present) old new (attempts fair (λ fair. c.durable)) in
-    crashed d given old.present (record { crashed = c; free = λ f. subst (λ (l : List ℕ). IsChanceFree sum P d l) (sym is) (free f) }) (attempted old.present given new.present attempt comes)
+    crashed d given old.present (record { crashed = c; free = λ f. subst (λ (l : List ℕ). IsDistinct sum P d l) (sym is) (free f) }) (attempted old.present given new.present attempt comes)

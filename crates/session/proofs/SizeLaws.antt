@@ -45,7 +45,7 @@ looked_steps sum was P w step reply old new before same begins here sound looked
     let fits = stands.fits in
     let start : Stays sum P before.content old.present old.present =
     subst (λ (n : ℕ). Stays sum n before.content old.present old.present) fits.page_size
-    (subst (λ (l : List ℕ). Stays sum w.page_size l old.present old.present) (sym fits.content) (stays_itself sum w.page_size (content_of w old.present.readable) old.present sound.truthful)) in
+    (subst (λ (l : List ℕ). Stays sum w.page_size l old.present old.present) (sym fits.content) (stays_itself sum w.page_size (content_of w old.present.readable) old.present sound.truthful sound.vouched)) in
     let owed : (d : Disk) → SameButLog old.present d → Stays sum P before.content old.present d =
     λ d alike. stays_alike sum P before.content old.present old.present d (ap (λ (x : Disk). x.base) alike) (ap (λ (x : Disk). x.since) alike) start in
     let cover : (d : Disk) → SameButLog old.present d → CoversStay sum P before.content old.present d =

@@ -12,6 +12,7 @@ use Rattle.disk.specs.declared.started_sync.StartedSync.{StartedSync}
 use Rattle.disk.specs.declared.started_sync.StartedSync.TheVariants.{Done as AllDone, Named}
 use Rattle.disk.specs.declared.error.Error.{Error}
 use Rattle.disk.specs.declared.error.Error.TheVariants.{ReadFailed, WriteFailed, ResizeFailed, SyncFailed, InvalidChecksum, BlobInsufficientLength, OffsetOverflow, OutOfMemory, IdsExhausted}
+use Rattle.crash.proofs.DistinctLaws.{vouched_alike}
 use Rattle.crash.specs.Kept.{AllKeep, AllOnly, Through}
 use Rattle.crash.specs.Looks.{SameButLog}
 use Rattle.crash.specs.Moments.{each_then}
@@ -419,7 +420,7 @@ sealed_stands sum P was w t AllDone old new before moments stands starts h = rec
   kept = subst (λ (n : ℕ). AllKeep sum n before.content (length before.content) new.present) stands.fits.page_size
       (subst (λ (l : List ℕ). AllKeep sum w.page_size l (length l) new.present) (sym stands.fits.content) starts);
   covered = each_end (AllCover sum P before.content before.covers) old new moments h.goes h.covered;
-  only = λ image is_image free. inl (h.stays.only image is_image free);
+  only = record { only = λ image is_image free. inl (h.stays.only image is_image free); vouched = h.stays.vouched };
 }
 sealed_stands sum P was w t (Named name) old new before moments stands starts h =
     let newest : WouldKeep sum P before.content name (length before.content) new.present =
@@ -434,7 +435,7 @@ sealed_stands sum P was w t (Named name) old new before moments stands starts h 
       kept = each_end (AllKeep sum P before.content before.floor) old new moments h.goes h.kept;
       covered = all_more (λ (c : ℕ × ℕ). WouldKeep sum P before.content c.0 c.1 new.present) (name, length before.content) before.covers newest
           (each_end (AllCover sum P before.content before.covers) old new moments h.goes h.covered);
-      only = λ image is_image free. inl (h.stays.only image is_image free);
+      only = record { only = λ image is_image free. inl (h.stays.only image is_image free); vouched = h.stays.vouched };
     }
 
 -- a writer that is sealed
@@ -546,7 +547,7 @@ looked_stands sum P was s d e alike stands =
       within = stands.within;
       kept = keeps_alike sum P s.content s.floor d e base since stands.kept;
       covered = λ k x lt. alike_would sum P s.content d e base since (ap (λ (x : Disk). x.settled) alike) (ap (λ (x : Disk). coverings x) alike) _ _ (stands.covered k x lt);
-      only = λ image is_image free. stands.only image (image_alike d e image base since is_image) (chance_free_alike sum P d e image base since free);
+      only = record { only = λ image is_image free. stands.only.only image (image_alike d e image base since is_image) (chance_free_alike sum P d e image base since free); vouched = vouched_alike sum P d e base since stands.only.vouched };
     }
 
 -- why one is refused

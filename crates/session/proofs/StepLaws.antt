@@ -11,6 +11,7 @@ use Rattle.writer_state.specs.WriterState.{WriterState}
 use Rattle.crash.specs.Stays.{Stays}
 use Rattle.crash.specs.Moments.{each_last, through_end, each_then}
 use Rattle.crash.proofs.Moments.{keeps_longer, keeps_shorter}
+use Rattle.crash.proofs.Promise.{keeps_less}
 use Rattle.page.specs.Page.{text}
 use Rattle.session.specs.declared.steps.Step.{Step}
 use Rattle.session.specs.declared.steps.Step.TheVariants.{Append, Owned, TryAppend, Sync, StartSync, Wait, WaitSync, Needs, Size, Read, ReadUpTo, TryRead, ReadRanges, TryReadRanges, Begin, Truncate, Snapshot, TrySnapshot, Snap, Seal, Replay, Ensure, Take, Seek, Scan}
@@ -134,8 +135,7 @@ raise_within d (c ∷ covers) floor n enough within =
 
 -- fewer bytes are kept too
 pub keeps_fewer : (sum : List ℕ → ℕ) (P : ℕ) (content : List ℕ) (fewer floor : ℕ) (d : Disk) → fewer ≤ floor → AllKeep sum P content floor d → AllKeep sum P content fewer d
-keeps_fewer sum P content fewer floor d less keeps = λ image is_image.
-    sym (take-take fewer floor (text sum P image) less) ∙ ap (λ (l : List ℕ). take fewer l) (keeps image is_image) ∙ take-take fewer floor content less
+keeps_fewer sum P content fewer floor d less keeps = keeps_less sum P content floor fewer d less keeps
 
 -- and covered
 pub would_fewer : (sum : List ℕ → ℕ) (P : ℕ) (content : List ℕ) (name fewer cover : ℕ) (d : Disk) → fewer ≤ cover → WouldKeep sum P content name cover d → WouldKeep sum P content name fewer d
@@ -228,7 +228,7 @@ unfolding Through
 halves sum P content longer floor covers old new starts more enough within through covering keeps covered =
     let kept : (d : Disk) → Stays sum P longer old.present d → AllKeep sum P content floor d =
     λ d stays. keeps_shorter sum P content longer floor d starts enough (stays.kept floor (omega arith) (keeps_longer sum P content longer floor old.present starts enough keeps)) in
-    let only : (d : Disk) → Stays sum P longer old.present d → AllOnly sum P content longer d = λ d stays. λ image is_image free. inr (stays.only image is_image free) in
+    let only : (d : Disk) → Stays sum P longer old.present d → AllOnly sum P content longer d = λ d stays. record { only = λ image is_image free. inr (stays.only image is_image free); vouched = stays.vouched } in
     let cover : (d : Disk) → CoversStay sum P content old.present d → AllCover sum P content covers d = λ d stay. cover_stays sum P content covers old.present d within stay covered in
     record {
       goes = through.goes;
@@ -322,11 +322,13 @@ pub unasked : (sum : List ℕ → ℕ) (P : ℕ) (was : SessionState) (w : Write
     → Takes sum P step reply life.present life.present before after → Foretells P step reply before → StandsApart sum P now after life.present → SteppedApart sum P step reply now life life before after.snapshots after.replays
 unasked sum P was w step reply now life before after here stands takes foretells stands_after =
     let has = stands.fits.has_writer in
-    let only : AllOnly sum P before.content (content_after step before.content) life.present = λ image is_image free.
-    elim (stands.only image is_image free) [
-      | inl starts ↦ inl starts
-      | inr starts ↦ inl (subst (λ (l : List ℕ). text sum P image ≡ take (length (text sum P image)) l) stands.fits.otherwise starts)
-    ] in
+    let only : AllOnly sum P before.content (content_after step before.content) life.present = record {
+      only = λ image is_image free. elim (stands.only.only image is_image free) [
+        | inl starts ↦ inl starts
+        | inr starts ↦ inl (subst (λ (l : List ℕ). text sum P image ≡ take (length (text sum P image)) l) stands.fits.otherwise starts)
+      ];
+      vouched = stands.only.vouched;
+    } in
     record {
       moments = [];
       goes = refl;
@@ -363,7 +365,7 @@ stands_now sum P was v old new after fits phase names enough within kept covered
   within = within;
   kept = kept;
   covered = covered;
-  only = λ image is_image free. inl (stays.only image is_image free);
+  only = record { only = λ image is_image free. inl (stays.only image is_image free); vouched = stays.vouched };
 }
 
 -- and without one, once it was refused

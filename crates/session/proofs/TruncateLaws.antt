@@ -261,11 +261,13 @@ truncate_refused_steps sum was w n e old new recovering sound says = λ P before
 turned_steps : (sum : List ℕ → ℕ) (was : SessionState) (w : WriterState) (n : ℕ) (life : Life) → was.recovering ≡ false → AlwaysApart sum (Truncate n) NotRecovering (held was (Some w)) (held was (Some w)) life life
 turned_steps sum was w n life ends = λ P before stands.
     let has = stands.fits.has_writer in
-    let only : AllOnly sum P before.content (take n before.content) life.present = λ image is_image free.
-    elim (stands.only image is_image free) [
-      | inl starts ↦ inl starts
-      | inr starts ↦ inl (starts ∙ ap (λ (l : List ℕ). take (length (text sum P image)) l) stands.fits.otherwise)
-    ] in
+    let only : AllOnly sum P before.content (take n before.content) life.present = record {
+      only = λ image is_image free. elim (stands.only.only image is_image free) [
+        | inl starts ↦ inl starts
+        | inr starts ↦ inl (starts ∙ ap (λ (l : List ℕ). take (length (text sum P image)) l) stands.fits.otherwise)
+      ];
+      vouched = stands.only.vouched;
+    } in
     record {
       moments = [];
       goes = refl;

@@ -8,7 +8,7 @@ use Rattle.disk.specs.declared.error.Error.{Error}
 use Rattle.page.specs.Page.{text}
 use Rattle.page.specs.Geometry.{adjusted}
 use Rattle.cache.specs.CacheState.{CacheState}
-use Rattle.crash.specs.Guard.{IsChanceFree}
+use Rattle.crash.specs.Distinct.{IsDistinct}
 use Rattle.crash.specs.Kept.{AllKeep, Each, Through}
 use Rattle.crash.specs.Stays.{KeepsFloors}
 use Rattle.writer_state.specs.WriterState.{WriterState}
@@ -37,7 +37,7 @@ pub record HasCrashed (d e : Disk) : Type 0 where
 -- where it is fair, that is chance-free
 pub record Crashes (sum : List ℕ → ℕ) (P : ℕ) (fair : Bool) (d e : Disk) : Type 0 where
   pub crashed : HasCrashed d e
-  pub free : fair ≡ true → IsChanceFree sum P d e.readable
+  pub free : fair ≡ true → IsDistinct sum P d e.readable
 
 -- a recovery began over d and came to the moment m: it was cut short there, or that is what its
 -- answer left, an error too. Where it is fair, all of d was durable.
@@ -217,12 +217,12 @@ pub record GivesBack (sum : List ℕ → ℕ) (P : ℕ) (d : Disk) : Type 0 wher
 -- what a recovery gave back of what a crash left, by what stood over d as that came
 pub record GivesBackLeft (sum : List ℕ → ℕ) (P : ℕ) (d : Disk) (left : List ℕ) : Type 0 where
   pub floor : KeepsFloor sum P d (text sum P left)
-  pub content : IsChanceFree sum P d left → LeavesContent sum P d (text sum P left)
+  pub content : IsDistinct sum P d left → LeavesContent sum P d (text sum P left)
 
 -- and what comes back later came through that crash
 abbrev pub LeadsOn : (List ℕ → ℕ) → (P : ℕ) → (d : Disk) → (left : List ℕ) → Disk → Type 0
 LeadsOn sum P d left m =
-    (fair : Bool) → (fair ≡ true → IsChanceFree sum P d left) → LeadsTo sum P fair d m
+    (fair : Bool) → (fair ≡ true → IsDistinct sum P d left) → LeadsTo sum P fair d m
 
 -- what a session stands for with this writer, where every image keeps so much of its content
 abbrev pub opened : WriterState → (floor : ℕ) → List ℕ → Standing

@@ -71,6 +71,17 @@ fn a_slot_that_fails_gives_way(rt: HostRuntime) {
 }
 
 #[test]
+fn a_slot_may_be_bad(rt: HostRuntime) {
+    // "ef", and a slot beside its own that says three bytes and a wrong checksum.
+    let mut page = [101u8, 102, 103, 0, 0, 2, 0, 0, 0, 203, 0, 3, 0, 0, 0, 0];
+    assert_eq!(rt; Checksum::bad_slot::<AddSum>(&page), Some(Slot::Second));
+    page[11] = 0;
+    assert_eq!(rt; Checksum::bad_slot::<AddSum>(&page), None);
+    page[9] = 0;
+    assert_eq!(rt; Checksum::bad_slot::<AddSum>(&page), None);
+}
+
+#[test]
 fn a_page_may_be_full(rt: HostRuntime) {
     let page = [0xFFu8, 0xFF, 0xFF, 0xFF, 0, 4, 0, 0, 0, 0, 0, 0, 0, 0, 0, 0];
     let active = Checksum::validate_page::<ConstSum>(&page);

@@ -62,7 +62,8 @@ fn scanned(alloc: Global, blob: &mut MemBlob, buffer_size: usize) -> Result<Pref
 fn searched(alloc: Global, blob: &mut MemBlob) -> Result<Prefix, Error> {
     let page_size = page_size();
     let pages = count(blob, page_size)?;
-    last_pages::<MemBlob, AddSum>(alloc, blob, page_size, pages)
+    let (prefix, _) = last_pages::<MemBlob, AddSum>(alloc, blob, page_size, pages)?;
+    Ok(prefix)
 }
 
 /// Whether the partial value is "ef" in the first slot.

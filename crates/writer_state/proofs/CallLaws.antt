@@ -24,13 +24,13 @@ module _ (sum : List ℕ → ℕ) (w : WriterState) (old : Life) (sound : Soundn
 
   -- the device was not asked
   none_stays : (new : Life) → new ≡ old → StaysThrough sum w.page_size (content w old.present.readable) old new
-  none_stays new is = subst (λ (life : Life). StaysThrough sum w.page_size (content w old.present.readable) old life) (sym is) (stays_through_start sum w.page_size (content w old.present.readable) old sound.truthful)
+  none_stays new is = subst (λ (life : Life). StaysThrough sum w.page_size (content w old.present.readable) old life) (sym is) (stays_through_start sum w.page_size (content w old.present.readable) old sound.truthful sound.vouched)
 
   -- the call took one moment
   one_stays : (new : Life) (d : Disk) → new ≡ next old d → Owes d → StaysThrough sum w.page_size (content w old.present.readable) old new
   one_stays new d is stays =
       subst (λ (life : Life). StaysThrough sum w.page_size (content w old.present.readable) old life) (sym is)
-      (through_more Owes old old d (stays_through_start sum w.page_size (content w old.present.readable) old sound.truthful) stays)
+      (through_more Owes old old d (stays_through_start sum w.page_size (content w old.present.readable) old sound.truthful sound.vouched) stays)
 
   -- the call took two
   two_stays : (new : Life) (d e : Disk) → new ≡ next (next old d) e → Owes d → Owes e → StaysThrough sum w.page_size (content w old.present.readable) old new

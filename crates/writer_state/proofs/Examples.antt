@@ -1,13 +1,13 @@
 -- Each definition that the promise rests on, at a few bytes. Pages have 4 bytes, and the checksum is their sum, where it
 -- isn't said otherwise.
-use Rattle.std.proofs.Common.{◌≡◌, ◌⊎◌, inl, inr, ℕ, zero, suc, ◌+◌, ◌<◌, ◌≤◌, List, [], ◌∷◌, ◌++◌, length, take, drop, refl, sym, ◌∙◌, ap, subst, arith, length-take-le, lit<}
+use Rattle.std.proofs.Common.{◌≡◌, ◌⊎◌, inl, inr, ℕ, zero, suc, ◌+◌, ◌*◌, ◌<◌, ◌≤◌, List, [], ◌∷◌, ◌++◌, length, take, drop, refl, sym, ◌∙◌, ap, subst, arith, length-take-le, lit<}
 use Rattle.std.specs.Prelude.{Some, None, Ok, true, false, slice_get, get_or}
 use Rattle.std.proofs.lemmas.Option.{same_Some}
 use Rattle.disk.specs.Images.{only_image}
 use Rattle.disk.specs.Disk.{Disk, Operation, Operated, Request, Life, IsWhole, IsImage, LeavesNoMore, IsPartial, applied, failures, logged, next, life_after, settled_disk, disk_settled_to, starts}
 use Rattle.disk.specs.Disk.Operation.{Write, Resize}
 use Rattle.disk.specs.Disk.Request.{ReadAt, WriteAt, SyncAll}
-use Rattle.page.specs.Page.{text, pages, verified_len}
+use Rattle.page.specs.Page.{slot_of, slot_len, slot_crc, text, pages, verified_len}
 use Rattle.page.specs.Sums.{add_sum, small_add_sum, const_sum}
 use Rattle.page.specs.declared.slot.Slot.{Slot}
 use Rattle.page.specs.declared.slot.Slot.TheVariants.{First, Second}
@@ -18,6 +18,7 @@ use Rattle.writer_state.specs.declared.sync_state.SyncState.TheVariants.{Clean, 
 use Rattle.crash.specs.Full.{AreFull}
 use Rattle.crash.specs.Built.{built}
 use Rattle.crash.specs.Guard.{Fixed, Held, Guards, IsTruthful, IsChanceFree}
+use Rattle.crash.specs.Distinct.{IsCutZero, IsDistinct, IsGood, PageIsGood, SlotIsDistinct}
 use Rattle.crash.specs.Kept.{ImageKeeps, AllKeep, AllOnly, Each, Through}
 use Rattle.crash.specs.Stays.{Stays, StaysThrough, KeepsFloors, KeepsAllFloors, LeavesOnly, KeepsAll}
 use Rattle.writer_state.proofs.FloorLaws.{floors_of_sound}
@@ -26,7 +27,7 @@ use Rattle.crash.specs.Shrink.{staged, published, cleared, HeldBy, HoldsText, Sa
 use Rattle.crash.specs.Moments.{through_end}
 use Rattle.writer_state.proofs.ShortenLaws.{holds_at_rest, holds_keeps, stage_holds}
 use Rattle.crash.proofs.ShrinkLaws.{held_stays_cut}
-use Rattle.crash.proofs.Promise.{guards_less, keeps_at_rest, guards_at_rest, whole_is_chance_free}
+use Rattle.crash.proofs.Promise.{guards_less, keeps_at_rest, keeps_same, guards_at_rest, whole_is_chance_free}
 use Rattle.crash.specs.Contents.{latest, stored}
 use Rattle.writer_state.specs.Sound.{content, HasPage, Stands, guard_slot, IsSafe, Soundness, IsSound, LeavesItsContent, IsPending}
 use Rattle.crash.specs.Started.{WouldKeep, CoversStay, StartsStand}
@@ -217,9 +218,17 @@ the_flush = refl
 has_ef : HasPage add_sum 4 1 (101 ∷ 102 ∷ 103 ∷ []) (abcd_page ++ ef_page) ef_slot
 has_ef = record { size = refl; some = omega arith; there = omega arith; part = omega arith; crc = refl; value = refl; begins = refl; slot = refl }
 
+-- neither slot of it is bad
+ef_good : (s : Slot) → IsGood add_sum 4 s ef_page
+ef_good First = λ some fits. refl
+ef_good Second = λ some fits. absurd (omega (arith, some))
+
+pub ef_is_good : PageIsGood add_sum 4 1 (abcd_page ++ ef_page)
+ef_is_good page is s = subst (λ (l : List ℕ). IsGood add_sum 4 s l) (same_Some ef_page page is) (ef_good s)
+
 -- that writer is sound
 pub a_sound_writer : Soundness add_sum with_g durable
-a_sound_writer = page_sound add_sum with_g durable refl refl (omega arith) (lit< tt) (refl, tt) refl (λ name c is. absurd (cc is)) small_add_sum ef_slot refl has_ef
+a_sound_writer = page_sound add_sum with_g durable refl refl (omega arith) (lit< tt) (refl, tt) refl (λ name c is. absurd (cc is)) small_add_sum ef_slot refl has_ef ef_is_good
 
 -- so it stands for what is readable
 pub it_stands : Stands add_sum with_g durable
@@ -286,7 +295,7 @@ all_through = record { moments = rewritten ∷ []; goes = refl; start = refl; ea
 
 -- nothing was unsynced before the flush, so it stays at its start too
 stays_at_start : Stays add_sum 4 seven durable durable
-stays_at_start = stays_itself add_sum 4 seven durable it_is_truthful
+stays_at_start = stays_itself add_sum 4 seven durable it_is_truthful a_sound_writer.vouched
 
 -- at each moment of the flush
 pub it_stays_through : StaysThrough add_sum 4 seven before after
@@ -299,7 +308,7 @@ keeps_floors = kept_through add_sum 4 seven before after it_stays_through
 
 -- the six bytes in a content of seven
 six_of_seven : AllKeep add_sum 4 seven 6 durable
-six_of_seven = all_keep
+six_of_seven = keeps_same add_sum 4 six seven 6 durable refl all_keep
 
 -- in the midst of the flush, whatever a crash tears off, it leaves "abcdef" at least
 pub six_are_kept : Through (AllKeep add_sum 4 seven 6) before after
@@ -333,7 +342,7 @@ leaves_only = only_through add_sum 4 seven seven before after it_stays_through
 
 -- as at the moment of it
 pub all_only : AllOnly add_sum 4 seven seven rewritten
-all_only = λ image is_image free. inl (it_stays.only image is_image free)
+all_only = record { only = λ image is_image free. inl (it_stays.only image is_image free); vouched = it_stays.vouched }
 
 -- a sync of the flush makes all of it durable: from then on every image keeps "abcdefg"
 pub keeps_all : KeepsAll add_sum 4 seven (next after (settled_disk (logged SyncAll false rewritten)))
@@ -423,6 +432,132 @@ not_chance_free free =
           let e : 103 ≡ 0 = ap (λ (l : List ℕ). get_or (take 3 l) 2 0) (held_is weak_efg was.0 was.1 new refl was.3) ∙ ap (λ (l : List ℕ). get_or l 2 0) was.5 in absurd (omega (arith, e))
     ]
 
+-- ---- what a checksum is to tell apart
+
+-- the torn rewrite is distinct: the one slot that verifies is the durable one, over the bytes that it had
+begins_with_ef : (i byte : ℕ) → slice_get (take 2 torn_page) i ≡ Some byte → slice_get ef_page (0 * 16 + i) ≡ Some byte
+begins_with_ef zero byte here = here
+begins_with_ef (suc zero) byte here = here
+begins_with_ef (suc (suc i)) byte here = absurd (cc here)
+
+told_before : (s : Slot) → 0 < verified_len add_sum 4 s torn_page → SlotIsDistinct add_sum 4 one_page 0 torn_page s (verified_len add_sum 4 s torn_page)
+told_before First some = record {
+  whole = ef_page;
+  held = ef_page;
+  is_whole = inl refl;
+  there = refl;
+  same = refl;
+  apart = λ verified sums. refl;
+  uncut = λ each. begins_with_ef;
+}
+told_before Second some = absurd (omega (arith, some))
+
+pub a_distinct_image : IsDistinct add_sum 4 one_page torn_page
+a_distinct_image = λ p page is.
+    let one = only_page torn_page page p is in
+    subst (λ (n : ℕ). (s : Slot) → 0 < verified_len add_sum 4 s page → SlotIsDistinct add_sum 4 one_page n page s (verified_len add_sum 4 s page)) (sym one.1)
+    (subst (λ (l : List ℕ). (s : Slot) → 0 < verified_len add_sum 4 s l → SlotIsDistinct add_sum 4 one_page 0 l s (verified_len add_sum 4 s l)) one.0 told_before)
+
+-- of the page `01 00` the second slot is an old one, of one byte; then `09` was added, without a sync
+abbrev pub two_bytes : List ℕ
+two_bytes = 1 ∷ 0 ∷ 0 ∷ 0 ∷ 0 ∷ 2 ∷ 0 ∷ 0 ∷ 0 ∷ 1 ∷ 0 ∷ 1 ∷ 0 ∷ 0 ∷ 0 ∷ 1 ∷ []
+
+abbrev pub three_bytes : List ℕ
+three_bytes = 1 ∷ 0 ∷ 9 ∷ 0 ∷ 0 ∷ 2 ∷ 0 ∷ 0 ∷ 0 ∷ 1 ∷ 0 ∷ 3 ∷ 0 ∷ 0 ∷ 0 ∷ 10 ∷ []
+
+abbrev pub longer : Disk
+longer = and_then (Write 0 three_bytes) (WriteAt 0 16 false) (at_rest two_bytes)
+
+-- of that write only the slot's length is done: the second slot has the new length and the old checksum
+abbrev pub mixed : List ℕ
+mixed = 1 ∷ 0 ∷ 0 ∷ 0 ∷ 0 ∷ 2 ∷ 0 ∷ 0 ∷ 0 ∷ 1 ∷ 0 ∷ 3 ∷ 0 ∷ 0 ∷ 0 ∷ 1 ∷ []
+
+pub mixed_is_image : IsImage longer mixed
+mixed_is_image = torn_is_image longer mixed (
+  mixed,
+  record {
+    length = inl (omega arith, omega arith);
+    each = λ at byte is. elim (spliced 12 (take 10 two_bytes ++ drop 10 three_bytes) two_bytes (omega arith) at byte is) [
+      | inl front ↦ spliced 10 two_bytes three_bytes (omega arith) at byte front
+      | inr back ↦ inl back
+    ];
+  },
+  refl,
+)
+
+-- it says a zero that nobody appended
+pub a_mixed_text : text add_sum 4 mixed ≡ 1 ∷ 0 ∷ 0 ∷ []
+a_mixed_text = refl
+
+-- it isn't distinct, since in no whole state the slot held these six bytes
+pub a_slot_of_two_writes : IsDistinct add_sum 4 longer mixed → ⊥
+a_slot_of_two_writes distinct =
+    let was = distinct 0 mixed refl Second (omega arith) in
+    elim was.is_whole [
+      | inl old ↦
+          let e : 1 ≡ 3 = ap (λ (l : List ℕ). slot_len (slot_of 4 Second l)) (held_is two_bytes was.whole was.held old refl was.there) ∙ ap slot_len was.same in
+          absurd (omega (arith, e))
+      | inr new ↦
+          let e : 10 ≡ 1 = ap (λ (l : List ℕ). slot_crc (slot_of 4 Second l)) (held_is three_bytes was.whole was.held new refl was.there) ∙ ap slot_crc was.same in
+          absurd (omega (arith, e))
+    ]
+
+-- "ef" and a zero isn't: its slot was written, over "efg", which has the same sum
+pub two_strings_of_one_sum : IsDistinct const_sum 4 weak_page weak_torn → ⊥
+two_strings_of_one_sum distinct =
+    let was = distinct 0 weak_torn refl Second (omega arith) in
+    elim was.is_whole [
+      | inl old ↦
+          let e : 0 ≡ 3 = ap (λ (l : List ℕ). slot_len (slot_of 4 Second l)) (held_is weak_ef was.whole was.held old refl was.there) ∙ ap slot_len was.same in
+          absurd (omega (arith, e))
+      | inr new ↦
+          let page : weak_efg ≡ was.held = held_is weak_efg was.whole was.held new refl was.there in
+          let some : 0 < verified_len const_sum 4 Second was.held = subst (λ (l : List ℕ). 0 < verified_len const_sum 4 Second l) page (omega arith) in
+          let e : 0 ≡ 103 = ap (λ (l : List ℕ). get_or l 2 0) (was.apart some refl) ∙ ap (λ (l : List ℕ). get_or (take 3 l) 2 0) (sym page) in
+          absurd (omega (arith, e))
+    ]
+
+-- of the page `01` the second slot is bad: it says the sum 1 of `01 02`; then the page was cut, without a sync
+abbrev pub bad_page : List ℕ
+bad_page = 1 ∷ 2 ∷ 0 ∷ 0 ∷ 0 ∷ 1 ∷ 0 ∷ 0 ∷ 0 ∷ 1 ∷ 0 ∷ 2 ∷ 0 ∷ 0 ∷ 0 ∷ 1 ∷ []
+
+abbrev pub cut_page : Disk
+cut_page = record (at_rest bad_page) { readable = []; since = Resize 0 ∷ [] }
+
+-- a crash may leave one byte as a zero, and the others as they were
+abbrev pub zeroed : List ℕ
+zeroed = 1 ∷ 0 ∷ 0 ∷ 0 ∷ 0 ∷ 1 ∷ 0 ∷ 0 ∷ 0 ∷ 1 ∷ 0 ∷ 2 ∷ 0 ∷ 0 ∷ 0 ∷ 1 ∷ []
+
+zeroed_byte : (at byte : ℕ) → slice_get zeroed at ≡ Some byte → (slice_get bad_page at ≡ Some byte) ⊎ IsCutZero cut_page at byte
+zeroed_byte zero byte is = inl is
+zeroed_byte (suc zero) byte is = inr (sym (same_Some 0 byte is), omega arith, ([], inr refl, omega arith))
+zeroed_byte (suc (suc at)) byte is = inl is
+
+pub zeroed_is_image : IsImage cut_page zeroed
+zeroed_is_image = record {
+  no_shorter = ([], inr refl, omega arith);
+  no_longer = (bad_page, inl refl, omega arith);
+  each = λ at byte is. elim (zeroed_byte at byte is) [
+    | inl same ↦ inl same
+    | inr cut ↦ inr (inr (cut.0, cut.2))
+  ];
+}
+
+-- it says a zero that nobody appended
+pub a_zeroed_text : text add_sum 4 zeroed ≡ 1 ∷ 0 ∷ []
+a_zeroed_text = refl
+
+begins_zeroed : (i byte : ℕ) → slice_get (take 2 zeroed) i ≡ Some byte → (slice_get bad_page (0 * 16 + i) ≡ Some byte) ⊎ IsCutZero cut_page (0 * 16 + i) byte
+begins_zeroed zero byte is = inl is
+begins_zeroed (suc zero) byte is = zeroed_byte 1 byte is
+begins_zeroed (suc (suc i)) byte is = absurd (cc is)
+
+-- it isn't distinct: the zero of the cut is what the bad slot lacked
+pub a_zero_of_a_cut : IsDistinct add_sum 4 cut_page zeroed → ⊥
+a_zero_of_a_cut distinct =
+    let was = distinct 0 zeroed refl Second (omega arith) in
+    absurd (omega (arith, same_Some 2 0 (was.uncut begins_zeroed 1 0 refl)))
+
 -- a blob that says "ef" isn't truthful of the content "xy"
 pub not_truthful : IsTruthful add_sum 4 (120 ∷ 121 ∷ []) (at_rest ef_page) → ⊥
 not_truthful truthful = let e : 101 ≡ 120 = ap (λ (l : List ℕ). get_or l 0 0) (truthful ef_page refl 0 ef_page refl First) in omega (arith, e)
@@ -474,7 +609,7 @@ g_is_not_covered would =
     let d = and_then (Write 16 efg_page) (WriteAt 16 16 false) (starts false durable) in
     let covers : (0, abcd_page ++ ef_page) ≡ would.covers = same_Some (0, abcd_page ++ ef_page) would.covers would.named in
     let keeps : AllKeep add_sum 4 seven 7 (disk_settled_to (0, abcd_page ++ ef_page) d) = subst (λ (c : ℕ × List ℕ). AllKeep add_sum 4 seven 7 (disk_settled_to c d)) (sym covers) would.keeps in
-    a_lost_floor (keeps (abcd_page ++ ef_page) (base_is_image d))
+    a_lost_floor (keeps.kept (abcd_page ++ ef_page) (base_is_image d))
 
 -- a sync of the blob takes nothing from what it covers
 pub covers_stay : CoversStay add_sum 4 seven flush_started (settled_disk (logged SyncAll false flush_started))
@@ -536,11 +671,11 @@ ef_holds = record {
 six_are_truthful : IsTruthful add_sum 4 six durable
 six_are_truthful =
     let page : HasPage add_sum 4 1 (101 ∷ 102 ∷ []) (abcd_page ++ ef_page) ef_slot = record { size = refl; some = omega arith; there = omega arith; part = omega arith; crc = refl; value = refl; begins = refl; slot = refl } in
-    (page_sound add_sum (record with_g { tip = 101 ∷ 102 ∷ [] }) durable refl refl (omega arith) (lit< tt) (refl, tt) refl (λ name c is. absurd (cc is)) small_add_sum ef_slot refl page).truthful
+    (page_sound add_sum (record with_g { tip = 101 ∷ 102 ∷ [] }) durable refl refl (omega arith) (lit< tt) (refl, tt) refl (λ name c is. absurd (cc is)) small_add_sum ef_slot refl page ef_is_good).truthful
 
 -- so a moment at which that slot holds owes nothing to a cut to six bytes
 pub a_cut_that_owes_nothing : CutStays add_sum 4 six 6 durable durable
-a_cut_that_owes_nothing = held_stays_cut add_sum 4 six 6 1 ef_slot durable durable (omega arith) ef_holds six_are_truthful
+a_cut_that_owes_nothing = held_stays_cut add_sum 4 six 6 1 ef_slot durable durable (omega arith) ef_holds six_are_truthful a_sound_writer.vouched
 
 -- ---- what a moment of a cut holds
 
@@ -572,7 +707,7 @@ no_more_than_ef holds = absurd (omega (arith, holds.within))
 
 -- nor what a crash may lose
 pub g_is_not_held : HoldsText add_sum 4 seven 7 rewritten → ⊥
-g_is_not_held holds = a_lost_floor (holds_keeps add_sum 4 seven 7 rewritten holds 7 (omega arith) (abcd_page ++ ef_page) (base_is_image rewritten))
+g_is_not_held holds = a_lost_floor ((holds_keeps add_sum 4 seven 7 rewritten holds 7 (omega arith)).kept (abcd_page ++ ef_page) (base_is_image rewritten))
 
 -- the first of the three writes was done, and isn't durable
 abbrev pub one_staged : Disk

@@ -16,6 +16,7 @@ use Rattle.writer_state.specs.WriterState.{WriterState, after_write}
 use Rattle.writer_state.specs.declared.sync_state.SyncState.{SyncState}
 use Rattle.writer_state.specs.declared.sync_state.SyncState.TheVariants.{Clean, Dirty, Pending}
 use Rattle.crash.specs.Full.{AreFull}
+use Rattle.crash.specs.Distinct.{DurableTells}
 use Rattle.crash.specs.Built.{kept_slot, kept_len, page_of, built_pages, built, durable_after, rest_written, written_pages}
 use Rattle.crash.specs.Contents.{latest, stored}
 use Rattle.writer_state.specs.Sound.{content, HasPage, TipPage, StateFits, StartsFit, MayFlush, Stands, CanWrite}
@@ -102,9 +103,10 @@ module _ (sum : List ℕ → ℕ) (P q m : ℕ) (durable : Option ActiveChecksum
       ∙ ap (λ (l : List ℕ). stored P q old ++ l) (built_payloads sum P durable k tip fits)
 
 -- once pages went out, the durable slot is of none of the tip's page
-pub kept_after : (P k : ℕ) (durable : Option ActiveChecksum) (tip : List ℕ) → kept_len durable ≤ P → kept_len durable ≤ length tip → (kept_len (durable_after durable k) ≤ P) × (kept_len (durable_after durable k) ≤ length (drop (k * P) tip))
-kept_after P zero durable tip a b = let e : 0 * P ≡ 0 = omega arith in rw e (a, b)
-kept_after P (suc k) durable tip a b = (omega arith, omega arith)
+pub kept_after : (sum : List ℕ → ℕ) (P k : ℕ) (durable : Option ActiveChecksum) (tip : List ℕ) → kept_len durable ≤ P → kept_len durable ≤ length tip → DurableTells sum tip durable
+    → (kept_len (durable_after durable k) ≤ P) × (kept_len (durable_after durable k) ≤ length (drop (k * P) tip)) × DurableTells sum (drop (k * P) tip) (durable_after durable k)
+kept_after sum P zero durable tip a b c = let e : 0 * P ≡ 0 = omega arith in rw e (a, b, c)
+kept_after sum P (suc k) durable tip a b c = (omega arith, omega arith, tt)
 
 -- ---- started syncs
 
@@ -154,7 +156,7 @@ settled_starts d e within covers settled name c is = omega (arith, within name c
 
 -- the tip's page after a flush of whole pages alone, or of the rest too
 tip_after : (sum : List ℕ → ℕ) (w : WriterState) (old : List ℕ) (k : ℕ) (rest : Bool) → IsSmall sum → 0 < w.page_size → w.page_size < 2 ^ 16
-    → (kept_len w.durable ≤ w.page_size) × (kept_len w.durable ≤ length w.tip) → CanWrite w.page_size w.tip k rest
+    → (kept_len w.durable ≤ w.page_size) × (kept_len w.durable ≤ length w.tip) × DurableTells sum w.tip w.durable → CanWrite w.page_size w.tip k rest
     → w.full_pages * (w.page_size + 12) ≤ length old → length old ≤ (w.full_pages + written_pages k rest) * (w.page_size + 12)
     → TipPage sum w.page_size (w.full_pages + k) (drop (k * w.page_size) w.tip) (applied (Write (w.full_pages * (w.page_size + 12)) (built sum w.page_size w.durable (written_pages k rest) w.tip)) old)
     (rest_written sum (durable_after w.durable k) (drop (k * w.page_size) w.tip) rest)
@@ -168,7 +170,7 @@ tip_after sum w old k true small some small_page carries can begins ends =
     let length_chunk : length chunk ≡ length w.tip - k * P = length-drop (k * P) w.tip in
     let within : length chunk ≤ P = omega (arith, length_chunk, can.1) in
     let starts : 0 < length chunk = omega (arith, length_chunk, can.0) in
-    let kept = kept_after P k w.durable w.tip carries.0 carries.1 in
+    let kept = kept_after sum P k w.durable w.tip carries.0 carries.1 carries.2 in
     let page : take (P + 12) (drop ((q + k) * (P + 12)) new) ≡ page_of sum P d chunk =
     page_written sum P q (suc k) w.durable w.tip old begins ends k (omega arith) ∙ ap (λ (l : List ℕ). page_of sum P d l) (take_all P chunk within) in
     record {
@@ -228,7 +230,7 @@ module _ (sum : List ℕ → ℕ) (w : WriterState) (d e : Disk) (k : ℕ) (rest
             (tip_after sum w d.readable k rest small stands.some stands.small stands.carries can begins ends);
         state = tt;
         starts = settled;
-        carries = kept_after P k w.durable w.tip stands.carries.0 stands.carries.1;
+        carries = kept_after sum P k w.durable w.tip stands.carries.0 stands.carries.1 stands.carries.2;
       }
 
   -- so does a write that the device did
@@ -268,9 +270,14 @@ longer_tip sum P full tip more readable (Some f) is =
     }
 
 -- what was flushed of the tip is of the tip
-pub flushed_fits : (sum : List ℕ → ℕ) (P full : ℕ) (tip readable : List ℕ) (flushed : Option ActiveChecksum) → TipPage sum P full tip readable flushed → (kept_len flushed ≤ P) × (kept_len flushed ≤ length tip)
-flushed_fits sum P full tip readable None is = (omega arith, omega arith)
-flushed_fits sum P full tip readable (Some f) is = (omega (arith, is.part), is.there)
+pub flushed_fits : (sum : List ℕ → ℕ) (P full : ℕ) (tip readable : List ℕ) (flushed : Option ActiveChecksum) → TipPage sum P full tip readable flushed → (kept_len flushed ≤ P) × (kept_len flushed ≤ length tip) × DurableTells sum tip flushed
+flushed_fits sum P full tip readable None is = (omega arith, omega arith, tt)
+flushed_fits sum P full tip readable (Some f) is = (omega (arith, is.part), is.there, is.crc)
+
+-- what is of the tip is of a longer one
+pub tells_longer : (sum : List ℕ → ℕ) (tip more : List ℕ) (durable : Option ActiveChecksum) → kept_len durable ≤ length tip → DurableTells sum tip durable → DurableTells sum (tip ++ more) durable
+tells_longer sum tip more None few tells = tt
+tells_longer sum tip more (Some f) few tells = tells ∙ ap sum (sym (take-append-le f.len tip more few))
 
 module _ (sum : List ℕ → ℕ) (w : WriterState) (d e : Disk) (stands : Stands sum w d) (same : e.readable ≡ d.readable) where
   -- what a writer stands for depends on the bytes, and on what of them is durable
@@ -311,7 +318,7 @@ module _ (sum : List ℕ → ℕ) (w : WriterState) (d : Disk) (stands : Stands 
     tip_page = longer_tip sum w.page_size w.full_pages w.tip more d.readable w.flushed stands.tip_page;
     state = stands.state;
     starts = stands.starts;
-    carries = (stands.carries.0, omega (arith, length-append w.tip more, stands.carries.1));
+    carries = (stands.carries.0, omega (arith, length-append w.tip more, stands.carries.1), tells_longer sum w.tip more w.durable stands.carries.1 stands.carries.2);
   }
 
   -- and makes the content longer

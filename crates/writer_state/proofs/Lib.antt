@@ -6,4 +6,6 @@ pub mod StartedLaws
 pub mod CoverLaws
 pub mod StandLaws
 pub mod ShortenLaws
+pub mod MendLaws
+pub mod TailLaws
 pub mod Examples

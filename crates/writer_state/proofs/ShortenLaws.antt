@@ -15,6 +15,9 @@ use Rattle.page.specs.declared.slot.Slot.{Slot}
 use Rattle.page.specs.declared.slot.ActiveChecksum.{ActiveChecksum}
 use Rattle.crash.specs.Guard.{Guards, IsChanceFree}
 use Rattle.crash.specs.Built.{kept_len}
+use Rattle.crash.specs.Distinct.{IsGood}
+use Rattle.crash.proofs.DistinctLaws.{vouched_at_rest, vouched_alike, resize_vouched}
+use Rattle.crash.proofs.SlotLaws.{slot_write_vouched, staged_good, published_good}
 use Rattle.crash.specs.Kept.{AllKeep, AllOnly, Each, Through}
 use Rattle.crash.specs.Looks.{Looked, SameButLog}
 use Rattle.crash.specs.Moments.{through_end, through_joins, through_more, through_start, through_then}
@@ -30,7 +33,7 @@ use Rattle.writer_state.proofs.FlushLaws.{length-content, tip_reach}
 use Rattle.crash.proofs.Lists.{take_same, within_drop, within_take}
 use Rattle.crash.proofs.Pages.{cut_is, length-page, length-offset, page_fits, page_is, pages_at}
 use Rattle.crash.proofs.PageFacts.{has_part, joined_beginning, own_beginning, slot_at, slot_offset_le, value_len_slot}
-use Rattle.crash.proofs.Promise.{guarded_is_kept, guards_alike, guards_at_rest, guards_below, guards_less, guards_settle, held_alike, held_settles, held_stays, leaves_page_below, resize_leaves_below, write_leaves_below}
+use Rattle.crash.proofs.Promise.{keeps_same, guarded_is_kept, guards_alike, guards_at_rest, guards_below, guards_less, guards_settle, held_alike, held_settles, held_stays, leaves_page_below, resize_leaves_below, write_leaves_below}
 use Rattle.crash.proofs.ShrinkLaws.{empty_slot_tells, inside_write, length_slot_tells, new_slot_holds, other_other, other_slot_holds, outside_write, slot_write_tells}
 use Rattle.writer_state.proofs.Soundness.{length-written_text, text_begins_content}
 use Rattle.crash.proofs.Spared.{guards_with_tip}
@@ -97,6 +100,7 @@ holds_at_rest sum P R F d some at_rest base few =
       within = enough;
       guards = guards_less sum P (text sum P d.base) (length (text sum P d.base)) F d enough (guards_at_rest sum P d some at_rest);
       says = says_at_rest sum P (text sum P d.base) d at_rest (text_says sum P d.base some);
+      vouched = vouched_at_rest sum P d at_rest;
     }) few
 
 -- ---- what is held is kept, and chance aside there is nothing else
@@ -269,6 +273,7 @@ module _ (sum : List ℕ → ℕ) (P : ℕ) (told : List ℕ) (F : ℕ) where
     within = holds.within;
     guards = guards_alike sum P told F d e base since holds.guards;
     says = says_alike sum P told d e base since holds.says;
+    vouched = vouched_alike sum P d e base since holds.vouched;
   }
 
   -- the last whole state made durable
@@ -277,6 +282,7 @@ module _ (sum : List ℕ → ℕ) (P : ℕ) (told : List ℕ) (F : ℕ) where
     within = holds.within;
     guards = guards_settle sum P told F d e (latest_image d e.base base) at_rest holds.guards;
     says = says_settled sum P told d e base at_rest holds.says;
+    vouched = vouched_at_rest sum P e at_rest;
   }
 
   -- a look
@@ -296,6 +302,7 @@ module _ (sum : List ℕ → ℕ) (P : ℕ) (told : List ℕ) (F : ℕ) where
         within = holds.within;
         guards = guards_below sum P k told F len d e (Resize len) base since (resize_leaves_below len) (omega arith) few holds.guards;
         says = says_operated sum P told d e (Resize len) base since (cut_says_text sum P told (latest d.base d.since) len within (holds.says (latest d.base d.since) (latest_is_whole d.base d.since))) holds.says;
+        vouched = resize_vouched sum P d e len base since within holds.vouched;
       }) goes
 
   -- a sync
@@ -327,8 +334,9 @@ module _ (sum : List ℕ → ℕ) (P : ℕ) (told : List ℕ) (F : ℕ) where
       → Spares page s old.present
       → (page * P ≤ length told → (held : List ℕ) → slice_get (pages P (applied (slot_write P page s written) (latest old.present.base old.present.since))) page ≡ Some held
       → take (verified_len sum P s held) held ≡ take (verified_len sum P s held) (drop (page * P) told))
+      → ((held : List ℕ) → slice_get (pages P (applied (slot_write P page s written) (latest old.present.base old.present.since))) page ≡ Some held → IsGood sum P s held)
       → HoldsText sum P told F old.present → Through (HoldsText sum P told F) old new
-  slot_write_holds page s written sync old new answer goes few there done spares new_slot holds =
+  slot_write_holds page s written sync old new answer goes few there done spares new_slot new_good holds =
       let d = old.present in
       let at = page * (P + 12) + P + slot_offset s in
       let o = slot_write P page s written in
@@ -340,6 +348,7 @@ module _ (sum : List ℕ → ℕ) (P : ℕ) (told : List ℕ) (F : ℕ) where
         guards = spared_guards page s written d e few base since spares holds.guards;
         says = says_operated sum P told d e o base since
             (slot_says_text sum P told (latest d.base d.since) page s written few there new_slot (holds.says (latest d.base d.since) (latest_is_whole d.base d.since))) holds.says;
+        vouched = slot_write_vouched sum P page s written d e base since few there new_good holds.vouched;
       } in
       write_through (HoldsText sum P told F) old new holds at written sync answer (λ failed e operated. later (WriteAt at (length written) sync) failed e operated)
       (λ e is operated.
@@ -355,20 +364,24 @@ module _ (sum : List ℕ → ℕ) (P : ℕ) (told : List ℕ) (F : ℕ) where
   stage_holds page f crc sync old new answer goes there done spares holds =
       let six : length (slot_bytes 0 crc) ≡ 6 = refl in
       slot_write_holds page (other f.slot) (slot_bytes 0 crc) sync old new answer goes (omega (arith, six)) there done spares
-      (λ reached held is. empty_slot_tells sum P told (latest old.present.base old.present.since) page (other f.slot) crc held there is) holds
+      (λ reached held is. empty_slot_tells sum P told (latest old.present.base old.present.since) page (other f.slot) crc held there is)
+      (λ held is. staged_good sum P page (other f.slot) crc (latest old.present.base old.present.since) held there is) holds
 
   -- the second: its length, where the page's first bytes of that length are the text's
-  pub publish_holds : (page : ℕ) (f : ActiveChecksum) (len : ℕ) (sync : Bool) (old new : Life) (answer : Result (Unit {0}) Error)
+  pub publish_holds : (page : ℕ) (f : ActiveChecksum) (len crc : ℕ) (sync : Bool) (old new : Life) (answer : Result (Unit {0}) Error)
       → WriteGoes (page * (P + 12) + P + slot_offset (other f.slot)) (to_be_bytes w16 len) sync old new answer
       → (page + 1) * (P + 12) ≤ length (latest old.present.base old.present.since) → old.present.readable ≡ latest old.present.base old.present.since
-      → len < 2 ^ 16
+      → len ≤ P → P < 2 ^ 16 → crc < 2 ^ 32 → take 6 (drop (page * (P + 12) + P + slot_offset (other f.slot)) (latest old.present.base old.present.since)) ≡ slot_bytes 0 crc
+      → crc ≡ sum (take len (drop (page * (P + 12)) (latest old.present.base old.present.since)))
       → (page * P ≤ length told → take len (drop (page * (P + 12)) (latest old.present.base old.present.since)) ≡ take len (drop (page * P) told))
       → Spares page (other f.slot) old.present
       → HoldsText sum P told F old.present → Through (HoldsText sum P told F) old new
-  publish_holds page f len sync old new answer goes there done small payload spares holds =
+  publish_holds page f len crc sync old new answer goes there done fits small_page small_crc was is_sum payload spares holds =
+      let small : len < 2 ^ 16 = omega (arith, fits, small_page) in
       let two : length (to_be_bytes w16 len) ≡ 2 = refl in
       slot_write_holds page (other f.slot) (to_be_bytes w16 len) sync old new answer goes (omega (arith, two)) there done spares
-      (λ reached held is. length_slot_tells sum P told (latest old.present.base old.present.since) page (other f.slot) len held there small (payload reached) is) holds
+      (λ reached held is. length_slot_tells sum P told (latest old.present.base old.present.since) page (other f.slot) len held there small (payload reached) is)
+      (λ held is. published_good sum P page (other f.slot) len crc (latest old.present.base old.present.since) held small_page fits small_crc there was is_sum is) holds
 
   -- the third: nothing over the slot of the longer value
   pub clear_holds : (page : ℕ) (f : ActiveChecksum) (sync : Bool) (old new : Life) (answer : Result (Unit {0}) Error)
@@ -379,7 +392,8 @@ module _ (sum : List ℕ → ℕ) (P : ℕ) (told : List ℕ) (F : ℕ) where
   clear_holds page f sync old new answer goes there done spares holds =
       let six : length (slot_bytes 0 0) ≡ 6 = refl in
       slot_write_holds page f.slot (slot_bytes 0 0) sync old new answer goes (omega (arith, six)) there done spares
-      (λ reached held is. empty_slot_tells sum P told (latest old.present.base old.present.since) page f.slot 0 held there is) holds
+      (λ reached held is. empty_slot_tells sum P told (latest old.present.base old.present.since) page f.slot 0 held there is)
+      (λ held is. staged_good sum P page f.slot 0 (latest old.present.base old.present.since) held there is) holds
 
 -- ---- what one slot holds, as lives
 
@@ -556,18 +570,18 @@ module _ (sum : List ℕ → ℕ) (P n : ℕ) (old new : Life) (at_rest : old.pr
   pub shorten_floors : (content : List ℕ) → KeepsFloors sum P (take n content) old new
   shorten_floors content floor enough keeps =
       let told = text sum P old.present.readable in
-      let same : take floor told ≡ take floor (take n content) = keeps old.present.readable (latest_image old.present old.present.readable (rest_latest old.present at_rest base)) in
+      let same : take floor told ≡ take floor (take n content) = keeps.kept old.present.readable (latest_image old.present old.present.readable (rest_latest old.present at_rest base)) in
       let there : floor ≤ length told = omega (arith, ap length same, length-take floor told, length-take floor (take n content), enough) in
       let few : floor ≤ n = omega (arith, enough, length-take n content) in
       through_then (HoldsText sum P told (min n (length told))) (AllKeep sum P (take n content) floor) old new
-      (λ e holds. λ image is_image. holds_keeps sum P told (min n (length told)) e holds floor (omega (arith, there, few)) image is_image ∙ same) through
+      (λ e holds. keeps_same sum P told (take n content) floor e same (holds_keeps sum P told (min n (length told)) e holds floor (omega (arith, there, few)))) through
 
   -- chance aside there is only the text
   pub shorten_leaves : (after : List ℕ) → LeavesOnly sum P (text sum P old.present.readable) after old new
   shorten_leaves after =
       let told = text sum P old.present.readable in
       through_then (HoldsText sum P told (min n (length told))) (AllOnly sum P told after) old new
-      (λ e holds. λ image is_image free. inl (holds_only sum P told (min n (length told)) e holds image is_image free)) through
+      (λ e holds. record { only = λ image is_image free. inl (holds_only sum P told (min n (length told)) e holds image is_image free); vouched = holds.vouched }) through
 
   -- so each moment stays, up to what is left of the text: after the text's end there is no floor to keep
   pub shorten_stays : Through (CutStays sum P (text sum P old.present.readable) (min n (length (text sum P old.present.readable))) old.present) old new
@@ -577,6 +591,7 @@ module _ (sum : List ℕ → ℕ) (P n : ℕ) (old new : Life) (at_rest : old.pr
       through_then (HoldsText sum P told left) (CutStays sum P told left old.present) old new (λ e holds. record {
         kept = λ floor few keeps. holds_keeps sum P told left e holds floor few;
         only = λ image is_image free. holds_only sum P told left e holds image is_image free;
+        vouched = holds.vouched;
       }) through
 
   -- up to n, where the text goes so far

@@ -4,7 +4,7 @@ use Rattle.std.proofs.Common.{◌≡◌, inl, inr, ◌⊎◌, ℕ, zero, suc, �
 use Rattle.std.specs.Prelude.{Option, Some, None, Bool, false}
 use Rattle.std.proofs.lemmas.Bool.{cases_order}
 use Rattle.std.proofs.lemmas.List.{append-nil, take_all, take_at}
-use Rattle.disk.specs.Disk.{Disk, Operation, Operated, Request, Life, IsImage, applied, coverings}
+use Rattle.disk.specs.Disk.{Disk, Operation, Operated, Request, Life, IsImage, IsWhole, applied, coverings}
 use Rattle.disk.specs.Disk.Operation.{Write}
 use Rattle.page.specs.Slot.{slot_offset}
 use Rattle.page.specs.Page.{pages, slot_bytes, verified_len, value_len, text}
@@ -14,6 +14,8 @@ use Rattle.writer_state.specs.WriterState.{WriterState, after_write}
 use Rattle.writer_state.specs.declared.sync_state.SyncState.{SyncState}
 use Rattle.writer_state.specs.declared.sync_state.SyncState.TheVariants.{Clean, Dirty, Pending}
 use Rattle.crash.specs.Full.{AreFull}
+use Rattle.crash.specs.Distinct.{IsVouched, IsGoodFrom, PageIsGood}
+use Rattle.crash.proofs.DistinctLaws.{flush_keeps_vouched, vouched_at_rest, vouched_alike, good_from_settles, good_from_alike, good_from_end}
 use Rattle.crash.specs.Guard.{Held, Guards, IsTruthful, TipGuard}
 use Rattle.crash.specs.Built.{kept_len, built, durable_after, written_pages}
 use Rattle.crash.specs.Kept.{AllKeep}
@@ -26,10 +28,10 @@ use Rattle.crash.proofs.Pages.{length-stored, pages_at, page_fits, page_is, page
 use Rattle.crash.proofs.Texts.{text_exact, text_of_part, value_at, verified_le_value, verified_len_le}
 use Rattle.crash.proofs.BuiltLaws.{IsSmall, slot_len_of, slot_crc_of}
 use Rattle.writer_state.proofs.FlushLaws.{tip_reach, flush_reach, pages_written, flush_content, operated_stands, settle_stands, state_stands, fits_alike, starts_alike, alike_content, longer_stands, longer_content, carry_stands, settled_stands, exact_stands, length-content, content_in_page, content_in_tip}
-use Rattle.crash.proofs.Disks.{fixed_at_rest, operated_base, operated_since}
+use Rattle.crash.proofs.Disks.{fixed_at_rest, operated_base, operated_since, latest_is_whole}
 use Rattle.disk.specs.Images.{only_image}
 use Rattle.crash.proofs.PageFacts.{page_begins, slot_at, slot_offset_le, own_beginning}
-use Rattle.crash.proofs.Promise.{guards_at_rest, guards_longer, guards_less, guards_alike, held_alike, held_stays, leaves_page_below, write_leaves_below, part_of_beginning, SaysOnly, truthful_at_rest, truthful_alike, truthful_longer, only_content}
+use Rattle.crash.proofs.Promise.{keeps_at_rest, keeps_less, keeps_same, guards_at_rest, guards_longer, guards_less, guards_alike, held_alike, held_stays, leaves_page_below, write_leaves_below, part_of_beginning, SaysOnly, truthful_at_rest, truthful_alike, truthful_longer, only_content}
 use Rattle.crash.specs.Moments.{through_then}
 use Rattle.crash.proofs.Moments.{stays_itself, stays_alike, stays_settled, stays_guarded}
 use Rattle.crash.proofs.Spared.{flush_keeps_full, held_through_flush, guards_with_tip, truthful_through_flush}
@@ -192,11 +194,11 @@ safe_guards sum P content d full None there guards guard = (omega arith, guards_
 safe_guards sum P content d full (Some f) there guards guard = (guard.there, guards_with_tip sum P full content f.len d f.slot (slot_bytes f.len f.crc) guard.there guards guard.held)
 
 -- where no more was durable, and no whole state says anything else, nothing is owed
-pub safe_stays : (sum : List ℕ → ℕ) (w : WriterState) (content : List ℕ) (d e : Disk) → e.base ≡ d.base → IsSafe sum w content e → IsTruthful sum w.page_size content e → Stays sum w.page_size content d e
-safe_stays sum w content d e base safe truthful =
+pub safe_stays : (sum : List ℕ → ℕ) (w : WriterState) (content : List ℕ) (d e : Disk) → e.base ≡ d.base → IsSafe sum w content e → IsTruthful sum w.page_size content e → IsVouched sum w.page_size e → Stays sum w.page_size content d e
+safe_stays sum w content d e base safe truthful vouched =
     let P = w.page_size in
     let guarded = safe_guards sum P content e safe.full safe.tip safe.there safe.pages safe.guard in
-    stays_guarded sum P content (safe.full * P + kept_len safe.tip) d e (omega (arith, safe.base, ap (λ (l : List ℕ). length (text sum P l)) base)) guarded.1 truthful
+    stays_guarded sum P content (safe.full * P + kept_len safe.tip) d e (omega (arith, safe.base, ap (λ (l : List ℕ). length (text sum P l)) base)) guarded.1 truthful vouched
 
 -- a slot that stays, over to a content that goes on
 guard_longer : (sum : List ℕ → ℕ) (P : ℕ) (content longer : List ℕ) (d : Disk) (full : ℕ) (tip : Option ActiveChecksum) → content ≡ take (length content) longer → TipGuard sum P content d full tip → TipGuard sum P longer d full tip
@@ -310,6 +312,19 @@ module _ (sum : List ℕ → ℕ) (w : WriterState) (d e : Disk) (k : ℕ) (rest
       (ap (λ (l : List ℕ). pages P (applied (Write (q * (P + 12)) l) old)) is ∙ pages_written sum P q m w.durable w.tip old reach.0 reach.1)
       sound.truthful
 
+  -- and a disk that is vouched for stays so
+  pub flush_vouches : e.base ≡ d.base → e.since ≡ d.since ++ Write (w.full_pages * (w.page_size + 12)) bytes ∷ [] → IsVouched sum w.page_size e × IsGoodFrom sum w.page_size (w.full_pages + k) e
+  flush_vouches base since =
+      let P = w.page_size in
+      let q = w.full_pages in
+      let m = written_pages k rest in
+      let old = latest d.base d.since in
+      let reach = subst (λ (l : List ℕ). (q * (P + 12) ≤ length l) × (length l ≤ (q + m) * (P + 12))) sound.stands.done (flush_reach sum P q k w.tip d.readable w.flushed rest sound.stands.tip_page can) in
+      flush_keeps_vouched sum P q (q + k) d e w.durable m w.tip bytes small sound.stands.small sound.stands.carries.0 sound.stands.carries.1 sound.stands.carries.2 (omega arith) base since reach.0
+      (omega (arith, pages_fit P q old reach.0, length-pages P old))
+      (ap (λ (l : List ℕ). pages P (applied (Write (q * (P + 12)) l) old)) is ∙ pages_written sum P q m w.durable w.tip old reach.0 reach.1)
+      sound.good sound.vouched
+
   -- a flush that is done keeps soundness
   pub operated_sound : (request : Request) → Operated (Write (w.full_pages * (w.page_size + 12)) bytes) request false d e → Soundness sum (after_write sum w k rest) e
   operated_sound request done =
@@ -322,6 +337,8 @@ module _ (sum : List ℕ → ℕ) (w : WriterState) (d e : Disk) (k : ℕ) (rest
         stands = operated_stands sum w d e k rest bytes small sound.stands can is readable request ready done;
         safe = subst (λ (l : List ℕ). IsSafe sum (after_write sum w k rest) l e) same (flush_safe base since);
         truthful = subst (λ (l : List ℕ). IsTruthful sum w.page_size l e) same (flush_truthful base since);
+        vouched = (flush_vouches base since).0;
+        good = (flush_vouches base since).1;
       }
 
   -- a flush owes nothing, done or failed
@@ -330,7 +347,7 @@ module _ (sum : List ℕ → ℕ) (w : WriterState) (d e : Disk) (k : ℕ) (rest
       let o : Operation = Write (w.full_pages * (w.page_size + 12)) bytes in
       let base = operated_base o request failed d e operated in
       let since = operated_since o request failed d e operated in
-      safe_stays sum (after_write sum w k rest) (content w d.readable) d e base (flush_safe base since) (flush_truthful base since)
+      safe_stays sum (after_write sum w k rest) (content w d.readable) d e base (flush_safe base since) (flush_truthful base since) (flush_vouches base since).0
 
   -- nor does it where it is made durable
   pub operated_settle_stays : (request : Request) (f : Disk) → Operated (Write (w.full_pages * (w.page_size + 12)) bytes) request false d e → f.base ≡ e.readable → f.since ≡ [] → Stays sum w.page_size (content w d.readable) d f
@@ -350,12 +367,14 @@ module _ (sum : List ℕ → ℕ) (w : WriterState) (d e : Disk) (sound : Soundn
         safe = safe_at_rest sum (record w { sync = s }) e since at_rest stands.full stands.tip_page stands.some
             (guard_written sum (record w { sync = s }) e since at_rest stands.full stands.tip_page small stands.small) repeats;
         truthful = truthful_written sum (record w { sync = s }) e since at_rest stands.full stands.tip_page;
+        vouched = vouched_at_rest sum w.page_size e since;
+        good = good_from_settles sum w.page_size w.full_pages d e (subst (λ (l : List ℕ). IsWhole d.base d.since l) (sym (base ∙ sound.stands.done)) (latest_is_whole d.base d.since)) since sound.good;
       }
 
   -- and owes nothing
   pub settle_stays : e.base ≡ d.readable → e.since ≡ [] → Stays sum w.page_size (content w d.readable) d e
   settle_stays base since =
-      stays_settled sum w.page_size (content w d.readable) d d e (base ∙ sound.stands.done) since (stays_itself sum w.page_size (content w d.readable) d sound.truthful)
+      stays_settled sum w.page_size (content w d.readable) d d e (base ∙ sound.stands.done) since (stays_itself sum w.page_size (content w d.readable) d sound.truthful sound.vouched)
 
   -- a disk with the same bytes, base and operations is as sound, in any state that fits it and lets no other slot be repeated
   pub same_bytes_sound : (s : SyncState) → e.base ≡ d.base → e.since ≡ d.since → StateFits e s → StartsFit e s
@@ -378,6 +397,8 @@ module _ (sum : List ℕ → ℕ) (w : WriterState) (d e : Disk) (sound : Soundn
           ];
         });
         truthful = subst (λ (l : List ℕ). IsTruthful sum w.page_size l e) now (truthful_alike sum w.page_size (content w d.readable) d e base since sound.truthful);
+        vouched = vouched_alike sum w.page_size d e base since sound.vouched;
+        good = good_from_alike sum w.page_size w.full_pages d e base since sound.good;
       }
 
   -- so after a read
@@ -387,7 +408,7 @@ module _ (sum : List ℕ → ℕ) (w : WriterState) (d e : Disk) (sound : Soundn
 
   -- and nothing is owed
   pub alike_stays : e.base ≡ d.base → e.since ≡ d.since → Stays sum w.page_size (content w d.readable) d e
-  alike_stays base since = stays_alike sum w.page_size (content w d.readable) d d e base since (stays_itself sum w.page_size (content w d.readable) d sound.truthful)
+  alike_stays base since = stays_alike sum w.page_size (content w d.readable) d d e base since (stays_itself sum w.page_size (content w d.readable) d sound.truthful sound.vouched)
 
 -- ---- what a crash keeps
 
@@ -404,11 +425,11 @@ module _ (sum : List ℕ → ℕ) (w : WriterState) (d : Disk) (sound : Soundnes
   clean_keeps =
       let written = length-written_text sum w d.readable sound.stands.full sound.stands.tip_page in
       let begins = text_begins_content sum w d.readable sound.stands.full sound.stands.tip_page in
-      λ image is_image.
       let n = w.full_pages * w.page_size + kept_len w.flushed in
-      ap (λ (l : List ℕ). take n (text sum w.page_size l)) (clean_image image is_image)
-      ∙ take_all n (text sum w.page_size d.readable) (omega (arith, written))
-      ∙ begins ∙ ap (λ (k : ℕ). take k (content w d.readable)) written
+      let told = text sum w.page_size d.readable in
+      let all : AllKeep sum w.page_size told (length told) d = subst (λ (l : List ℕ). AllKeep sum w.page_size (text sum w.page_size l) (length (text sum w.page_size l)) d) at_rest.1 (keeps_at_rest sum w.page_size d at_rest.0) in
+      keeps_same sum w.page_size told (content w d.readable) n d (take_all n told (omega (arith, written)) ∙ begins ∙ ap (λ (k : ℕ). take k (content w d.readable)) written)
+      (keeps_less sum w.page_size told (length told) n d (omega (arith, written)) all)
 
   -- and where all is written, all
   pub settle_keeps : kept_len w.flushed ≡ length w.tip → AllKeep sum w.page_size (content w d.readable) (length (content w d.readable)) d
@@ -452,6 +473,8 @@ module _ (sum : List ℕ → ℕ) (w : WriterState) (d : Disk) (sound : Soundnes
           position = safe.position;
         });
         truthful = subst (λ (l : List ℕ). IsTruthful sum P l d) now (truthful_longer sum P all (all ++ more) d begins sound.truthful);
+        vouched = sound.vouched;
+        good = sound.good;
       }
 
   -- so does a durable slot that is brought up to date: a flush may repeat it
@@ -473,9 +496,25 @@ module _ (sum : List ℕ → ℕ) (w : WriterState) (d : Disk) (sound : Soundnes
           ];
         };
         truthful = sound.truthful;
+        vouched = sound.vouched;
+        good = sound.good;
       }
 
 -- ---- from what is readable
+
+-- with nothing unsynced no page stands after the tip's
+good_at_rest : (sum : List ℕ → ℕ) (P full : ℕ) (tip : List ℕ) (d : Disk) (flushed : Option ActiveChecksum) → d.since ≡ [] → d.base ≡ d.readable → TipPage sum P full tip d.readable flushed → PageIsGood sum P full d.readable → IsGoodFrom sum P full d
+good_at_rest sum P full tip d flushed since base tip_page good = λ whole is_whole p from page there s.
+    let same : whole ≡ d.readable = subst (λ (os : List Operation). IsWhole d.base os whole) since is_whole ∙ base in
+    let ends : length d.readable ≤ (full + 1) * (P + 12) = (tip_reach sum P full tip d.readable flushed tip_page).1 in
+    let here = ap (λ (l : List ℕ). slice_get (pages P l) p) (sym same) ∙ there in
+    elim (cases_order p full) [
+      | inl at_tip ↦ good page (ap (λ (q : ℕ). slice_get (pages P d.readable) q) (sym at_tip) ∙ here) s
+      | inr (inl below) ↦ absurd (omega (arith, below, from))
+      | inr (inr after) ↦
+          let past : suc full * (P + 12) ≤ p * (P + 12) = mul-le-mul_right (P + 12) after in
+          absurd (omega (arith, past, ends, page_fits P p d.readable page here))
+    ]
 
 module _ (sum : List ℕ → ℕ) (w : WriterState) (d : Disk) (since : d.since ≡ []) (base : d.base ≡ d.readable) (some : 0 < w.page_size) (small : w.page_size < 2 ^ 16)
     (full : AreFull sum w.page_size (take w.full_pages (pages w.page_size d.readable))) (carried : w.durable ≡ w.flushed) where
@@ -485,8 +524,10 @@ module _ (sum : List ℕ → ℕ) (w : WriterState) (d : Disk) (since : d.since 
   repeats (Pending name) = tt
 
   -- with nothing unsynced a writer is sound that knows the blob's pages
-  pub settled_sound : StartsFit d w.sync → IsSmall sum → TipPage sum w.page_size w.full_pages w.tip d.readable w.flushed → Soundness sum w d
-  settled_sound starts small_sum tip_page = record {
+  pub settled_sound : StartsFit d w.sync → IsSmall sum → TipPage sum w.page_size w.full_pages w.tip d.readable w.flushed → PageIsGood sum w.page_size w.full_pages d.readable → Soundness sum w d
+  settled_sound starts small_sum tip_page good = record {
+    vouched = vouched_at_rest sum w.page_size d since;
+    good = good_at_rest sum w.page_size w.full_pages w.tip d w.flushed since base tip_page good;
     stands = settled_stands sum w d since base some small full carried starts tip_page;
     safe = safe_at_rest sum w d since base full tip_page some (guard_written sum w d since base full tip_page small_sum small) (repeats w.sync);
     truthful = truthful_written sum w d since base full tip_page;
@@ -501,11 +542,13 @@ module _ (sum : List ℕ → ℕ) (w : WriterState) (d : Disk) (since : d.since 
         safe = safe_at_rest sum w d since base full tip_page some
             (subst (λ (f : Option ActiveChecksum). TipGuard sum w.page_size (content w d.readable) d w.full_pages f) (sym none) tt) (repeats w.sync);
         truthful = truthful_written sum w d since base full tip_page;
+        vouched = vouched_at_rest sum w.page_size d since;
+        good = good_from_end sum w.page_size w.full_pages d since (omega (arith, size, ap length base));
       }
 
   -- the blob ends with the tip's page
-  pub page_sound : StartsFit d w.sync → IsSmall sum → (a : ActiveChecksum) → w.flushed ≡ Some a → HasPage sum w.page_size w.full_pages w.tip d.readable a → Soundness sum w d
-  page_sound starts small_sum a is has = settled_sound starts small_sum (subst (λ (f : Option ActiveChecksum). TipPage sum w.page_size w.full_pages w.tip d.readable f) (sym is) has)
+  pub page_sound : StartsFit d w.sync → IsSmall sum → (a : ActiveChecksum) → w.flushed ≡ Some a → HasPage sum w.page_size w.full_pages w.tip d.readable a → PageIsGood sum w.page_size w.full_pages d.readable → Soundness sum w d
+  page_sound starts small_sum a is has good = settled_sound starts small_sum (subst (λ (f : Option ActiveChecksum). TipPage sum w.page_size w.full_pages w.tip d.readable f) (sym is) has) good
 
 -- a writer over an empty blob is sound
 pub empty_sound : (sum : List ℕ → ℕ) (w : WriterState) (d : Disk) → d.readable ≡ [] → d.base ≡ [] → d.since ≡ [] → 0 < w.page_size → w.page_size < 2 ^ 16 → w.full_pages ≡ 0 → w.flushed ≡ None → w.durable ≡ None → StartsFit d w.sync → Soundness sum w d
@@ -524,7 +567,7 @@ same_parts d e is = (ap (λ (x : Disk). x.readable) is, ap (λ (x : Disk). x.bas
 -- chance aside, a crash leaves of a sound writer's content a beginning
 pub sound_leaves : (sum : List ℕ → ℕ) (w : WriterState) (d : Disk) → IsSound sum w d → LeavesItsContent sum w d
 unfolding IsSound
-sound_leaves sum w d sound = λ image is_image free. inl (only_content sum w.page_size (content w d.readable) d image sound.truthful free)
+sound_leaves sum w d sound = record { only = λ image is_image free. inl (only_content sum w.page_size (content w d.readable) d image sound.truthful free); vouched = sound.vouched }
 
 module _ (sum : List ℕ → ℕ) (w : WriterState) (old new : Life) (sound : Soundness sum w old.present) (looked : Looked old new) where
   -- a call that only reads keeps soundness

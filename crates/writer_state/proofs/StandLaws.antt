@@ -20,6 +20,7 @@ use Rattle.writer_state.specs.Sound.{StartsFit, Soundness}
 use Rattle.writer_state.proofs.FlushLaws.{all_settled_alike, starts_within, settled_starts}
 use Rattle.writer_state.proofs.Soundness.{alike_sound}
 use Rattle.crash.proofs.Disks.{image_alike, image_covered}
+use Rattle.crash.proofs.DistinctLaws.{vouched_alike, vouched_at_rest}
 use Rattle.crash.proofs.Moments.{keeps_alike, keeps_covered, chance_free_alike, chance_free_covered}
 use Rattle.writer_state.proofs.StartedLaws.{alike_would, settled_already, no_operation, covers_failed, covering_of}
 
@@ -89,7 +90,7 @@ pub record WaitKeeps (sum : List ℕ → ℕ) (P : ℕ) (d e : Disk) : Type 0 wh
 alike_keeps : (sum : List ℕ → ℕ) (P : ℕ) (d e : Disk) → StartsStand d → e.base ≡ d.base → e.since ≡ d.since → e.settled ≡ d.settled → coverings e ≡ coverings d → WaitKeeps sum P d e
 alike_keeps sum P d e stand base since settled covers = record {
   keeps = λ content floor keeps. keeps_alike sum P content floor d e base since keeps;
-  only = λ before after only. λ image is_image free. only image (image_alike d e image base since is_image) (chance_free_alike sum P d e image base since free);
+  only = λ before after only. record { only = λ image is_image free. only.only image (image_alike d e image base since is_image) (chance_free_alike sum P d e image base since free); vouched = vouched_alike sum P d e base since only.vouched };
   covers = λ content name cover would. alike_would sum P content d e base since settled covers name cover would;
   starts = λ name c is. elim (stand name c (ap (λ (cs : List (ℕ × List ℕ)). slice_get cs name) (sym covers) ∙ is)) [
     | inl done ↦ inl (omega (arith, done, settled))
@@ -130,8 +131,11 @@ settles_latest c d all bytes = elim (cases_lt d.settled c.0) [
 settled_keeps_all : (sum : List ℕ → ℕ) (P : ℕ) (d e : Disk) → StartsStand d → IsSettledTo d e → WaitKeeps sum P d e
 settled_keeps_all sum P d e stand to = record {
   keeps = keeps_floor;
-  only = λ before after only. λ image is_image free.
-      only image (image_covered d e d.since [] (sym (append-nil d.since)) to.base to.since image is_image) (chance_free_covered sum P d e d.since [] image (sym (append-nil d.since)) to.base to.since free);
+  only = λ before after only. record {
+    only = λ image is_image free.
+        only.only image (image_covered d e d.since [] (sym (append-nil d.since)) to.base to.since image is_image) (chance_free_covered sum P d e d.since [] image (sym (append-nil d.since)) to.base to.since free);
+    vouched = vouched_at_rest sum P e to.since;
+  };
   covers = λ content name cover would.
       let named : slice_get (coverings e) name ≡ Some would.covers = ap (λ (cs : List (ℕ × List ℕ)). slice_get cs name) to.covers ∙ would.named in
       let at_e : AllKeep sum P content cover e = elim (stand name would.covers would.named) [

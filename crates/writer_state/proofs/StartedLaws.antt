@@ -193,7 +193,7 @@ module _ (sum : List ℕ → ℕ) (w : WriterState) (old new : Life) (name : ℕ
   one_moment e is here stays = (
     subst (λ (life : Life). Soundness sum w life.present) (sym is) here,
     subst (λ (life : Life). StaysThrough sum w.page_size (content w old.present.readable) old life) (sym is)
-        (through_more (Stays sum w.page_size (content w old.present.readable) old.present) old old e (stays_through_start sum w.page_size (content w old.present.readable) old sound.truthful) stays),
+        (through_more (Stays sum w.page_size (content w old.present.readable) old.present) old old e (stays_through_start sum w.page_size (content w old.present.readable) old sound.truthful sound.vouched) stays),
   )
 
   pub wait_leaves : (answer : Result (Unit {0}) Error) → WaitGoes name old new answer → IsLeft
@@ -213,7 +213,7 @@ module _ (sum : List ℕ → ℕ) (w : WriterState) (old new : Life) (name : ℕ
       one_moment e is (alike_sound sum w d e sound refl refl refl (covers_failed name d.started) refl) (alike_stays sum w d e sound refl refl refl)
   wait_leaves (Err OutOfMemory) is = (
     subst (λ (life : Life). Soundness sum w life.present) (sym is) sound,
-    subst (λ (life : Life). StaysThrough sum w.page_size (content w old.present.readable) old life) (sym is) (stays_through_start sum w.page_size (content w old.present.readable) old sound.truthful),
+    subst (λ (life : Life). StaysThrough sum w.page_size (content w old.present.readable) old life) (sym is) (stays_through_start sum w.page_size (content w old.present.readable) old sound.truthful sound.vouched),
   )
   wait_leaves (Err e) goes = absurd goes
 

@@ -10,6 +10,7 @@ use Rattle.writer_state.specs.declared.sync_state.SyncState.TheVariants.{Clean, 
 use Rattle.crash.specs.Contents.{latest, stored}
 use Rattle.crash.specs.Started.{AllSettled}
 use Rattle.crash.specs.Guard.{Guards, IsTruthful, TipGuard}
+use Rattle.crash.specs.Distinct.{IsVouched, IsGoodFrom, DurableTells}
 use Rattle.crash.specs.Full.{AreFull}
 use Rattle.crash.specs.Built.{kept_len}
 use Rattle.crash.specs.Kept.{AllOnly}
@@ -73,6 +74,7 @@ pub record Stands (sum : List ℕ → ℕ) (w : WriterState) (d : Disk) : Type 0
   pub starts : StartsFit d w.sync
   -- what a flush repeats of the tip's page is of the tip
   pub carries : (kept_len w.durable ≤ w.page_size) × (kept_len w.durable ≤ length w.tip)
+      × DurableTells sum w.tip w.durable
 
 -- the slot that a flush is to repeat: where nothing is unsynced, the one that was written last; a
 -- flush waits for a pending sync
@@ -115,6 +117,9 @@ pub record Soundness (sum : List ℕ → ℕ) (w : WriterState) (d : Disk) : Typ
   pub stands : Stands sum w d
   pub safe : IsSafe sum w (content w d.readable) d
   pub truthful : IsTruthful sum w.page_size (content w d.readable) d
+  -- a slot that verifies over nothing yet can't come to verify by chance
+  pub vouched : IsVouched sum w.page_size d
+  pub good : IsGoodFrom sum w.page_size w.full_pages d
 
 -- the word for it in contracts: a caller hands it from call to call, and has no need to see into it
 unfoldable pub IsSound : (List ℕ → ℕ) → WriterState → Disk → Type 0

@@ -213,6 +213,48 @@ no-such
 blob 6162636400040000018a000000000000656667680000000000000002000000cb
 ";
 
+// The write of "cd" is torn: "d" and the slot for four bytes are there, and "c" isn't. Were that slot
+// left, "c" alone of a later write would make it verify.
+const EMPTIED_SLOT: &str = "\
+start 4 8 4 add
+append 6162
+sync
+append 6364
+fail 1
+sync
+crash 0001000000111111
+dump
+recover
+dump
+append 63
+fail 1
+sync
+crash 001
+dump
+recover
+read 0 2
+";
+
+const EMPTIED_SLOT_OUT: &str = "\
+recovered 0
+at 0
+ok
+at 2
+ok
+fault E2 WriteFailed
+crashed 16
+blob 616200640002000000c300040000018a
+recovered 2
+blob 616200640002000000c3000000000000
+at 2
+ok
+fault E2 WriteFailed
+crashed 16
+blob 616263640002000000c3000000000000
+recovered 2
+bytes 6162
+";
+
 #[test]
 fn torn_write(rt: HostRuntime) -> Result<(), Fail> {
     plays(&rt, rt.alloc(), TORN_WRITE, TORN_WRITE_OUT)
@@ -236,4 +278,9 @@ fn started_sync(rt: HostRuntime) -> Result<(), Fail> {
 #[test]
 fn replay(rt: HostRuntime) -> Result<(), Fail> {
     plays(&rt, rt.alloc(), REPLAY, REPLAY_OUT)
+}
+
+#[test]
+fn emptied_slot(rt: HostRuntime) -> Result<(), Fail> {
+    plays(&rt, rt.alloc(), EMPTIED_SLOT, EMPTIED_SLOT_OUT)
 }

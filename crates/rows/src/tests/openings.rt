@@ -18,7 +18,38 @@ struct Row {
     size: u64,
 }
 
-const ROWS: [Row; 4] = [
+// "ef", rewritten as "efg" but for the last byte of the new slot, which is bad: its checksum is that
+// of no three bytes there.
+pub(super) const TORN: Page = [
+    0x65, 0x66, 0x67, 0x00, 0x00, 0x02, 0x00, 0x00, 0x00, 0xCB, 0x00, 0x03, 0x00, 0x00, 0x01, 0x00,
+];
+
+const MENDED: Page = [
+    0x65, 0x66, 0x67, 0x00, 0x00, 0x02, 0x00, 0x00, 0x00, 0xCB, 0x00, 0x00, 0x00, 0x00, 0x00, 0x00,
+];
+
+const ROWS: [Row; 6] = [
+    Row {
+        pages: &[ABCD, TORN],
+        stray: &[],
+        calls: &[
+            Call::ReadAt(16, 16),
+            Call::WriteAt(26, 6, false),
+            Call::Sync,
+        ],
+        size: 6,
+    },
+    Row {
+        pages: &[ABCD, TORN],
+        stray: &[1, 2],
+        calls: &[
+            Call::ReadAt(16, 16),
+            Call::Resize(32),
+            Call::Sync,
+            Call::WriteAt(26, 6, true),
+        ],
+        size: 6,
+    },
     Row {
         pages: &[ABCD, EF],
         stray: &[1, 2, 3, 4, 5],
@@ -106,6 +137,23 @@ fn fail_each_opening(rt: &impl Abort, alloc: Global, rows: &[Row]) -> Result<(),
 #[test]
 fn a_failed_call_of_an_opening_is_told(rt: HostRuntime) -> Result<(), Fail> {
     fail_each_opening(&rt, rt.alloc(), &ROWS)?;
+    Ok(())
+}
+
+#[test]
+fn a_recovery_empties_a_bad_slot(rt: HostRuntime) -> Result<(), Fail> {
+    let bytes = blob_bytes(rt.alloc(), &[ABCD, TORN], &[])?;
+    let mut store = Store::<AddSum>::of_bytes(rt.alloc(), &bytes)?;
+    store.recover(8)?;
+    let calls = [
+        Call::ReadAt(16, 16),
+        Call::WriteAt(26, 6, false),
+        Call::Sync,
+        Call::ReadAt(0, 16),
+        Call::ReadAt(16, 16),
+    ];
+    assert!(rt; store.asks(0, &calls)?);
+    assert!(rt; store.is_made_of(&[ABCD, MENDED])?);
     Ok(())
 }
 

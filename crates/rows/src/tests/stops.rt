@@ -1,4 +1,5 @@
 // Recoveries that stop at one of their device calls.
+use super::openings::TORN;
 use super::store::Store;
 use disk::Error;
 use page::AddSum;
@@ -20,7 +21,7 @@ struct Row {
     content: &'static [u8],
 }
 
-const ROWS: [Row; 7] = [
+const ROWS: [Row; 9] = [
     Row {
         pages: &[ABCD, EF, XYZ],
         stray: &[1, 2, 3],
@@ -47,6 +48,17 @@ const ROWS: [Row; 7] = [
         stray: &[],
         content: b"",
     },
+    // A bad slot is emptied: after a plain write, or with a sync where something was cut.
+    Row {
+        pages: &[ABCD, TORN],
+        stray: &[],
+        content: b"abcdef",
+    },
+    Row {
+        pages: &[ABCD, TORN, NO_VALUE],
+        stray: &[],
+        content: b"abcdef",
+    },
     Row {
         pages: &[],
         stray: &[0xFF; 15],
@@ -57,6 +69,18 @@ const ROWS: [Row; 7] = [
         stray: &[],
         content: b"",
     },
+];
+
+// What a crash keeps of the write that a recovery was stopped at: nothing, all, or one of its bytes.
+const CRASHES: [[bool; 6]; 8] = [
+    [false; 6],
+    [true; 6],
+    [true, false, false, false, false, false],
+    [false, true, false, false, false, false],
+    [false, false, true, false, false, false],
+    [false, false, false, true, false, false],
+    [false, false, false, false, true, false],
+    [false, false, false, false, false, true],
 ];
 
 fn store_of(alloc: Global, row: &Row) -> Result<Box<Store<AddSum>>, Error> {
@@ -101,10 +125,10 @@ fn stop_and_crash(
     row: &Row,
     done: usize,
     error: Error,
-    keep: bool,
+    keep: &[bool],
 ) -> Result<(), Error> {
     let mut store = stopped(rt, alloc, row, done, error)?;
-    store.crash(&[keep; 4])?;
+    store.crash(keep)?;
     assert!(rt; store.holds(row.content)?, "at call {done}");
     Ok(())
 }
@@ -126,8 +150,9 @@ fn stop_and_run_again(
 fn stop_at_each_call(rt: &impl Abort, alloc: Global, row: &Row) -> Result<(), Error> {
     let errors = errors_of(rt, alloc, row)?;
     for (done, error) in errors.iter().enumerate() {
-        stop_and_crash(rt, alloc, row, done, *error, false)?;
-        stop_and_crash(rt, alloc, row, done, *error, true)?;
+        for keep in &CRASHES {
+            stop_and_crash(rt, alloc, row, done, *error, keep)?;
+        }
         stop_and_run_again(rt, alloc, row, done, *error)?;
     }
     Ok(())
@@ -141,8 +166,8 @@ fn stop_each(rt: &impl Abort, alloc: Global, rows: &[Row]) -> Result<(), Error> 
 }
 
 // Each row is recovered whole, and then with each of the device calls of that recovery failing:
-// with a crash after it that keeps nothing, or all; and with none, where the blob is recovered
-// again at once, and a crash keeps that.
+// with a crash after it that keeps nothing, all, or one byte of the call's write; and with none,
+// where the blob is recovered again at once, and a crash keeps that.
 #[test]
 fn a_recovery_may_be_stopped(rt: HostRuntime) -> Result<(), Fail> {
     stop_each(&rt, rt.alloc(), &ROWS)?;

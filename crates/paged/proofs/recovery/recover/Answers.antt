@@ -10,6 +10,7 @@ use Rattle.paged_read.specs.Prefix.{prefix_of, prefix_pages}
 use Rattle.paged.specs.Recovers.{Recovers}
 use Rattle.paged.proofs.Recoveries.{opened_size_le, finds_cause}
 use Rattle.paged.proofs.Recovered.{counted_length, opened_length, opened_page_size, opened_positive, found_is, found_within, found_short, counted_text, no_work, CutToText, scanned_length, scanned_as_opened, recovers_unfound, recovers_end, recovers_keep}
+use Rattle.paged.proofs.MendedTails.{recovers_mended}
 use Rattle.paged.proofs.Trims.{Owes, scanned_owe, recovers_owe, finds_looked}
 use Rattle.paged_read.specs.Searches.{ReadsWithin, scan_bytes}
 use Rattle.paged_read.proofs.Backward.{back_within, scans_within}
@@ -175,6 +176,21 @@ returns-clause-durable g c =
     let all = cuts g (goal.at.returns-clause-durable g c).After-size_of-text_size in
     let none = no_work sum w scanned.present (scanned_as_opened sum cache c.args.capacity n old mid scanned w all) in
     recovers_keep sum cache c.args.capacity n old mid scanned w all (life c.truncate.new.blob) c.truncate.result c.truncate.ensures.truncates (c.truncate.ensures.full none)
+
+pub returns-clause-mended : goal.returns-clause-mended
+returns-clause-mended g c =
+    let life = g.B.Blob.life in
+    let sum = g.H.Sum.sum_of in
+    let cache = c.args.cache.now in
+    let old = life c.args.blob.now in
+    let mid = life c.open.new.blob in
+    let scanned = life c.scan.new.blob in
+    let w = c.in_ok-recovery.recovery in
+    let n = c.size_of-text_size.result in
+    let all = cuts g (goal.at.returns-clause-mended g c).After-size_of-text_size in
+    let none = no_work sum w scanned.present (scanned_as_opened sum cache c.args.capacity n old mid scanned w all) in
+    let size = ap (λ (x : WriterState). x.page_size) c.recovery.view_is in
+    recovers_mended sum cache c.args.capacity n old mid scanned w all g.met.H.Sum.small (omega (arith, size, c.recovery.inside.page_size.ok)) (omega (arith, size)) (life c.truncate.new.blob) c.truncate.result c.truncate.ensures.truncates (c.truncate.ensures.exact none)
 
 -- and of what it did before, whatever the answer
 owes : (g : Over) (c : After-truncate g) → CutToText g.H.Sum.sum_of c.args.cache.now c.args.capacity c.size_of-text_size.result (g.B.Blob.life c.args.blob.now) (g.B.Blob.life c.open.new.blob) (g.B.Blob.life c.scan.new.blob) c.in_ok-recovery.recovery → Owes g.H.Sum.sum_of c.args.cache.now.page_size (g.B.Blob.life c.args.blob.now) (g.B.Blob.life c.truncate.new.blob)

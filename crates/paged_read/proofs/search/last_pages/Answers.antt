@@ -1,9 +1,9 @@
-use Rattle.std.proofs.Common.{◌-◌, ◌+◌, ◌*◌, ◌<◌, length, ◌∙◌, arith, refl, sym}
+use Rattle.std.proofs.Common.{◌-◌, ◌+◌, ◌*◌, ◌<◌, length, ◌∙◌, ap, arith, refl, sym}
 use Rattle.std.proofs.lemmas.Result.{err_from_is_err_and}
 use Rattle.std.specs.Int.NonZero.{non_zero_u16_get}
 use Rattle.paged_read.specs.Ranges.{page_at}
-use Rattle.paged_read.specs.Prefix.{last_prefix}
-use Rattle.paged_read.proofs.Prefixes.{told_read, value_read, told_full, told_part, found_some, found_none, last_none, last_full, last_part, last_fits, has_bytes_read}
+use Rattle.paged_read.specs.Prefix.{bad_in, last_prefix}
+use Rattle.paged_read.proofs.Prefixes.{bad_part, bad_read, told_read, value_read, told_full, told_part, found_some, found_none, last_none, last_full, last_part, last_fits, has_bytes_read}
 use Rattle.crash.specs.Looks.{looked_start}
 use Rattle.crash.proofs.LookLaws.{read_gives}
 use Rattle.paged_read.proofs.Looking.{looked_on, finds_fault, finds_memory}
@@ -37,9 +37,11 @@ returns-then-is_full-clause-finds g c =
     let positive : 0 < P = omega arith in
     let read = read_gives ((n - 1) * size) size old (life c.loop-pages.blob) new c.in_ok-bytes.bytes c.loop-pages.invariant.looked c.in_ok-bytes.ensures.goes in
     let told = told_read sum P size (n - 1) c.as_ref.result.now c.in_ok-bytes.bytes readable c.slot_at-slot.result c.physical_page_size-size.ensures c.as_ref.ensures read c.slot_at-slot.ensures.slot in
-    let full = told_full sum P (page_at P (n - 1) readable) c.slot_at-slot.result c.is_full.result told c.is_full.ensures c.if-is_full.true in (
-      last_full sum P n c.args.pages readable positive c.loop-pages.invariant.same c.loop-pages-test.true full,
+    let full = told_full sum P (page_at P (n - 1) readable) c.slot_at-slot.result c.is_full.result told c.is_full.ensures c.if-is_full.true in
+    let found = last_full sum P n c.args.pages readable positive c.loop-pages.invariant.same c.loop-pages-test.true full in (
+      found,
       looked_on ((n - 1) * size) size old (life c.loop-pages.blob) new c.in_ok-bytes.bytes c.loop-pages.invariant.looked c.in_ok-bytes.ensures.goes,
+      ap (bad_in sum P readable) found,
     )
 
 pub returns-in_err-partial-clause-finds : goal.returns-in_err-partial-clause-finds
@@ -68,9 +70,13 @@ returns-then-is_some-clause-finds g c =
     let told = told_read sum P size (n - 1) c.as_ref.result.now c.in_ok-bytes.bytes readable c.slot_at-slot.result c.physical_page_size-size.ensures c.as_ref.ensures read c.slot_at-slot.ensures.slot in
     let part = told_part sum P page c.slot_at-slot.result c.is_full.result told c.is_full.ensures c.if-is_full.false in
     let value = value_read sum P size (n - 1) c.in_ok-bytes.bytes readable c.slot_at-slot.result c.in_ok-partial.partial c.physical_page_size-size.ensures read told c.in_ok-partial.ensures.ok in
-    let some = found_some sum P page c.in_ok-partial.partial value (sym c.is_some.ensures ∙ c.if-is_some.true) in (
-      last_part sum P n c.args.pages readable c.in_ok-partial.partial c.loop-pages.invariant.same c.loop-pages-test.true value some part,
+    let some = found_some sum P page c.in_ok-partial.partial value (sym c.is_some.ensures ∙ c.if-is_some.true) in
+    let found = last_part sum P n c.args.pages readable c.in_ok-partial.partial c.loop-pages.invariant.same c.loop-pages-test.true value some part in
+    let fits = last_fits P size n c.args.pages (length readable) c.physical_page_size-size.ensures c.loop-pages-test.true c.loop-pages.invariant.fewer c.requires.there in
+    let bad = bad_read sum P size (n - 1) c.as_ref-then-is_some.result.now c.in_ok-bytes.bytes readable c.bad_slot-bad.result c.physical_page_size-size.ensures c.as_ref-then-is_some.ensures read fits c.bad_slot-bad.ensures in (
+      found,
       looked_on ((n - 1) * size) size old (life c.loop-pages.blob) new c.in_ok-bytes.bytes c.loop-pages.invariant.looked c.in_ok-bytes.ensures.goes,
+      bad ∙ bad_part sum P (n - 1) readable c.in_ok-partial.partial (sym c.is_some.ensures ∙ c.if-is_some.true) ∙ ap (bad_in sum P readable) found,
     )
 
 pub returns-then-is_some-clause-bytes : goal.returns-then-is_some-clause-bytes

@@ -1,5 +1,6 @@
+use Rattle.std.proofs.Common.{inl}
 use Rattle.std.specs.Io.Buffered.{reader_remaining}
-use Rattle.protocol.proofs.Serving.{file_not_begun, file_served, version_read}
+use Rattle.protocol.proofs.Serving.{file_not_begun, file_served, version_none, version_read}
 use Rattle.protocol.proofs.server.serve_file.Goals as goal
 
 pub returns-in_err-read_version : goal.returns-in_err-read_version
@@ -7,6 +8,11 @@ returns-in_err-read_version g c =
     file_not_begun g.H.Sum.sum_of (g.B.Blob.life c.args.blob.now) (g.B.Blob.life c.greet.new.blob) c.in_ok-session.session (reader_remaining g.R.Read.remaining c.args.input.now) (reader_remaining g.R.Read.remaining c.read_version.new.input)
     (g.W.Write.contents c.args.out.now) (g.W.Write.contents c.greet.new.out) c.in_err-read_version.field-0.0 c.from_residual-in_err-read_version.result c.from_residual-in_err-read_version.ensures.1
     c.in_ok-session.ensures.greets c.in_err-read_version.ensures
+
+pub returns-then-not-branch : goal.returns-then-not-branch
+returns-then-not-branch g c =
+    inl
+    (version_none (reader_remaining g.R.Read.remaining c.args.input.now) (reader_remaining g.R.Read.remaining c.read_version.new.input) c.in_ok-read_version.field-0 c.if-not-branch.true c.in_ok-read_version.ensures, (c.in_ok-session.session, c.in_ok-session.ensures.greets))
 
 pub returns : goal.returns
 returns g c =

@@ -7,6 +7,11 @@ returns-after-started-clause-tails g c =
     let at : c.args.self.now ≡ Some c.in-Some.writer = search rules in
     leaves_on g.H.Sum.sum_of c.args.self.now c.in-Some.writer c.in-Ok.writer c.args.cache.now c.start_sync.new.cache (g.B.Blob.life c.args.blob.now) (g.B.Blob.life c.start_sync.new.blob) at c.in-Ok.ensures.starts_sync.0.same c.in-Ok.ensures.tails c.in-Ok.ensures.replays
 
+pub returns-after-started-clause-fresh_ids : goal.returns-after-started-clause-fresh_ids
+returns-after-started-clause-fresh_ids g c =
+    let at : c.args.self.now ≡ Some c.in-Some.writer = search rules in
+    c.in-Ok.ensures.fresh_ids (can_in c.args.self.now c.in-Some.writer c.args.cache.now (g.B.Blob.life c.args.blob.now).present at c.requires.cached).given
+
 pub returns-in-Err-clause-fresh_ids : goal.returns-in-Err-clause-fresh_ids
 returns-in-Err-clause-fresh_ids g c =
     let at : c.args.self.now ≡ Some c.in-Some.writer = search rules in

@@ -1,0 +1,77 @@
+-- What a crash leaves where no checksum collides: a premise on the checksum function and the bytes
+-- alone. P is the logical page size, sum the checksum function.
+use Rattle.std.specs.Prelude.{◌≡◌, ◌⊎◌, ◌≤◌, ◌<◌, ◌*◌, ◌+◌, ℕ, List, take, length, slice_get}
+use Rattle.std.specs.Prelude.{Option, Some, None}
+use Rattle.disk.specs.Disk.{Disk, IsWhole, SomeWrites}
+use Rattle.page.specs.Page.{slot_of, slot_len, pages, verified_len}
+use Rattle.page.specs.declared.slot.Slot.{Slot}
+use Rattle.page.specs.declared.slot.ActiveChecksum.{ActiveChecksum}
+
+-- a zero that a resize may leave: it stands within the base, and past the end of a whole state
+abbrev pub IsCutZero : Disk → ℕ → ℕ → Type 0
+IsCutZero d at byte =
+    (byte ≡ 0) × (at < length d.base) ×
+    ((whole : List ℕ) × IsWhole d.base d.since whole × (length whole ≤ at))
+
+-- of page p of an image, and a slot of it that verifies over the page's first n bytes: what the
+-- checksum is asked to tell apart, in three parts
+pub record SlotIsDistinct (sum : List ℕ → ℕ) (P : ℕ) (d : Disk) (p : ℕ) (page : List ℕ) (s : Slot)
+    (n : ℕ) : Type 0 where
+  -- (a) the slot held these six bytes in a whole state
+  pub whole : List ℕ
+  pub held : List ℕ
+  pub is_whole : IsWhole d.base d.since whole
+  pub there : slice_get (pages P whole) p ≡ Some held
+  pub same : slot_of P s held ≡ slot_of P s page
+  -- (b) where it verified there, other bytes have another checksum
+  pub apart : 0 < verified_len sum P s held → sum (take n page) ≡ sum (take n held)
+      → take n page ≡ take n held
+  -- (c) where each byte is the base's or a zero of a resize, each is the base's
+  pub uncut : ((i byte : ℕ) → slice_get (take n page) i ≡ Some byte
+      → (slice_get d.base (p * (P + 12) + i) ≡ Some byte) ⊎ IsCutZero d (p * (P + 12) + i) byte)
+      → (i byte : ℕ) → slice_get (take n page) i ≡ Some byte
+      → slice_get d.base (p * (P + 12) + i) ≡ Some byte
+
+-- so of each slot of the image that verifies
+abbrev pub IsDistinct : (List ℕ → ℕ) → ℕ → Disk → List ℕ → Type 0
+IsDistinct sum P d image =
+    (p : ℕ) (page : List ℕ) → slice_get (pages P image) p ≡ Some page → (s : Slot)
+    → 0 < verified_len sum P s page → SlotIsDistinct sum P d p page s (verified_len sum P s page)
+
+-- ---- what makes that enough
+
+-- a slot of a page isn't bad: it verifies over the length that it says, or says none that a slot
+-- may say, so that it verifies over no bytes
+abbrev pub IsGood : (List ℕ → ℕ) → ℕ → Slot → List ℕ → Type 0
+IsGood sum P s page =
+    0 < slot_len (slot_of P s page) → slot_len (slot_of P s page) ≤ P
+    → verified_len sum P s page ≡ slot_len (slot_of P s page)
+
+-- a slot is the base's, in a page whose payload no operation writes
+pub record IsOld (P : ℕ) (d : Disk) (p : ℕ) (s : Slot) (page : List ℕ) : Type 0 where
+  pub old : List ℕ
+  pub there : slice_get (pages P d.base) p ≡ Some old
+  pub same : slot_of P s old ≡ slot_of P s page
+  pub unwritten : (i byte : ℕ) → i < P → SomeWrites d.since (p * (P + 12) + i) byte → ⊥
+
+-- in each whole state, each slot of each page is good or old
+abbrev pub IsVouched : (List ℕ → ℕ) → ℕ → Disk → Type 0
+IsVouched sum P d =
+    (whole : List ℕ) → IsWhole d.base d.since whole → (p : ℕ) (page : List ℕ)
+    → slice_get (pages P whole) p ≡ Some page → (s : Slot)
+    → IsGood sum P s page ⊎ IsOld P d p s page
+
+-- both slots of this page of some bytes are good, if they have it
+abbrev pub PageIsGood : (List ℕ → ℕ) → (P p : ℕ) → List ℕ → Type 0
+PageIsGood sum P p bytes =
+    (page : List ℕ) → slice_get (pages P bytes) p ≡ Some page → (s : Slot) → IsGood sum P s page
+
+-- in each whole state the slots of each page from this one on are: a flush may write there
+abbrev pub IsGoodFrom : (List ℕ → ℕ) → (P full : ℕ) → Disk → Type 0
+IsGoodFrom sum P full d =
+    (whole : List ℕ) → IsWhole d.base d.since whole → (p : ℕ) → full ≤ p → PageIsGood sum P p whole
+
+-- what a flush repeats of the tip's page has the checksum of the tip's first bytes
+abbrev pub DurableTells : (List ℕ → ℕ) → List ℕ → Option ActiveChecksum → Type 0
+DurableTells sum tip None = Unit {0}
+DurableTells sum tip (Some w) = w.crc ≡ sum (take w.len tip)
