@@ -1,16 +1,15 @@
 """Compares reader.py with the programs: python3 check.py [PAGEDCTL [PAGEDD]]
 
-The scripts of `crates/pagedctl` (the stored one and those of its tests) and of `examples/scripts`
-are gone through with the output that is expected of them. At each `dump` the text that the reader
-finds in the image is compared with the content that the replies tell. The files of
-`examples/scripts` are compared with the texts of the tests, which the gate plays.
+The script of `crates/pagedctl`, those of the cases `script: ..` of `crates/conformance` and those of
+`examples/scripts` are gone through with the output that is expected of them. At each `dump` the text
+that the reader finds in the image is compared with the content that the replies tell. The files of
+`examples/scripts` are compared with the cases `script: example ..`, which the gate plays.
 
 With PAGEDCTL, the program as it was built, each script is played, once as it is and once with a
 dump after every line. With PAGEDD, files that this program wrote are read, whole and torn.
 """
 import os
 import random
-import re
 import subprocess
 import sys
 import tempfile
@@ -20,6 +19,7 @@ from client import APPEND, READ, SYNC, Blob
 
 TOP = os.path.dirname(os.path.dirname(os.path.abspath(__file__)))
 PROGRAM = os.path.join(TOP, "crates", "pagedctl")
+CASES = os.path.join(TOP, "crates", "conformance", "stdin")
 FILES = os.path.join(TOP, "examples", "scripts")
 
 
@@ -28,35 +28,49 @@ def contents(*path):
         return file.read()
 
 
-def texts_of_tests(*path):
-    """The script and the output of each test of a file of tests, by the test's name."""
-    source = contents(PROGRAM, "src", *path)
+def hexadecimal(word):
+    """A word of a case as its digits: a text in quotes stands for its letters' digits, `_` for nothing."""
+    parts = word.split('"')
+    return "".join(part.encode().hex() if index % 2 else part.replace("_", "") for index, part in enumerate(parts))
+
+
+def scripts_of_case(lines):
+    """The scripts of a case that are played to their end, each with the output that is expected of it."""
+    found, script, out = [], None, None
+    for line in lines:
+        if line.startswith("> "):
+            script.append(line[2:])
+        elif line.startswith("< "):
+            out.append(line[2:])
+        elif line.startswith("script") and line.endswith(" => status 0"):
+            given = line[len("script"):-len(" => status 0")].strip()
+            script, out = bytes.fromhex(hexadecimal(given)).decode().splitlines(), []
+            found.append((script, out))
+        else:
+            script, out = [], []
+    return [("\n".join(script) + "\n", "\n".join(out) + "\n") for script, out in found]
+
+
+def scripts_of_cases():
+    """The scripts of the cases, by their names; where a case has several, with a number after it."""
     found = {}
-    for name, body in re.findall(r"fn (\w+)\(.*?\{\n(.*?)\n\}\n", source, re.S):
-        words = re.findall(r'let (\w+) = "\\\n(.*?)";', body, re.S)
-        texts = {word: text.replace("\\\n", "") for word, text in words}
-        if set(texts) == {"script", "out"}:
-            found[name] = texts["script"], texts["out"]
-    constants = {name: text.replace("\\\n", "") for name, text in
-                 re.findall(r'const (\w+): &str = "\\\n(.*?)";', source, re.S)}
-    for name, text in constants.items():
-        out = constants.get("EACH_REPLY" if name == "EACH_STEP" else name + "_OUT")
-        if out is not None:
-            found[name.lower()] = text, out
+    for case in contents(CASES).split("\ncase ")[1:]:
+        name, *lines = case.splitlines()
+        if name.startswith("script: "):
+            for number, texts in enumerate(scripts_of_case(lines)):
+                found[name[len("script: "):] + (f", {number}" if number else "")] = texts
     return found
 
 
 def scripts():
     """Every script, with the output that is expected of it."""
-    found = {"stdin": (contents(PROGRAM, "stdin"), contents(PROGRAM, "stdout"))}
-    found |= texts_of_tests("tests.rt")
-    tests = texts_of_tests("tests", "examples.rt")
+    cases = scripts_of_cases()
     names = sorted(name[:-4] for name in os.listdir(FILES) if name.endswith(".txt"))
-    files = {name.replace("-", "_"): (contents(FILES, name + ".txt"), contents(FILES, name + ".out"))
+    files = {"example " + name.replace("-", " "): (contents(FILES, name + ".txt"), contents(FILES, name + ".out"))
              for name in names}
-    if files != tests:
-        raise SystemExit("examples/scripts and src/tests/examples.rt differ")
-    return found | files
+    if files != {name: texts for name, texts in cases.items() if name.startswith("example ")}:
+        raise SystemExit("examples/scripts and the cases `script: example ..` differ")
+    return {"stdin": (contents(PROGRAM, "stdin"), contents(PROGRAM, "stdout"))} | cases
 
 
 class Told:

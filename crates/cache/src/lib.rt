@@ -9,6 +9,3 @@ mod read;
 
 pub use cache::CacheRef;
 pub use piece::Piece;
-
-#[cfg(test)]
-mod tests;

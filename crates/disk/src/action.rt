@@ -13,7 +13,7 @@ use crate::ranges::Ranges;
 use std::alloc::{AllocError, Global};
 
 /// A device call, as it stands in the log.
-#[derive(Debug, Drop, PartialEq, Eq)]
+#[derive(Drop)]
 pub enum Call {
     /// A read: the offset and the number of bytes.
     ReadAt(u64, usize),

@@ -2,14 +2,18 @@
 //! over them, which is refused and crashes.
 #![tactic(auto)]
 
+mod beside;
 mod calls;
 mod device;
 mod journal;
 mod sum;
+mod value;
 
+use crate::beside::{keep_and_copy, keep_and_look_back, keep_and_replay_a_snapshot, keep_two};
 use crate::calls::{keep, keep_a_replay, keep_a_snapshot, keep_and_go_on, keep_and_look};
 use crate::journal::Journal;
 use crate::sum::Poly;
+use crate::value::keep_a_value;
 use disk::{Error, IoBuf, MemBlob};
 use std::alloc::Global;
 use std::io;
@@ -38,6 +42,30 @@ fn show_calls(rt: &HostRuntime) -> io::Result<()> {
     }
     if let Ok(offset) = keep_and_go_on(alloc) {
         println!(rt; "appended at {offset} meanwhile")?;
+    }
+    if let Ok((Some(at), size)) = keep_a_value(alloc) {
+        println!(rt; "a value at {at}, {size} bytes")?;
+    }
+    Ok(())
+}
+
+fn show_what_stays(rt: &HostRuntime) -> io::Result<()> {
+    let alloc = rt.alloc();
+    if let Ok(after) = keep_and_look_back(alloc) {
+        println!(rt; "the snapshot still has {} bytes", after.size)?;
+        if let Ok(bytes) = after.read.coalesce() {
+            println!(rt; "and reads {}", text_of(&bytes))?;
+        }
+    }
+    if let Ok(Some(bytes)) = keep_and_replay_a_snapshot(alloc) {
+        println!(rt; "replayed of a snapshot {}", text_of(&bytes))?;
+    }
+    if let Ok(bytes) = keep_and_copy(alloc) {
+        println!(rt; "its copy has {}", text_of(&bytes))?;
+    }
+    if let Ok((first, second)) = keep_two(alloc) {
+        println!(rt; "{}", text_of(&first))?;
+        println!(rt; "{}", text_of(&second))?;
     }
     Ok(())
 }
@@ -80,6 +108,7 @@ fn fail_and_crash(alloc: Global) -> Result<Told, Error> {
 
 fn main(rt: HostRuntime) -> io::Result<()> {
     show_calls(&rt)?;
+    show_what_stays(&rt)?;
     match fail_and_crash(rt.alloc()) {
         Ok(told) => {
             println!(rt; "refused {}, recovered {}", told.refused, told.recovered)?;

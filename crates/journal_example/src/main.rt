@@ -5,9 +5,6 @@
 ghost use Rattle.std.specs.Prelude.{IfOk};
 ghost use Rattle.cache.specs.Pages.{IsFresh};
 
-#[cfg(test)]
-mod tests;
-
 use cache::CacheRef;
 use disk::{Counted, Error, IoBuf, MemBlob};
 use journal::{Journal, crash_and_recover};

@@ -6,9 +6,6 @@
 //! the output failed or there was no memory for the script.
 #![tactic(auto)]
 
-#[cfg(test)]
-mod tests;
-
 use scripts::play;
 use std::process::ExitCode;
 

@@ -6,9 +6,6 @@
 //! memory was refused. Where it isn't 0, standard error gets one line that says why.
 #![tactic(auto)]
 
-#[cfg(test)]
-mod tests;
-
 use crc32c::Crc32c;
 use file::FileBlob;
 use protocol::{Stop, serve_file};

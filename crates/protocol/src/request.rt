@@ -16,7 +16,7 @@ use std::num::NonZeroUsize;
 pub const MOST_BYTES: u64 = 0xFFFF_FFFE;
 
 /// What a client asks for.
-#[derive(Debug, PartialEq, Eq, Drop)]
+#[derive(Drop)]
 pub enum Request {
     /// A step of the session.
     Step(Step),

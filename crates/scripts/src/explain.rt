@@ -42,7 +42,7 @@ const NAMES: [&str; 29] = [
 const MOST_SHOWN: usize = 60;
 
 /// What a word is to be.
-#[derive(Clone, Copy, Debug, PartialEq, Eq)]
+#[derive(Clone, Copy)]
 enum Form {
     Start,
     Name,

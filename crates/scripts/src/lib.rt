@@ -11,3 +11,6 @@ mod text;
 mod word;
 
 pub use player::{play, play_on};
+pub use script::{Line, parse_line};
+pub use text::{Hex, Said};
+pub use word::{ReadError, parse_hex, parse_number};

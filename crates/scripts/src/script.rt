@@ -18,7 +18,7 @@ use std::num::{NonZeroU16, NonZeroU64, NonZeroUsize};
 const MOST_PAGES: u64 = 4096;
 
 /// A whole script.
-#[derive(Debug, PartialEq, Eq, Drop)]
+#[derive(Drop)]
 pub struct Script {
     /// Its first line.
     pub start: Start,
@@ -27,7 +27,7 @@ pub struct Script {
 }
 
 /// What a script runs over.
-#[derive(Clone, Copy, Debug, PartialEq, Eq)]
+#[derive(Clone, Copy)]
 pub struct Start {
     /// The logical bytes of a page.
     pub page_size: NonZeroU16,
@@ -40,7 +40,7 @@ pub struct Start {
 }
 
 /// A checksum function.
-#[derive(Clone, Copy, Debug, PartialEq, Eq)]
+#[derive(Clone, Copy)]
 pub enum SumName {
     /// `AddSum`.
     Add,
@@ -49,7 +49,7 @@ pub enum SumName {
 }
 
 /// A line after the first.
-#[derive(Debug, PartialEq, Eq, Drop)]
+#[derive(Drop)]
 pub enum Line {
     /// A step of the session.
     Step(Step),
@@ -178,7 +178,7 @@ pub fn parse_sum(word: &[u8]) -> Result<SumName, ReadError>
     }
 }
 
-fn parse_line(alloc: Global, line: &[u8]) -> Result<Line, ReadError>
+pub fn parse_line(alloc: Global, line: &[u8]) -> Result<Line, ReadError>
     ensures reads { IsReadAs line_words IsLine (words_of line.now) result }
 {
     let words = parts(alloc, line, b' ')?;

@@ -7,7 +7,7 @@ use session::Reply;
 use std::fmt;
 
 /// Bytes as lower-case hexadecimal digits, two a byte, or `-` where there is none.
-#[derive(Clone, Copy, Debug)]
+#[derive(Clone, Copy)]
 pub struct Hex<'a>(pub &'a [u8]);
 
 impl fmt::Display for Hex<'_> {
@@ -25,7 +25,7 @@ impl fmt::Display for Hex<'_> {
 }
 
 /// Numbers with a space before each, or ` -` where there is none.
-#[derive(Clone, Copy, Debug)]
+#[derive(Clone, Copy)]
 pub struct Numbers<'a>(pub &'a [usize]);
 
 impl fmt::Display for Numbers<'_> {
@@ -43,7 +43,7 @@ impl fmt::Display for Numbers<'_> {
 }
 
 /// A reply as a line of the output says it.
-#[derive(Clone, Copy, Debug)]
+#[derive(Clone, Copy)]
 pub struct Said<'a>(pub &'a Reply);
 
 impl fmt::Display for Said<'_> {

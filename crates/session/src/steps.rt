@@ -3,7 +3,7 @@ use disk::{Error, StartedSync};
 use std::num::NonZeroUsize;
 
 /// A step of a run: one call of the layer.
-#[derive(Debug, PartialEq, Eq, Drop)]
+#[derive(Drop)]
 pub enum Step {
     /// Appends these bytes.
     Append(Vec<u8>),
@@ -64,7 +64,7 @@ pub enum Step {
 }
 
 /// The reply to a step.
-#[derive(Debug, PartialEq, Eq, Drop)]
+#[derive(PartialEq, Eq, Drop)]
 pub enum Reply {
     /// The logical offset of the first appended byte.
     At(u64),

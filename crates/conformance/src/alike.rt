@@ -1,0 +1,72 @@
+// Two devices that are to answer alike.
+use crate::devices::{DURABLE, buffers, read, write};
+use crate::random::Numbers;
+use crate::words::{say_done, say_started};
+use disk::{Blob, Error, IoBufs, StartedSync};
+use std::alloc::Global;
+use std::io;
+use std::io::Write;
+
+// Syncs, and writes what is durable then.
+fn write_durably<B: Blob>(blob: &mut B, offset: u64, bufs: &IoBufs) -> Result<(), Error> {
+    blob.sync()?;
+    blob.write_at(offset, bufs, DURABLE)
+}
+
+// A call of a kind, at an offset.
+fn call<B: Blob>(
+    alloc: Global,
+    blob: &mut B,
+    kind: usize,
+    offset: u64,
+    said: &mut Vec<u8>,
+) -> io::Result<()> {
+    let one = buffers(alloc, &[b"0102030405"])?;
+    let two = buffers(alloc, &[b"0607", b"08090a0b0c0d0e0f10"])?;
+    match kind {
+        0 => read(alloc, blob, offset, 5, said),
+        1 => read(alloc, blob, offset, 15, said),
+        2 => write(blob, offset, &one, said),
+        3 => write(blob, offset, &two, said),
+        4 => say_done(write_durably(blob, offset, &one), said),
+        5 => say_done(blob.resize(offset), said),
+        6 => say_done(blob.sync(), said),
+        7 => say_started(blob.start_sync(), said),
+        _ => say_done(blob.wait_sync(StartedSync::Named(offset % 8)), said),
+    }
+}
+
+fn answers_alike<A: Blob, B: Blob>(
+    alloc: Global,
+    one: &mut A,
+    other: &mut B,
+    kind: usize,
+    offset: u64,
+) -> io::Result<bool> {
+    let mut first = Vec::new(alloc);
+    let mut second = Vec::new(alloc);
+    call(alloc, one, kind, offset, &mut first)?;
+    call(alloc, other, kind, offset, &mut second)?;
+    Ok(first.as_slice() == second.as_slice())
+}
+
+/// Makes calls of two devices that look random, the same of both, and writes how many were answered
+/// alike: all, or those up to the first that wasn't.
+pub fn try_alike<A: Blob, B: Blob>(
+    alloc: Global,
+    one: &mut A,
+    other: &mut B,
+    seed: u64,
+    count: u64,
+    said: &mut Vec<u8>,
+) -> io::Result<()> {
+    let mut numbers = Numbers::new(seed);
+    for index in 0..count {
+        let kind = numbers.below(9);
+        let offset = numbers.below(64) as u64;
+        if !answers_alike(alloc, one, other, kind, offset)? {
+            return write!(said, "fault call {index} of kind {kind} at {offset}");
+        }
+    }
+    write!(said, "alike {count}")
+}

@@ -1,0 +1,87 @@
+// What a crash keeps of what isn't durable.
+use scripts::parse_number;
+use std::alloc::{AllocError, Global};
+
+/// A way to go on after the tried lines: by a crash that keeps what these flags say, or by none.
+#[derive(Clone, Copy, PartialEq, Eq)]
+pub enum Keep {
+    /// No crash comes.
+    AtOnce,
+    /// The crash keeps nothing.
+    Nothing,
+    /// It keeps all.
+    All,
+    /// It keeps so many of the first bytes, for each number up to this one.
+    First(usize),
+    /// It keeps one byte, for each of so many.
+    One(usize),
+    /// It keeps every choice of so many bytes.
+    Every(usize),
+}
+
+// More flags than a case has bytes.
+const MOST: usize = 256;
+
+fn width(word: &[u8]) -> usize {
+    parse_number(word).unwrap_or(0) as usize
+}
+
+impl Keep {
+    /// The way of a word.
+    pub fn read(word: &[u8]) -> Option<Keep> {
+        if let Some(count) = word.strip_prefix(b"first:") {
+            return Some(Keep::First(width(count)));
+        }
+        if let Some(count) = word.strip_prefix(b"one:") {
+            return Some(Keep::One(width(count)));
+        }
+        if let Some(count) = word.strip_prefix(b"every:") {
+            return Some(Keep::Every(width(count).min(20)));
+        }
+        match word {
+            b"at-once" => Some(Keep::AtOnce),
+            b"none" => Some(Keep::Nothing),
+            b"all" => Some(Keep::All),
+            _ => None,
+        }
+    }
+
+    /// How many crashes it stands for.
+    pub fn count(self) -> usize {
+        match self {
+            Keep::AtOnce | Keep::Nothing | Keep::All => 1,
+            Keep::First(count) => count.saturating_add(1),
+            Keep::One(count) => count,
+            Keep::Every(count) => 2usize.saturating_pow(count.min(20) as u32),
+        }
+    }
+
+    // Whether the crash of a number keeps a byte.
+    fn keeps(self, number: usize, byte: usize) -> bool {
+        match self {
+            Keep::AtOnce | Keep::Nothing => false,
+            Keep::All => true,
+            Keep::First(_) => byte < number,
+            Keep::One(_) => byte == number,
+            Keep::Every(_) => number / 2usize.saturating_pow(byte.min(20) as u32) % 2 == 1,
+        }
+    }
+
+    // How many flags are needed.
+    fn len(self) -> usize {
+        match self {
+            Keep::AtOnce | Keep::Nothing => 0,
+            Keep::All => MOST,
+            Keep::First(count) | Keep::One(count) | Keep::Every(count) => count.min(MOST),
+        }
+    }
+
+    /// The flags of the crash of this number.
+    pub fn flags(self, alloc: Global, number: usize) -> Result<Vec<bool>, AllocError> {
+        let mut flags = Vec::new(alloc);
+        for byte in 0..self.len() {
+            flags.push(self.keeps(number, byte))?;
+        }
+        Ok(flags)
+    }
+}

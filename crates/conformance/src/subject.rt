@@ -1,0 +1,123 @@
+// What a case is about.
+use crate::line::Row;
+use std::alloc::Global;
+use std::io;
+use std::io::{ErrorKind, Write};
+
+/// What a case is about: it plays the steps of its lines.
+pub trait Subject {
+    /// Plays the step of a line, and writes what it answers. `InvalidInput` where it can't be read.
+    fn play(&mut self, alloc: Global, row: &Row, said: &mut Vec<u8>) -> io::Result<()>;
+
+    /// How many device calls there were.
+    fn calls(&self) -> usize;
+
+    /// Writes the device calls from one on.
+    fn say_calls(&self, first: usize, said: &mut Vec<u8>) -> io::Result<()>;
+}
+
+// Plays the step of a line. Where it can't be read, that is what it answers.
+fn answer<S: Subject>(
+    alloc: Global,
+    subject: &mut S,
+    row: &Row,
+    said: &mut Vec<u8>,
+) -> io::Result<()> {
+    let Err(error) = subject.play(alloc, row, said) else {
+        return Ok(());
+    };
+    if error.kind() != ErrorKind::InvalidInput {
+        return Err(error);
+    }
+    said.clear();
+    write!(said, "fault unreadable")
+}
+
+fn tell(row: &Row, word: &str, want: &[u8], got: &[u8], told: &mut Vec<u8>) -> io::Result<()> {
+    writeln!(told, "  line {}: {word}", row.number)?;
+    told.extend_from_slice(b"    expected ")?;
+    told.extend_from_slice(want)?;
+    told.extend_from_slice(b"\n    got ")?;
+    told.extend_from_slice(got)?;
+    told.extend_from_slice(b"\n")?;
+    Ok(())
+}
+
+/// Whether a reply is the one that is told, or where none is, no fault.
+pub fn is_as_told(row: &Row, said: &[u8]) -> bool {
+    match &row.reply {
+        Some(want) => want.as_slice() == said,
+        None => !said.starts_with(b"fault"),
+    }
+}
+
+fn compare_reply(row: &Row, said: &[u8], told: &mut Vec<u8>) -> io::Result<()> {
+    if is_as_told(row, said) {
+        return Ok(());
+    }
+    match &row.reply {
+        Some(want) => tell(row, "reply", want, said, told),
+        None => tell(row, "reply", b"no fault", said, told),
+    }
+}
+
+fn compare_calls<S: Subject>(
+    alloc: Global,
+    subject: &S,
+    row: &Row,
+    first: usize,
+    told: &mut Vec<u8>,
+) -> io::Result<()> {
+    let Some(want) = &row.calls else {
+        return Ok(());
+    };
+    let mut got = Vec::new(alloc);
+    subject.say_calls(first, &mut got)?;
+    if got.as_slice() == want.as_slice() {
+        return Ok(());
+    }
+    tell(row, "device calls", want, &got, told)
+}
+
+fn play_and_compare<S: Subject>(
+    alloc: Global,
+    subject: &mut S,
+    row: &Row,
+    told: &mut Vec<u8>,
+) -> io::Result<()> {
+    let first = subject.calls();
+    let mut said = Vec::new(alloc);
+    answer(alloc, subject, row, &mut said)?;
+    compare_reply(row, &said, told)?;
+    compare_calls(alloc, subject, row, first, told)
+}
+
+/// Plays lines, and writes where they differ from what they tell.
+pub fn play_all<S: Subject>(
+    alloc: Global,
+    subject: &mut S,
+    rows: &[Row],
+    told: &mut Vec<u8>,
+) -> io::Result<()> {
+    for row in rows {
+        play_and_compare(alloc, subject, row, told)?;
+    }
+    Ok(())
+}
+
+/// Plays lines of which one may be refused, and keeps the first reply that isn't as told.
+pub fn play_refused<S: Subject>(
+    alloc: Global,
+    subject: &mut S,
+    rows: &[Row],
+    fault: &mut Vec<u8>,
+) -> io::Result<()> {
+    for row in rows {
+        let mut said = Vec::new(alloc);
+        answer(alloc, subject, row, &mut said)?;
+        if fault.is_empty() && !is_as_told(row, &said) {
+            fault.extend_from_slice(&said)?;
+        }
+    }
+    Ok(())
+}

@@ -1,0 +1,8 @@
+//! Tests of what only a system has: a file, its lock and its folder, and an input or an output that
+//! fails. The crate has no code of its own.
+#![tactic(auto)]
+
+#[cfg(test)]
+mod files;
+#[cfg(test)]
+mod streams;

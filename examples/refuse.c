@@ -1,0 +1,20 @@
+// A heap that refuses the requests that a program under test asks it to refuse.
+// cc -O2 -shared -fPIC -o refuse.so refuse.c -ldl; LD_PRELOAD=./refuse.so PROGRAM
+#define _GNU_SOURCE
+#include <dlfcn.h>
+#include <stddef.h>
+static const size_t REFUSE = 0x1000000000000000, ASK = 0x2000000000000000;
+static size_t left; static int was;
+static int refused(void) { if (left && --left == 0) { was = 1; return 1; } return 0; }
+void *malloc(size_t n) {
+    static void *(*real)(size_t);
+    if (!real) real = (void *(*)(size_t))dlsym(RTLD_NEXT, "malloc");
+    if (n == ASK) return was ? real(16) : NULL;
+    if (n >= REFUSE && n < ASK) { left = n - REFUSE; if (left) was = 0; return NULL; }
+    return refused() ? NULL : real(n);
+}
+void *realloc(void *p, size_t n) {
+    static void *(*real)(void *, size_t);
+    if (!real) real = (void *(*)(void *, size_t))dlsym(RTLD_NEXT, "realloc");
+    return refused() ? NULL : real(p, n);
+}

@@ -1,0 +1,36 @@
+#!/usr/bin/env python3
+"""Plays the cases of `conformance` with each of its requests for memory refused in turn.
+
+    cd crates/conformance && rt run < stdin > /dev/null      (proves and builds it, as out/conformance)
+    python3 examples/refuse.py crates/conformance/out/conformance [CASE FILE]
+
+A case with a line `try each` is played once more for each request of its tried lines, and that
+request is refused: the first reply that is another than told has to be `fault E8 OutOfMemory`, and
+what the lines after them say has to hold. The program asks for that by requests that no machine
+grants; refuse.c, which is compiled here, stands in front of the C library's heap and answers them.
+"""
+import os, subprocess, sys, tempfile, time
+
+HERE = os.path.dirname(os.path.abspath(__file__))
+
+def main(program, cases):
+    with tempfile.TemporaryDirectory() as room:
+        heap = f"{room}/refuse.so"
+        cc = os.environ.get("CC", "cc")
+        subprocess.run([cc, "-O2", "-shared", "-fPIC", "-o", heap, f"{HERE}/refuse.c", "-ldl"], check=True)
+        plain = play(program, cases, {})
+        refusing = play(program, cases, {"LD_PRELOAD": heap})
+    print(f"plain: {plain[1]} ({plain[2]:.1f} s)\nrefusing: {refusing[1]} ({refusing[2]:.1f} s)")
+    for line in [it for it in refusing[0] if not it.startswith("ok ")][:60]:
+        print(line)
+    return plain[3] or refusing[3]
+
+def play(program, cases, env):
+    start = time.time()
+    with open(cases, "rb") as text:
+        ran = subprocess.run([program], stdin=text, stdout=subprocess.PIPE, env=env)
+    lines = ran.stdout.decode().splitlines()
+    return lines, lines[-1] if lines else "nothing", time.time() - start, ran.returncode
+
+if __name__ == "__main__":
+    sys.exit(main(os.path.abspath(sys.argv[1]), sys.argv[2] if len(sys.argv) > 2 else f"{HERE}/../crates/conformance/stdin"))
