@@ -14,7 +14,7 @@ use Rattle.crash.proofs.DistinctLaws.{resize_vouched, vouched_at_rest}
 use Rattle.crash.specs.Kept.{AllKeep}
 use Rattle.crash.specs.Looks.{Looked, SameButLog}
 use Rattle.crash.specs.Stays.{Stays, StaysThrough}
-use Rattle.crash.proofs.Lists.{take_same, within_take, same_elements, slice_get-take, taken_element}
+use Rattle.crash.proofs.Lists.{within_take, same_elements, slice_get-take, taken_element}
 use Rattle.crash.proofs.Pages.{length-page, length-pages, page_fits, page_is, pages_at, pages_fit, pages_of_take, take-pages_same, cut_is}
 use Rattle.crash.proofs.Texts.{text_full, text_part, value_len_le, verified_le_value}
 use Rattle.crash.proofs.Disks.{fixed_at_rest, fixed_in_image, fixed_length, fixed_stays, length-applied_resize, operated_base, operated_since, resize_leaves}

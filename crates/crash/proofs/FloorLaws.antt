@@ -9,7 +9,6 @@ use Rattle.crash.specs.Looks.{Looked, SameButLog}
 use Rattle.crash.specs.Stays.{KeepsFloors}
 use Rattle.crash.proofs.CutLaws.{resize_cases, sync_cases}
 use Rattle.crash.proofs.Disks.{base_is_image, image_alike, readable_stays}
-use Rattle.disk.specs.Images.{only_image}
 use Rattle.crash.specs.Moments.{through_end, through_joins, through_more, through_start, through_then}
 use Rattle.crash.proofs.Moments.{keeps_alike}
 use Rattle.crash.proofs.Promise.{guards_below, keeps_on, keeps_same, keeps_settle, resize_leaves_below}

@@ -11,7 +11,6 @@ use Rattle.crash.specs.Guard.{Held, IsSlotFor, IsGuarded, Guards, IsTruthful, Is
 use Rattle.crash.specs.Kept.{AllKeep, AreHeld}
 use Rattle.crash.specs.Contents.{latest}
 use Rattle.crash.proofs.Disks.{fixed_length, fixed_in_image, fixed_stays, fixed_settles, fixed_at_rest, fixed_alike, Leaves, resize_leaves, write_after_leaves, base_is_image, one_more_whole, fixed_covered, whole_covered, length-applied_resize}
-use Rattle.disk.specs.Images.{only_image}
 use Rattle.crash.proofs.Lists.{take_same, within_take}
 use Rattle.crash.proofs.Pages.{pages_at, page_fits, page_is, length-page, cut_is}
 use Rattle.crash.proofs.Texts.{verified_len_le, verified_le_value, value_len_le}

@@ -1,5 +1,5 @@
 -- What each moment of emptying a bad slot keeps and says.
-use Rattle.std.proofs.Common.{◌≡◌, inl, inr, ℕ, ◌+◌, ◌*◌, ◌<◌, ◌≤◌, List, length, take, drop, refl, sym, ◌∙◌, ap, subst, arith, Bool, true, false, Result, Ok, Err}
+use Rattle.std.proofs.Common.{◌≡◌, inl, inr, ℕ, ◌+◌, ◌*◌, ◌<◌, ◌≤◌, List, length, refl, sym, subst, arith, Bool, true, false, Result, Ok, Err}
 use Rattle.disk.specs.Disk.{Disk, Life, Operated, Request, SyncGoes, WriteGoes, settled_disk}
 use Rattle.disk.specs.Disk.Operation.{Write}
 use Rattle.disk.specs.Disk.Request.{WriteAt}
@@ -8,7 +8,6 @@ use Rattle.page.specs.Slot.{slot_offset, other}
 use Rattle.page.specs.Page.{slot_bytes, text, verified_len}
 use Rattle.page.specs.declared.slot.Slot.{Slot}
 use Rattle.page.specs.declared.slot.ActiveChecksum.{ActiveChecksum}
-use Rattle.crash.specs.Contents.{latest}
 use Rattle.crash.specs.Kept.{AllKeep, Through}
 use Rattle.crash.specs.Moments.{through_end, through_joins, through_then}
 use Rattle.crash.specs.Shrink.{HoldsText}

@@ -1,5 +1,5 @@
 -- Once a blob is recovered, no slot of its last page is bad.
-use Rattle.std.proofs.Common.{◌≡◌, ℕ, ◌+◌, ◌*◌, ◌/◌, ◌^◌, ◌<◌, List, length, refl, sym, ◌∙◌, ap, subst, arith, Bool, true, false}
+use Rattle.std.proofs.Common.{◌≡◌, ℕ, ◌^◌, ◌<◌, List, refl, sym, ◌∙◌, subst, arith, Bool, true, false}
 use Rattle.std.specs.Prelude.{Result, Ok, Err, IfOk, if◌then◌else◌, nat_lt}
 use Rattle.std.proofs.lemmas.Bool.Decides.{nat_tests}
 use Rattle.disk.specs.Disk.{Life}
@@ -10,7 +10,7 @@ use Rattle.crash.proofs.BuiltLaws.{IsSmall}
 use Rattle.crash.proofs.LookLaws.{looked_readable}
 use Rattle.paged.specs.Flush.{synced}
 use Rattle.paged.specs.Reads.{size_of}
-use Rattle.paged.specs.Recovery.{IsAsOpened, IsDurable, TailIsMended}
+use Rattle.paged.specs.Recovery.{IsAsOpened, TailIsMended}
 use Rattle.paged.specs.Truncate.{IsCut, Truncates, cut_bytes, cut_writer, shortened, shortened_writer}
 use Rattle.paged.proofs.Opened.{tail_is_mended}
 use Rattle.paged.proofs.Recovered.{CutToText, scanned_as_opened}

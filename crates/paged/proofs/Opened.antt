@@ -1,15 +1,13 @@
 -- What opening a blob leaves of it, and where its writer is sound.
-use Rattle.std.proofs.Common.{◌≡◌, ◌≢◌, inl, inr, ℕ, zero, suc, ◌+◌, ◌*◌, ◌/◌, ◌^◌, ◌<◌, ◌≤◌, List, length, take, refl, sym, ◌∙◌, ap, subst, arith}
-use Rattle.std.specs.Prelude.{slice_get, Option, Some, None, Result, Ok, Err, IfOk}
-use Rattle.std.proofs.lemmas.Bool.{cases_eq}
-use Rattle.std.proofs.lemmas.Option.{slice_get_within}
+use Rattle.std.proofs.Common.{◌≡◌, ℕ, ◌+◌, ◌*◌, ◌/◌, ◌^◌, ◌<◌, ◌≤◌, List, length, take, sym, ◌∙◌, ap, subst, arith}
+use Rattle.std.specs.Prelude.{Option, Some, None, Result, Ok, Err, IfOk}
 use Rattle.std.proofs.lemmas.List.{length-take-le, take_all}
 use Rattle.std.proofs.Math.Nat.{mul-le-mul_left}
 use Rattle.disk.specs.Disk.{AreCovered, Life, LogGrows}
 use Rattle.disk.specs.declared.error.Error.{Error}
 use Rattle.disk.specs.declared.error.Error.TheVariants.{ReadFailed, WriteFailed, ResizeFailed, SyncFailed, InvalidChecksum, BlobInsufficientLength, OffsetOverflow, OutOfMemory, IdsExhausted}
 use Rattle.page.specs.Geometry.{adjusted}
-use Rattle.page.specs.Page.{pages, active, value_len}
+use Rattle.page.specs.Page.{pages}
 use Rattle.page.specs.declared.slot.ActiveChecksum.{ActiveChecksum}
 use Rattle.cache.specs.CacheState.{CacheState}
 use Rattle.writer_state.specs.WriterState.{WriterState}
@@ -22,7 +20,6 @@ use Rattle.crash.specs.Built.{kept_len}
 use Rattle.crash.proofs.BuiltLaws.{IsSmall}
 use Rattle.crash.proofs.Pages.{length-page, length-pieces, pages_whole}
 use Rattle.paged_read.specs.declared.prefix.Prefix.{Prefix}
-use Rattle.paged_read.specs.Ranges.{page_at}
 use Rattle.paged_read.specs.Prefix.{prefix_pages, partial_pages, tip_of, HasBytes}
 use Rattle.paged.specs.Reads.{HasPages}
 use Rattle.paged.specs.Calls.{WaitsForNone}

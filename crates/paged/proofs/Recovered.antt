@@ -5,7 +5,7 @@ use Rattle.std.proofs.Math.Bool.{and-false}
 use Rattle.std.proofs.Math.Nat.{mod-eq_of_lt}
 use Rattle.std.proofs.lemmas.Bool.{lt-leb, eq-eqb}
 use Rattle.std.proofs.Math.Seq.{take-append_seam}
-use Rattle.std.proofs.lemmas.List.{take_all, drop_all, nil_from_length, length-take-le}
+use Rattle.std.proofs.lemmas.List.{take_all, drop_all, nil_from_length}
 use Rattle.std.proofs.lemmas.Nat.{div-mul-add, mod-mul-add}
 use Rattle.disk.specs.Disk.{Disk, Life, LogGrows}
 use Rattle.disk.specs.declared.error.Error.{Error}

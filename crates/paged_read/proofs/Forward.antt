@@ -1,5 +1,5 @@
 -- Searches that go forward from a page on: what they read, told by the log.
-use Rattle.std.proofs.Common.{◌≡◌, inl, inr, ℕ, ◌+◌, ◌-◌, ◌*◌, ◌≤◌, List, [], ◌∷◌, ◌++◌, Bool, false, Result, Ok, refl, sym, ap, subst, arith}
+use Rattle.std.proofs.Common.{◌≡◌, inl, inr, ℕ, ◌+◌, ◌*◌, ◌≤◌, List, [], ◌∷◌, ◌++◌, Bool, false, Result, Ok, refl, sym, ap, subst, arith}
 use Rattle.std.proofs.Math.Nat.{mul-le-mul_left}
 use Rattle.disk.specs.Disk.{Request, Life, ReadAt, ReadMany, StartReadMany, AskedOnce, ReadGoes}
 use Rattle.disk.specs.declared.error.Error.{Error}

@@ -2,7 +2,6 @@
 use Rattle.std.proofs.Common.{◌≡◌, ℕ, zero, suc, ◌+◌, ◌≤◌, List, [], ◌∷◌, length, take, map, refl, sym, ap, ◌∙◌, subst, arith, inl, inr, Bool, true, false, min, max}
 use Rattle.std.specs.Prelude.{All, Option, Some, None, if◌then◌else◌, is_some, ◌&&◌}
 use Rattle.std.proofs.Math.Seq.{take-length}
-use Rattle.std.proofs.lemmas.List.{take-take}
 use Rattle.std.proofs.lemmas.Bool.{false≢true}
 use Rattle.disk.specs.Disk.{Disk, Life, next, life_after}
 use Rattle.crash.specs.Kept.{AllKeep, AllOnly, Each, Through, Moments}

@@ -1,10 +1,10 @@
 -- Emptying a bad slot of the last page that has a value: what it leaves readable, and what each moment of it holds.
-use Rattle.std.proofs.Common.{◌≡◌, ◌⊎◌, inl, inr, ℕ, suc, ◌+◌, ◌*◌, ◌/◌, ◌<◌, ◌≤◌, min, List, [], ◌∷◌, ◌++◌, length, take, drop, slice_get, Some, Result, Bool, true, false, refl, sym, ap, ◌∙◌, subst, arith, mul-le-mul_right, ap₂, length-take, length-take-le, length-drop}
+use Rattle.std.proofs.Common.{◌≡◌, ◌⊎◌, inl, inr, ℕ, suc, ◌+◌, ◌*◌, ◌/◌, ◌<◌, ◌≤◌, List, [], ◌∷◌, ◌++◌, length, take, drop, slice_get, Some, Result, Bool, true, false, refl, sym, ap, ◌∙◌, subst, arith, mul-le-mul_right, ap₂, length-take, length-take-le, length-drop}
 use Rattle.std.specs.Prelude.{Option, None, not, ◌&&◌, ◌==◌, if◌then◌else◌, nat_le}
 use Rattle.std.proofs.lemmas.Bool.Decides.{nat_tests}
 use Rattle.std.specs.Bool.{then_some}
 use Rattle.std.proofs.lemmas.Option.{same_Some}
-use Rattle.disk.specs.Disk.{Disk, Life, WriteGoes, applied}
+use Rattle.disk.specs.Disk.{Life, WriteGoes, applied}
 use Rattle.disk.specs.Disk.Operation.{Write}
 use Rattle.disk.specs.declared.error.Error.{Error}
 use Rattle.page.specs.Slot.{slot_offset, other}
@@ -12,11 +12,10 @@ use Rattle.page.specs.Page.{active, bad_beside, bad_slot, is_clear, pages, slot_
 use Rattle.page.specs.declared.slot.Slot.{Slot}
 use Rattle.page.specs.declared.slot.Slot.TheVariants.{First, Second}
 use Rattle.page.specs.declared.slot.ActiveChecksum.{ActiveChecksum}
-use Rattle.crash.specs.Contents.{latest}
 use Rattle.crash.specs.Distinct.{IsGood, PageIsGood}
 use Rattle.crash.specs.Kept.{Through}
 use Rattle.crash.specs.Shrink.{HoldsText, slot_write}
-use Rattle.crash.proofs.DistinctLaws.{slot_cases, verified_good, void_good, good_alike}
+use Rattle.crash.proofs.DistinctLaws.{slot_cases, void_good, good_alike}
 use Rattle.crash.proofs.Pages.{length-page, length-pages, page_is, pages_at}
 use Rattle.crash.proofs.Disks.{length-applied_write}
 use Rattle.crash.proofs.Lists.{take_same}

@@ -1,4 +1,4 @@
-use Rattle.std.proofs.Common.{◌∙◌, ◌-◌, ap, sym, arith, ℕ, List, length, take, length-drop}
+use Rattle.std.proofs.Common.{◌∙◌, ap, sym, arith, ℕ, List, length, take, length-drop}
 use Rattle.std.proofs.lemmas.List.{take_rest}
 use Rattle.cache.specs.CacheState.{put_at}
 use Rattle.cache.proofs.Reading.{come_more}

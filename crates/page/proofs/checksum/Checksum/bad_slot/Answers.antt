@@ -1,9 +1,8 @@
 use Rattle.std.proofs.Common.{◌≡◌, ◌∙◌, ap, sym, ℕ, ◌+◌, ◌-◌, length, arith}
 use Rattle.std.specs.Prelude.{Some}
 use Rattle.std.specs.Bool.{then_some}
-use Rattle.page.specs.Slot.{other}
 use Rattle.page.specs.Page.{active}
-use Rattle.page.specs.Footer.{footer_of, active_of, is_bad}
+use Rattle.page.specs.Footer.{footer_of, active_of}
 use Rattle.page.proofs.Footers.{bad-beside}
 use Rattle.page.proofs.checksum.Checksum.bad_slot.Goals as goal
 
