@@ -1,8 +1,8 @@
 // Two devices that are to answer alike.
-use crate::devices::{DURABLE, buffers, read, write};
+use crate::devices::{DURABLE, add_copy, read};
 use crate::random::Numbers;
-use crate::words::{say_done, say_started};
-use disk::{Blob, Error, IoBufs, StartedSync};
+use crate::words::{out_of_memory, say_done, say_started};
+use disk::{Blob, Error, IoBufs, StartedSync, WriteOptions};
 use std::alloc::Global;
 use std::io;
 use std::io::Write;
@@ -13,22 +13,38 @@ fn write_durably<B: Blob>(blob: &mut B, offset: u64, bufs: &IoBufs) -> Result<()
     blob.write_at(offset, bufs, DURABLE)
 }
 
+// What is written: one piece, or two.
+#[derive(Drop)]
+struct Written {
+    one: IoBufs,
+    two: IoBufs,
+}
+
+fn new_written(alloc: Global) -> Result<Written, Error> {
+    let mut one = IoBufs::new(alloc);
+    add_copy(alloc, &mut one, &[1, 2, 3, 4, 5])?;
+    let mut two = IoBufs::new(alloc);
+    add_copy(alloc, &mut two, &[6, 7])?;
+    add_copy(alloc, &mut two, &[8, 9, 10, 11, 12, 13, 14, 15, 16])?;
+    Ok(Written { one, two })
+}
+
 // A call of a kind, at an offset.
 fn call<B: Blob>(
     alloc: Global,
     blob: &mut B,
     kind: usize,
     offset: u64,
+    written: &Written,
     said: &mut Vec<u8>,
 ) -> io::Result<()> {
-    let one = buffers(alloc, &[b"0102030405"])?;
-    let two = buffers(alloc, &[b"0607", b"08090a0b0c0d0e0f10"])?;
+    let options = WriteOptions::default();
     match kind {
         0 => read(alloc, blob, offset, 5, said),
         1 => read(alloc, blob, offset, 15, said),
-        2 => write(blob, offset, &one, said),
-        3 => write(blob, offset, &two, said),
-        4 => say_done(write_durably(blob, offset, &one), said),
+        2 => say_done(blob.write_at(offset, &written.one, options), said),
+        3 => say_done(blob.write_at(offset, &written.two, options), said),
+        4 => say_done(write_durably(blob, offset, &written.one), said),
         5 => say_done(blob.resize(offset), said),
         6 => say_done(blob.sync(), said),
         7 => say_started(blob.start_sync(), said),
@@ -42,11 +58,12 @@ fn answers_alike<A: Blob, B: Blob>(
     other: &mut B,
     kind: usize,
     offset: u64,
+    written: &Written,
 ) -> io::Result<bool> {
     let mut first = Vec::new(alloc);
     let mut second = Vec::new(alloc);
-    call(alloc, one, kind, offset, &mut first)?;
-    call(alloc, other, kind, offset, &mut second)?;
+    call(alloc, one, kind, offset, written, &mut first)?;
+    call(alloc, other, kind, offset, written, &mut second)?;
     Ok(first.as_slice() == second.as_slice())
 }
 
@@ -60,11 +77,14 @@ pub fn try_alike<A: Blob, B: Blob>(
     count: u64,
     said: &mut Vec<u8>,
 ) -> io::Result<()> {
+    let Ok(written) = new_written(alloc) else {
+        return Err(out_of_memory());
+    };
     let mut numbers = Numbers::new(seed);
     for index in 0..count {
         let kind = numbers.below(9);
         let offset = numbers.below(64) as u64;
-        if !answers_alike(alloc, one, other, kind, offset)? {
+        if !answers_alike(alloc, one, other, kind, offset, &written)? {
             return write!(said, "fault call {index} of kind {kind} at {offset}");
         }
     }

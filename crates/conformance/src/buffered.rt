@@ -2,11 +2,11 @@
 ghost use Rattle.std.specs.Prelude.{◌≡◌, ◌<◌, ◌≤◌, ◌+◌, ◌*◌, ◌%◌, ◌^◌, length};
 
 use crate::devices::say_pieces;
+use crate::forms::Argument::{Bytes, Number};
+use crate::forms::{Arguments, Form, read_step};
 use crate::line::Row;
 use crate::subject::Subject;
-use crate::words::{
-    bytes_of, length, number, out_of_memory, say_done, say_error, say_whether, unreadable, words,
-};
+use crate::words::{out_of_memory, say_done, say_error, say_whether, unreadable};
 use bytes::BufMut;
 use disk::{Error, IoBuf, IoBufs};
 use page::{Buffer, EncodeSize, Write as Encode, split_pages};
@@ -14,6 +14,34 @@ use scripts::Hex;
 use std::alloc::{AllocError, Global};
 use std::io;
 use std::io::Write;
+
+// What a step asks of a buffer.
+#[derive(Clone, Copy)]
+enum Verb {
+    Append,
+    Try,
+    TryValue,
+    Drain,
+    DrainPages,
+    Replace,
+    Parts,
+    Holds,
+    Capacity,
+    BothSides,
+}
+
+const STEPS: [Form<Verb>; 10] = [
+    (b"append", &[Number], Verb::Append),
+    (b"try", &[Number], Verb::Try),
+    (b"try-value", &[Number, Number], Verb::TryValue),
+    (b"drain", &[], Verb::Drain),
+    (b"drain-pages", &[], Verb::DrainPages),
+    (b"replace", &[Number, Bytes], Verb::Replace),
+    (b"parts", &[], Verb::Parts),
+    (b"holds", &[Number, Bytes], Verb::Holds),
+    (b"capacity", &[], Verb::Capacity),
+    (b"both-sides", &[Number], Verb::BothSides),
+];
 
 /// A buffer, and the byte that is appended next: they count up.
 #[derive(Drop)]
@@ -186,41 +214,35 @@ impl Buffered {
         write!(said, " {}", Hex(tail))
     }
 
-    fn play_words(&mut self, alloc: Global, words: &[&[u8]], said: &mut Vec<u8>) -> io::Result<()> {
-        match words {
-            [b"append", len] => self.append(alloc, length(len)?, said),
-            [b"try", len] => self.try_append(alloc, length(len)?, said),
-            [b"try-value", byte, len] => self.try_value(number(byte)?, length(len)?, said),
-            [b"drain"] => self.drain(said),
-            [b"drain-pages"] => self.drain_pages(alloc, said),
-            [b"replace", offset, new] => self.replace(
-                number(offset)?,
-                &bytes_of(alloc, new)?,
-                said,
-            ),
-            [b"parts"] => self.say_parts(said),
-            [b"holds", offset, held] => {
-                self.say_held(alloc, number(offset)?, &bytes_of(alloc, held)?, said)
-            }
-            [b"capacity"] => write!(said, "capacity {}", self.buffer.capacity()),
-            [b"both-sides", page_size] => say_both_sides(alloc, length(page_size)?, said),
-            _ => Err(unreadable()),
+    fn go(
+        &mut self,
+        alloc: Global,
+        verb: Verb,
+        words: &Arguments,
+        said: &mut Vec<u8>,
+    ) -> io::Result<()> {
+        let (number, len, bytes) = (words.number(0), words.length(0), words.bytes());
+        match verb {
+            Verb::Append => self.append(alloc, len, said),
+            Verb::Try => self.try_append(alloc, len, said),
+            Verb::TryValue => self.try_value(number, words.length(1), said),
+            Verb::Drain => self.drain(said),
+            Verb::DrainPages => self.drain_pages(alloc, said),
+            Verb::Replace => self.replace(number, bytes, said),
+            Verb::Parts => self.say_parts(said),
+            Verb::Holds => self.say_held(alloc, number, bytes, said),
+            Verb::Capacity => write!(said, "capacity {}", self.buffer.capacity()),
+            Verb::BothSides => say_both_sides(alloc, len, said),
         }
     }
 }
 
 impl Subject for Buffered {
     fn play(&mut self, alloc: Global, row: &Row, said: &mut Vec<u8>) -> io::Result<()> {
-        let words = words(alloc, &row.step)?;
-        self.play_words(alloc, &words, said)
-    }
-
-    fn calls(&self) -> usize {
-        0
-    }
-
-    fn say_calls(&self, _first: usize, said: &mut Vec<u8>) -> io::Result<()> {
-        write!(said, "none")
+        match read_step(alloc, &STEPS, &row.step)? {
+            Some((verb, words)) => self.go(alloc, verb, &words, said),
+            None => Err(unreadable()),
+        }
     }
 }
 

@@ -2,17 +2,59 @@
 ghost use Rattle.std.specs.Prelude.{◌≡◌, true};
 ghost use Rattle.cache.specs.CacheState.{IsPiece};
 
+use crate::forms::Argument::{Bytes, Number};
+use crate::forms::{Arguments, Form, read_step};
 use crate::line::Row;
 use crate::subject::Subject;
-use crate::words::{
-    bytes_of, length, number, out_of_memory, say_done, say_size, say_whether, unreadable, words,
-};
+use crate::words::{out_of_memory, say_done, say_size, say_whether, unreadable};
 use cache::{CacheRef, Piece};
 use scripts::Hex;
 use std::alloc::Global;
 use std::io;
 use std::io::Write;
 use std::num::{NonZeroU16, NonZeroUsize};
+
+// What a step asks of a cache.
+#[derive(Clone, Copy)]
+enum Verb {
+    Page,
+    NextId,
+    Put,
+    Keep,
+    Fill,
+    Read,
+    Piece,
+    Has,
+    Len,
+    Skipped,
+}
+
+const STEPS: [Form<Verb>; 10] = [
+    (b"page", &[Number], Verb::Page),
+    (b"next-id", &[], Verb::NextId),
+    (b"put", &[Number, Number, Bytes], Verb::Put),
+    (b"keep", &[Number, Number, Bytes], Verb::Keep),
+    (b"buffer", &[Bytes], Verb::Fill),
+    (b"read", &[Number, Number], Verb::Read),
+    (
+        b"piece",
+        &[Number, Number, Number, Number, Number],
+        Verb::Piece,
+    ),
+    (b"has", &[Number, Number], Verb::Has),
+    (b"len", &[], Verb::Len),
+    (b"skipped", &[], Verb::Skipped),
+];
+
+// The piece of a step, after the id.
+fn piece_of(words: &Arguments) -> Piece {
+    Piece {
+        page: words.number(1),
+        skip: words.length(2),
+        buf_offset: words.length(3),
+        len: words.length(4),
+    }
+}
 
 /// A cache, and what is read from it into.
 #[derive(Drop)]
@@ -83,49 +125,39 @@ impl Cached {
         write!(said, "{word} {}", Hex(&self.buf))
     }
 
-    fn play_words(&mut self, alloc: Global, words: &[&[u8]], said: &mut Vec<u8>) -> io::Result<()> {
-        match words {
-            [b"page", offset] => self.say_page(number(offset)?, said),
-            [b"next-id"] => say_size("id", self.cache.next_id(), said),
-            [b"put", id, offset, new] => {
-                self.put(number(id)?, number(offset)?, &bytes_of(alloc, new)?, said)
-            }
-            [b"keep", id, page, new] => {
-                self.keep(number(id)?, number(page)?, &bytes_of(alloc, new)?, said)
-            }
-            [b"buffer", old] => {
-                self.buf = bytes_of(alloc, old)?;
-                say_done(Ok(()), said)
-            }
-            [b"read", id, offset] => self.read(number(id)?, number(offset)?, said),
-            [b"piece", id, page, skip, buf_offset, len] => {
-                let piece = Piece {
-                    page: number(page)?,
-                    skip: length(skip)?,
-                    buf_offset: length(buf_offset)?,
-                    len: length(len)?,
-                };
-                self.read_piece(number(id)?, piece, said)
-            }
-            [b"has", id, page] => say_whether(self.cache.holds(number(id)?, number(page)?), said),
-            [b"len"] => write!(said, "len {}", self.cache.len()),
-            [b"skipped"] => write!(said, "skipped {}", self.cache.skipped()),
-            _ => Err(unreadable()),
+    fn fill(&mut self, alloc: Global, bytes: &[u8], said: &mut Vec<u8>) -> io::Result<()> {
+        self.buf = Vec::from_slice(alloc, bytes)?;
+        say_done(Ok(()), said)
+    }
+
+    fn go(
+        &mut self,
+        alloc: Global,
+        verb: Verb,
+        words: &Arguments,
+        said: &mut Vec<u8>,
+    ) -> io::Result<()> {
+        let (first, second, bytes) = (words.number(0), words.number(1), words.bytes());
+        match verb {
+            Verb::Page => self.say_page(first, said),
+            Verb::NextId => say_size("id", self.cache.next_id(), said),
+            Verb::Put => self.put(first, second, bytes, said),
+            Verb::Keep => self.keep(first, second, bytes, said),
+            Verb::Fill => self.fill(alloc, bytes, said),
+            Verb::Read => self.read(first, second, said),
+            Verb::Piece => self.read_piece(first, piece_of(words), said),
+            Verb::Has => say_whether(self.cache.holds(first, second), said),
+            Verb::Len => write!(said, "len {}", self.cache.len()),
+            Verb::Skipped => write!(said, "skipped {}", self.cache.skipped()),
         }
     }
 }
 
 impl Subject for Cached {
     fn play(&mut self, alloc: Global, row: &Row, said: &mut Vec<u8>) -> io::Result<()> {
-        let words = words(alloc, &row.step)?;
-        self.play_words(alloc, &words, said)
-    }
-
-    fn calls(&self) -> usize {
-        0
-    }
-
-    fn say_calls(&self, _first: usize, said: &mut Vec<u8>) -> io::Result<()> {
-        write!(said, "none")
+        match read_step(alloc, &STEPS, &row.step)? {
+            Some((verb, words)) => self.go(alloc, verb, &words, said),
+            None => Err(unreadable()),
+        }
     }
 }

@@ -1,8 +1,7 @@
 // The calls that every device has.
-use crate::words::{
-    bytes_of, length, number, out_of_memory, ranges, say_bytes, say_done, say_error, say_started,
-    unreadable,
-};
+use crate::forms::Argument::{Number, Pieces, Ranges};
+use crate::forms::{Arguments, Form, read_step};
+use crate::words::{out_of_memory, say_bytes, say_done, say_error, say_started, unreadable};
 use disk::{Blob, Error, IoBuf, IoBufs, ReadOptions, StartedRead, StartedSync, WriteOptions};
 use scripts::Hex;
 use std::alloc::Global;
@@ -15,18 +14,16 @@ pub const DURABLE: WriteOptions = WriteOptions {
     dont_cache: false,
 };
 
-fn add_copy(alloc: Global, bufs: &mut IoBufs, bytes: &[u8]) -> Result<(), Error> {
+/// Adds a buffer of these bytes.
+pub fn add_copy(alloc: Global, bufs: &mut IoBufs, bytes: &[u8]) -> Result<(), Error> {
     bufs.append(IoBuf::copy_from_slice(alloc, bytes)?)
 }
 
-/// The buffers that some words are.
-pub fn buffers(alloc: Global, words: &[&[u8]]) -> io::Result<IoBufs> {
+/// Buffers of these bytes.
+pub fn buffers(alloc: Global, pieces: &[Vec<u8>]) -> Result<IoBufs, Error> {
     let mut bufs = IoBufs::new(alloc);
-    for word in words {
-        let bytes = bytes_of(alloc, word)?;
-        if add_copy(alloc, &mut bufs, &bytes).is_err() {
-            return Err(out_of_memory());
-        }
+    for piece in pieces {
+        add_copy(alloc, &mut bufs, piece)?;
     }
     Ok(bufs)
 }
@@ -94,14 +91,76 @@ fn wait_read(started: Option<StartedRead>, said: &mut Vec<u8>) -> io::Result<()>
     }
 }
 
-/// Writes buffers, in one call.
-pub fn write<B: Blob>(
+// Writes pieces, each in a buffer of its own.
+fn write<B: Blob>(
+    alloc: Global,
     blob: &mut B,
     offset: u64,
-    bufs: &IoBufs,
+    pieces: &[Vec<u8>],
+) -> Result<(), Error> {
+    blob.write_at(offset, &buffers(alloc, pieces)?, WriteOptions::default())
+}
+
+// What a call asks of a device.
+#[derive(Clone, Copy)]
+enum Verb {
+    Read,
+    ReadMany,
+    StartRead,
+    WaitRead,
+    Write,
+    Resize,
+    Sync,
+    StartSync,
+    WaitDone,
+    WaitNamed,
+}
+
+const CALLS: [Form<Verb>; 10] = [
+    (b"read", &[Number, Number], Verb::Read),
+    (b"read-many", &[Ranges], Verb::ReadMany),
+    (b"start-read", &[Ranges], Verb::StartRead),
+    (b"wait-read", &[], Verb::WaitRead),
+    (b"write", &[Number, Pieces], Verb::Write),
+    (b"resize", &[Number], Verb::Resize),
+    (b"sync", &[], Verb::Sync),
+    (b"start-sync", &[], Verb::StartSync),
+    (b"wait", &[], Verb::WaitDone),
+    (b"wait", &[Number], Verb::WaitNamed),
+];
+
+fn start_read<B: Blob>(
+    alloc: Global,
+    blob: &mut B,
+    ranges: &[(u64, usize)],
+    started: &mut Option<StartedRead>,
     said: &mut Vec<u8>,
 ) -> io::Result<()> {
-    say_done(blob.write_at(offset, bufs, WriteOptions::default()), said)
+    *started = Some(blob.start_read_many(alloc, ranges, ReadOptions::default()));
+    say_done(Ok(()), said)
+}
+
+fn go<B: Blob>(
+    alloc: Global,
+    blob: &mut B,
+    started: &mut Option<StartedRead>,
+    verb: Verb,
+    words: &Arguments,
+    said: &mut Vec<u8>,
+) -> io::Result<()> {
+    let number = words.number(0);
+    match verb {
+        Verb::Read => read(alloc, blob, number, words.length(1), said),
+        Verb::ReadMany => read_many(alloc, blob, &words.ranges, said),
+        Verb::StartRead => start_read(alloc, blob, &words.ranges, started, said),
+        Verb::WaitRead => wait_read(started.take(), said),
+        Verb::Write => say_done(write(alloc, blob, number, &words.pieces), said),
+        Verb::Resize => say_done(blob.resize(number), said),
+        Verb::Sync => say_done(blob.sync(), said),
+        Verb::StartSync => say_started(blob.start_sync(), said),
+        Verb::WaitDone => say_done(blob.wait_sync(StartedSync::Done), said),
+        Verb::WaitNamed => say_done(blob.wait_sync(StartedSync::Named(number)), said),
+    }
 }
 
 /// Plays a call that every device has.
@@ -109,37 +168,11 @@ pub fn play_call<B: Blob>(
     alloc: Global,
     blob: &mut B,
     started: &mut Option<StartedRead>,
-    words: &[&[u8]],
+    line: &[u8],
     said: &mut Vec<u8>,
 ) -> io::Result<()> {
-    match words {
-        [b"read", offset, len] => read(alloc, blob, number(offset)?, length(len)?, said),
-        [b"read-many", these @ ..] => read_many(alloc, blob, &ranges(alloc, these)?, said),
-        [b"start-read", these @ ..] => {
-            let these = ranges(alloc, these)?;
-            *started = Some(blob.start_read_many(alloc, &these, ReadOptions::default()));
-            say_done(Ok(()), said)
-        }
-        [b"wait-read"] => wait_read(started.take(), said),
-        _ => play_change(alloc, blob, words, said),
-    }
-}
-
-fn play_change<B: Blob>(
-    alloc: Global,
-    blob: &mut B,
-    words: &[&[u8]],
-    said: &mut Vec<u8>,
-) -> io::Result<()> {
-    match words {
-        [b"write", offset, bufs @ ..] => {
-            write(blob, number(offset)?, &buffers(alloc, bufs)?, said)
-        }
-        [b"resize", len] => say_done(blob.resize(number(len)?), said),
-        [b"sync"] => say_done(blob.sync(), said),
-        [b"start-sync"] => say_started(blob.start_sync(), said),
-        [b"wait"] => say_done(blob.wait_sync(StartedSync::Done), said),
-        [b"wait", name] => say_done(blob.wait_sync(StartedSync::Named(number(name)?)), said),
-        _ => Err(unreadable()),
+    match read_step(alloc, &CALLS, line)? {
+        Some((verb, words)) => go(alloc, blob, started, verb, &words, said),
+        None => Err(unreadable()),
     }
 }

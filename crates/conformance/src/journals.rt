@@ -3,11 +3,11 @@ ghost use Rattle.std.specs.Prelude.{IfOk};
 ghost use Rattle.cache.specs.Pages.{IsFresh};
 
 use crate::calls::say_calls;
+use crate::forms::Argument::{Bytes, Flags, Number};
+use crate::forms::{Arguments, Form, read_step};
 use crate::line::Row;
 use crate::subject::Subject;
-use crate::words::{
-    buffer_size, bytes_of, flags, number, out_of_memory, say_done, say_error, unreadable, words,
-};
+use crate::words::{buffer_size, out_of_memory, say_done, say_error, unreadable};
 use cache::CacheRef;
 use disk::{Error, IoBuf, MemBlob};
 use journal::{Found, Journal, crash_and_recover, frame_of};
@@ -24,6 +24,36 @@ use std::num::{NonZeroU16, NonZeroUsize};
 const PAGE_SIZE: u16 = 16;
 
 const CAPACITY: usize = 32;
+
+// What a step asks of a journal.
+#[derive(Clone, Copy)]
+enum Verb {
+    Content,
+    Recover,
+    Crash,
+    Record,
+    Commit,
+    Read,
+    Fail,
+    Size,
+    Len,
+    RecoverFailing,
+    Frame,
+}
+
+const STEPS: [Form<Verb>; 11] = [
+    (b"content", &[Bytes], Verb::Content),
+    (b"recover", &[Number], Verb::Recover),
+    (b"crash", &[Flags], Verb::Crash),
+    (b"record", &[Bytes], Verb::Record),
+    (b"commit", &[], Verb::Commit),
+    (b"read", &[Number], Verb::Read),
+    (b"fail", &[Number], Verb::Fail),
+    (b"size", &[], Verb::Size),
+    (b"len", &[], Verb::Len),
+    (b"recover-failing", &[], Verb::RecoverFailing),
+    (b"frame", &[Bytes], Verb::Frame),
+];
 
 /// A blob with its cache, and the journal on it, if there is one.
 #[derive(Drop)]
@@ -72,6 +102,14 @@ fn say_found(found: Result<Option<Found>, Error>, said: &mut Vec<u8>) -> io::Res
             write!(said, " end {}", found.end)
         }
         Ok(None) => write!(said, "none"),
+        Err(error) => say_error(error, said),
+    }
+}
+
+fn say_appended(answer: Result<Option<u64>, Error>, said: &mut Vec<u8>) -> io::Result<()> {
+    match answer {
+        Ok(Some(offset)) => write!(said, "at {offset}"),
+        Ok(None) => write!(said, "closed"),
         Err(error) => say_error(error, said),
     }
 }
@@ -193,18 +231,6 @@ impl<H: Sum, R: Sum> Journals<H, R> {
         }
     }
 
-    fn say_appended(
-        &self,
-        answer: Result<Option<u64>, Error>,
-        said: &mut Vec<u8>,
-    ) -> io::Result<()> {
-        match answer {
-            Ok(Some(offset)) => write!(said, "at {offset}"),
-            Ok(None) => write!(said, "closed"),
-            Err(error) => say_error(error, said),
-        }
-    }
-
     // A recovery for each of its device calls, which fails: how many of them are Ok all the same,
     // with these records, since what wasn't read ahead is read again.
     fn recover_failing(&mut self, alloc: Global, calls: usize, wanted: &[u8]) -> io::Result<usize> {
@@ -233,38 +259,46 @@ impl<H: Sum, R: Sum> Journals<H, R> {
         write!(said, "read again {again}")
     }
 
-    fn play_words(&mut self, alloc: Global, words: &[&[u8]], said: &mut Vec<u8>) -> io::Result<()> {
-        match words {
-            [b"content", content] => self.begin(alloc, &bytes_of(alloc, content)?, said),
-            [b"recover", by] => {
-                let answer = self.recover(alloc, buffer_size(by)?);
-                self.say_answer(answer, said)
-            }
-            [b"crash", keep] => {
-                let answer = self.crash(alloc, &flags(alloc, keep)?);
-                self.say_answer(answer, said)
-            }
-            [b"record", record] => {
-                let answer = self.append(&bytes_of(alloc, record)?);
-                self.say_appended(answer, said)
-            }
-            [b"commit"] => say_done(self.commit(), said),
-            [b"read", offset] => say_found(self.read(number(offset)?), said),
-            _ => self.play_more(alloc, words, said),
-        }
+    fn play_recover(
+        &mut self,
+        alloc: Global,
+        by: NonZeroUsize,
+        said: &mut Vec<u8>,
+    ) -> io::Result<()> {
+        let answer = self.recover(alloc, by);
+        self.say_answer(answer, said)
     }
 
-    fn play_more(&mut self, alloc: Global, words: &[&[u8]], said: &mut Vec<u8>) -> io::Result<()> {
-        match words {
-            [b"fail", call] => {
-                self.blob.fail_at(number(call)?.max(1));
-                say_done(Ok(()), said)
-            }
-            [b"size"] => write!(said, "size {}", self.size()),
-            [b"len"] => write!(said, "len {}", self.blob.len()),
-            [b"recover-failing"] => self.try_recoveries(alloc, said),
-            [b"frame", record] => say_frame::<R>(alloc, &bytes_of(alloc, record)?, said),
-            _ => Err(unreadable()),
+    fn play_crash(&mut self, alloc: Global, keep: &[bool], said: &mut Vec<u8>) -> io::Result<()> {
+        let answer = self.crash(alloc, keep);
+        self.say_answer(answer, said)
+    }
+
+    fn fail_at(&mut self, number: u64, said: &mut Vec<u8>) -> io::Result<()> {
+        self.blob.fail_at(number.max(1));
+        say_done(Ok(()), said)
+    }
+
+    fn go(
+        &mut self,
+        alloc: Global,
+        verb: Verb,
+        words: &Arguments,
+        said: &mut Vec<u8>,
+    ) -> io::Result<()> {
+        let (number, bytes) = (words.number(0), words.bytes());
+        match verb {
+            Verb::Content => self.begin(alloc, bytes, said),
+            Verb::Recover => self.play_recover(alloc, buffer_size(number), said),
+            Verb::Crash => self.play_crash(alloc, &words.flags, said),
+            Verb::Record => say_appended(self.append(bytes), said),
+            Verb::Commit => say_done(self.commit(), said),
+            Verb::Read => say_found(self.read(number), said),
+            Verb::Fail => self.fail_at(number, said),
+            Verb::Size => write!(said, "size {}", self.size()),
+            Verb::Len => write!(said, "len {}", self.blob.len()),
+            Verb::RecoverFailing => self.try_recoveries(alloc, said),
+            Verb::Frame => say_frame::<R>(alloc, bytes, said),
         }
     }
 }
@@ -286,8 +320,10 @@ fn say_frame<R: Sum>(alloc: Global, record: &[u8], said: &mut Vec<u8>) -> io::Re
 
 impl<H: Sum, R: Sum> Subject for Journals<H, R> {
     fn play(&mut self, alloc: Global, row: &Row, said: &mut Vec<u8>) -> io::Result<()> {
-        let words = words(alloc, &row.step)?;
-        self.play_words(alloc, &words, said)
+        match read_step(alloc, &STEPS, &row.step)? {
+            Some((verb, words)) => self.go(alloc, verb, &words, said),
+            None => Err(unreadable()),
+        }
     }
 
     fn calls(&self) -> usize {

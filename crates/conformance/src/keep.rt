@@ -1,4 +1,5 @@
 // What a crash keeps of what isn't durable.
+use crate::forms::named;
 use scripts::parse_number;
 use std::alloc::{AllocError, Global};
 
@@ -22,6 +23,12 @@ pub enum Keep {
 // More flags than a case has bytes.
 const MOST: usize = 256;
 
+const KEEPS: [(&[u8], Keep); 3] = [
+    (b"at-once", Keep::AtOnce),
+    (b"none", Keep::Nothing),
+    (b"all", Keep::All),
+];
+
 fn width(word: &[u8]) -> usize {
     parse_number(word).unwrap_or(0) as usize
 }
@@ -38,12 +45,7 @@ impl Keep {
         if let Some(count) = word.strip_prefix(b"every:") {
             return Some(Keep::Every(width(count).min(20)));
         }
-        match word {
-            b"at-once" => Some(Keep::AtOnce),
-            b"none" => Some(Keep::Nothing),
-            b"all" => Some(Keep::All),
-            _ => None,
-        }
+        named(&KEEPS, word)
     }
 
     /// How many crashes it stands for.

@@ -11,6 +11,7 @@ mod cached;
 mod calls;
 mod case;
 mod devices;
+mod forms;
 mod hostile;
 mod in_order;
 mod journals;
@@ -35,7 +36,6 @@ mod stage;
 mod step;
 mod subject;
 mod subjects;
-mod values;
 mod views;
 mod words;
 

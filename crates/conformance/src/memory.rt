@@ -2,17 +2,63 @@
 use crate::alike::try_alike;
 use crate::calls::say_calls;
 use crate::devices::{DURABLE, buffers, play_call};
+use crate::forms::Argument::{Flags, Number, Pieces};
+use crate::forms::{Arguments, Form, read_step};
 use crate::line::Row;
 use crate::opened::{say_opened_read, say_opened_scan};
 use crate::searches::{say_last_pages, say_range, say_scan, say_tail};
 use crate::subject::Subject;
-use crate::words::{
-    buffer_size, flags, length, number, out_of_memory, page_size, say_bytes, say_done, words,
-};
-use disk::{Blob, MemBlob, StartedRead, VecBlob};
+use crate::words::{buffer_size, out_of_memory, page_size, say_bytes, say_done};
+use disk::{Blob, Error, MemBlob, StartedRead, VecBlob};
 use std::alloc::Global;
 use std::io;
 use std::io::Write;
+
+// What a step asks of the blob alone.
+#[derive(Clone, Copy)]
+enum Verb {
+    Fail,
+    Crash,
+    Backwards,
+    Forward,
+    Dump,
+    Calls,
+    Failures,
+    WriteDurably,
+    Alike,
+}
+
+const STEPS: [Form<Verb>; 9] = [
+    (b"fail", &[Number], Verb::Fail),
+    (b"crash", &[Flags], Verb::Crash),
+    (b"backwards", &[], Verb::Backwards),
+    (b"forward", &[], Verb::Forward),
+    (b"dump", &[], Verb::Dump),
+    (b"calls", &[], Verb::Calls),
+    (b"failures", &[], Verb::Failures),
+    (b"write-durable", &[Number, Pieces], Verb::WriteDurably),
+    (b"alike", &[Number, Number], Verb::Alike),
+];
+
+// What a step asks of the pages of the blob.
+#[derive(Clone, Copy)]
+enum Search {
+    Scan,
+    LastPages,
+    Range,
+    Tail,
+    OpenScan,
+    OpenRead,
+}
+
+const SEARCHES: [Form<Search>; 6] = [
+    (b"scan", &[Number, Number], Search::Scan),
+    (b"last-pages", &[Number], Search::LastPages),
+    (b"range", &[Number, Number, Number], Search::Range),
+    (b"tail", &[Number, Number, Number], Search::Tail),
+    (b"open-scan", &[Number, Number], Search::OpenScan),
+    (b"open-read", &[Number, Number, Number], Search::OpenRead),
+];
 
 /// A blob in memory, and the read that was started last.
 #[derive(Drop)]
@@ -41,15 +87,19 @@ impl Memory {
         say_done(Ok(()), said)
     }
 
+    fn deliver(&mut self, backwards: bool, said: &mut Vec<u8>) -> io::Result<()> {
+        self.blob.deliver_backwards(backwards);
+        say_done(Ok(()), said)
+    }
+
     fn write_durably(
         &mut self,
         alloc: Global,
         offset: u64,
-        bufs: &[&[u8]],
-        said: &mut Vec<u8>,
-    ) -> io::Result<()> {
-        let bufs = buffers(alloc, bufs)?;
-        say_done(self.blob.write_at(offset, &bufs, DURABLE), said)
+        pieces: &[Vec<u8>],
+    ) -> Result<(), Error> {
+        self.blob
+            .write_at(offset, &buffers(alloc, pieces)?, DURABLE)
     }
 
     // Beside a plain blob.
@@ -68,74 +118,58 @@ impl Memory {
         write!(said, ", but fault in the bytes")
     }
 
-    fn play_words(&mut self, alloc: Global, words: &[&[u8]], said: &mut Vec<u8>) -> io::Result<()> {
-        match words {
-            [b"fail", call] => self.fail_at(number(call)?, said),
-            [b"crash", keep] => say_done(self.blob.crash(&flags(alloc, keep)?), said),
-            [b"backwards"] => {
-                self.blob.deliver_backwards(true);
-                say_done(Ok(()), said)
-            }
-            [b"forward"] => {
-                self.blob.deliver_backwards(false);
-                say_done(Ok(()), said)
-            }
-            [b"dump"] => say_bytes("blob", self.blob.bytes(), said),
-            [b"calls"] => say_calls(self.blob.calls(), 0, said),
-            [b"failures"] => write!(said, "failures {}", self.blob.failures()),
-            _ => self.play_more(alloc, words, said),
-        }
-    }
-
-    fn play_more(&mut self, alloc: Global, words: &[&[u8]], said: &mut Vec<u8>) -> io::Result<()> {
-        match words {
-            [b"write-durable", offset, bufs @ ..] => {
-                self.write_durably(alloc, number(offset)?, bufs, said)
-            }
-            [b"alike", seed, count] => {
-                self.try_alike(alloc, number(seed)?, number(count)?, said)
-            }
-            _ => self.play_search(alloc, words, said),
-        }
-    }
-
-    // Of pages of so many logical bytes.
-    fn play_search(
+    fn go(
         &mut self,
         alloc: Global,
-        words: &[&[u8]],
+        verb: Verb,
+        words: &Arguments,
         said: &mut Vec<u8>,
     ) -> io::Result<()> {
+        let (first, second) = (words.number(0), words.number(1));
         let blob = &mut self.blob;
-        match words {
-            [b"scan", size, by] => {
-                say_scan(alloc, blob, page_size(size)?, buffer_size(by)?, said)
-            }
-            [b"last-pages", size] => say_last_pages(alloc, blob, page_size(size)?, said),
-            [b"range", size, offset, len] => {
-                let (offset, len) = (number(offset)?, length(len)?);
-                say_range(alloc, blob, page_size(size)?, offset, len, said)
-            }
-            [b"tail", size, physical, len] => {
-                let (physical, len) = (number(physical)?, length(len)?);
-                say_tail(alloc, blob, page_size(size)?, physical, len, said)
-            }
-            [b"open-scan", size, most] => {
-                say_opened_scan(alloc, blob, page_size(size)?, number(most)?, said)
-            }
-            [b"open-read", size, offset, len] => {
-                let (offset, len) = (number(offset)?, length(len)?);
-                say_opened_read(alloc, blob, page_size(size)?, offset, len, said)
-            }
-            _ => play_call(alloc, blob, &mut self.started, words, said),
+        match verb {
+            Verb::Fail => self.fail_at(first, said),
+            Verb::Crash => say_done(blob.crash(&words.flags), said),
+            Verb::Backwards => self.deliver(true, said),
+            Verb::Forward => self.deliver(false, said),
+            Verb::Dump => say_bytes("blob", blob.bytes(), said),
+            Verb::Calls => say_calls(blob.calls(), 0, said),
+            Verb::Failures => write!(said, "failures {}", blob.failures()),
+            Verb::WriteDurably => say_done(self.write_durably(alloc, first, &words.pieces), said),
+            Verb::Alike => self.try_alike(alloc, first, second, said),
         }
+    }
+}
+
+// Of pages of so many logical bytes.
+fn say_search(
+    alloc: Global,
+    blob: &mut MemBlob,
+    search: Search,
+    words: &Arguments,
+    said: &mut Vec<u8>,
+) -> io::Result<()> {
+    let size = page_size(words.number(0))?;
+    let (second, third) = (words.number(1), words.length(2));
+    match search {
+        Search::Scan => say_scan(alloc, blob, size, buffer_size(second), said),
+        Search::LastPages => say_last_pages(alloc, blob, size, said),
+        Search::Range => say_range(alloc, blob, size, second, third, said),
+        Search::Tail => say_tail(alloc, blob, size, second, third, said),
+        Search::OpenScan => say_opened_scan(alloc, blob, size, second, said),
+        Search::OpenRead => say_opened_read(alloc, blob, size, second, third, said),
     }
 }
 
 impl Subject for Memory {
     fn play(&mut self, alloc: Global, row: &Row, said: &mut Vec<u8>) -> io::Result<()> {
-        let words = words(alloc, &row.step)?;
-        self.play_words(alloc, &words, said)
+        if let Some((verb, words)) = read_step(alloc, &STEPS, &row.step)? {
+            return self.go(alloc, verb, &words, said);
+        }
+        match read_step(alloc, &SEARCHES, &row.step)? {
+            Some((verb, words)) => say_search(alloc, &mut self.blob, verb, &words, said),
+            None => play_call(alloc, &mut self.blob, &mut self.started, &row.step, said),
+        }
     }
 
     fn calls(&self) -> usize {

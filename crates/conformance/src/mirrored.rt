@@ -1,16 +1,36 @@
 // A mirror over a host that fails when it is told to.
 use crate::alike::try_alike;
 use crate::devices::{DURABLE, buffers, play_call};
+use crate::forms::Argument::{Number, Pieces};
+use crate::forms::{Arguments, Form, read_step};
 use crate::line::Row;
 use crate::recorder::{Recorder, say_told};
 use crate::subject::Subject;
-use crate::words::{number, out_of_memory, say_bytes, say_done, unreadable, words};
+use crate::words::{out_of_memory, say_bytes, say_done, unreadable};
 use disk::{Blob, MemBlob, StartedRead};
 use file::Mirror;
 use std::alloc::Global;
 use std::io;
 use std::io::{ErrorKind, Write};
 use std::marker::Model;
+
+// What a step asks of a mirror alone.
+#[derive(Clone, Copy)]
+enum Verb {
+    WriteDurably,
+    Dump,
+    Host,
+    Failure,
+    Alike,
+}
+
+const STEPS: [Form<Verb>; 5] = [
+    (b"write-durable", &[Number, Pieces], Verb::WriteDurably),
+    (b"dump", &[], Verb::Dump),
+    (b"host", &[], Verb::Host),
+    (b"failure", &[], Verb::Failure),
+    (b"alike", &[Number, Number], Verb::Alike),
+];
 
 /// A mirror over a host in memory, and the read that was started last.
 #[derive(Drop)]
@@ -52,10 +72,12 @@ impl Mirrored {
         &mut self,
         alloc: Global,
         offset: u64,
-        bufs: &[&[u8]],
+        pieces: &[Vec<u8>],
         said: &mut Vec<u8>,
     ) -> io::Result<()> {
-        let bufs = buffers(alloc, bufs)?;
+        let Ok(bufs) = buffers(alloc, pieces) else {
+            return Err(out_of_memory());
+        };
         if !self.new {
             return Err(unreadable());
         }
@@ -95,29 +117,35 @@ impl Mirrored {
         write!(said, ", but fault in the bytes")
     }
 
-    fn play_words(&mut self, alloc: Global, words: &[&[u8]], said: &mut Vec<u8>) -> io::Result<()> {
-        match words {
-            [b"write-durable", offset, bufs @ ..] => {
-                self.write_durably(alloc, number(offset)?, bufs, said)
-            }
-            [b"dump"] => say_bytes("blob", self.mirror.bytes(), said),
-            [b"host"] => say_bytes("blob", self.mirror.host().bytes(), said),
-            [b"failure"] => self.say_failure(said),
-            [b"alike", seed, count] => {
-                self.try_alike(alloc, number(seed)?, number(count)?, said)
-            }
-            _ => {
-                self.new = false;
-                play_call(alloc, &mut self.mirror, &mut self.started, words, said)
-            }
+    fn go(
+        &mut self,
+        alloc: Global,
+        verb: Verb,
+        words: &Arguments,
+        said: &mut Vec<u8>,
+    ) -> io::Result<()> {
+        let (first, second) = (words.number(0), words.number(1));
+        match verb {
+            Verb::WriteDurably => self.write_durably(alloc, first, &words.pieces, said),
+            Verb::Dump => say_bytes("blob", self.mirror.bytes(), said),
+            Verb::Host => say_bytes("blob", self.mirror.host().bytes(), said),
+            Verb::Failure => self.say_failure(said),
+            Verb::Alike => self.try_alike(alloc, first, second, said),
         }
+    }
+
+    fn play_call(&mut self, alloc: Global, line: &[u8], said: &mut Vec<u8>) -> io::Result<()> {
+        self.new = false;
+        play_call(alloc, &mut self.mirror, &mut self.started, line, said)
     }
 }
 
 impl Subject for Mirrored {
     fn play(&mut self, alloc: Global, row: &Row, said: &mut Vec<u8>) -> io::Result<()> {
-        let words = words(alloc, &row.step)?;
-        self.play_words(alloc, &words, said)
+        match read_step(alloc, &STEPS, &row.step)? {
+            Some((verb, words)) => self.go(alloc, verb, &words, said),
+            None => self.play_call(alloc, &row.step, said),
+        }
     }
 
     fn calls(&self) -> usize {

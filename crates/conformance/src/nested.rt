@@ -47,17 +47,9 @@ fn play_given(alloc: Global, row: &Row, said: &mut Vec<u8>) -> io::Result<()> {
 
 impl Subject for Nested {
     fn play(&mut self, alloc: Global, row: &Row, said: &mut Vec<u8>) -> io::Result<()> {
-        match row.step.as_slice() {
-            b"cases" => play_given(alloc, row, said),
-            _ => Err(unreadable()),
+        if row.step.as_slice() != b"cases".as_slice() {
+            return Err(unreadable());
         }
-    }
-
-    fn calls(&self) -> usize {
-        0
-    }
-
-    fn say_calls(&self, _first: usize, said: &mut Vec<u8>) -> io::Result<()> {
-        write!(said, "none")
+        play_given(alloc, row, said)
     }
 }

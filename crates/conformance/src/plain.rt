@@ -1,12 +1,36 @@
 // The plain blob in memory, whose calls are counted.
 use crate::devices::{DURABLE, buffers, play_call};
+use crate::forms::Argument::{Number, Pieces};
+use crate::forms::{Arguments, Form, read_step};
 use crate::line::Row;
 use crate::subject::Subject;
-use crate::words::{length, number, say_bytes, say_done, say_whether, words};
-use disk::{Blob, Counted, StartedRead, VecBlob};
+use crate::words::{say_bytes, say_done, say_whether};
+use disk::{Blob, Counted, Error, StartedRead, VecBlob};
 use std::alloc::Global;
 use std::io;
 use std::io::Write;
+
+// What a step asks of the blob alone.
+#[derive(Clone, Copy)]
+enum Verb {
+    Counts,
+    Dump,
+    Len,
+    Stop,
+    Stopped,
+    Reserve,
+    WriteDurably,
+}
+
+const STEPS: [Form<Verb>; 7] = [
+    (b"counts", &[], Verb::Counts),
+    (b"dump", &[], Verb::Dump),
+    (b"len", &[], Verb::Len),
+    (b"stop", &[], Verb::Stop),
+    (b"stopped", &[], Verb::Stopped),
+    (b"reserve", &[Number, Number], Verb::Reserve),
+    (b"write-durable", &[Number, Pieces], Verb::WriteDurably),
+];
 
 /// A plain blob that counts its calls, and the read that was started last.
 #[derive(Drop)]
@@ -33,11 +57,11 @@ impl Plain {
         &mut self,
         alloc: Global,
         offset: u64,
-        bufs: &[&[u8]],
-        said: &mut Vec<u8>,
-    ) -> io::Result<()> {
-        let bufs = buffers(alloc, bufs)?;
-        say_done(self.blob.inner.write_at(offset, &bufs, DURABLE), said)
+        pieces: &[Vec<u8>],
+    ) -> Result<(), Error> {
+        self.blob
+            .inner
+            .write_at(offset, &buffers(alloc, pieces)?, DURABLE)
     }
 
     fn say_counts(&self, said: &mut Vec<u8>) -> io::Result<()> {
@@ -49,38 +73,37 @@ impl Plain {
         )
     }
 
-    fn play_words(&mut self, alloc: Global, words: &[&[u8]], said: &mut Vec<u8>) -> io::Result<()> {
-        match words {
-            [b"counts"] => self.say_counts(said),
-            [b"dump"] => say_bytes("blob", self.blob.inner.bytes(), said),
-            [b"len"] => write!(said, "len {}", self.blob.inner.len()),
-            [b"stop"] => {
-                self.blob.inner.stop();
-                say_done(Ok(()), said)
-            }
-            [b"stopped"] => say_whether(self.blob.inner.is_stopped(), said),
-            [b"reserve", offset, len] => {
-                say_done(self.blob.inner.reserve(number(offset)?, length(len)?), said)
-            }
-            [b"write-durable", offset, bufs @ ..] => {
-                self.write_durably(alloc, number(offset)?, bufs, said)
-            }
-            _ => play_call(alloc, &mut self.blob, &mut self.started, words, said),
+    fn stop(&mut self, said: &mut Vec<u8>) -> io::Result<()> {
+        self.blob.inner.stop();
+        say_done(Ok(()), said)
+    }
+
+    fn go(
+        &mut self,
+        alloc: Global,
+        verb: Verb,
+        words: &Arguments,
+        said: &mut Vec<u8>,
+    ) -> io::Result<()> {
+        let offset = words.number(0);
+        let blob = &mut self.blob.inner;
+        match verb {
+            Verb::Counts => self.say_counts(said),
+            Verb::Dump => say_bytes("blob", blob.bytes(), said),
+            Verb::Len => write!(said, "len {}", blob.len()),
+            Verb::Stop => self.stop(said),
+            Verb::Stopped => say_whether(blob.is_stopped(), said),
+            Verb::Reserve => say_done(blob.reserve(offset, words.length(1)), said),
+            Verb::WriteDurably => say_done(self.write_durably(alloc, offset, &words.pieces), said),
         }
     }
 }
 
 impl Subject for Plain {
     fn play(&mut self, alloc: Global, row: &Row, said: &mut Vec<u8>) -> io::Result<()> {
-        let words = words(alloc, &row.step)?;
-        self.play_words(alloc, &words, said)
-    }
-
-    fn calls(&self) -> usize {
-        0
-    }
-
-    fn say_calls(&self, _first: usize, said: &mut Vec<u8>) -> io::Result<()> {
-        write!(said, "none")
+        match read_step(alloc, &STEPS, &row.step)? {
+            Some((verb, words)) => self.go(alloc, verb, &words, said),
+            None => play_call(alloc, &mut self.blob, &mut self.started, &row.step, said),
+        }
     }
 }

@@ -1,11 +1,27 @@
 // Scripts, and what is written for them.
+use crate::forms::Argument::Bytes;
+use crate::forms::{Form, read_step};
 use crate::line::Row;
 use crate::subject::Subject;
-use crate::words::{bytes_of, unreadable, words};
+use crate::words::unreadable;
 use scripts::play_on;
 use std::alloc::Global;
 use std::io;
 use std::io::Write;
+
+// What a step asks for: that a script is played, the one below it or its own, or is refused.
+#[derive(Clone, Copy)]
+enum Verb {
+    Given,
+    Script,
+    Names,
+}
+
+const STEPS: [Form<Verb>; 3] = [
+    (b"script", &[], Verb::Given),
+    (b"script", &[Bytes], Verb::Script),
+    (b"names", &[Bytes], Verb::Names),
+];
 
 /// What plays whole scripts, each over a blob of its own.
 #[derive(Clone, Copy)]
@@ -56,20 +72,11 @@ fn name_line(alloc: Global, mut script: &[u8], said: &mut Vec<u8>) -> io::Result
 
 impl Subject for Scripts {
     fn play(&mut self, alloc: Global, row: &Row, said: &mut Vec<u8>) -> io::Result<()> {
-        let words = words(alloc, &row.step)?;
-        match words.as_slice() {
-            [b"script"] => play_script(alloc, &row.given, row, said),
-            [b"script", script] => play_script(alloc, &bytes_of(alloc, script)?, row, said),
-            [b"names", script] => name_line(alloc, &bytes_of(alloc, script)?, said),
-            _ => Err(unreadable()),
+        match read_step(alloc, &STEPS, &row.step)? {
+            Some((Verb::Given, _)) => play_script(alloc, &row.given, row, said),
+            Some((Verb::Script, words)) => play_script(alloc, words.bytes(), row, said),
+            Some((Verb::Names, words)) => name_line(alloc, words.bytes(), said),
+            None => Err(unreadable()),
         }
-    }
-
-    fn calls(&self) -> usize {
-        0
-    }
-
-    fn say_calls(&self, _first: usize, said: &mut Vec<u8>) -> io::Result<()> {
-        write!(said, "none")
     }
 }

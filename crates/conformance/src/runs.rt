@@ -279,7 +279,7 @@ fn run_each_refusal(
     Ok(runs)
 }
 
-fn run_refusals_by(
+fn run_refusals(
     alloc: Global,
     case: &Case,
     setting: Setting,
@@ -296,17 +296,8 @@ fn run_refusals_by(
     Ok(runs)
 }
 
-fn run_refusals(
-    alloc: Global,
-    case: &Case,
-    setting: Setting,
-    told: &mut Vec<u8>,
-) -> io::Result<u64> {
-    let words = words(alloc, &case.plan)?;
-    match words.as_slice() {
-        [b"each", ways @ ..] => run_refusals_by(alloc, case, setting, ways, told),
-        _ => Ok(0),
-    }
+fn is_each(word: &[u8]) -> bool {
+    word == b"each".as_slice()
 }
 
 fn run_plan(
@@ -317,14 +308,16 @@ fn run_plan(
     told: &mut Vec<u8>,
 ) -> io::Result<u64> {
     let words = words(alloc, &case.plan)?;
-    match words.as_slice() {
-        [b"each", ways @ ..] => run_each_call(alloc, case, setting, calls, ways, told),
-        [number, ways @ ..] => {
-            let fails = parse_number(number).unwrap_or(0);
-            run_each_way(alloc, case, setting, fails, ways, told)
-        }
-        [] => Ok(0),
+    let [which, ways @ ..] = words.as_slice() else {
+        return Ok(0);
+    };
+    if is_each(which) {
+        let runs = run_each_call(alloc, case, setting, calls, ways, told)?;
+        let refused = run_refusals(alloc, case, setting, ways, told)?;
+        return Ok(runs.saturating_add(refused));
     }
+    let fails = parse_number(which).unwrap_or(0);
+    run_each_way(alloc, case, setting, fails, ways, told)
 }
 
 fn run_setting(
@@ -341,8 +334,7 @@ fn run_setting(
     };
     let calls = run_named(alloc, case, setting, first, told)?;
     let runs = run_plan(alloc, case, setting, calls, told)?;
-    let refused = run_refusals(alloc, case, setting, told)?;
-    Ok(runs.saturating_add(refused).saturating_add(1))
+    Ok(runs.saturating_add(1))
 }
 
 /// Plays a case of a session in each of its ways, writes each difference, and answers how many runs

@@ -1,11 +1,11 @@
 // Requests in bytes, and the answers to them.
 ghost use Rattle.std.specs.Prelude.{◌≡◌, length};
 
+use crate::forms::Argument::Number;
+use crate::forms::{Form, read_step};
 use crate::line::{Row, plain};
 use crate::subject::Subject;
-use crate::words::{
-    bytes_of, length, number, out_of_memory, say_bytes, say_done, unreadable, words,
-};
+use crate::words::{bytes_of, out_of_memory, say_bytes, say_done, unreadable};
 use crc32c::Crc32c;
 use disk::{Blob, MemBlob, VecBlob};
 use protocol::{Stop, serve_file};
@@ -13,6 +13,26 @@ use scripts::Hex;
 use std::alloc::Global;
 use std::io;
 use std::io::{BufReader, Write};
+
+// What a step asks of a server.
+#[derive(Clone, Copy)]
+enum Verb {
+    Serve,
+    ServeFailing,
+    Resize,
+    Stop,
+    Dump,
+    Len,
+}
+
+const STEPS: [Form<Verb>; 6] = [
+    (b"serve", &[], Verb::Serve),
+    (b"serve-failing", &[Number], Verb::ServeFailing),
+    (b"resize", &[Number], Verb::Resize),
+    (b"stop", &[], Verb::Stop),
+    (b"dump", &[], Verb::Dump),
+    (b"len", &[], Verb::Len),
+];
 
 /// What serves requests over one blob, one session after another.
 #[derive(Drop)]
@@ -80,36 +100,40 @@ impl Server {
         }
     }
 
-    fn resize(&mut self, len: u64, said: &mut Vec<u8>) -> io::Result<()> {
-        say_done(self.blob.resize(len), said)
+    fn serve(&mut self, alloc: Global, row: &Row, said: &mut Vec<u8>) -> io::Result<()> {
+        let size = self.blob.len();
+        serve(alloc, &mut self.blob, size, row, said)
+    }
+
+    fn stop(&mut self, said: &mut Vec<u8>) -> io::Result<()> {
+        self.blob.stop();
+        say_done(Ok(()), said)
+    }
+
+    fn go(
+        &mut self,
+        alloc: Global,
+        verb: Verb,
+        number: u64,
+        row: &Row,
+        said: &mut Vec<u8>,
+    ) -> io::Result<()> {
+        match verb {
+            Verb::Serve => self.serve(alloc, row, said),
+            Verb::ServeFailing => serve_failing(alloc, number, row, said),
+            Verb::Resize => say_done(self.blob.resize(number), said),
+            Verb::Stop => self.stop(said),
+            Verb::Dump => say_bytes("blob", self.blob.bytes(), said),
+            Verb::Len => write!(said, "len {}", self.blob.len()),
+        }
     }
 }
 
 impl Subject for Server {
     fn play(&mut self, alloc: Global, row: &Row, said: &mut Vec<u8>) -> io::Result<()> {
-        let words = words(alloc, &row.step)?;
-        match words.as_slice() {
-            [b"serve"] => {
-                let size = self.blob.len();
-                serve(alloc, &mut self.blob, size, row, said)
-            }
-            [b"serve-failing", call] => serve_failing(alloc, number(call)?, row, said),
-            [b"resize", len] => self.resize(number(len)?, said),
-            [b"stop"] => {
-                self.blob.stop();
-                say_done(Ok(()), said)
-            }
-            [b"dump"] => say_bytes("blob", self.blob.bytes(), said),
-            [b"len"] => write!(said, "len {}", self.blob.len()),
-            _ => Err(unreadable()),
+        match read_step(alloc, &STEPS, &row.step)? {
+            Some((verb, words)) => self.go(alloc, verb, words.number(0), row, said),
+            None => Err(unreadable()),
         }
-    }
-
-    fn calls(&self) -> usize {
-        0
-    }
-
-    fn say_calls(&self, _first: usize, said: &mut Vec<u8>) -> io::Result<()> {
-        write!(said, "none")
     }
 }

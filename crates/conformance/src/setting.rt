@@ -1,4 +1,5 @@
 // What a case is run with, and in how many ways.
+use crate::forms::named;
 use scripts::parse_number;
 use std::io;
 use std::io::Write;
@@ -15,13 +16,15 @@ pub enum SumName {
     Crc,
 }
 
-fn sum_of(word: &[u8]) -> Option<SumName> {
-    match word {
-        b"add" => Some(SumName::Add),
-        b"const" => Some(SumName::Const),
-        b"crc" => Some(SumName::Crc),
-        _ => None,
-    }
+const SUMS: [(&[u8], SumName); 3] = [
+    (b"add", SumName::Add),
+    (b"const", SumName::Const),
+    (b"crc", SumName::Crc),
+];
+
+/// The checksum function of a word.
+pub fn sum_of(word: &[u8]) -> Option<SumName> {
+    named(&SUMS, word)
 }
 
 fn name_of(sum: SumName) -> &'static str {

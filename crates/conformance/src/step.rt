@@ -1,13 +1,12 @@
 // The steps of a session, and what they answer.
 use crate::calls::say_calls;
+use crate::forms::Argument::{Bytes, Number};
+use crate::forms::{Arguments, Form, read_step};
 use crate::hostile::try_hostile;
 use crate::line::Row;
 use crate::stage::Stage;
 use crate::subject::Subject;
-use crate::words::{
-    buffer_size, bytes_of, number, out_of_memory, say, say_error, say_size, say_whether,
-    unreadable, words,
-};
+use crate::words::{buffer_size, out_of_memory, say, say_error, say_size, say_whether, unreadable};
 use disk::Error;
 use page::Sum;
 use paged::Outlook;
@@ -17,6 +16,35 @@ use std::alloc::Global;
 use std::io;
 use std::io::Write;
 use std::num::NonZeroUsize;
+
+// What a step asks of a stage that is none of a script's.
+#[derive(Clone, Copy)]
+enum Verb {
+    TryAppend,
+    Recover,
+    Mark,
+    Calls,
+    Open,
+    Cut,
+    Look,
+    Holds,
+    Has,
+    Hostile,
+}
+
+const STEPS: [Form<Verb>; 11] = [
+    (b"try-append", &[Bytes], Verb::TryAppend),
+    (b"recover", &[Number], Verb::Recover),
+    (b"mark", &[], Verb::Mark),
+    (b"calls", &[], Verb::Calls),
+    (b"open", &[], Verb::Open),
+    (b"cut", &[Number], Verb::Cut),
+    (b"look", &[Number], Verb::Look),
+    (b"holds", &[Bytes], Verb::Holds),
+    (b"holds", &[Bytes, Bytes], Verb::Holds),
+    (b"has", &[Number, Number], Verb::Has),
+    (b"hostile", &[Number, Number], Verb::Hostile),
+];
 
 fn say_outlook(answer: Result<Outlook, Error>, said: &mut Vec<u8>) -> io::Result<()> {
     match answer {
@@ -39,11 +67,10 @@ pub fn content<H: Sum>(stage: &mut Stage<H>) -> Reply {
 fn try_append<H: Sum>(
     alloc: Global,
     stage: &mut Stage<H>,
-    word: &[u8],
+    bytes: &[u8],
     said: &mut Vec<u8>,
 ) -> io::Result<()> {
-    let bytes = bytes_of(alloc, word)?;
-    let reply = stage.step(Step::TryAppend(bytes));
+    let reply = stage.step(Step::TryAppend(Vec::from_slice(alloc, bytes)?));
     say(&reply, said)
 }
 
@@ -107,41 +134,38 @@ fn play_step<H: Sum>(
     }
 }
 
-fn play_words<H: Sum>(
+fn go<H: Sum>(
     alloc: Global,
     stage: &mut Stage<H>,
-    step: &[u8],
-    words: &[&[u8]],
+    verb: Verb,
+    words: &Arguments,
     said: &mut Vec<u8>,
 ) -> io::Result<()> {
-    match words {
-        [b"try-append", bytes] => try_append(alloc, stage, bytes, said),
-        [b"recover", by] => say_size("recovered", stage.recover(buffer_size(by)?), said),
-        [b"mark"] => {
+    let (first, second, bytes) = (words.number(0), words.number(1), words.bytes());
+    let by = buffer_size(first);
+    match verb {
+        Verb::TryAppend => try_append(alloc, stage, bytes, said),
+        Verb::Recover => say_size("recovered", stage.recover(by), said),
+        Verb::Mark => {
             stage.mark();
             Ok(())
         }
-        [b"calls"] => say_calls(stage.device_calls(), stage.marked(), said),
-        [b"open"] => say_size("opened", stage.open(), said),
-        [b"cut", size] => say_size("size", stage.cut(number(size)?), said),
-        [b"look", by] => say_outlook(stage.look(buffer_size(by)?), said),
-        [b"holds", floor] => holds(stage, &bytes_of(alloc, floor)?, None, said),
-        [b"holds", floor, whole] => {
-            let whole = bytes_of(alloc, whole)?;
-            holds(stage, &bytes_of(alloc, floor)?, Some(&whole), said)
-        }
-        [b"has", id, page] => say_whether(stage.holds(number(id)?, number(page)?), said),
-        [b"hostile", seed, count] => {
-            try_hostile(alloc, stage, number(seed)?, number(count)?, said)
-        }
-        _ => play_step(alloc, stage, step, said),
+        Verb::Calls => say_calls(stage.device_calls(), stage.marked(), said),
+        Verb::Open => say_size("opened", stage.open(), said),
+        Verb::Cut => say_size("size", stage.cut(first), said),
+        Verb::Look => say_outlook(stage.look(by), said),
+        Verb::Holds => holds(stage, bytes, words.piece(1), said),
+        Verb::Has => say_whether(stage.holds(first, second), said),
+        Verb::Hostile => try_hostile(alloc, stage, first, second, said),
     }
 }
 
 impl<H: Sum> Subject for Stage<H> {
     fn play(&mut self, alloc: Global, row: &Row, said: &mut Vec<u8>) -> io::Result<()> {
-        let words = words(alloc, &row.step)?;
-        play_words(alloc, self, &row.step, &words, said)
+        match read_step(alloc, &STEPS, &row.step)? {
+            Some((verb, words)) => go(alloc, self, verb, &words, said),
+            None => play_step(alloc, self, &row.step, said),
+        }
     }
 
     fn calls(&self) -> usize {

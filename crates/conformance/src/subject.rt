@@ -9,11 +9,15 @@ pub trait Subject {
     /// Plays the step of a line, and writes what it answers. `InvalidInput` where it can't be read.
     fn play(&mut self, alloc: Global, row: &Row, said: &mut Vec<u8>) -> io::Result<()>;
 
-    /// How many device calls there were.
-    fn calls(&self) -> usize;
+    /// How many device calls there were: none where it has no device that tells them.
+    fn calls(&self) -> usize {
+        0
+    }
 
     /// Writes the device calls from one on.
-    fn say_calls(&self, first: usize, said: &mut Vec<u8>) -> io::Result<()>;
+    fn say_calls(&self, _first: usize, said: &mut Vec<u8>) -> io::Result<()> {
+        write!(said, "none")
+    }
 }
 
 // Plays the step of a line. Where it can't be read, that is what it answers.

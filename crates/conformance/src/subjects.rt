@@ -2,6 +2,8 @@
 use crate::buffered::Buffered;
 use crate::cached::Cached;
 use crate::case::Case;
+use crate::forms::Argument::{Number, Word};
+use crate::forms::{Arguments, Form, read_step};
 use crate::journals::Journals;
 use crate::memory::Memory;
 use crate::mirrored::Mirrored;
@@ -10,14 +12,42 @@ use crate::plain::Plain;
 use crate::played::Scripts;
 use crate::runs::play_session;
 use crate::served::Server;
+use crate::setting::{SumName, sum_of};
 use crate::subject::{Subject, play_all};
-use crate::values::Values;
 use crate::views::Viewed;
-use crate::words::{bytes_of, length, number, page_size, words};
-use page::{AddSum, ConstSum, Sum};
+use crate::words::{bytes_of, page_size, unreadable, words};
+use page::{AddSum, ConstSum};
 use std::alloc::Global;
 use std::io;
-use std::num::NonZeroU16;
+
+// What a case is about, where it isn't a session.
+#[derive(Clone, Copy)]
+enum Kind {
+    Cases,
+    Scripts,
+    Requests,
+    Memory,
+    Plain,
+    Mirror,
+    Journal,
+    Buffer,
+    Cache,
+    View,
+}
+
+const KINDS: [Form<Kind>; 11] = [
+    (b"cases", &[], Kind::Cases),
+    (b"scripts", &[], Kind::Scripts),
+    (b"requests", &[], Kind::Requests),
+    (b"memory", &[], Kind::Memory),
+    (b"plain", &[], Kind::Plain),
+    (b"mirror", &[Number], Kind::Mirror),
+    (b"journal", &[Word], Kind::Journal),
+    (b"buffer", &[Number, Number, Number], Kind::Buffer),
+    (b"cache", &[Number, Number], Kind::Cache),
+    (b"view", &[Number], Kind::View),
+    (b"view", &[Number, Number], Kind::View),
+];
 
 // Plays all lines of a case, once.
 fn play_once<S: Subject>(
@@ -30,104 +60,127 @@ fn play_once<S: Subject>(
     Ok(1)
 }
 
+// The same with a subject that was made for it.
+fn play_made<S: Subject + Drop>(
+    alloc: Global,
+    made: io::Result<Box<S>>,
+    case: &Case,
+    told: &mut Vec<u8>,
+) -> io::Result<u64> {
+    let mut subject = made?;
+    play_once(alloc, &mut *subject, case, told)
+}
+
 fn over_memory(alloc: Global, case: &Case, told: &mut Vec<u8>) -> io::Result<u64> {
-    let mut memory = Memory::new(alloc, &bytes_of(alloc, &case.blob)?)?;
-    play_once(alloc, &mut *memory, case, told)
+    let bytes = bytes_of(alloc, &case.blob)?;
+    play_made(alloc, Memory::new(alloc, &bytes), case, told)
 }
 
 fn over_plain(alloc: Global, case: &Case, told: &mut Vec<u8>) -> io::Result<u64> {
-    let mut plain = Plain::new(alloc, bytes_of(alloc, &case.blob)?)?;
-    play_once(alloc, &mut *plain, case, told)
-}
-
-// The host's call of this number fails.
-fn over_mirror(alloc: Global, case: &Case, failing: u64, told: &mut Vec<u8>) -> io::Result<u64> {
-    let mut mirrored = Mirrored::new(alloc, failing)?;
-    play_once(alloc, &mut *mirrored, case, told)
+    let bytes = bytes_of(alloc, &case.blob)?;
+    play_made(alloc, Plain::new(alloc, bytes), case, told)
 }
 
 fn over_requests(alloc: Global, case: &Case, told: &mut Vec<u8>) -> io::Result<u64> {
-    let mut server = Server::new(alloc, bytes_of(alloc, &case.blob)?)?;
-    play_once(alloc, &mut *server, case, told)
+    let bytes = bytes_of(alloc, &case.blob)?;
+    play_made(alloc, Server::new(alloc, bytes), case, told)
+}
+
+// The host's call of a number fails.
+fn over_mirror(
+    alloc: Global,
+    case: &Case,
+    words: &Arguments,
+    told: &mut Vec<u8>,
+) -> io::Result<u64> {
+    play_made(alloc, Mirrored::new(alloc, words.number(0)), case, told)
 }
 
 fn over_buffer(
     alloc: Global,
     case: &Case,
-    offset: u64,
-    capacity: usize,
-    page_size: usize,
+    words: &Arguments,
     told: &mut Vec<u8>,
 ) -> io::Result<u64> {
-    let mut buffered = Buffered::new(alloc, offset, capacity, page_size)?;
-    play_once(alloc, &mut *buffered, case, told)
+    let (offset, capacity, page_size) = (words.number(0), words.length(1), words.length(2));
+    play_made(
+        alloc,
+        Buffered::new(alloc, offset, capacity, page_size),
+        case,
+        told,
+    )
 }
 
 fn over_cache(
     alloc: Global,
     case: &Case,
-    page_size: NonZeroU16,
-    pages: usize,
+    words: &Arguments,
     told: &mut Vec<u8>,
 ) -> io::Result<u64> {
-    let mut cached = Cached::new(alloc, page_size, pages)?;
-    play_once(alloc, &mut *cached, case, told)
+    let page_size = page_size(words.number(0))?;
+    play_made(
+        alloc,
+        Cached::new(alloc, page_size, words.length(1)),
+        case,
+        told,
+    )
 }
 
 // The byte of the blob at an offset is another, if one is there.
-fn over_view(
-    alloc: Global,
-    case: &Case,
-    pages: usize,
-    changed: usize,
-    told: &mut Vec<u8>,
-) -> io::Result<u64> {
-    let mut viewed = Viewed::new(alloc, pages, changed)?;
-    play_once(alloc, &mut *viewed, case, told)
+fn over_view(alloc: Global, case: &Case, words: &Arguments, told: &mut Vec<u8>) -> io::Result<u64> {
+    let changed = words.numbers.get(1).copied().unwrap_or(u64::MAX);
+    let viewed = Viewed::new(alloc, words.length(0), changed as usize);
+    play_made(alloc, viewed, case, told)
 }
 
 // The pages of its blob and its records have the same checksum function.
-fn over_journal<H: Sum>(alloc: Global, case: &Case, told: &mut Vec<u8>) -> io::Result<u64> {
-    let mut journals = Journals::<H, H>::new(alloc)?;
-    play_once(alloc, &mut *journals, case, told)
-}
-
-// A case of a part of the layer, or else of a session.
-fn play_part(alloc: Global, case: &Case, words: &[&[u8]], told: &mut Vec<u8>) -> io::Result<u64> {
-    match words {
-        [b"buffer", offset, capacity, size] => {
-            let (offset, capacity) = (number(offset)?, length(capacity)?);
-            over_buffer(alloc, case, offset, capacity, length(size)?, told)
+fn over_journal(
+    alloc: Global,
+    case: &Case,
+    words: &Arguments,
+    told: &mut Vec<u8>,
+) -> io::Result<u64> {
+    match sum_of(words.bytes()) {
+        Some(SumName::Add) => {
+            play_made(alloc, Journals::<AddSum, AddSum>::new(alloc), case, told)
         }
-        [b"cache", size, pages] => over_cache(alloc, case, page_size(size)?, length(pages)?, told),
-        [b"view", pages] => over_view(alloc, case, length(pages)?, usize::MAX, told),
-        [b"view", pages, changed] => {
-            over_view(alloc, case, length(pages)?, length(changed)?, told)
+        Some(SumName::Const) => {
+            play_made(
+                alloc,
+                Journals::<ConstSum, ConstSum>::new(alloc),
+                case,
+                told,
+            )
         }
-        _ => play_session(alloc, case, words, told),
+        _ => Err(unreadable()),
     }
 }
 
-// A case of a device, or of another thing.
-fn play_other(alloc: Global, case: &Case, words: &[&[u8]], told: &mut Vec<u8>) -> io::Result<u64> {
-    match words {
-        [b"memory"] => over_memory(alloc, case, told),
-        [b"plain"] => over_plain(alloc, case, told),
-        [b"mirror", failing] => over_mirror(alloc, case, number(failing)?, told),
-        [b"journal", b"add"] => over_journal::<AddSum>(alloc, case, told),
-        [b"journal", b"const"] => over_journal::<ConstSum>(alloc, case, told),
-        _ => play_part(alloc, case, words, told),
+fn play_kind(
+    alloc: Global,
+    case: &Case,
+    kind: Kind,
+    words: &Arguments,
+    told: &mut Vec<u8>,
+) -> io::Result<u64> {
+    match kind {
+        Kind::Cases => play_once(alloc, &mut Nested, case, told),
+        Kind::Scripts => play_once(alloc, &mut Scripts, case, told),
+        Kind::Requests => over_requests(alloc, case, told),
+        Kind::Memory => over_memory(alloc, case, told),
+        Kind::Plain => over_plain(alloc, case, told),
+        Kind::Mirror => over_mirror(alloc, case, words, told),
+        Kind::Journal => over_journal(alloc, case, words, told),
+        Kind::Buffer => over_buffer(alloc, case, words, told),
+        Kind::Cache => over_cache(alloc, case, words, told),
+        Kind::View => over_view(alloc, case, words, told),
     }
 }
 
 /// Plays a case in each of its ways, writes each difference, and answers how many runs that were.
 pub fn play_case(alloc: Global, case: &Case, told: &mut Vec<u8>) -> io::Result<u64> {
-    let words = words(alloc, &case.start)?;
-    match words.as_slice() {
-        [b"cases"] => play_once(alloc, &mut Nested, case, told),
-        [b"page"] => play_once(alloc, &mut Values, case, told),
-        [b"scripts"] => play_once(alloc, &mut Scripts, case, told),
-        [b"requests"] => over_requests(alloc, case, told),
-        _ => play_other(alloc, case, &words, told),
+    match read_step(alloc, &KINDS, &case.start)? {
+        Some((kind, words)) => play_kind(alloc, case, kind, &words, told),
+        None => play_session(alloc, case, &words(alloc, &case.start)?, told),
     }
 }

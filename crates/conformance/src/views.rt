@@ -7,13 +7,12 @@ ghost use Rattle.paged_read.specs.Batch.{ranges_of};
 ghost use Rattle.paged_read.specs.Tail.{tail_at, IsView, CanRead};
 
 use crate::calls::say_calls;
+use crate::forms::Argument::{Number, Numbers, Ranges};
+use crate::forms::{Arguments, Form, read_step};
 use crate::in_order::len_together;
 use crate::line::Row;
 use crate::subject::Subject;
-use crate::words::{
-    length, number, numbers, out_of_memory, ranges, say_done, say_error, say_whether, unreadable,
-    words,
-};
+use crate::words::{out_of_memory, say_done, say_error, say_whether, unreadable};
 use cache::CacheRef;
 use disk::{Error, IoBufs, MemBlob};
 use page::{AddSum, Buffer, CHECKSUM_SIZE, Checksum, Sum};
@@ -29,6 +28,34 @@ const PAGE: usize = 103;
 const BELOW: usize = 309;
 
 const TIP: usize = 37;
+
+// What a step asks of a view.
+#[derive(Clone, Copy)]
+enum Verb {
+    ReadInto,
+    ReadAt,
+    UpTo,
+    Cached,
+    Ranges,
+    Fours,
+    CachedRanges,
+    Has,
+    Fail,
+    Backwards,
+}
+
+const STEPS: [Form<Verb>; 10] = [
+    (b"read-into", &[Number, Number], Verb::ReadInto),
+    (b"read-at", &[Number, Number], Verb::ReadAt),
+    (b"up-to", &[Number, Number], Verb::UpTo),
+    (b"cached", &[Number, Number], Verb::Cached),
+    (b"ranges", &[Ranges], Verb::Ranges),
+    (b"fours", &[Numbers], Verb::Fours),
+    (b"cached-ranges", &[Ranges], Verb::CachedRanges),
+    (b"has", &[Number], Verb::Has),
+    (b"fail", &[Number], Verb::Fail),
+    (b"backwards", &[], Verb::Backwards),
+];
 
 /// A blob of three full pages and 37 bytes after them, whose byte i is i modulo 251, with its cache.
 #[derive(Drop)]
@@ -269,48 +296,52 @@ impl Viewed {
         Ok(())
     }
 
-    fn play_words(&mut self, alloc: Global, words: &[&[u8]], said: &mut Vec<u8>) -> io::Result<()> {
-        match words {
-            [b"read-into", offset, len] => {
-                say_count("read", self.read_into(number(offset)?, length(len)?), said)
-            }
-            [b"read-at", offset, len] => {
-                say_count("read", self.read_at(number(offset)?, length(len)?), said)
-            }
-            [b"up-to", offset, len] => {
-                say_count("read", self.read_up_to(number(offset)?, length(len)?), said)
-            }
-            [b"cached", offset, len] => match self.try_read(number(offset)?, length(len)?) {
-                Ok(held) => say_whether(held, said),
-                Err(error) => say_error(error, said),
-            },
-            _ => self.play_more(alloc, words, said),
+    fn play_held(&self, offset: u64, len: usize, said: &mut Vec<u8>) -> io::Result<()> {
+        match self.try_read(offset, len) {
+            Ok(held) => say_whether(held, said),
+            Err(error) => say_error(error, said),
         }
     }
 
-    fn play_more(&mut self, alloc: Global, words: &[&[u8]], said: &mut Vec<u8>) -> io::Result<()> {
-        match words {
-            [b"ranges", these @ ..] => self.play_ranges(&ranges(alloc, these)?, said),
-            [b"fours", these @ ..] => self.play_fours(alloc, &numbers(alloc, these)?, said),
-            [b"cached-ranges", these @ ..] => self.play_missed(&ranges(alloc, these)?, said),
-            [b"has", page] => say_whether(self.cache.holds(self.id, number(page)?), said),
-            [b"fail", call] => {
-                self.blob.fail_at(number(call)?.max(1));
-                say_done(Ok(()), said)
-            }
-            [b"backwards"] => {
-                self.blob.deliver_backwards(true);
-                say_done(Ok(()), said)
-            }
-            _ => Err(unreadable()),
+    fn fail_at(&mut self, number: u64, said: &mut Vec<u8>) -> io::Result<()> {
+        self.blob.fail_at(number.max(1));
+        say_done(Ok(()), said)
+    }
+
+    fn deliver_backwards(&mut self, said: &mut Vec<u8>) -> io::Result<()> {
+        self.blob.deliver_backwards(true);
+        say_done(Ok(()), said)
+    }
+
+    fn go(
+        &mut self,
+        alloc: Global,
+        verb: Verb,
+        words: &Arguments,
+        said: &mut Vec<u8>,
+    ) -> io::Result<()> {
+        let (first, len) = (words.number(0), words.length(1));
+        match verb {
+            Verb::ReadInto => say_count("read", self.read_into(first, len), said),
+            Verb::ReadAt => say_count("read", self.read_at(first, len), said),
+            Verb::UpTo => say_count("read", self.read_up_to(first, len), said),
+            Verb::Cached => self.play_held(first, len, said),
+            Verb::Ranges => self.play_ranges(&words.ranges, said),
+            Verb::Fours => self.play_fours(alloc, &words.numbers, said),
+            Verb::CachedRanges => self.play_missed(&words.ranges, said),
+            Verb::Has => say_whether(self.cache.holds(self.id, first), said),
+            Verb::Fail => self.fail_at(first, said),
+            Verb::Backwards => self.deliver_backwards(said),
         }
     }
 }
 
 impl Subject for Viewed {
     fn play(&mut self, alloc: Global, row: &Row, said: &mut Vec<u8>) -> io::Result<()> {
-        let words = words(alloc, &row.step)?;
-        self.play_words(alloc, &words, said)
+        match read_step(alloc, &STEPS, &row.step)? {
+            Some((verb, words)) => self.go(alloc, verb, &words, said),
+            None => Err(unreadable()),
+        }
     }
 
     fn calls(&self) -> usize {

@@ -43,13 +43,13 @@ pub fn length(word: &[u8]) -> io::Result<usize> {
 }
 
 /// The size of a buffer: one byte at least.
-pub fn buffer_size(word: &[u8]) -> io::Result<NonZeroUsize> {
-    Ok(NonZeroUsize::new(length(word)?).unwrap_or(NonZeroUsize::MIN))
+pub fn buffer_size(number: u64) -> NonZeroUsize {
+    NonZeroUsize::new(number as usize).unwrap_or(NonZeroUsize::MIN)
 }
 
 /// The size of a page: one byte at least.
-pub fn page_size(word: &[u8]) -> io::Result<NonZeroU16> {
-    let size = u16::try_from(number(word)?).unwrap_or(0);
+pub fn page_size(number: u64) -> io::Result<NonZeroU16> {
+    let size = u16::try_from(number).unwrap_or(0);
     NonZeroU16::new(size).ok_or(unreadable())
 }
 
@@ -61,40 +61,13 @@ pub fn bytes_of(alloc: Global, word: &[u8]) -> io::Result<Vec<u8>> {
     }
 }
 
-/// The bytes that some words are, one after another.
-pub fn joined(alloc: Global, words: &[&[u8]]) -> io::Result<Vec<u8>> {
-    let mut all = Vec::new(alloc);
-    for word in words {
-        let bytes = bytes_of(alloc, word)?;
-        all.extend_from_slice(&bytes)?;
-    }
-    Ok(all)
-}
-
-/// The numbers that some words are.
-pub fn numbers(alloc: Global, words: &[&[u8]]) -> io::Result<Vec<u64>> {
-    let mut numbers = Vec::new(alloc);
-    for word in words {
-        numbers.push(number(word)?)?;
-    }
-    Ok(numbers)
-}
-
-fn range(word: &[u8]) -> io::Result<(u64, usize)> {
+/// The range that a word is, as `0:4`.
+pub fn range(word: &[u8]) -> io::Result<(u64, usize)> {
     let mut parts = word.split(|byte| *byte == b':');
     match (parts.next(), parts.next(), parts.next()) {
         (Some(offset), Some(len), None) => Ok((number(offset)?, length(len)?)),
         _ => Err(unreadable()),
     }
-}
-
-/// The ranges that some words are, as `0:4`.
-pub fn ranges(alloc: Global, words: &[&[u8]]) -> io::Result<Vec<(u64, usize)>> {
-    let mut ranges = Vec::new(alloc);
-    for word in words {
-        ranges.push(range(word)?)?;
-    }
-    Ok(ranges)
 }
 
 /// The flags that a word is: digits 0 and 1, or `-`.

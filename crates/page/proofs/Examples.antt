@@ -1,8 +1,11 @@
 -- Each definition of pages, computed on a few bytes. Pages have 4 bytes, and the checksum is the sum of the bytes.
-use Rattle.std.proofs.Common.{◌≡◌, ◌%◌, ℕ, List, [], ◌∷◌, ◌++◌, length, refl, lit<, lit≤}
-use Rattle.std.specs.Prelude.{Some, None, Ok, true, false}
+use Rattle.std.proofs.Common.{◌≡◌, ◌%◌, ◌^◌, ℕ, List, [], ◌∷◌, ◌++◌, length, refl, lit<, lit≤}
+use Rattle.std.specs.Prelude.{Some, None, Ok, Err, true, false, replicate, nat_le}
+use Rattle.std.specs.Int.{w16, to_be_bytes}
 use Rattle.page.specs.Page.{slot_bytes, slot_of, slot_len, slot_crc, verifies, verified_len, value_len, value, active, pages, text}
-use Rattle.page.specs.Geometry.{adjusted, is_too_big}
+use Rattle.page.specs.Footer.{footer_bytes, footer_of, longer_slot}
+use Rattle.page.specs.Geometry.{adjusted, is_too_big, RangeGoes}
+use Rattle.disk.specs.declared.error.Error.TheVariants.{OffsetOverflow, BlobInsufficientLength}
 use Rattle.page.specs.Sums.{add_sum, const_sum}
 use Rattle.page.specs.Tip.{Tip, tip_size, joined, full_len, drained, grown_limit, page_limit, kept_limit, AppendGoes, TryAppendGoes, DrainGoes}
 use Rattle.page.specs.declared.slot.Slot.TheVariants.{First, Second}
@@ -72,6 +75,57 @@ the_other_slot = refl
 pub no_slot : active add_sum 4 (0 ∷ 0 ∷ 0 ∷ 0 ∷ 0 ∷ 0 ∷ 0 ∷ 0 ∷ 0 ∷ 0 ∷ 0 ∷ 0 ∷ 0 ∷ 0 ∷ 0 ∷ 0 ∷ []) ≡ None
 no_slot = refl
 
+-- nor have bytes that are all ones, under either sum, nor fewer bytes than a footer has
+pub ones_have_no_value : active add_sum 4 (replicate 16 255) ≡ None
+ones_have_no_value = refl
+
+pub nor_by_chance : active const_sum 4 (replicate 16 255) ≡ None
+nor_by_chance = refl
+
+pub no_room_for_a_footer : active const_sum 0 (replicate 11 255) ≡ None
+no_room_for_a_footer = refl
+
+-- a full page under a sum that is always 0
+pub a_full_page : active const_sum 4 (replicate 4 255 ++ slot_bytes 4 0 ++ slot_bytes 0 0) ≡ Some (record { slot = First; len = 4; crc = 0 })
+a_full_page = refl
+
+-- "fallback data", and its sum
+abbrev fallback : List ℕ
+fallback = 102 ∷ 97 ∷ 108 ∷ 108 ∷ 98 ∷ 97 ∷ 99 ∷ 107 ∷ 32 ∷ 100 ∷ 97 ∷ 116 ∷ 97 ∷ []
+
+pub the_sum_of_text : add_sum fallback ≡ 1258
+the_sum_of_text = refl
+
+pub the_sum_of_nothing : add_sum [] ≡ 0
+the_sum_of_nothing = refl
+
+pub the_constant_sum : const_sum fallback ≡ 0
+the_constant_sum = refl
+
+-- a longer slot that fails gives way to a shorter one
+pub a_slot_gives_way : active add_sum 52 (fallback ++ replicate 39 0 ++ slot_bytes 23 195894762 ++ slot_bytes 13 1258) ≡ Some (record { slot = Second; len = 13; crc = 1258 })
+a_slot_gives_way = refl
+
+-- numbers in a footer are big-endian
+pub a_footer : footer_bytes (record { len1 = 258; crc1 = 50595078; len2 = 1800; crc2 = 151653132 }) ≡ 1 ∷ 2 ∷ 3 ∷ 4 ∷ 5 ∷ 6 ∷ 7 ∷ 8 ∷ 9 ∷ 10 ∷ 11 ∷ 12 ∷ []
+a_footer = refl
+
+pub a_footer_back : footer_of (1 ∷ 2 ∷ 3 ∷ 4 ∷ 5 ∷ 6 ∷ 7 ∷ 8 ∷ 9 ∷ 10 ∷ 11 ∷ 12 ∷ []) ≡ record { len1 = 258; crc1 = 50595078; len2 = 1800; crc2 = 151653132 }
+a_footer_back = refl
+
+pub a_length_alone : to_be_bytes w16 258 ≡ 1 ∷ 2 ∷ []
+a_length_alone = refl
+
+-- the longer slot leads, and the first where both are as long
+pub the_first_of_equals : longer_slot (record { len1 = 100; crc1 = 1; len2 = 100; crc2 = 2 }) ≡ First
+the_first_of_equals = refl
+
+pub the_longer_second : longer_slot (record { len1 = 100; crc1 = 1; len2 = 200; crc2 = 2 }) ≡ Second
+the_longer_second = refl
+
+pub the_longer_first : longer_slot (record { len1 = 200; crc1 = 1; len2 = 100; crc2 = 2 }) ≡ First
+the_longer_first = refl
+
 -- two pages and a rest of one byte, which is no page
 pub two_pages : pages 4 (abcd_page ++ ef_page ++ 255 ∷ []) ≡ abcd_page ∷ ef_page ∷ []
 two_pages = refl
@@ -100,9 +154,39 @@ a_greatest_sum = refl
 pub a_capacity : adjusted 5 4 ≡ 8
 a_capacity = refl
 
--- after 2 buffered bytes, 6 are not too big for 8, and 7 are
+pub two_pages_at_least : adjusted 10 64 ≡ 128
+two_pages_at_least = refl
+
+pub a_capacity_of_pages : adjusted 200 64 ≡ 256
+a_capacity_of_pages = refl
+
+-- the greatest passes its type
+pub no_capacity : nat_le (2 ^ 64) (adjusted 18446744073709551615 64) ≡ true
+no_capacity = refl
+
+-- after 2 buffered bytes, 6 are not too big for 8
 pub too_big : is_too_big 2 8 6 4 ≡ false
 too_big = refl
+
+-- after 3 bytes, 5 fit; 6 leave a whole page after the one that they fill; after 7, 4 don't
+pub not_past_the_capacity : is_too_big 3 8 5 4 ≡ false
+not_past_the_capacity = refl
+
+pub a_page_is_left : is_too_big 3 8 6 4 ≡ true
+a_page_is_left = refl
+
+pub no_page_is_left : is_too_big 7 8 4 4 ≡ false
+no_page_is_left = refl
+
+-- a range whose end passes the greatest offset, and one that passes a size of 16
+pub an_overflow : RangeGoes 16 (18446744073709551615, 4) (Err OffsetOverflow)
+an_overflow = lit≤ tt
+
+pub past_the_end : RangeGoes 16 (14, 4) (Err BlobInsufficientLength)
+past_the_end = (lit< tt, lit< tt)
+
+pub up_to_the_end : RangeGoes 16 (12, 4) (Ok tt)
+up_to_the_end = lit≤ tt
 
 -- seven bytes after offset 10, in pages of 8, of which 64 are to be buffered
 abbrev pub seven : Tip
