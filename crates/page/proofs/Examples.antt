@@ -1,10 +1,10 @@
 -- Each definition of pages, computed on a few bytes. Pages have 4 bytes, and the checksum is the sum of the bytes.
-use Rattle.std.proofs.Common.{◌≡◌, ◌%◌, ◌^◌, ℕ, List, [], ◌∷◌, ◌++◌, length, refl, lit<, lit≤}
+use Rattle.std.proofs.Common.{◌≡◌, ◌%◌, ◌^◌, ◌+◌, ◌*◌, ◌<◌, ◌≤◌, ℕ, zero, suc, arith, List, [], ◌∷◌, ◌++◌, length, refl, lit<, lit≤}
 use Rattle.std.specs.Prelude.{Some, None, Ok, Err, true, false, replicate, nat_le}
 use Rattle.std.specs.Int.{w16, to_be_bytes}
 use Rattle.page.specs.Page.{slot_bytes, slot_of, slot_len, slot_crc, verifies, verified_len, value_len, value, active, pages, text}
 use Rattle.page.specs.Footer.{footer_bytes, footer_of, longer_slot}
-use Rattle.page.specs.Geometry.{adjusted, is_too_big, RangeGoes}
+use Rattle.page.specs.Geometry.{adjusted, is_too_big, EndWithin, RangeGoes, RangesGo}
 use Rattle.disk.specs.declared.error.Error.TheVariants.{OffsetOverflow, BlobInsufficientLength}
 use Rattle.page.specs.Sums.{add_sum, const_sum}
 use Rattle.page.specs.Tip.{Tip, tip_size, joined, full_len, drained, grown_limit, page_limit, kept_limit, AppendGoes, TryAppendGoes, DrainGoes}
@@ -178,6 +178,23 @@ a_page_is_left = refl
 pub no_page_is_left : is_too_big 7 8 4 4 ≡ false
 no_page_is_left = refl
 
+-- page 2 of 4 logical bytes stands at 32 and has 16; the last page that has an offset, and the first that has none
+pub a_physical_page : (2 * (4 + 12) ≡ 32) × (4 + 12 ≡ 16)
+a_physical_page = (refl, refl)
+
+pub the_last_page : 1152921504606846974 * (4 + 12) ≡ 18446744073709551584
+the_last_page = refl
+
+pub it_ends_within : (1152921504606846974 + 1) * (4 + 12) < 2 ^ 64
+it_ends_within = lit< tt
+
+pub the_next_passes : 2 ^ 64 ≤ (1152921504606846975 + 1) * (4 + 12)
+the_next_passes = lit≤ tt
+
+-- so many bytes more pass the greatest offset, whatever the capacity
+pub too_big_to_count : 2 ^ 64 ≤ 1 + 18446744073709551615
+too_big_to_count = lit≤ tt
+
 -- a range whose end passes the greatest offset, and one that passes a size of 16
 pub an_overflow : RangeGoes 16 (18446744073709551615, 4) (Err OffsetOverflow)
 an_overflow = lit≤ tt
@@ -187,6 +204,14 @@ past_the_end = (lit< tt, lit< tt)
 
 pub up_to_the_end : RangeGoes 16 (12, 4) (Ok tt)
 up_to_the_end = lit≤ tt
+
+-- of ranges the first that can't be read decides, though the next one's end passes the greatest offset
+pub the_first_decides : RangesGo 16 ((0, 4) ∷ (14, 4) ∷ (18446744073709551615, 4) ∷ []) (Err BlobInsufficientLength)
+the_first_decides = ((0, 4) ∷ [], (18446744073709551615, 4) ∷ [], ((14, 4), refl, first, past_the_end))
+  where
+    first : EndWithin 16 ((0, 4) ∷ [])
+    first zero range lt = omega (arith, lt)
+    first (suc k) range lt = absurd (omega (arith, lt))
 
 -- seven bytes after offset 10, in pages of 8, of which 64 are to be buffered
 abbrev pub seven : Tip
