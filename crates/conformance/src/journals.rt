@@ -9,7 +9,7 @@ use crate::line::Row;
 use crate::subject::Subject;
 use crate::words::{buffer_size, out_of_memory, say_done, say_error, unreadable};
 use cache::CacheRef;
-use disk::{Error, IoBuf, MemBlob};
+use disk::{Blob, Error, IoBuf, MemBlob};
 use journal::{Found, Journal, crash_and_recover, frame_of};
 use page::Sum;
 use paged::Writer;

@@ -4,7 +4,7 @@ ghost use Rattle.cache.specs.Pages.{IsFresh};
 
 use crate::words::{say_bytes, say_error};
 use cache::CacheRef;
-use disk::{Error, IoBuf, MemBlob, ReadOptions};
+use disk::{Blob, Error, IoBuf, MemBlob, ReadOptions};
 use page::AddSum;
 use paged::Recovery;
 use std::alloc::Global;

@@ -4,7 +4,7 @@ ghost use Rattle.std.specs.Int.NonZero.{non_zero_u16_get};
 ghost use Rattle.disk.specs.History.{life_of};
 
 use crate::words::{say_bytes, say_error};
-use disk::{Error, IoBufs, MemBlob, ReadOptions};
+use disk::{Blob, Error, IoBufs, MemBlob, ReadOptions};
 use page::{ActiveChecksum, AddSum, Slot};
 use paged_read::{Prefix, last_pages, physical_page_size, read_range, read_tail, scan};
 use scripts::Hex;

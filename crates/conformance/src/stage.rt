@@ -1,7 +1,7 @@
 // What a case runs over.
 use crate::setting::Setting;
 use cache::CacheRef;
-use disk::{Call, Error, MemBlob};
+use disk::{Blob, Call, Error, MemBlob};
 use page::Sum;
 use paged::{Outlook, Recovery, look};
 use session::{Reply, Session, Step, run};

@@ -14,7 +14,7 @@ use crate::line::Row;
 use crate::subject::Subject;
 use crate::words::{out_of_memory, say_done, say_error, say_whether, unreadable};
 use cache::CacheRef;
-use disk::{Error, IoBufs, MemBlob};
+use disk::{Blob, Error, IoBufs, MemBlob};
 use page::{AddSum, Buffer, CHECKSUM_SIZE, Checksum, Sum};
 use paged_read::View;
 use std::alloc::{AllocError, Global};

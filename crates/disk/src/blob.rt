@@ -1,5 +1,5 @@
 // The device.
-ghost use Rattle.std.specs.Prelude.{◌≡◌, [], true};
+ghost use Rattle.std.specs.Prelude.{◌≡◌, [], length, true};
 ghost use Rattle.std.specs.List.{concat};
 ghost use Rattle.disk.specs.Disk.{Life, IsImage, AreCovered, Write, Resize, ReadGoes, WriteGoes};
 ghost use Rattle.disk.specs.Disk.{ReadManyGoes, StartReadGoes, ResizeGoes, SyncGoes, StartGoes};
@@ -40,6 +40,10 @@ pub struct WriteOptions {
 pub trait Blob {
     /// The blob's present disk and the past ones.
     ghost life: { Self → Life };
+
+    /// How many bytes are readable. No device is asked.
+    fn len(&self) -> u64
+        ensures { result ≡ length (life self.now).present.readable };
 
     /// The `len` bytes at `offset`. `BlobInsufficientLength` where the range passes the end,
     /// `OutOfMemory` only where it doesn't, `ReadFailed` where the device failed; an error leaves

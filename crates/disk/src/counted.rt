@@ -53,6 +53,10 @@ impl<B> Counted<B> {
 impl<B: Blob> Blob for Counted<B> {
     ghost life = { λ b. B.life b.inner };
 
+    fn len(&self) -> u64 {
+        self.inner.len()
+    }
+
     fn read_at(
         &mut self,
         alloc: Global,

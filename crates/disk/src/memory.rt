@@ -103,13 +103,6 @@ impl MemBlob {
         }
     }
 
-    /// The number of readable bytes.
-    pub fn len(&self) -> u64
-        ensures { result ≡ length (life_of self.now).present.readable }
-    {
-        self.readable.len() as u64
-    }
-
     /// The readable bytes.
     pub fn bytes(&self) -> &[u8]
         ensures { result.now ≡ (life_of self.now).present.readable }
@@ -270,6 +263,10 @@ impl Blob for MemBlob {
     ghost use Rattle.disk.specs.Lives.{life_reads, life_covers};
 
     ghost life = { life_of };
+
+    fn len(&self) -> u64 {
+        self.readable.len() as u64
+    }
 
     fn read_at(
         &mut self,

@@ -83,13 +83,6 @@ impl VecBlob {
         &self.bytes
     }
 
-    /// How many bytes it has.
-    pub fn len(&self) -> u64
-        ensures { result ≡ length (life_of self.now.history).present.readable }
-    {
-        self.bytes.len() as u64
-    }
-
     /// Lets each call from now on fail with its own error, as a device does that broke down: a
     /// write with `WriteFailed`, and so on. What would be refused before the device is asked still
     /// is.
@@ -173,6 +166,10 @@ impl Blob for VecBlob {
     ghost use Rattle.disk.specs.Lives.{life_reads, life_covers};
 
     ghost life = { λ b. life_of b.history };
+
+    fn len(&self) -> u64 {
+        self.bytes.len() as u64
+    }
 
     fn read_at(
         &mut self,

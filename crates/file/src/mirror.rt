@@ -79,13 +79,6 @@ impl<S: Host> Mirror<S> {
         self.kept.bytes()
     }
 
-    /// How many bytes it has.
-    pub fn len(&self) -> u64
-        ensures { result ≡ length (life_of self.now.kept.history).present.readable }
-    {
-        self.kept.len()
-    }
-
     /// Why the host failed, where it has. Then each later call fails.
     pub fn failure(&self) -> Option<&io::Error>
         ensures { is_some result ≡ self.now.kept.stopped }
@@ -144,6 +137,10 @@ impl<S: Host> Blob for Mirror<S> {
     ghost use Rattle.disk.specs.Lives.{life_reads, life_covers};
 
     ghost life = { λ m. life_of m.kept.history };
+
+    fn len(&self) -> u64 {
+        self.kept.len()
+    }
 
     fn read_at(
         &mut self,

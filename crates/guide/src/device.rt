@@ -27,6 +27,10 @@ impl<B> Metered<B> {
 impl<B: Blob> Blob for Metered<B> {
     ghost life = { λ b. B.life b.inner };
 
+    fn len(&self) -> u64 {
+        self.inner.len()
+    }
+
     fn read_at(
         &mut self,
         alloc: Global,

@@ -9,7 +9,7 @@ ghost use Rattle.journal.specs.Reader.{EachReaderStays};
 
 use crate::journal::Journal;
 use cache::CacheRef;
-use disk::{Error, IoBuf, MemBlob};
+use disk::{Blob, Error, IoBuf, MemBlob};
 use page::Sum;
 use std::alloc::Global;
 use std::num::NonZeroUsize;

@@ -6,7 +6,7 @@ ghost use Rattle.std.specs.Prelude.{IfOk};
 ghost use Rattle.cache.specs.Pages.{IsFresh};
 
 use cache::CacheRef;
-use disk::{Counted, Error, IoBuf, MemBlob};
+use disk::{Blob, Counted, Error, IoBuf, MemBlob};
 use journal::{Journal, crash_and_recover};
 use page::AddSum;
 use std::alloc::Global;

@@ -7,6 +7,7 @@
 #![tactic(auto)]
 
 use crc32c::Crc32c;
+use disk::Blob;
 use file::FileBlob;
 use protocol::{Stop, serve_file};
 use std::io::{BufReader, BufWriter, Write};

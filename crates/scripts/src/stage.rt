@@ -5,7 +5,7 @@ ghost use Rattle.paged.specs.Recovery.{IsDurable};
 use crate::script::{Line, Start};
 use crate::text::{Hex, Said};
 use cache::CacheRef;
-use disk::{Error, MemBlob};
+use disk::{Blob, Error, MemBlob};
 use page::Sum;
 use session::{Reply, Session, Step, run};
 use std::alloc::Global;
