@@ -3,6 +3,7 @@ use crate::stage::{PAGE_SIZE, PHYSICAL_PAGE, recovered};
 use crate::work::append_synced;
 use anyhow::Result;
 use cache::CacheRef;
+use disk::Blob;
 use file::FileBlob;
 use page::Sum;
 use std::fs::{File, OpenOptions};
