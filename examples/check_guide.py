@@ -1,8 +1,8 @@
-"""Compares two pages with the code: python3 examples/check_guide.py, at the top of the repository.
+"""Compares pages with the code: python3 examples/check_guide.py, at the top of the repository.
 
-docs/GUIDE.md: each block of code that follows a line `In FILE:` must stand in that file, word for word, at whatever
-indentation. docs/CONTRACTS.md: each clause must stand in a file of crates/*/src, but for the short names that the page
-says at its beginning. It prints what doesn't, and ends with status 1 then.
+README.md and docs/GUIDE.md: each block of code that follows a line `In FILE:` must stand in that file, word for word, at
+whatever indentation. README.md and docs/CONTRACTS.md: each clause must stand in a file of crates/*/src, except for the
+short names that docs/CONTRACTS.md introduces at its beginning. It prints what doesn't, and ends with status 1 then.
 """
 import glob
 import os
@@ -76,7 +76,7 @@ def clauses(text):
 def main():
     wrong = []
     checked = 0
-    for name, snippet in snippets(read("docs/GUIDE.md")):
+    for name, snippet in snippets(read("README.md")) + snippets(read("docs/GUIDE.md")):
         if name:
             checked += 1
             if not stands_in(snippet, read(name)):
@@ -84,7 +84,7 @@ def main():
     source = set()
     for path in glob.glob(os.path.join(ROOT, "crates/*/src/**/*.rt"), recursive=True):
         source.update(clauses(read(path)))
-    page = "".join(re.findall(r"^    .*\n", read("docs/CONTRACTS.md"), re.M))
+    page = "".join(re.findall(r"^    .*\n", read("README.md") + read("docs/CONTRACTS.md"), re.M))
     contracts = clauses(page)
     wrong += [f"in no source: {clause}" for clause in contracts if clause not in source]
     for line in wrong:
