@@ -2,7 +2,8 @@
 
 README.md and docs/GUIDE.md: each block of code that follows a line `In FILE:` must stand in that file, word for word, at
 whatever indentation. README.md and docs/CONTRACTS.md: each clause must stand in a file of crates/*/src, except for the
-short names that docs/CONTRACTS.md introduces at its beginning. It prints what doesn't, and ends with status 1 then.
+short names that docs/CONTRACTS.md introduces at its beginning. docs/GUIDE.md: each line of crates.txt that it quotes must
+stand there, except that of the crate `mine`. It prints what doesn't, and ends with status 1 then.
 """
 import glob
 import os
@@ -87,9 +88,12 @@ def main():
     page = "".join(re.findall(r"^    .*\n", read("README.md") + read("docs/CONTRACTS.md"), re.M))
     contracts = clauses(page)
     wrong += [f"in no source: {clause}" for clause in contracts if clause not in source]
+    crates = re.findall(r"^    (?!mine:)([a-z_0-9]+:(?: [a-z_0-9]+)+)$", read("docs/GUIDE.md"), re.M)
+    listed = read("crates.txt").split("\n")
+    wrong += [f"not in crates.txt: {line}" for line in crates if line not in listed]
     for line in wrong:
         print(line)
-    print(f"{checked} snippets and {len(contracts)} clauses, {len(wrong)} of them wrong")
+    print(f"{checked} snippets, {len(contracts)} clauses and {len(crates)} crates, {len(wrong)} of them wrong")
     sys.exit(1 if wrong else 0)
 
 
