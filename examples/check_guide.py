@@ -1,9 +1,11 @@
 """Compares pages with the code: python3 examples/check_guide.py, at the top of the repository.
 
-README.md and docs/GUIDE.md: each block of code that follows a line `In FILE:` must stand in that file, word for word, at
-whatever indentation. README.md and docs/CONTRACTS.md: each clause must stand in a file of crates/*/src, except for the
-short names that docs/CONTRACTS.md introduces at its beginning. docs/GUIDE.md: each line of crates.txt that it quotes must
-stand there, except that of the crate `mine`. It prints what doesn't, and ends with status 1 then.
+README.md and docs/GUIDE.md: each block of code that follows a line `In FILE:` must stand in that file, word for word,
+at whatever indentation. README.md and docs/CONTRACTS.md: each clause must stand in a file of crates/*/src, except for
+the short names that docs/CONTRACTS.md introduces at its beginning. docs/GUIDE.md: each line of crates.txt that it
+quotes must stand there, except that of the crate `mine`. docs/DEFINITIONS.md: each word must stand in a file of
+crates/. In every page each link, and each path below crates/, docs/ or examples/, must be there. It prints what isn't
+so, and ends with status 1 then.
 """
 import glob
 import os
@@ -74,26 +76,70 @@ def clauses(text):
     return found
 
 
-def main():
-    wrong = []
-    checked = 0
-    for name, snippet in snippets(read("README.md")) + snippets(read("docs/GUIDE.md")):
-        if name:
-            checked += 1
-            if not stands_in(snippet, read(name)):
-                wrong.append(f"not in {name}:\n{snippet}")
+def sources(pattern):
+    """The files of the crates that fit a pattern, without what was built."""
+    found = glob.glob(os.path.join(ROOT, "crates", pattern), recursive=True)
+    return [path for path in found if "/out/" not in path]
+
+
+def wrong_code(pages):
+    """The blocks of code that don't stand in the file that is named above them, and how many blocks there are."""
+    named = [(name, snippet) for page in pages for name, snippet in snippets(read(page)) if name]
+    wrong = [f"not in {name}:\n{snippet}" for name, snippet in named if not stands_in(snippet, read(name))]
+    return wrong, len(named)
+
+
+def wrong_clauses(pages):
+    """The clauses that stand in no source, and how many clauses there are."""
     source = set()
-    for path in glob.glob(os.path.join(ROOT, "crates/*/src/**/*.rt"), recursive=True):
+    for path in sources("*/src/**/*.rt"):
         source.update(clauses(read(path)))
-    page = "".join(re.findall(r"^    .*\n", read("README.md") + read("docs/CONTRACTS.md"), re.M))
-    contracts = clauses(page)
-    wrong += [f"in no source: {clause}" for clause in contracts if clause not in source]
-    crates = re.findall(r"^    (?!mine:)([a-z_0-9]+:(?: [a-z_0-9]+)+)$", read("docs/GUIDE.md"), re.M)
+    quoted = clauses("".join(re.findall(r"^    .*\n", "".join(map(read, pages)), re.M)))
+    return [f"in no source: {clause}" for clause in quoted if clause not in source], len(quoted)
+
+
+def wrong_crates(page):
+    """The lines of crates.txt that a page quotes and that don't stand there, and how many it quotes."""
+    quoted = re.findall(r"^    (?!mine:)([a-z_0-9]+:(?: [a-z_0-9]+)+)$", read(page), re.M)
     listed = read("crates.txt").split("\n")
-    wrong += [f"not in crates.txt: {line}" for line in crates if line not in listed]
+    return [f"not in crates.txt: {line}" for line in quoted if line not in listed], len(quoted)
+
+
+def wrong_words(page):
+    """The words of a page that stand in no file of the crates, and how many words there are."""
+    there = set()
+    for path in sources("**/*.antt") + sources("**/*.rt"):
+        there.update([os.path.basename(path)], re.findall(r"[A-Za-z_]\w*", read(path)))
+    words = set(re.findall(r"`([A-Za-z_]\w*(?:\.antt)?)`", read(page)))
+    return [f"{page}: in no file of crates: {word}" for word in sorted(words - there)], len(words)
+
+
+def wrong_places(pages):
+    """The links and paths of some pages that lead nowhere, and how many there are."""
+    places = []
+    for page in pages:
+        text = re.sub(r"crates/mine\b", "", read(page))
+        places += [(page, path) for path in re.findall(r"(?:crates|docs|examples)/[\w/.-]*\w", text)]
+        links = re.findall(r"\]\(([^)#:]+)(?:#[^)]*)?\)", text)
+        places += [(page, os.path.join(os.path.dirname(page), link)) for link in links]
+    places = [(page, path) for page, path in places if "/out/" not in path]
+    wrong = [f"{page}: not there: {path}" for page, path in places if not os.path.exists(os.path.join(ROOT, path))]
+    return wrong, len(places)
+
+
+def main():
+    pages = ["README.md"] + sorted(f"docs/{name}" for name in os.listdir(os.path.join(ROOT, "docs")))
+    found = {
+        "snippets": wrong_code(["README.md", "docs/GUIDE.md"]),
+        "clauses": wrong_clauses(["README.md", "docs/CONTRACTS.md"]),
+        "crates": wrong_crates("docs/GUIDE.md"),
+        "words": wrong_words("docs/DEFINITIONS.md"),
+        "links and paths": wrong_places(pages),
+    }
+    wrong = [line for lines, _ in found.values() for line in lines]
     for line in wrong:
         print(line)
-    print(f"{checked} snippets, {len(contracts)} clauses and {len(crates)} crates, {len(wrong)} of them wrong")
+    print(", ".join(f"{count} {name}" for name, (_, count) in found.items()) + f"; {len(wrong)} of them wrong")
     sys.exit(1 if wrong else 0)
 
 
