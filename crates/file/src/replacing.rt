@@ -19,7 +19,8 @@ use std::{fs, io};
 /// gets the old one's permissions, is locked, written and synced, and then renamed over the old one;
 /// last the folder is synced. Where the path is a link, the file that it leads to is replaced.
 ///
-/// Let go of a blob over the old file first: it holds the lock, which this call takes too.
+/// Let go of a blob over the old file first: it holds the lock, which this call takes too. What
+/// another process wrote to the old file after these bytes were read from it is gone.
 ///
 /// After an error the path names the old file, untouched, or the new one, whole: the new one only
 /// where the folder's sync failed. What is left of `PATH.new-N` is removed where the system lets
