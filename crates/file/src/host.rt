@@ -1,5 +1,6 @@
 // What a mirror passes its calls on to.
-ghost use Rattle.std.specs.Prelude.{◌≡◌, ◌∷◌, [], ◌++◌, List, false};
+ghost use Rattle.std.specs.Prelude.{◌≡◌, ◌∷◌, [], ◌++◌, List, false, pos, ◌<ℤ◌};
+ghost use Rattle.std.specs.Fd.{file_raw_fd};
 ghost use Rattle.std.specs.List.{concat};
 ghost use Rattle.disk.specs.declared.action.Action.TheVariants as actions;
 ghost use Rattle.disk.specs.declared.action.Event.{Event};
@@ -55,8 +56,10 @@ impl Model for FileHost {
 }
 
 impl FileHost {
-    /// A file that begins with these bytes, of which nothing was asked yet.
+    /// A file that begins with these bytes, of which nothing was asked yet. Its descriptor is none
+    /// of the standard streams', since what is printed there would get into the file.
     pub fn new(file: File, bytes: &Vec<u8>) -> Self
+        requires beyond { pos 2 <ℤ file_raw_fd file }
         ensures { result ≡ [] }
     {
         FileHost {

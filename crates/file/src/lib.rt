@@ -9,10 +9,12 @@
 mod host;
 mod mirror;
 mod opening;
+mod replacing;
 
 pub use host::{FileHost, Host};
 pub use mirror::Mirror;
-pub use opening::open;
+pub use opening::{open, read};
+pub use replacing::{replace, set_aside};
 
 /// A blob over a file of the system.
 pub type FileBlob = Mirror<FileHost>;

@@ -1,10 +1,15 @@
-// Opening a file.
-ghost use Rattle.std.specs.Prelude.{◌≡◌, [], IfOk, false};
+// Opening a file, and reading one.
+ghost use Rattle.std.specs.Prelude.{◌≡◌, [], pos, ◌<ℤ◌, IfOk, false};
+ghost use Rattle.std.specs.Fd.{file_raw_fd};
 ghost use Rattle.disk.specs.History.{life_of, begun};
 
 use crate::{FileBlob, FileHost, Mirror};
-use std::fs::{File, OpenOptions, TryLockError};
+use disk::VecBlob;
+use std::alloc::Global;
+use std::fs::{File, Metadata, OpenOptions, TryLockError};
 use std::io::{ErrorKind, Read};
+use std::os::fd::AsRawFd;
+use std::os::unix::fs::{FileTypeExt, MetadataExt};
 use std::path::PathBuf;
 use std::{fs, io};
 
@@ -12,39 +17,169 @@ use std::{fs, io};
 /// folder that has its name, and then it is read whole; so all of it is durable, and a recovery may
 /// follow.
 ///
-/// The file is locked as long as the blob lives: who opens it meanwhile by this call gets an error
-/// of the kind `WouldBlock`. Any other error is the system's, or `OutOfMemory` where the bytes have
-/// no room in memory. After an error the file is as it was, or was made and is empty.
+/// The file is locked as long as the blob lives, and its descriptor is none of the standard
+/// streams', so what the program prints never gets into it.
+///
+/// Each error says what to do where the system's own words don't:
+/// - `IsADirectory`, `InvalidInput`: the path names a folder, or a fifo, a socket or a device.
+///   It isn't opened.
+/// - `WouldBlock`: another process has the file open, or has just replaced it.
+/// - `OutOfMemory`: its bytes have no room in memory. None was read.
+/// - `UnexpectedEof`: a read ended before the file's end. Nothing was cut.
+/// - Any other is the system's.
+///
+/// After an error the file is as it was, or was made and is empty.
 pub fn open(rt: &HostRuntime, path: &str) -> io::Result<FileBlob>
     ensures rests { IfOk result (λ blob. let life = life_of blob.kept.history in
         life ≡ begun life.present.readable []) }
     ensures asked { IfOk result (λ blob. blob.asked ≡ []) }
     ensures well { IfOk result (λ blob. blob.kept.stopped ≡ false) }
 {
-    let mut file = OpenOptions::new()
-        .read(true)
-        .write(true)
-        .create(true)
-        .open(rt, path)?;
-    lock(&file)?;
+    let mut options = OpenOptions::new();
+    options.read(true).write(true).create(true);
+    let file = open_locked(rt, path, &options, Lock::Exclusive)?;
+    let mut bytes = room_for(rt.alloc(), &file)?;
     file.sync_all()?;
-    folder_of(rt, path)?.sync_all()?;
-    let mut bytes = Vec::new(rt.alloc());
-    file.read_to_end(&mut bytes)?;
+    sync_folder(rt, path)?;
+    read_all(&file, &mut bytes)?;
     let host = FileHost::new(file, &bytes);
     Ok(Mirror::new(host, bytes))
 }
 
-fn lock(file: &File) -> io::Result<()> {
-    match file.try_lock() {
+/// Reads a file into a blob in memory, and changes nothing: it makes no file, syncs none, and what
+/// is done to the blob doesn't reach the file. While it is read it is locked, shared with others
+/// who read.
+///
+/// The errors are those of [`open`], and `NotFound` where there is no file.
+pub fn read(rt: &HostRuntime, path: &str) -> io::Result<VecBlob>
+    ensures rests { IfOk result (λ blob. let life = life_of blob.history in
+        life ≡ begun life.present.readable []) }
+    ensures well { IfOk result (λ blob. blob.stopped ≡ false) }
+{
+    let mut options = OpenOptions::new();
+    options.read(true);
+    let file = open_locked(rt, path, &options, Lock::Shared)?;
+    let mut bytes = room_for(rt.alloc(), &file)?;
+    read_all(&file, &mut bytes)?;
+    Ok(VecBlob::from_vec(bytes))
+}
+
+/// With whom a lock is shared.
+#[derive(Clone, Copy)]
+pub enum Lock {
+    /// With nobody.
+    Exclusive,
+    /// With others who ask for this one.
+    Shared,
+}
+
+// Opens a regular file, and locks it. It is looked at first, since opening a fifo may wait.
+pub fn open_locked(
+    rt: &HostRuntime,
+    path: &str,
+    options: &OpenOptions,
+    lock: Lock,
+) -> io::Result<File>
+    ensures beyond { IfOk result (λ file. pos 2 <ℤ file_raw_fd file) }
+{
+    match fs::metadata(rt, path) {
+        Ok(found) => check_regular(&found)?,
+        Err(error) if error.kind() == ErrorKind::NotFound => {}
+        Err(error) => return Err(error),
+    }
+    let file = beyond_streams(options.open(rt, path)?)?;
+    check_regular(&file.metadata()?)?;
+    take_lock(&file, lock)?;
+    check_named(rt, path, &file)?;
+    Ok(file)
+}
+
+// A program that began without its standard output gives that number to the next file that it
+// opens, and then prints into it.
+pub fn beyond_streams(file: File) -> io::Result<File>
+    ensures beyond { IfOk result (λ file. pos 2 <ℤ file_raw_fd file) }
+{
+    if file.as_raw_fd() > 2 {
+        return Ok(file);
+    }
+    let beyond = file.try_clone()?;
+    if beyond.as_raw_fd() > 2 {
+        return Ok(beyond);
+    }
+    let words = "its descriptor is a standard stream's: begin the program with them open";
+    Err(io::Error::other(words))
+}
+
+fn check_regular(found: &Metadata) -> io::Result<()> {
+    let kind = found.file_type();
+    if kind.is_file() {
+        return Ok(());
+    }
+    if kind.is_dir() {
+        let words = "it is a folder: name a file in it";
+        return Err(io::Error::new(ErrorKind::IsADirectory, words));
+    }
+    let words = if kind.is_fifo() {
+        "it is a fifo: name a regular file, or a new one"
+    } else if kind.is_socket() {
+        "it is a socket: name a regular file, or a new one"
+    } else {
+        "it is a device: name a regular file, or a new one"
+    };
+    Err(io::Error::new(ErrorKind::InvalidInput, words))
+}
+
+pub fn take_lock(file: &File, lock: Lock) -> io::Result<()> {
+    let locked = match lock {
+        Lock::Exclusive => file.try_lock(),
+        Lock::Shared => file.try_lock_shared(),
+    };
+    match locked {
         Ok(()) => Ok(()),
-        Err(TryLockError::WouldBlock) => Err(ErrorKind::WouldBlock.into()),
+        Err(TryLockError::WouldBlock) => {
+            let words = "another process has it open: end that one first";
+            Err(io::Error::new(ErrorKind::WouldBlock, words))
+        }
         Err(TryLockError::Error(error)) => Err(error),
     }
 }
 
-fn folder_of(rt: &HostRuntime, path: &str) -> io::Result<File> {
+// Whoever replaces a file renames another over it: then this one was locked too late.
+fn check_named(rt: &HostRuntime, path: &str, file: &File) -> io::Result<()> {
+    let named = fs::metadata(rt, path)?;
+    let opened = file.metadata()?;
+    if named.dev() == opened.dev() && named.ino() == opened.ino() {
+        return Ok(());
+    }
+    let words = "another process has just replaced it: open it again";
+    Err(io::Error::new(ErrorKind::WouldBlock, words))
+}
+
+// Memory for all bytes of a file, and one more: so a read at their end needs none.
+fn room_for(alloc: Global, file: &File) -> io::Result<Vec<u8>> {
+    let len = file.metadata()?.len();
+    match Vec::with_capacity(alloc, (len as usize).saturating_add(1)) {
+        Ok(room) => Ok(room),
+        Err(_) => {
+            let words = "there is no memory for all of its bytes";
+            Err(io::Error::new(ErrorKind::OutOfMemory, words))
+        }
+    }
+}
+
+// A read that ends early would have a recovery cut what is there.
+fn read_all(mut file: &File, bytes: &mut Vec<u8>) -> io::Result<()> {
+    file.read_to_end(bytes)?;
+    if file.metadata()?.len() == bytes.len() as u64 {
+        return Ok(());
+    }
+    let words = "not all of its bytes were read: open it again";
+    Err(io::Error::new(ErrorKind::UnexpectedEof, words))
+}
+
+// Makes the name of a file durable.
+pub fn sync_folder(rt: &HostRuntime, path: &str) -> io::Result<()> {
     let mut folder: PathBuf = fs::canonicalize(rt, path)?;
     folder.pop();
-    File::open(rt, folder.as_str())
+    File::open(rt, folder.as_str())?.sync_all()
 }

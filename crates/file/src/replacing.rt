@@ -1,0 +1,114 @@
+// New files beside a blob's: one that takes its place, and one for what is to be cut.
+ghost use Rattle.std.specs.Prelude.{◌≡◌, [], pos, ◌<ℤ◌, IfOk, false, codes, string_bytes};
+ghost use Rattle.std.specs.Fd.{file_raw_fd};
+ghost use Rattle.disk.specs.History.{life_of, begun};
+ghost use Rattle.file.specs.Names.{IsNumbered};
+
+use crate::opening::{Lock, beyond_streams, open_locked, sync_folder, take_lock};
+use crate::{FileBlob, FileHost, Mirror};
+use std::fs::{File, OpenOptions, Permissions};
+use std::io::ErrorKind;
+use std::os::unix::fs::{FileExt, OpenOptionsExt};
+use std::path::PathBuf;
+use std::{fs, io};
+
+/// Puts a new file with these bytes in the place of an old one, and answers the new one opened.
+/// What follows a failed sync is this call, and so does a compaction.
+///
+/// The new file stands beside the old one, as `PATH.new-N` with the first N from 1 that is free. It
+/// gets the old one's permissions, is locked, written and synced, and then renamed over the old one;
+/// last the folder is synced. Where the path is a link, the file that it leads to is replaced.
+///
+/// Let go of a blob over the old file first: it holds the lock, which this call takes too. What
+/// another process wrote to the old file after these bytes were read from it is gone.
+///
+/// After an error the path names the old file, untouched, or the new one, whole: the new one only
+/// where the folder's sync failed. What is left of `PATH.new-N` is removed where the system lets
+/// it be. The errors are those of [`open`](crate::open), and `NotFound` where there is no old file.
+pub fn replace(rt: &HostRuntime, path: &str, bytes: &[u8]) -> io::Result<FileBlob>
+    ensures life { IfOk result (λ blob. life_of blob.kept.history ≡ begun bytes.now []) }
+    ensures asked { IfOk result (λ blob. blob.asked ≡ []) }
+    ensures well { IfOk result (λ blob. blob.kept.stopped ≡ false) }
+{
+    let kept = Vec::from_slice(rt.alloc(), bytes)?;
+    let place: PathBuf = fs::canonicalize(rt, path)?;
+    let path = place.as_str();
+    let mut options = OpenOptions::new();
+    options.read(true);
+    let old = open_locked(rt, path, &options, Lock::Exclusive)?;
+    let Beside { file, name } = write_beside(rt, path, "new", bytes)?;
+    if let Err(error) = fs::rename(rt, &name, path) {
+        let _ = fs::remove_file(rt, &name);
+        return Err(error);
+    }
+    sync_folder(rt, path)?;
+    drop(old);
+    let host = FileHost::new(file, &kept);
+    Ok(Mirror::new(host, kept))
+}
+
+/// Writes these bytes to a new file `PATH.cut-N`, with the first N from 1 that is free, and answers
+/// its name: so what a recovery is about to cut from the file at the path isn't lost. The new file
+/// gets the permissions of that one. It is synced, and so is the folder.
+///
+/// After an error no file of that name is left, where the system lets it be removed; if only the
+/// folder's sync failed, the new file stands, and is whole. The file at the path is never changed.
+pub fn set_aside(rt: &HostRuntime, path: &str, bytes: &[u8]) -> io::Result<String>
+    ensures name { IfOk result (λ name.
+        IsNumbered path.now (codes "cut") (string_bytes name)) }
+{
+    let beside = write_beside(rt, path, "cut", bytes)?;
+    sync_folder(rt, &beside.name)?;
+    Ok(beside.name)
+}
+
+// A file that was made beside another.
+#[derive(Drop)]
+struct Beside {
+    file: File,
+    name: String,
+}
+
+// Makes a file beside another that has its permissions and these bytes, and is locked and synced.
+fn write_beside(rt: &HostRuntime, path: &str, word: &str, bytes: &[u8]) -> io::Result<Beside>
+    ensures beyond { IfOk result (λ new. pos 2 <ℤ file_raw_fd new.file) }
+    ensures name { IfOk result (λ new. IsNumbered path.now word.now (string_bytes new.name)) }
+{
+    let permissions = fs::metadata(rt, path)?.permissions();
+    let Beside { file, name } = make_beside(rt, path, word)?;
+    match filled(file, permissions, bytes) {
+        Ok(file) => Ok(Beside { file, name }),
+        Err(error) => {
+            let _ = fs::remove_file(rt, &name);
+            Err(error)
+        }
+    }
+}
+
+// Makes an empty file beside another, for nobody else to read.
+fn make_beside(rt: &HostRuntime, path: &str, word: &str) -> io::Result<Beside>
+    ensures name { IfOk result (λ new. IsNumbered path.now word.now (string_bytes new.name)) }
+{
+    let mut options = OpenOptions::new();
+    options.read(true).write(true).create_new(true).mode(0o600);
+    for number in 1..u64::MAX {
+        let name = format!(in rt.alloc(); "{path}.{word}-{number}")?;
+        match options.open(rt, &name) {
+            Ok(file) => return Ok(Beside { file, name }),
+            Err(error) if error.kind() == ErrorKind::AlreadyExists => {}
+            Err(error) => return Err(error),
+        }
+    }
+    Err(ErrorKind::AlreadyExists.into())
+}
+
+fn filled(file: File, permissions: Permissions, bytes: &[u8]) -> io::Result<File>
+    ensures beyond { IfOk result (λ file. pos 2 <ℤ file_raw_fd file) }
+{
+    let file = beyond_streams(file)?;
+    take_lock(&file, Lock::Exclusive)?;
+    file.set_permissions(permissions)?;
+    file.write_all_at(bytes, 0)?;
+    file.sync_all()?;
+    Ok(file)
+}
