@@ -7,7 +7,7 @@ use crate::forms::Argument::{Bytes, Flags, Number};
 use crate::forms::{Arguments, Form, read_step};
 use crate::line::Row;
 use crate::subject::Subject;
-use crate::words::{buffer_size, out_of_memory, say_done, say_error, unreadable};
+use crate::words::{buffer_size, is_refusal, out_of_memory, say_done, say_error, unreadable};
 use cache::CacheRef;
 use disk::{Blob, Error, IoBuf, MemBlob};
 use journal::{Found, Journal, crash_and_recover, frame_of};
@@ -242,6 +242,8 @@ impl<H: Sum, R: Sum> Journals<H, R> {
             self.say_answer(answer, &mut got)?;
             if got.as_slice() == wanted {
                 again = again.saturating_add(1);
+            } else if is_refusal(&got) {
+                return Err(out_of_memory());
             } else if !is_of_the_device(&got) {
                 return Err(unreadable());
             }

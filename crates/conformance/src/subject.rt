@@ -1,5 +1,7 @@
 // What a case is about.
 use crate::line::Row;
+use crate::refuse::{refuse, was_refused};
+use crate::words::is_refusal;
 use std::alloc::Global;
 use std::io;
 use std::io::{ErrorKind, Write};
@@ -124,4 +126,82 @@ pub fn play_refused<S: Subject>(
         }
     }
     Ok(())
+}
+
+// Plays lines up to the first whose reply isn't as told, and answers that one and those after it.
+fn play_to_fault<'a, S: Subject>(
+    alloc: Global,
+    subject: &mut S,
+    rows: &'a [Row],
+    fault: &mut Vec<u8>,
+) -> io::Result<&'a [Row]> {
+    for (index, row) in rows.iter().enumerate() {
+        let mut said = Vec::new(alloc);
+        answer(alloc, subject, row, &mut said)?;
+        if !is_as_told(row, &said) {
+            fault.extend_from_slice(&said)?;
+            return Ok(rows.get(index..).unwrap_or(&[]));
+        }
+    }
+    Ok(&[])
+}
+
+// Whether a line asks for pages in the cache or for device calls: what was refused may have put
+// some there, or made some.
+fn asks_how(row: &Row) -> bool {
+    row.step.starts_with(b"ca") || row.step.starts_with(b"has")
+}
+
+fn is_fail(row: &Row) -> bool {
+    row.step.starts_with(b"fail")
+}
+
+// Goes on with the line that was refused. Unless it took the writer, nothing has changed, and this
+// line and those after it answer as they tell.
+fn play_again<S: Subject>(
+    alloc: Global,
+    subject: &mut S,
+    rows: &[Row],
+    told: &mut Vec<u8>,
+) -> io::Result<()> {
+    for row in rows {
+        let mut said = Vec::new(alloc);
+        answer(alloc, subject, row, &mut said)?;
+        if said.as_slice() == b"closed".as_slice() {
+            return Ok(());
+        }
+        if !asks_how(row) {
+            compare_reply(row, &said, told)?;
+        }
+    }
+    Ok(())
+}
+
+/// Plays lines with a request for memory that is refused, the one of this number, from 1 on. The
+/// first reply that is another than told is to be that refusal; with `again` the line is played
+/// once more then, and those after it, unless a device call is to fail. Where the request is one of
+/// the lines' own player, they end there. Answers whether one was refused.
+pub fn play_refusing<S: Subject>(
+    alloc: Global,
+    subject: &mut S,
+    rows: &[Row],
+    refuses: u32,
+    again: bool,
+    told: &mut Vec<u8>,
+) -> io::Result<bool> {
+    let mut fault = Vec::with_capacity(alloc, 256)?;
+    refuse(alloc, refuses);
+    let played = play_to_fault(alloc, subject, rows, &mut fault);
+    let was = was_refused(alloc);
+    let Ok(rest) = played else {
+        return Ok(was);
+    };
+    if !rest.is_empty() && !is_refusal(&fault) {
+        writeln!(told, "  a refused request answers")?;
+        told.extend_from_slice(&fault)?;
+        writeln!(told)?;
+    } else if again && !rows.iter().any(is_fail) {
+        play_again(alloc, subject, rest, told)?;
+    }
+    Ok(was)
 }
