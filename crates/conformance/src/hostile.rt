@@ -1,6 +1,4 @@
 // Blobs that were changed at random, and what is told of them.
-ghost use Rattle.std.specs.Prelude.{◌<◌};
-
 use crate::calls::is_write;
 use crate::opened::read;
 use crate::random::Numbers;
@@ -10,7 +8,6 @@ use crate::words::out_of_memory;
 use disk::{Call, Error, IoBuf, MemBlob};
 use page::{Checksum, Sum};
 use scripts::Hex;
-use session::Reply;
 use std::alloc::{AllocError, Global};
 use std::io;
 use std::io::Write;
@@ -154,23 +151,23 @@ fn text<H: Sum>(alloc: Global, bytes: &[u8], page_size: NonZeroU16) -> Result<Ve
 // nothing.
 fn goes<H: Sum>(
     stage: &mut Stage<H>,
-    text: Reply,
+    text: &[u8],
     buffer_size: NonZeroUsize,
 ) -> Result<bool, Error> {
     let before = stage.bytes().len() as u64;
     let told = stage.look(buffer_size)?;
     let size = stage.recover(buffer_size)?;
     let after = stage.bytes().len() as u64;
-    let first = content(stage);
+    let first = content(stage)?;
     let mark = stage.device_calls().len();
     let again = stage.recover(NonZeroUsize::MIN)?;
-    let second = content(stage);
+    let second = content(stage)?;
     Ok(
         told.len == size
             && told.cut == before.saturating_sub(after)
             && again == size
-            && first == text
-            && second == text
+            && first.as_slice() == text
+            && second.as_slice() == text
             && !has_write(stage.device_calls(), mark),
     )
 }
@@ -196,6 +193,9 @@ fn reads_well<H: Sum>(
     for (index, page) in bytes.chunks_exact(len + FOOTER).enumerate() {
         let offset = (index as u64).saturating_mul(len as u64);
         let answer = read::<H>(alloc, &mut blob, page_size, offset, len);
+        if answer.as_ref().err() == Some(&Error::OutOfMemory) {
+            return Err(Error::OutOfMemory);
+        }
         if !is_right(&answer, value::<H>(page), len) {
             return Ok(false);
         }
@@ -204,9 +204,9 @@ fn reads_well<H: Sum>(
 }
 
 fn try_one<H: Sum>(stage: &Stage<H>, alloc: Global, bytes: &[u8]) -> Result<bool, Error> {
-    let text = Reply::Bytes(text::<H>(alloc, bytes, stage.page_size())?);
+    let text = text::<H>(alloc, bytes, stage.page_size())?;
     let mut other = stage.another(alloc, bytes)?;
-    Ok(goes(&mut other, text, NonZeroUsize::MIN)?
+    Ok(goes(&mut other, &text, NonZeroUsize::MIN)?
         && reads_well::<H>(alloc, bytes, stage.page_size())?)
 }
 

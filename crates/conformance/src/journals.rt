@@ -256,6 +256,9 @@ impl<H: Sum, R: Sum> Journals<H, R> {
         let answer = self.recover(alloc, NonZeroUsize::MIN);
         let mut wanted = Vec::new(alloc);
         self.say_answer(answer, &mut wanted)?;
+        if is_refusal(&wanted) {
+            return Err(out_of_memory());
+        }
         let calls = self.blob.calls().len().saturating_sub(before);
         let again = self.recover_failing(alloc, calls, &wanted)?;
         write!(said, "read again {again}")

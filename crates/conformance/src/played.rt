@@ -3,7 +3,7 @@ use crate::forms::Argument::Bytes;
 use crate::forms::{Form, read_step};
 use crate::line::Row;
 use crate::subject::Subject;
-use crate::words::{is_refusal, out_of_memory, unreadable};
+use crate::words::{is_refusal, unreadable};
 use scripts::play_on;
 use std::alloc::Global;
 use std::io;
@@ -27,68 +27,6 @@ const STEPS: [Form<Verb>; 3] = [
 #[derive(Clone, Copy)]
 pub struct Scripts;
 
-// The end of a script: its exit status, what was written, and what was written of errors.
-#[derive(Drop)]
-struct Played {
-    status: u8,
-    out: Vec<u8>,
-    errors: Vec<u8>,
-}
-
-// More bytes than a script of a case is answered with.
-const ROOM: usize = 4096;
-
-fn played(alloc: Global, mut script: &[u8]) -> io::Result<Played> {
-    let mut out = Vec::with_capacity(alloc, ROOM)?;
-    let mut errors = Vec::with_capacity(alloc, ROOM)?;
-    let status = play_on(alloc, &mut script, &mut out, &mut errors);
-    Ok(Played {
-        status,
-        out,
-        errors,
-    })
-}
-
-fn count_lines(text: &[u8]) -> usize {
-    text.iter().filter(|byte| **byte == b'\n').count()
-}
-
-fn first_line(text: &[u8]) -> &[u8] {
-    text.split(|byte| *byte == b'\n').next().unwrap_or(text)
-}
-
-// The first line that is another than the wanted one.
-fn other_line<'a>(text: &'a [u8], wanted: &[u8]) -> &'a [u8] {
-    let wanted = wanted.split(|byte| *byte == b'\n');
-    for (line, want) in text.split(|byte| *byte == b'\n').zip(wanted) {
-        if line != want {
-            return line;
-        }
-    }
-    &[]
-}
-
-impl Played {
-    // Whether a request for memory was refused: in a step, which says so; while the script was
-    // read, or where its replies were written, which ends it with status 1; or where a line that
-    // can't be read was explained, and that is left out then.
-    fn is_refused(&self, wanted: &[u8], told: &[u8]) -> bool {
-        match self.status {
-            0 => is_refusal(other_line(&self.out, wanted)),
-            1 => {
-                self.errors.as_slice() == b"pagedctl: stopped\n".as_slice()
-                    && wanted.starts_with(&self.out)
-            }
-            _ => {
-                self.errors.as_slice() != told
-                    && self.errors.starts_with(b"unreadable line ")
-                    && self.out.is_empty()
-                    && count_lines(&self.errors) < 2
-            }
-        }
-    }
-}
-
 // Adds a text where it isn't the one that is wanted.
 fn say_other(word: &str, text: &[u8], wanted: &[u8], said: &mut Vec<u8>) -> io::Result<()> {
     if text == wanted {
@@ -100,32 +38,74 @@ fn say_other(word: &str, text: &[u8], wanted: &[u8], said: &mut Vec<u8>) -> io::
 }
 
 // Plays a script, and writes its status, and what it wrote where that isn't what the line tells.
-fn play_script(alloc: Global, script: &[u8], row: &Row, said: &mut Vec<u8>) -> io::Result<()> {
-    let played = played(alloc, script)?;
-    if played.is_refused(&row.wanted, &row.errors) {
-        return Err(out_of_memory());
-    }
-    write!(said, "status {}", played.status)?;
-    say_other("wrote", &played.out, &row.wanted, said)?;
-    say_other("said of errors", &played.errors, &row.errors, said)
+fn play_script(alloc: Global, mut script: &[u8], row: &Row, said: &mut Vec<u8>) -> io::Result<()> {
+    let mut out = Vec::new(alloc);
+    let mut errors = Vec::new(alloc);
+    let status = play_on(alloc, &mut script, &mut out, &mut errors);
+    write!(said, "status {status}")?;
+    say_other("wrote", &out, &row.wanted, said)?;
+    say_other("said of errors", &errors, &row.errors, said)
+}
+
+fn count_lines(text: &[u8]) -> usize {
+    text.iter().filter(|byte| **byte == b'\n').count()
+}
+
+fn first_line(text: &[u8]) -> &[u8] {
+    text.split(|byte| *byte == b'\n').next().unwrap_or(text)
 }
 
 // Which line a script that can't be read is refused for, where nothing is written of it but that
 // and a line below.
-fn name_line(alloc: Global, script: &[u8], said: &mut Vec<u8>) -> io::Result<()> {
-    let played = played(alloc, script)?;
-    match played.errors.strip_prefix(b"unreadable ") {
-        Some(rest) if played.status == 2 && played.out.is_empty() && count_lines(rest) == 2 => {
+fn name_line(alloc: Global, mut script: &[u8], said: &mut Vec<u8>) -> io::Result<()> {
+    let mut out = Vec::new(alloc);
+    let mut errors = Vec::new(alloc);
+    let status = play_on(alloc, &mut script, &mut out, &mut errors);
+    match errors.strip_prefix(b"unreadable ") {
+        Some(rest) if status == 2 && out.is_empty() && count_lines(rest) == 2 => {
             said.extend_from_slice(first_line(rest))?;
             Ok(())
         }
-        _ => {
-            if played.is_refused(&[], &[]) {
-                return Err(out_of_memory());
-            }
-            write!(said, "fault status {}", played.status)
+        _ => write!(said, "fault status {status}"),
+    }
+}
+
+// Whether the lines that were written are the wanted ones up to one that tells of a refusal, or but
+// for those of pages that the cache had no memory for.
+fn go_to_refusal(text: &[u8], wanted: &[u8]) -> bool {
+    let wanted = wanted.split(|byte| *byte == b'\n');
+    for (line, want) in text.split(|byte| *byte == b'\n').zip(wanted) {
+        if is_refusal(line) {
+            return true;
+        }
+        if line != want && !is_of_cache(line) {
+            return false;
         }
     }
+    true
+}
+
+fn is_of_cache(line: &[u8]) -> bool {
+    line == b"none".as_slice() || line.starts_with(b"missed") || line.starts_with(b"served")
+}
+
+const STOPPED: &[u8] = b", but said of errors\npagedctl: stopped\n";
+
+// Whether a script ended as one that is refused: by a step that says so; with status 1 where it was
+// read, or its replies were written; or without the line that explains one that can't be read.
+fn is_refused(row: &Row, said: &[u8]) -> bool {
+    if let Some(text) = said.strip_prefix(b"status 0, but wrote\n") {
+        return go_to_refusal(text, &row.wanted);
+    }
+    if let Some(text) = said.strip_prefix(b"status 1, but wrote\n") {
+        return match text.strip_suffix(STOPPED) {
+            Some(text) => row.wanted.starts_with(text),
+            None => false,
+        };
+    }
+    said.starts_with(b"status 1, but said of errors\npagedctl: stopped")
+        || said.starts_with(b"status 2, but said of errors\n")
+        || said.starts_with(b"fault status ")
 }
 
 impl Subject for Scripts {
@@ -136,5 +116,9 @@ impl Subject for Scripts {
             Some((Verb::Names, words)) => name_line(alloc, words.bytes(), said),
             None => Err(unreadable()),
         }
+    }
+
+    fn tells_refusal(&self, row: &Row, said: &[u8]) -> bool {
+        is_refused(row, said)
     }
 }

@@ -16,7 +16,7 @@ use std::io;
 use std::io::Write;
 
 /// More requests for memory than most lines make: those after so many aren't refused.
-pub const MOST: u32 = 3000;
+pub const MOST: u32 = 1500;
 
 // What happens in a run. In the first run the lines go as they are told.
 #[derive(Clone, Copy)]

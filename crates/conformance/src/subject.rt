@@ -11,6 +11,11 @@ pub trait Subject {
     /// Plays the step of a line, and writes what it answers. `InvalidInput` where it can't be read.
     fn play(&mut self, alloc: Global, row: &Row, said: &mut Vec<u8>) -> io::Result<()>;
 
+    /// Whether a reply tells that a request for memory was refused.
+    fn tells_refusal(&self, _row: &Row, said: &[u8]) -> bool {
+        is_refusal(said)
+    }
+
     /// How many device calls there were: none where it has no device that tells them.
     fn calls(&self) -> usize {
         0
@@ -128,6 +133,15 @@ pub fn play_refused<S: Subject>(
     Ok(())
 }
 
+// Whether the reply tells which pages are in the cache, which holds fewer where it had no memory, or
+// how many device calls it took.
+fn tells_cache(row: &Row, said: &[u8]) -> bool {
+    let asks = row.step.starts_with(b"ca") || row.step.starts_with(b"has");
+    (asks && !said.starts_with(b"fault"))
+        || said.starts_with(b"served")
+        || said.starts_with(b"read again")
+}
+
 // Plays lines up to the first whose reply isn't as told, and answers that one and those after it.
 fn play_to_fault<'a, S: Subject>(
     alloc: Global,
@@ -138,7 +152,7 @@ fn play_to_fault<'a, S: Subject>(
     for (index, row) in rows.iter().enumerate() {
         let mut said = Vec::new(alloc);
         answer(alloc, subject, row, &mut said)?;
-        if !is_as_told(row, &said) {
+        if !is_as_told(row, &said) && !tells_cache(row, &said) {
             fault.extend_from_slice(&said)?;
             return Ok(rows.get(index..).unwrap_or(&[]));
         }
@@ -146,14 +160,13 @@ fn play_to_fault<'a, S: Subject>(
     Ok(&[])
 }
 
-// Whether a line asks for pages in the cache or for device calls: what was refused may have put
-// some there, or made some.
-fn asks_how(row: &Row) -> bool {
-    row.step.starts_with(b"ca") || row.step.starts_with(b"has")
-}
-
-fn is_fail(row: &Row) -> bool {
-    row.step.starts_with(b"fail")
+// Whether a line works on the blob itself, which may have changed before it was refused, or lets a
+// device call fail.
+fn can_change(row: &Row) -> bool {
+    row.step.starts_with(b"cut")
+        || row.step.starts_with(b"open")
+        || row.step.starts_with(b"recover")
+        || row.step.starts_with(b"fail")
 }
 
 // Goes on with the line that was refused. Unless it took the writer, nothing has changed, and this
@@ -170,7 +183,7 @@ fn play_again<S: Subject>(
         if said.as_slice() == b"closed".as_slice() {
             return Ok(());
         }
-        if !asks_how(row) {
+        if !tells_cache(row, &said) {
             compare_reply(row, &said, told)?;
         }
     }
@@ -179,8 +192,8 @@ fn play_again<S: Subject>(
 
 /// Plays lines with a request for memory that is refused, the one of this number, from 1 on. The
 /// first reply that is another than told is to be that refusal; with `again` the line is played
-/// once more then, and those after it, unless a device call is to fail. Where the request is one of
-/// the lines' own player, they end there. Answers whether one was refused.
+/// once more then, and those after it. Where the request is one of the lines' own player, they end
+/// there. Answers whether one was refused.
 pub fn play_refusing<S: Subject>(
     alloc: Global,
     subject: &mut S,
@@ -192,16 +205,22 @@ pub fn play_refusing<S: Subject>(
     let mut fault = Vec::with_capacity(alloc, 256)?;
     refuse(alloc, refuses);
     let played = play_to_fault(alloc, subject, rows, &mut fault);
-    let was = was_refused(alloc);
-    let Ok(rest) = played else {
-        return Ok(was);
-    };
-    if !rest.is_empty() && !is_refusal(&fault) {
-        writeln!(told, "  a refused request answers")?;
-        told.extend_from_slice(&fault)?;
-        writeln!(told)?;
-    } else if again && !rows.iter().any(is_fail) {
-        play_again(alloc, subject, rest, told)?;
+    if !was_refused(alloc) {
+        return Ok(false);
     }
-    Ok(was)
+    let Ok(rest) = played else {
+        return Ok(true);
+    };
+    match rest.first() {
+        Some(row) if !subject.tells_refusal(row, &fault) => {
+            writeln!(told, "  a refused request answers")?;
+            told.extend_from_slice(&fault)?;
+            writeln!(told)?;
+        }
+        Some(_) if again && !rows.iter().any(can_change) => {
+            play_again(alloc, subject, rest, told)?;
+        }
+        _ => {}
+    }
+    Ok(true)
 }

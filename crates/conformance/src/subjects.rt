@@ -151,11 +151,11 @@ fn play_kind(
     }
 }
 
-// What stands between a refused request and the reply in a device of this program's own, or in
-// bytes of another form.
+// Whether a refused request doesn't show in a reply as itself: a host in memory fails then, the
+// cache leaves a page out, and requests are answered in bytes.
 fn hides_refusals(kind: Kind) -> bool {
     match kind {
-        Kind::Cases | Kind::Requests | Kind::Mirror => true,
+        Kind::Cases | Kind::Requests | Kind::Mirror | Kind::Cache => true,
         _ => false,
     }
 }
