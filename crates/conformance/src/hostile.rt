@@ -5,7 +5,7 @@ use crate::random::Numbers;
 use crate::stage::Stage;
 use crate::step::content;
 use crate::words::out_of_memory;
-use disk::{Call, Error, IoBuf, MemBlob};
+use disk::{Error, IoBuf, MemBlob};
 use page::{Checksum, Sum};
 use scripts::Hex;
 use std::alloc::{AllocError, Global};
@@ -59,11 +59,7 @@ fn move_page(
 }
 
 // Makes a slot of a page verify, over some of its bytes.
-fn seal<H: Sum>(
-    bytes: &mut Vec<u8>,
-    numbers: &mut Numbers,
-    unit: usize,
-) -> Result<(), AllocError> {
+fn seal<H: Sum>(bytes: &mut Vec<u8>, numbers: &mut Numbers, unit: usize) -> Result<(), AllocError> {
     let payload = unit.saturating_sub(FOOTER);
     let page = numbers.below(bytes.len() / unit.max(1));
     let len = numbers.below(payload).saturating_add(1);
@@ -75,7 +71,11 @@ fn seal<H: Sum>(
     };
     let len = u16::try_from(len).unwrap_or(1);
     for (index, byte) in Checksum::slot_bytes(len, sum).iter().enumerate() {
-        put(bytes, start.saturating_add(slot).saturating_add(index), *byte)?;
+        put(
+            bytes,
+            start.saturating_add(slot).saturating_add(index),
+            *byte,
+        )?;
     }
     Ok(())
 }
@@ -121,10 +121,6 @@ fn changed<H: Sum>(
     Ok(bytes)
 }
 
-fn has_write(calls: &[Call], first: usize) -> bool {
-    calls.iter().skip(first).any(is_write)
-}
-
 // The value of a page: no bytes where no slot of it verifies.
 fn value<H: Sum>(page: &[u8]) -> &[u8] {
     match Checksum::validate_page::<H>(page) {
@@ -162,13 +158,14 @@ fn goes<H: Sum>(
     let mark = stage.device_calls().len();
     let again = stage.recover(NonZeroUsize::MIN)?;
     let second = content(stage)?;
+    let calls = stage.device_calls();
     Ok(
         told.len == size
             && told.cut == before.saturating_sub(after)
             && again == size
             && first.as_slice() == text
             && second.as_slice() == text
-            && !has_write(stage.device_calls(), mark),
+            && !calls.iter().skip(mark).any(is_write),
     )
 }
 
@@ -183,11 +180,7 @@ fn is_right(answer: &Result<IoBuf, Error>, value: &[u8], len: usize) -> bool {
 }
 
 // Whether reads of the pages are right by a writer that opens the blob as it is.
-fn reads_well<H: Sum>(
-    alloc: Global,
-    bytes: &[u8],
-    page_size: NonZeroU16,
-) -> Result<bool, Error> {
+fn reads_well<H: Sum>(alloc: Global, bytes: &[u8], page_size: NonZeroU16) -> Result<bool, Error> {
     let len = usize::from(page_size.get());
     let mut blob = MemBlob::from_bytes(alloc, bytes)?;
     for (index, page) in bytes.chunks_exact(len + FOOTER).enumerate() {
@@ -206,8 +199,10 @@ fn reads_well<H: Sum>(
 fn try_one<H: Sum>(stage: &Stage<H>, alloc: Global, bytes: &[u8]) -> Result<bool, Error> {
     let text = text::<H>(alloc, bytes, stage.page_size())?;
     let mut other = stage.another(alloc, bytes)?;
-    Ok(goes(&mut other, &text, NonZeroUsize::MIN)?
-        && reads_well::<H>(alloc, bytes, stage.page_size())?)
+    Ok(
+        goes(&mut other, &text, NonZeroUsize::MIN)?
+            && reads_well::<H>(alloc, bytes, stage.page_size())?,
+    )
 }
 
 /// Tries blobs that are the stage's with some changes, or other bytes. The first that doesn't go

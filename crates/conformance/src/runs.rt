@@ -310,12 +310,7 @@ fn run_way(
 }
 
 // What the `try` line asks for; without one each request of the lines is refused.
-fn run_plan(
-    alloc: Global,
-    case: &Case,
-    setting: Setting,
-    told: &mut Vec<u8>,
-) -> io::Result<u64> {
+fn run_plan(alloc: Global, case: &Case, setting: Setting, told: &mut Vec<u8>) -> io::Result<u64> {
     let words = words(alloc, &case.plan)?;
     let mut runs = run_each(alloc, case, setting, Plan::first(), Planned::Refuses, told)?;
     let [which, ways @ ..] = words.as_slice() else {
