@@ -4,12 +4,15 @@
     cd crates/conformance && rt run < stdin > /dev/null      (proves and builds it, as out/conformance)
     python3 examples/refuse.py crates/conformance/out/conformance [CASE FILE]
 
-A case with a line `try each` is played once more for each request of its tried lines, and that
-request is refused: the first reply that is another than told has to be `fault E8 OutOfMemory`, and
-what the lines after them say has to hold. The program asks for that by requests that no machine
-grants; refuse.c, which is compiled here, stands in front of the C library's heap and answers them.
+Each case is played once more for each request of its lines, and that request is refused; of a case with
+a `try` line it is each request of its tried lines. The first reply that is another than told has to be
+`fault E8 OutOfMemory`. Of a session the line is then played once more: unless it took the writer, it and
+all lines after it have to answer as told. After the tried lines of a `try each` what follows them has to
+hold. The program asks for that by requests that no machine grants; refuse.c, which is compiled here,
+stands in front of the C library's heap and answers them. The program's own cases, those with `start
+cases`, are left out: they tell how many runs there are.
 """
-import os, subprocess, sys, tempfile, time
+import os, re, subprocess, sys, tempfile, time
 
 HERE = os.path.dirname(os.path.abspath(__file__))
 
@@ -27,8 +30,10 @@ def main(program, cases):
 
 def play(program, cases, env):
     start = time.time()
-    with open(cases, "rb") as text:
-        ran = subprocess.run([program], stdin=text, stdout=subprocess.PIPE, env=env)
+    with open(cases, encoding="utf-8") as text:
+        parts = re.split(r"^(?=case )", text.read(), flags=re.M)
+    given = "".join(part for part in parts if "\nstart cases\n" not in part)
+    ran = subprocess.run([program], input=given.encode(), stdout=subprocess.PIPE, env=env)
     lines = ran.stdout.decode().splitlines()
     return lines, lines[-1] if lines else "nothing", time.time() - start, ran.returncode
 

@@ -1,7 +1,7 @@
 // Two devices that are to answer alike.
 use crate::devices::{DURABLE, add_copy, read};
 use crate::random::Numbers;
-use crate::words::{out_of_memory, say_done, say_started};
+use crate::words::{is_refusal, out_of_memory, say_done, say_started};
 use disk::{Blob, Error, IoBufs, StartedSync, WriteOptions};
 use std::alloc::Global;
 use std::io;
@@ -64,6 +64,9 @@ fn answers_alike<A: Blob, B: Blob>(
     let mut second = Vec::new(alloc);
     call(alloc, one, kind, offset, written, &mut first)?;
     call(alloc, other, kind, offset, written, &mut second)?;
+    if is_refusal(&first) || is_refusal(&second) {
+        return Err(out_of_memory());
+    }
     Ok(first.as_slice() == second.as_slice())
 }
 

@@ -3,7 +3,7 @@ ghost use Rattle.std.specs.Prelude.{◌≡◌, ◌<◌, ◌≤◌, ◌+◌, ◌*
 
 use crate::devices::say_pieces;
 use crate::forms::Argument::{Bytes, Number};
-use crate::forms::{Arguments, Form, read_step};
+use crate::forms::{Form, read_step};
 use crate::line::Row;
 use crate::subject::Subject;
 use crate::words::{out_of_memory, say_done, say_error, say_whether, unreadable};
@@ -213,14 +213,13 @@ impl Buffered {
         say_pieces(chunks.as_slice(), said)?;
         write!(said, " {}", Hex(tail))
     }
+}
 
-    fn go(
-        &mut self,
-        alloc: Global,
-        verb: Verb,
-        words: &Arguments,
-        said: &mut Vec<u8>,
-    ) -> io::Result<()> {
+impl Subject for Buffered {
+    fn play(&mut self, alloc: Global, row: &Row, said: &mut Vec<u8>) -> io::Result<()> {
+        let Some((verb, words)) = read_step(alloc, &STEPS, &row.step)? else {
+            return Err(unreadable());
+        };
         let (number, len, bytes) = (words.number(0), words.length(0), words.bytes());
         match verb {
             Verb::Append => self.append(alloc, len, said),
@@ -233,15 +232,6 @@ impl Buffered {
             Verb::Holds => self.say_held(alloc, number, bytes, said),
             Verb::Capacity => write!(said, "capacity {}", self.buffer.capacity()),
             Verb::BothSides => say_both_sides(alloc, len, said),
-        }
-    }
-}
-
-impl Subject for Buffered {
-    fn play(&mut self, alloc: Global, row: &Row, said: &mut Vec<u8>) -> io::Result<()> {
-        match read_step(alloc, &STEPS, &row.step)? {
-            Some((verb, words)) => self.go(alloc, verb, &words, said),
-            None => Err(unreadable()),
         }
     }
 }

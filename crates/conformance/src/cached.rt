@@ -129,14 +129,13 @@ impl Cached {
         self.buf = Vec::from_slice(alloc, bytes)?;
         say_done(Ok(()), said)
     }
+}
 
-    fn go(
-        &mut self,
-        alloc: Global,
-        verb: Verb,
-        words: &Arguments,
-        said: &mut Vec<u8>,
-    ) -> io::Result<()> {
+impl Subject for Cached {
+    fn play(&mut self, alloc: Global, row: &Row, said: &mut Vec<u8>) -> io::Result<()> {
+        let Some((verb, words)) = read_step(alloc, &STEPS, &row.step)? else {
+            return Err(unreadable());
+        };
         let (first, second, bytes) = (words.number(0), words.number(1), words.bytes());
         match verb {
             Verb::Page => self.say_page(first, said),
@@ -145,19 +144,10 @@ impl Cached {
             Verb::Keep => self.keep(first, second, bytes, said),
             Verb::Fill => self.fill(alloc, bytes, said),
             Verb::Read => self.read(first, second, said),
-            Verb::Piece => self.read_piece(first, piece_of(words), said),
+            Verb::Piece => self.read_piece(first, piece_of(&words), said),
             Verb::Has => say_whether(self.cache.holds(first, second), said),
             Verb::Len => write!(said, "len {}", self.cache.len()),
             Verb::Skipped => write!(said, "skipped {}", self.cache.skipped()),
-        }
-    }
-}
-
-impl Subject for Cached {
-    fn play(&mut self, alloc: Global, row: &Row, said: &mut Vec<u8>) -> io::Result<()> {
-        match read_step(alloc, &STEPS, &row.step)? {
-            Some((verb, words)) => self.go(alloc, verb, &words, said),
-            None => Err(unreadable()),
         }
     }
 }

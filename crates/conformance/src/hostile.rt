@@ -1,16 +1,20 @@
 // Blobs that were changed at random, and what is told of them.
 use crate::calls::is_write;
+use crate::opened::read;
 use crate::random::Numbers;
 use crate::stage::Stage;
 use crate::step::content;
-use disk::{Call, Error};
-use page::Sum;
+use crate::words::out_of_memory;
+use disk::{Error, IoBuf, MemBlob};
+use page::{Checksum, Sum};
 use scripts::Hex;
-use session::Reply;
 use std::alloc::{AllocError, Global};
 use std::io;
 use std::io::Write;
-use std::num::NonZeroUsize;
+use std::num::{NonZeroU16, NonZeroUsize};
+
+// The bytes of a footer.
+const FOOTER: usize = 12;
 
 // Changes a byte, to one that is often small.
 fn change_byte(bytes: &mut Vec<u8>, numbers: &mut Numbers) {
@@ -22,40 +26,74 @@ fn change_byte(bytes: &mut Vec<u8>, numbers: &mut Numbers) {
     }
 }
 
-// Copies some bytes over others: a page over another, where they are as long as pages.
-fn copy_over(
-    alloc: Global,
-    bytes: &mut Vec<u8>,
-    numbers: &mut Numbers,
-    unit: usize,
-) -> Result<(), AllocError> {
-    let pages = bytes.len() / unit.max(1);
-    let from = numbers.below(pages).saturating_mul(unit);
-    let to = numbers.below(pages).saturating_mul(unit);
-    let mut piece = Vec::new(alloc);
-    for byte in bytes.iter().skip(from).take(unit) {
-        piece.push(*byte)?;
-    }
-    for (old, new) in bytes.iter_mut().skip(to).zip(&piece) {
-        *old = *new;
+// Puts a byte at a place, or after the last one.
+fn put(bytes: &mut Vec<u8>, at: usize, byte: u8) -> Result<(), AllocError> {
+    match bytes.get_mut(at) {
+        Some(old) => *old = byte,
+        None => bytes.push(byte)?,
     }
     Ok(())
 }
 
-fn change(
-    alloc: Global,
+// Copies a page over another, or behind the last one, or swaps the two.
+fn move_page(
+    bytes: &mut Vec<u8>,
+    numbers: &mut Numbers,
+    unit: usize,
+    way: usize,
+) -> Result<(), AllocError> {
+    let pages = bytes.len() / unit.max(1);
+    let from = numbers.below(pages).saturating_mul(unit);
+    let over = numbers.below(pages).saturating_mul(unit);
+    let to = if way == 0 { bytes.len() } else { over };
+    for index in 0..unit {
+        let (old, new) = (from.saturating_add(index), to.saturating_add(index));
+        let one = bytes.get(old).copied().unwrap_or(0);
+        let other = bytes.get(new).copied().unwrap_or(0);
+        put(bytes, new, one)?;
+        if way == 1 {
+            put(bytes, old, other)?;
+        }
+    }
+    Ok(())
+}
+
+// Makes a slot of a page verify, over some of its bytes.
+fn seal<H: Sum>(bytes: &mut Vec<u8>, numbers: &mut Numbers, unit: usize) -> Result<(), AllocError> {
+    let payload = unit.saturating_sub(FOOTER);
+    let page = numbers.below(bytes.len() / unit.max(1));
+    let len = numbers.below(payload).saturating_add(1);
+    let slot = payload.saturating_add(numbers.below(2).saturating_mul(6));
+    let start = page.saturating_mul(unit);
+    let sum = match bytes.get(start..start.saturating_add(len)) {
+        Some(value) => H::sum(value),
+        None => return Ok(()),
+    };
+    let len = u16::try_from(len).unwrap_or(1);
+    for (index, byte) in Checksum::slot_bytes(len, sum).iter().enumerate() {
+        put(
+            bytes,
+            start.saturating_add(slot).saturating_add(index),
+            *byte,
+        )?;
+    }
+    Ok(())
+}
+
+fn change<H: Sum>(
     bytes: &mut Vec<u8>,
     numbers: &mut Numbers,
     unit: usize,
 ) -> Result<(), AllocError> {
-    match numbers.below(4) {
-        0 => copy_over(alloc, bytes, numbers, unit),
-        1 => {
+    match numbers.below(8) {
+        way @ 0..=2 => move_page(bytes, numbers, unit, way),
+        3 | 4 => seal::<H>(bytes, numbers, unit),
+        5 => {
             let len = numbers.below(bytes.len().saturating_add(1));
             bytes.truncate(len);
             Ok(())
         }
-        2 => Ok(bytes.push((numbers.below(256) % 256) as u8)?),
+        6 => Ok(bytes.push((numbers.below(256) % 256) as u8)?),
         _ => {
             change_byte(bytes, numbers);
             Ok(())
@@ -63,57 +101,112 @@ fn change(
     }
 }
 
-fn changed(
+// The bytes of a blob with some changes; for one blob in four other bytes, up to 96 of them.
+fn changed<H: Sum>(
     alloc: Global,
     whole: &[u8],
     numbers: &mut Numbers,
     unit: usize,
 ) -> Result<Vec<u8>, AllocError> {
     let mut bytes = Vec::from_slice(alloc, whole)?;
+    if numbers.below(4) == 0 {
+        bytes.clear();
+        for _ in 0..numbers.below(97) {
+            bytes.push((numbers.below(256) % 256) as u8)?;
+        }
+    }
     for _ in 0..numbers.below(6).saturating_add(1) {
-        change(alloc, &mut bytes, numbers, unit)?;
+        change::<H>(&mut bytes, numbers, unit)?;
     }
     Ok(bytes)
 }
 
-fn has_write(calls: &[Call], first: usize) -> bool {
-    calls.iter().skip(first).any(is_write)
+// The value of a page: no bytes where no slot of it verifies.
+fn value<H: Sum>(page: &[u8]) -> &[u8] {
+    match Checksum::validate_page::<H>(page) {
+        Some(slot) => page.get(..usize::from(slot.len)).unwrap_or(&[]),
+        None => &[],
+    }
 }
 
-// A look tells what a recovery does; what it leaves can be read, and a second recovery changes
+// The values of the pages one after the other, up to the first that isn't full.
+fn text<H: Sum>(alloc: Global, bytes: &[u8], page_size: NonZeroU16) -> Result<Vec<u8>, AllocError> {
+    let len = usize::from(page_size.get());
+    let mut text = Vec::new(alloc);
+    for page in bytes.chunks_exact(len + FOOTER) {
+        let value = value::<H>(page);
+        text.extend_from_slice(value)?;
+        if value.len() < len {
+            break;
+        }
+    }
+    Ok(text)
+}
+
+// A look tells what a recovery does; it leaves the text of the blob, and a second recovery changes
 // nothing.
-fn goes<H: Sum>(stage: &mut Stage<H>, buffer_size: NonZeroUsize) -> Result<bool, Error> {
+fn goes<H: Sum>(
+    stage: &mut Stage<H>,
+    text: &[u8],
+    buffer_size: NonZeroUsize,
+) -> Result<bool, Error> {
     let before = stage.bytes().len() as u64;
     let told = stage.look(buffer_size)?;
     let size = stage.recover(buffer_size)?;
     let after = stage.bytes().len() as u64;
-    let first = content(stage);
+    let first = content(stage)?;
     let mark = stage.device_calls().len();
     let again = stage.recover(NonZeroUsize::MIN)?;
-    let second = content(stage);
+    let second = content(stage)?;
+    let calls = stage.device_calls();
     Ok(
         told.len == size
             && told.cut == before.saturating_sub(after)
             && again == size
-            && is_content(&first, size)
-            && first == second
-            && !has_write(stage.device_calls(), mark),
+            && first.as_slice() == text
+            && second.as_slice() == text
+            && !calls.iter().skip(mark).any(is_write),
     )
 }
 
-fn is_content(reply: &Reply, size: u64) -> bool {
-    match reply {
-        Reply::Bytes(bytes) => bytes.len() as u64 == size,
-        _ => false,
+// Whether a read of a page is right where nobody recovered: it gives a page that is full, or tells
+// that it isn't.
+fn is_right(answer: &Result<IoBuf, Error>, value: &[u8], len: usize) -> bool {
+    match answer {
+        Ok(buf) => buf.as_ref() == value && value.len() == len,
+        Err(Error::InvalidChecksum | Error::BlobInsufficientLength) => value.len() < len,
+        Err(_) => false,
     }
 }
 
-fn try_one<H: Sum>(stage: &Stage<H>, alloc: Global, bytes: &[u8]) -> Result<bool, Error> {
-    let mut other = stage.another(alloc, bytes)?;
-    goes(&mut other, NonZeroUsize::MIN)
+// Whether reads of the pages are right by a writer that opens the blob as it is.
+fn reads_well<H: Sum>(alloc: Global, bytes: &[u8], page_size: NonZeroU16) -> Result<bool, Error> {
+    let len = usize::from(page_size.get());
+    let mut blob = MemBlob::from_bytes(alloc, bytes)?;
+    for (index, page) in bytes.chunks_exact(len + FOOTER).enumerate() {
+        let offset = (index as u64).saturating_mul(len as u64);
+        let answer = read::<H>(alloc, &mut blob, page_size, offset, len);
+        if answer.as_ref().err() == Some(&Error::OutOfMemory) {
+            return Err(Error::OutOfMemory);
+        }
+        if !is_right(&answer, value::<H>(page), len) {
+            return Ok(false);
+        }
+    }
+    Ok(true)
 }
 
-/// Tries blobs that are the stage's with some changes. The first that doesn't go well is told.
+fn try_one<H: Sum>(stage: &Stage<H>, alloc: Global, bytes: &[u8]) -> Result<bool, Error> {
+    let text = text::<H>(alloc, bytes, stage.page_size())?;
+    let mut other = stage.another(alloc, bytes)?;
+    Ok(
+        goes(&mut other, &text, NonZeroUsize::MIN)?
+            && reads_well::<H>(alloc, bytes, stage.page_size())?,
+    )
+}
+
+/// Tries blobs that are the stage's with some changes, or other bytes. The first that doesn't go
+/// well is told.
 pub fn try_hostile<H: Sum>(
     alloc: Global,
     stage: &Stage<H>,
@@ -121,11 +214,14 @@ pub fn try_hostile<H: Sum>(
     count: u64,
     said: &mut Vec<u8>,
 ) -> io::Result<()> {
+    let unit = usize::from(stage.page_size().get()).saturating_add(FOOTER);
     let mut numbers = Numbers::new(seed);
     for _ in 0..count {
-        let bytes = changed(alloc, stage.bytes(), &mut numbers, stage.unit())?;
-        if try_one(stage, alloc, &bytes) != Ok(true) {
-            return write!(said, "fault at {}", Hex(&bytes));
+        let bytes = changed::<H>(alloc, stage.bytes(), &mut numbers, unit)?;
+        match try_one(stage, alloc, &bytes) {
+            Ok(true) => {}
+            Err(Error::OutOfMemory) => return Err(out_of_memory()),
+            _ => return write!(said, "fault at {}", Hex(&bytes)),
         }
     }
     write!(said, "tried {count}")

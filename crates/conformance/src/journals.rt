@@ -4,10 +4,10 @@ ghost use Rattle.cache.specs.Pages.{IsFresh};
 
 use crate::calls::say_calls;
 use crate::forms::Argument::{Bytes, Flags, Number};
-use crate::forms::{Arguments, Form, read_step};
+use crate::forms::{Form, read_step};
 use crate::line::Row;
 use crate::subject::Subject;
-use crate::words::{buffer_size, out_of_memory, say_done, say_error, unreadable};
+use crate::words::{buffer_size, is_refusal, out_of_memory, say_done, say_error, unreadable};
 use cache::CacheRef;
 use disk::{Blob, Error, IoBuf, MemBlob};
 use journal::{Found, Journal, crash_and_recover, frame_of};
@@ -242,6 +242,8 @@ impl<H: Sum, R: Sum> Journals<H, R> {
             self.say_answer(answer, &mut got)?;
             if got.as_slice() == wanted {
                 again = again.saturating_add(1);
+            } else if is_refusal(&got) {
+                return Err(out_of_memory());
             } else if !is_of_the_device(&got) {
                 return Err(unreadable());
             }
@@ -254,52 +256,12 @@ impl<H: Sum, R: Sum> Journals<H, R> {
         let answer = self.recover(alloc, NonZeroUsize::MIN);
         let mut wanted = Vec::new(alloc);
         self.say_answer(answer, &mut wanted)?;
+        if is_refusal(&wanted) {
+            return Err(out_of_memory());
+        }
         let calls = self.blob.calls().len().saturating_sub(before);
         let again = self.recover_failing(alloc, calls, &wanted)?;
         write!(said, "read again {again}")
-    }
-
-    fn play_recover(
-        &mut self,
-        alloc: Global,
-        by: NonZeroUsize,
-        said: &mut Vec<u8>,
-    ) -> io::Result<()> {
-        let answer = self.recover(alloc, by);
-        self.say_answer(answer, said)
-    }
-
-    fn play_crash(&mut self, alloc: Global, keep: &[bool], said: &mut Vec<u8>) -> io::Result<()> {
-        let answer = self.crash(alloc, keep);
-        self.say_answer(answer, said)
-    }
-
-    fn fail_at(&mut self, number: u64, said: &mut Vec<u8>) -> io::Result<()> {
-        self.blob.fail_at(number.max(1));
-        say_done(Ok(()), said)
-    }
-
-    fn go(
-        &mut self,
-        alloc: Global,
-        verb: Verb,
-        words: &Arguments,
-        said: &mut Vec<u8>,
-    ) -> io::Result<()> {
-        let (number, bytes) = (words.number(0), words.bytes());
-        match verb {
-            Verb::Content => self.begin(alloc, bytes, said),
-            Verb::Recover => self.play_recover(alloc, buffer_size(number), said),
-            Verb::Crash => self.play_crash(alloc, &words.flags, said),
-            Verb::Record => say_appended(self.append(bytes), said),
-            Verb::Commit => say_done(self.commit(), said),
-            Verb::Read => say_found(self.read(number), said),
-            Verb::Fail => self.fail_at(number, said),
-            Verb::Size => write!(said, "size {}", self.size()),
-            Verb::Len => write!(said, "len {}", self.blob.len()),
-            Verb::RecoverFailing => self.try_recoveries(alloc, said),
-            Verb::Frame => say_frame::<R>(alloc, bytes, said),
-        }
     }
 }
 
@@ -320,9 +282,31 @@ fn say_frame<R: Sum>(alloc: Global, record: &[u8], said: &mut Vec<u8>) -> io::Re
 
 impl<H: Sum, R: Sum> Subject for Journals<H, R> {
     fn play(&mut self, alloc: Global, row: &Row, said: &mut Vec<u8>) -> io::Result<()> {
-        match read_step(alloc, &STEPS, &row.step)? {
-            Some((verb, words)) => self.go(alloc, verb, &words, said),
-            None => Err(unreadable()),
+        let Some((verb, words)) = read_step(alloc, &STEPS, &row.step)? else {
+            return Err(unreadable());
+        };
+        let (number, bytes) = (words.number(0), words.bytes());
+        match verb {
+            Verb::Content => self.begin(alloc, bytes, said),
+            Verb::Recover => {
+                let answer = self.recover(alloc, buffer_size(number));
+                self.say_answer(answer, said)
+            }
+            Verb::Crash => {
+                let answer = self.crash(alloc, &words.flags);
+                self.say_answer(answer, said)
+            }
+            Verb::Record => say_appended(self.append(bytes), said),
+            Verb::Commit => say_done(self.commit(), said),
+            Verb::Read => say_found(self.read(number), said),
+            Verb::Fail => {
+                self.blob.fail_at(number.max(1));
+                say_done(Ok(()), said)
+            }
+            Verb::Size => write!(said, "size {}", self.size()),
+            Verb::Len => write!(said, "len {}", self.blob.len()),
+            Verb::RecoverFailing => self.try_recoveries(alloc, said),
+            Verb::Frame => say_frame::<R>(alloc, bytes, said),
         }
     }
 

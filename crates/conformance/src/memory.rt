@@ -82,16 +82,6 @@ impl Memory {
         )?)
     }
 
-    fn fail_at(&mut self, number: u64, said: &mut Vec<u8>) -> io::Result<()> {
-        self.blob.fail_at(number.max(1));
-        say_done(Ok(()), said)
-    }
-
-    fn deliver(&mut self, backwards: bool, said: &mut Vec<u8>) -> io::Result<()> {
-        self.blob.deliver_backwards(backwards);
-        say_done(Ok(()), said)
-    }
-
     fn write_durably(
         &mut self,
         alloc: Global,
@@ -128,10 +118,19 @@ impl Memory {
         let (first, second) = (words.number(0), words.number(1));
         let blob = &mut self.blob;
         match verb {
-            Verb::Fail => self.fail_at(first, said),
+            Verb::Fail => {
+                blob.fail_at(first.max(1));
+                say_done(Ok(()), said)
+            }
             Verb::Crash => say_done(blob.crash(&words.flags), said),
-            Verb::Backwards => self.deliver(true, said),
-            Verb::Forward => self.deliver(false, said),
+            Verb::Backwards => {
+                blob.deliver_backwards(true);
+                say_done(Ok(()), said)
+            }
+            Verb::Forward => {
+                blob.deliver_backwards(false);
+                say_done(Ok(()), said)
+            }
             Verb::Dump => say_bytes("blob", blob.bytes(), said),
             Verb::Calls => say_calls(blob.calls(), 0, said),
             Verb::Failures => write!(said, "failures {}", blob.failures()),

@@ -5,7 +5,7 @@ ghost use Rattle.cache.specs.Pages.{IsFresh};
 use crate::words::{say_bytes, say_error};
 use cache::CacheRef;
 use disk::{Blob, Error, IoBuf, MemBlob, ReadOptions};
-use page::AddSum;
+use page::{AddSum, Sum};
 use paged::Recovery;
 use std::alloc::Global;
 use std::io;
@@ -39,7 +39,8 @@ fn scanned(
     Ok((recovery.size(), len))
 }
 
-fn read(
+/// Opens a blob as it is, and reads a range.
+pub fn read<H: Sum>(
     alloc: Global,
     blob: &mut MemBlob,
     page_size: NonZeroU16,
@@ -48,7 +49,7 @@ fn read(
 ) -> Result<IoBuf, Error> {
     let mut cache = new_cache(alloc, page_size)?;
     let size = blob.len();
-    let recovery = Recovery::<MemBlob, AddSum>::open(alloc, blob, size, CAPACITY, &mut cache)?;
+    let recovery = Recovery::<MemBlob, H>::open(alloc, blob, size, CAPACITY, &mut cache)?;
     recovery.read_at(blob, &mut cache, offset, len)?.coalesce()
 }
 
@@ -75,7 +76,7 @@ pub fn say_opened_read(
     len: usize,
     said: &mut Vec<u8>,
 ) -> io::Result<()> {
-    match read(alloc, blob, page_size, offset, len) {
+    match read::<AddSum>(alloc, blob, page_size, offset, len) {
         Ok(buf) => say_bytes("bytes", buf.as_ref(), said),
         Err(error) => say_error(error, said),
     }

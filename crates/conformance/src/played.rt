@@ -3,7 +3,7 @@ use crate::forms::Argument::Bytes;
 use crate::forms::{Form, read_step};
 use crate::line::Row;
 use crate::subject::Subject;
-use crate::words::unreadable;
+use crate::words::{is_refusal, unreadable};
 use scripts::play_on;
 use std::alloc::Global;
 use std::io;
@@ -70,6 +70,44 @@ fn name_line(alloc: Global, mut script: &[u8], said: &mut Vec<u8>) -> io::Result
     }
 }
 
+// Whether the lines that were written are the wanted ones up to one that tells of a refusal, or but
+// for those of pages that the cache had no memory for.
+fn go_to_refusal(text: &[u8], wanted: &[u8]) -> bool {
+    let wanted = wanted.split(|byte| *byte == b'\n');
+    for (line, want) in text.split(|byte| *byte == b'\n').zip(wanted) {
+        if is_refusal(line) {
+            return true;
+        }
+        if line != want && !is_of_cache(line) {
+            return false;
+        }
+    }
+    true
+}
+
+fn is_of_cache(line: &[u8]) -> bool {
+    line == b"none".as_slice() || line.starts_with(b"missed") || line.starts_with(b"served")
+}
+
+const STOPPED: &[u8] = b", but said of errors\npagedctl: stopped\n";
+
+// Whether a script ended as one that is refused: by a step that says so; with status 1 where it was
+// read, or its replies were written; or without the line that explains one that can't be read.
+fn is_refused(row: &Row, said: &[u8]) -> bool {
+    if let Some(text) = said.strip_prefix(b"status 0, but wrote\n") {
+        return go_to_refusal(text, &row.wanted);
+    }
+    if let Some(text) = said.strip_prefix(b"status 1, but wrote\n") {
+        return match text.strip_suffix(STOPPED) {
+            Some(text) => row.wanted.starts_with(text),
+            None => false,
+        };
+    }
+    said.starts_with(b"status 1, but said of errors\npagedctl: stopped")
+        || said.starts_with(b"status 2, but said of errors\n")
+        || said.starts_with(b"fault status ")
+}
+
 impl Subject for Scripts {
     fn play(&mut self, alloc: Global, row: &Row, said: &mut Vec<u8>) -> io::Result<()> {
         match read_step(alloc, &STEPS, &row.step)? {
@@ -78,5 +116,9 @@ impl Subject for Scripts {
             Some((Verb::Names, words)) => name_line(alloc, words.bytes(), said),
             None => Err(unreadable()),
         }
+    }
+
+    fn tells_refusal(&self, row: &Row, said: &[u8]) -> bool {
+        is_refused(row, said)
     }
 }

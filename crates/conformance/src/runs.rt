@@ -2,10 +2,10 @@
 use crate::calls::{error_of, may_be_silent};
 use crate::case::Case;
 use crate::keep::Keep;
-use crate::refuse::{refuse, was_refused};
+use crate::line::Row;
 use crate::setting::{Setting, SumName, count_settings, say_setting, setting_of};
 use crate::stage::Stage;
-use crate::subject::{play_all, play_refused};
+use crate::subject::{play_all, play_refused, play_refusing};
 use crate::words::{bytes_of, out_of_memory, say_error, words};
 use crc32c::Crc32c;
 use disk::Call;
@@ -15,27 +15,55 @@ use std::alloc::Global;
 use std::io;
 use std::io::Write;
 
-// What happens in a run: which device call of the tried lines fails, from 1 on and 0 for none, and
-// how it goes on after them. In the first run the tried lines go as they are told.
+/// More requests for memory than most lines make: those after so many aren't refused.
+pub const MOST: u32 = 1500;
+
+// What happens in a run. In the first run the lines go as they are told.
 #[derive(Clone, Copy)]
 struct Plan {
-    fails: u64,
-    // Which request for memory is refused in the tried lines, from 1 on and 0 for none.
+    // Which device call of the tried lines fails, from 1 on and 0 for none.
+    fails: u32,
+    // Which device call of the lines after them fails, in the same way. They are played once more
+    // then, and none fails.
+    again: u32,
+    // Which request for memory is refused in the tried lines, in the same way.
     refuses: u32,
+    // How it goes on after the tried lines.
     keep: Option<Keep>,
     number: usize,
 }
 
+// What is planned for one number after the other.
+#[derive(Clone, Copy)]
+enum Planned {
+    Fails,
+    Again,
+    Refuses,
+}
+
+impl Plan {
+    fn first() -> Plan {
+        Plan {
+            fails: 0,
+            again: 0,
+            refuses: 0,
+            keep: None,
+            number: 0,
+        }
+    }
+
+    fn with(mut self, planned: Planned, number: u32) -> Plan {
+        match planned {
+            Planned::Fails => self.fails = number,
+            Planned::Again => self.again = number,
+            Planned::Refuses => self.refuses = number,
+        }
+        self
+    }
+}
+
 // The refusal is that of the device call which failed.
-fn compare_fault(
-    alloc: Global,
-    call: Option<&Call>,
-    fault: &[u8],
-    told: &mut Vec<u8>,
-) -> io::Result<()> {
-    let Some(call) = call else {
-        return Ok(());
-    };
+fn compare_fault(alloc: Global, call: &Call, fault: &[u8], told: &mut Vec<u8>) -> io::Result<()> {
     let mut want = Vec::new(alloc);
     say_error(error_of(call), &mut want)?;
     if want.as_slice() == fault || (fault.is_empty() && may_be_silent(call)) {
@@ -59,48 +87,49 @@ fn crash<H: Sum>(alloc: Global, stage: &mut Stage<H>, keep: Keep, number: usize)
     }
 }
 
-// The tried lines, with a device call that fails.
-fn try_failing<H: Sum>(
+// Lines with a device call that fails. Answers whether they reach it.
+fn play_failing<H: Sum>(
     alloc: Global,
     stage: &mut Stage<H>,
-    case: &Case,
-    fails: u64,
-    told: &mut Vec<u8>,
-) -> io::Result<()> {
-    let mark = stage.device_calls().len();
-    let mut fault = Vec::new(alloc);
-    stage.fail_at(fails);
-    play_refused(alloc, stage, &case.tried, &mut fault)?;
-    let at = mark.saturating_add(fails as usize).saturating_sub(1);
-    compare_fault(alloc, stage.device_calls().get(at), &fault, told)
-}
-
-// The tried lines, with a request for memory that is refused. Where it is one of the lines' own
-// player, they end there. Answers whether one was refused.
-fn try_refusing<H: Sum>(
-    alloc: Global,
-    stage: &mut Stage<H>,
-    case: &Case,
-    refuses: u32,
+    rows: &[Row],
+    fails: u32,
     told: &mut Vec<u8>,
 ) -> io::Result<bool> {
-    let mut fault = Vec::with_capacity(alloc, 256)?;
-    refuse(alloc, refuses);
-    let played = play_refused(alloc, stage, &case.tried, &mut fault);
-    let was = was_refused(alloc);
-    if played.is_ok()
-        && !fault.is_empty()
-        && fault.as_slice() != b"fault E8 OutOfMemory".as_slice()
-    {
-        writeln!(told, "  a refused request answers")?;
-        told.extend_from_slice(&fault)?;
-        writeln!(told)?;
+    let mark = stage.device_calls().len();
+    let mut fault = Vec::new(alloc);
+    stage.fail_at(u64::from(fails));
+    play_refused(alloc, stage, rows, &mut fault)?;
+    let at = mark.saturating_add(fails as usize).saturating_sub(1);
+    match stage.device_calls().get(at) {
+        Some(call) => {
+            compare_fault(alloc, call, &fault, told)?;
+            Ok(true)
+        }
+        None => Ok(false),
     }
-    Ok(was)
 }
 
-// The tried lines, a crash, and the lines after them. Answers whether a request was refused.
+// The tried lines. Answers whether they reach what is planned for them.
 fn try_lines<H: Sum>(
+    alloc: Global,
+    stage: &mut Stage<H>,
+    case: &Case,
+    plan: Plan,
+    told: &mut Vec<u8>,
+) -> io::Result<bool> {
+    if plan.refuses > 0 {
+        return play_refusing(alloc, stage, &case.tried, plan.refuses, true, told);
+    }
+    if plan.fails > 0 {
+        return play_failing(alloc, stage, &case.tried, plan.fails, told);
+    }
+    play_all(alloc, stage, &case.tried, told)?;
+    Ok(true)
+}
+
+// A crash, and the lines after it: with a call of theirs that fails they are played once more
+// after a further crash. Answers whether that call is reached.
+fn go_on<H: Sum>(
     alloc: Global,
     stage: &mut Stage<H>,
     case: &Case,
@@ -108,38 +137,35 @@ fn try_lines<H: Sum>(
     keep: Keep,
     told: &mut Vec<u8>,
 ) -> io::Result<bool> {
-    let mut was = false;
-    if plan.refuses > 0 {
-        was = try_refusing(alloc, stage, case, plan.refuses, told)?;
-        if !was {
+    crash(alloc, stage, keep, plan.number)?;
+    if plan.again > 0 {
+        if !play_failing(alloc, stage, &case.after, plan.again, told)? {
             return Ok(false);
         }
-    } else if plan.fails > 0 {
-        try_failing(alloc, stage, case, plan.fails, told)?;
-    } else {
-        play_all(alloc, stage, &case.tried, told)?;
+        crash(alloc, stage, keep, plan.number)?;
     }
-    crash(alloc, stage, keep, plan.number)?;
     play_all(alloc, stage, &case.after, told)?;
-    Ok(was)
+    Ok(true)
 }
 
-// Answers how many device calls the tried lines made, or whether a request was refused.
+// Answers whether what is planned is reached.
 fn run_on<H: Sum>(
     alloc: Global,
     stage: &mut Stage<H>,
     case: &Case,
     plan: Plan,
     told: &mut Vec<u8>,
-) -> io::Result<usize> {
+) -> io::Result<bool> {
+    if case.plan.is_empty() && plan.refuses > 0 {
+        return play_refusing(alloc, stage, &case.before, plan.refuses, true, told);
+    }
     play_all(alloc, stage, &case.before, told)?;
-    let mark = stage.device_calls().len();
+    if !try_lines(alloc, stage, case, plan, told)? {
+        return Ok(false);
+    }
     match plan.keep {
-        Some(keep) => Ok(try_lines(alloc, stage, case, plan, keep, told)? as usize),
-        None => {
-            play_all(alloc, stage, &case.tried, told)?;
-            Ok(stage.device_calls().len().saturating_sub(mark))
-        }
+        Some(keep) => go_on(alloc, stage, case, plan, keep, told),
+        None => Ok(true),
     }
 }
 
@@ -149,7 +175,7 @@ fn run_under<H: Sum>(
     setting: Setting,
     plan: Plan,
     told: &mut Vec<u8>,
-) -> io::Result<usize> {
+) -> io::Result<bool> {
     let blob = bytes_of(alloc, &case.blob)?;
     match Stage::<H>::new(alloc, setting, &blob) {
         Ok(mut stage) => run_on(alloc, &mut stage, case, plan, told),
@@ -163,7 +189,7 @@ fn run(
     setting: Setting,
     plan: Plan,
     told: &mut Vec<u8>,
-) -> io::Result<usize> {
+) -> io::Result<bool> {
     match setting.sum {
         SumName::Add => run_under::<AddSum>(alloc, case, setting, plan, told),
         SumName::Const => run_under::<ConstSum>(alloc, case, setting, plan, told),
@@ -172,152 +198,131 @@ fn run(
 }
 
 fn say_plan(plan: Plan, told: &mut Vec<u8>) -> io::Result<()> {
-    writeln!(
-        told,
-        ", device call {} failing, request {} refused, crash {}",
-        plan.fails, plan.refuses, plan.number
-    )
+    write!(told, ", device call {} failing", plan.fails)?;
+    if plan.again > 0 {
+        write!(told, ", then {}", plan.again)?;
+    }
+    let (refuses, number) = (plan.refuses, plan.number);
+    writeln!(told, ", request {refuses} refused, crash {number}")
 }
 
-// Runs it, and names the run where something was told of it.
+// Runs it, and names the run where something was told of it. Answers whether what is planned is
+// reached.
 fn run_named(
     alloc: Global,
     case: &Case,
     setting: Setting,
     plan: Plan,
     told: &mut Vec<u8>,
-) -> io::Result<usize> {
+) -> io::Result<bool> {
     let before = told.len();
     // (more would hide what is wrong)
     if before > 4000 {
-        return Ok(0);
+        return Ok(false);
     }
-    let calls = run(alloc, case, setting, plan, told)?;
+    let reached = run(alloc, case, setting, plan, told)?;
     if told.len() > before {
         say_setting(setting, told)?;
         say_plan(plan, told)?;
     }
-    Ok(calls)
+    Ok(reached)
 }
 
-// Each crash of a way to go on.
-fn run_each_crash(
+// Runs it for each number from 1 on, until what is planned isn't reached. Answers how many runs
+// that were.
+fn run_each(
     alloc: Global,
     case: &Case,
     setting: Setting,
-    fails: u64,
-    keep: Keep,
+    plan: Plan,
+    planned: Planned,
     told: &mut Vec<u8>,
 ) -> io::Result<u64> {
-    for number in 0..keep.count() {
-        let plan = Plan {
-            fails,
-            refuses: 0,
-            keep: Some(keep),
-            number,
-        };
-        run_named(alloc, case, setting, plan, told)?;
-    }
-    Ok(keep.count() as u64)
-}
-
-fn run_each_way(
-    alloc: Global,
-    case: &Case,
-    setting: Setting,
-    fails: u64,
-    ways: &[&[u8]],
-    told: &mut Vec<u8>,
-) -> io::Result<u64> {
-    let mut runs: u64 = 0;
-    for way in ways {
-        if let Some(keep) = Keep::read(way) {
-            let more = run_each_crash(alloc, case, setting, fails, keep, told)?;
-            runs = runs.saturating_add(more);
+    for number in 1..=MOST {
+        if !run_named(alloc, case, setting, plan.with(planned, number), told)? {
+            return Ok(u64::from(number).saturating_sub(1));
         }
     }
-    Ok(runs)
+    Ok(u64::from(MOST))
 }
 
-fn run_each_call(
+// Each device call of the tried lines fails, and after it each one of the lines after them.
+fn run_twice(
     alloc: Global,
     case: &Case,
     setting: Setting,
-    calls: usize,
-    ways: &[&[u8]],
+    plan: Plan,
     told: &mut Vec<u8>,
 ) -> io::Result<u64> {
     let mut runs: u64 = 0;
-    for index in 0..calls as u64 {
-        let more = run_each_way(alloc, case, setting, index.saturating_add(1), ways, told)?;
+    for number in 1..=MOST {
+        let plan = plan.with(Planned::Fails, number);
+        let more = run_each(alloc, case, setting, plan, Planned::Again, told)?;
+        if more == 0 {
+            break;
+        }
         runs = runs.saturating_add(more);
     }
     Ok(runs)
 }
 
-// Each request of the tried lines refused in turn, until there are no more.
-fn run_each_refusal(
+// What the first word of a `try` line asks for: each device call of the tried lines in turn, each
+// with each one after it, or the one of a number.
+fn run_which(
     alloc: Global,
     case: &Case,
     setting: Setting,
+    which: &[u8],
+    mut plan: Plan,
+    told: &mut Vec<u8>,
+) -> io::Result<u64> {
+    if which == b"each".as_slice() {
+        return run_each(alloc, case, setting, plan, Planned::Fails, told);
+    }
+    if which == b"twice".as_slice() {
+        return run_twice(alloc, case, setting, plan, told);
+    }
+    plan.fails = u32::try_from(parse_number(which).unwrap_or(0)).unwrap_or(0);
+    Ok(u64::from(run_named(alloc, case, setting, plan, told)?))
+}
+
+// Each crash of a way to go on. Where each call fails, each request is refused too.
+fn run_way(
+    alloc: Global,
+    case: &Case,
+    setting: Setting,
+    which: &[u8],
     keep: Keep,
     told: &mut Vec<u8>,
 ) -> io::Result<u64> {
     let mut runs: u64 = 0;
-    for refuses in 1..1_000_000u32 {
-        let plan = Plan {
-            fails: 0,
-            refuses,
-            keep: Some(keep),
-            number: 0,
-        };
-        if run_named(alloc, case, setting, plan, told)? == 0 {
-            break;
-        }
-        runs = runs.saturating_add(1);
+    let mut plan = Plan::first();
+    plan.keep = Some(keep);
+    if which == b"each".as_slice() {
+        runs = run_each(alloc, case, setting, plan, Planned::Refuses, told)?;
+    }
+    for number in 0..keep.count() {
+        plan.number = number;
+        let more = run_which(alloc, case, setting, which, plan, told)?;
+        runs = runs.saturating_add(more);
     }
     Ok(runs)
 }
 
-fn run_refusals(
-    alloc: Global,
-    case: &Case,
-    setting: Setting,
-    ways: &[&[u8]],
-    told: &mut Vec<u8>,
-) -> io::Result<u64> {
-    let mut runs: u64 = 0;
+// What the `try` line asks for; without one each request of the lines is refused.
+fn run_plan(alloc: Global, case: &Case, setting: Setting, told: &mut Vec<u8>) -> io::Result<u64> {
+    let words = words(alloc, &case.plan)?;
+    let mut runs = run_each(alloc, case, setting, Plan::first(), Planned::Refuses, told)?;
+    let [which, ways @ ..] = words.as_slice() else {
+        return Ok(runs);
+    };
     for way in ways {
         if let Some(keep) = Keep::read(way) {
-            let more = run_each_refusal(alloc, case, setting, keep, told)?;
+            let more = run_way(alloc, case, setting, which, keep, told)?;
             runs = runs.saturating_add(more);
         }
     }
     Ok(runs)
-}
-
-fn is_each(word: &[u8]) -> bool {
-    word == b"each".as_slice()
-}
-
-fn run_plan(
-    alloc: Global,
-    case: &Case,
-    setting: Setting,
-    calls: usize,
-    told: &mut Vec<u8>,
-) -> io::Result<u64> {
-    let words = words(alloc, &case.plan)?;
-    let [which, ways @ ..] = words.as_slice() else {
-        return Ok(0);
-    };
-    if is_each(which) {
-        let runs = run_each_call(alloc, case, setting, calls, ways, told)?;
-        let refused = run_refusals(alloc, case, setting, ways, told)?;
-        return Ok(runs.saturating_add(refused));
-    }
-    let fails = parse_number(which).unwrap_or(0);
-    run_each_way(alloc, case, setting, fails, ways, told)
 }
 
 fn run_setting(
@@ -326,14 +331,8 @@ fn run_setting(
     setting: Setting,
     told: &mut Vec<u8>,
 ) -> io::Result<u64> {
-    let first = Plan {
-        fails: 0,
-        refuses: 0,
-        keep: None,
-        number: 0,
-    };
-    let calls = run_named(alloc, case, setting, first, told)?;
-    let runs = run_plan(alloc, case, setting, calls, told)?;
+    run_named(alloc, case, setting, Plan::first(), told)?;
+    let runs = run_plan(alloc, case, setting, told)?;
     Ok(runs.saturating_add(1))
 }
 

@@ -4,7 +4,7 @@ ghost use Rattle.std.specs.Int.NonZero.{non_zero_u16_get};
 ghost use Rattle.disk.specs.History.{life_of};
 
 use crate::words::{say_bytes, say_error};
-use disk::{Blob, Error, IoBufs, MemBlob, ReadOptions};
+use disk::{Blob, Error, MemBlob, ReadOptions};
 use page::{ActiveChecksum, AddSum, Slot};
 use paged_read::{Prefix, last_pages, physical_page_size, read_range, read_tail, scan};
 use scripts::Hex;
@@ -90,13 +90,6 @@ pub fn say_last_pages(
     say_prefix(searched(alloc, blob, page_size), said)
 }
 
-fn say_joined(word: &str, bufs: &IoBufs, said: &mut Vec<u8>) -> io::Result<()> {
-    match bufs.coalesce() {
-        Ok(buf) => say_bytes(word, buf.as_ref(), said),
-        Err(error) => say_error(error, said),
-    }
-}
-
 /// Reads a range.
 pub fn say_range(
     alloc: Global,
@@ -107,8 +100,9 @@ pub fn say_range(
     said: &mut Vec<u8>,
 ) -> io::Result<()> {
     let options = ReadOptions::default();
-    match read_range::<MemBlob, AddSum>(alloc, blob, page_size, offset, len, options) {
-        Ok(bufs) => say_joined("bytes", &bufs, said),
+    let read = read_range::<MemBlob, AddSum>(alloc, blob, page_size, offset, len, options);
+    match read.and_then(|bufs| bufs.coalesce()) {
+        Ok(buf) => say_bytes("bytes", buf.as_ref(), said),
         Err(error) => say_error(error, said),
     }
 }
@@ -123,11 +117,9 @@ pub fn say_tail(
     said: &mut Vec<u8>,
 ) -> io::Result<()> {
     let options = ReadOptions::default();
-    match read_tail::<MemBlob, AddSum>(alloc, blob, physical_size, page_size, len, options) {
-        Ok((size, bufs)) => {
-            write!(said, "size {size} ")?;
-            say_joined("bytes", &bufs, said)
-        }
+    let read = read_tail::<MemBlob, AddSum>(alloc, blob, physical_size, page_size, len, options);
+    match read.and_then(|(size, bufs)| Ok((size, bufs.coalesce()?))) {
+        Ok((size, buf)) => write!(said, "size {size} bytes {}", Hex(buf.as_ref())),
         Err(error) => say_error(error, said),
     }
 }

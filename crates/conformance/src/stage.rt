@@ -7,7 +7,7 @@ use paged::{Outlook, Recovery, look};
 use session::{Reply, Session, Step, run};
 use std::alloc::Global;
 use std::marker::Model;
-use std::num::NonZeroUsize;
+use std::num::{NonZeroU16, NonZeroUsize};
 
 /// A blob in memory with its cache, and the session on it. It is handed out in a box.
 #[derive(Drop)]
@@ -53,9 +53,9 @@ impl<H: Sum> Stage<H> {
         Stage::new(alloc, self.setting, bytes)
     }
 
-    /// The bytes of a page with its footer.
-    pub fn unit(&self) -> usize {
-        self.setting.page_size.get() as usize + 12
+    /// The logical bytes of a page.
+    pub fn page_size(&self) -> NonZeroU16 {
+        self.setting.page_size
     }
 
     /// Recovers the blob as it is, by reads of so many bytes, and tells how many are left.

@@ -57,10 +57,14 @@ fn say_outlook(answer: Result<Outlook, Error>, said: &mut Vec<u8>) -> io::Result
     }
 }
 
-/// The content of a stage, read through its session.
-pub fn content<H: Sum>(stage: &mut Stage<H>) -> Reply {
+/// The content of a stage, read through its session; `BlobInsufficientLength` where it is closed.
+pub fn content<H: Sum>(stage: &mut Stage<H>) -> Result<Vec<u8>, Error> {
     let len = stage.size() as usize;
-    stage.step(Step::Read(0, len))
+    match stage.step(Step::Read(0, len)) {
+        Reply::Bytes(bytes) => Ok(bytes),
+        Reply::Fault(error) => Err(error),
+        _ => Err(Error::BlobInsufficientLength),
+    }
 }
 
 // A try of a script. A line `try` of a case says what is tried.
@@ -86,14 +90,9 @@ fn holds<H: Sum>(
         return say_error(error, said);
     }
     match content(stage) {
-        Reply::Bytes(bytes) => {
-            if is_between(&bytes, floor, whole) {
-                write!(said, "holds")
-            } else {
-                write!(said, "fault has {}", Hex(&bytes))
-            }
-        }
-        other => say(&other, said),
+        Ok(bytes) if is_between(&bytes, floor, whole) => write!(said, "holds"),
+        Ok(bytes) => write!(said, "fault has {}", Hex(&bytes)),
+        Err(error) => say_error(error, said),
     }
 }
 

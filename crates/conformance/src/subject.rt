@@ -1,5 +1,7 @@
 // What a case is about.
 use crate::line::Row;
+use crate::refuse::{refuse, was_refused};
+use crate::words::is_refusal;
 use std::alloc::Global;
 use std::io;
 use std::io::{ErrorKind, Write};
@@ -8,6 +10,11 @@ use std::io::{ErrorKind, Write};
 pub trait Subject {
     /// Plays the step of a line, and writes what it answers. `InvalidInput` where it can't be read.
     fn play(&mut self, alloc: Global, row: &Row, said: &mut Vec<u8>) -> io::Result<()>;
+
+    /// Whether a reply tells that a request for memory was refused.
+    fn tells_refusal(&self, _row: &Row, said: &[u8]) -> bool {
+        is_refusal(said)
+    }
 
     /// How many device calls there were: none where it has no device that tells them.
     fn calls(&self) -> usize {
@@ -124,4 +131,96 @@ pub fn play_refused<S: Subject>(
         }
     }
     Ok(())
+}
+
+// Whether the reply tells which pages are in the cache, which holds fewer where it had no memory, or
+// how many device calls it took.
+fn tells_cache(row: &Row, said: &[u8]) -> bool {
+    let asks = row.step.starts_with(b"ca") || row.step.starts_with(b"has");
+    (asks && !said.starts_with(b"fault"))
+        || said.starts_with(b"served")
+        || said.starts_with(b"read again")
+}
+
+// Plays lines up to the first whose reply isn't as told, and answers that one and those after it.
+fn play_to_fault<'a, S: Subject>(
+    alloc: Global,
+    subject: &mut S,
+    rows: &'a [Row],
+    fault: &mut Vec<u8>,
+) -> io::Result<&'a [Row]> {
+    for (index, row) in rows.iter().enumerate() {
+        let mut said = Vec::new(alloc);
+        answer(alloc, subject, row, &mut said)?;
+        if !is_as_told(row, &said) && !tells_cache(row, &said) {
+            fault.extend_from_slice(&said)?;
+            return Ok(rows.get(index..).unwrap_or(&[]));
+        }
+    }
+    Ok(&[])
+}
+
+// Whether a line works on the blob itself, which may have changed before it was refused, or lets a
+// device call fail.
+fn can_change(row: &Row) -> bool {
+    row.step.starts_with(b"cut")
+        || row.step.starts_with(b"open")
+        || row.step.starts_with(b"recover")
+        || row.step.starts_with(b"fail")
+}
+
+// Goes on with the line that was refused. Unless it took the writer, nothing has changed, and this
+// line and those after it answer as they tell.
+fn play_again<S: Subject>(
+    alloc: Global,
+    subject: &mut S,
+    rows: &[Row],
+    told: &mut Vec<u8>,
+) -> io::Result<()> {
+    for row in rows {
+        let mut said = Vec::new(alloc);
+        answer(alloc, subject, row, &mut said)?;
+        if said.as_slice() == b"closed".as_slice() {
+            return Ok(());
+        }
+        if !tells_cache(row, &said) {
+            compare_reply(row, &said, told)?;
+        }
+    }
+    Ok(())
+}
+
+/// Plays lines with a request for memory that is refused, the one of this number, from 1 on. The
+/// first reply that is another than told is to be that refusal; with `again` the line is played
+/// once more then, and those after it. Where the request is one of the lines' own player, they end
+/// there. Answers whether one was refused.
+pub fn play_refusing<S: Subject>(
+    alloc: Global,
+    subject: &mut S,
+    rows: &[Row],
+    refuses: u32,
+    again: bool,
+    told: &mut Vec<u8>,
+) -> io::Result<bool> {
+    let mut fault = Vec::with_capacity(alloc, 256)?;
+    refuse(alloc, refuses);
+    let played = play_to_fault(alloc, subject, rows, &mut fault);
+    if !was_refused(alloc) {
+        return Ok(false);
+    }
+    let Ok(rest) = played else {
+        return Ok(true);
+    };
+    match rest.first() {
+        Some(row) if !subject.tells_refusal(row, &fault) => {
+            writeln!(told, "  a refused request answers")?;
+            told.extend_from_slice(&fault)?;
+            writeln!(told)?;
+        }
+        Some(_) if again && !rows.iter().any(can_change) => {
+            play_again(alloc, subject, rest, told)?;
+        }
+        _ => {}
+    }
+    Ok(true)
 }

@@ -10,10 +10,10 @@ use crate::mirrored::Mirrored;
 use crate::nested::Nested;
 use crate::plain::Plain;
 use crate::played::Scripts;
-use crate::runs::play_session;
+use crate::runs::{MOST, play_session};
 use crate::served::Server;
 use crate::setting::{SumName, sum_of};
-use crate::subject::{Subject, play_all};
+use crate::subject::{Subject, play_all, play_refusing};
 use crate::views::Viewed;
 use crate::words::{bytes_of, page_size, unreadable, words};
 use page::{AddSum, ConstSum};
@@ -49,15 +49,20 @@ const KINDS: [Form<Kind>; 11] = [
     (b"view", &[Number, Number], Kind::View),
 ];
 
-// Plays all lines of a case, once.
+// Plays all lines of a case, with a request for memory that is refused, or with 0 none. Answers
+// whether one was.
 fn play_once<S: Subject>(
     alloc: Global,
     subject: &mut S,
     case: &Case,
+    refuses: u32,
     told: &mut Vec<u8>,
-) -> io::Result<u64> {
+) -> io::Result<bool> {
+    if refuses > 0 {
+        return play_refusing(alloc, subject, &case.before, refuses, false, told);
+    }
     play_all(alloc, subject, &case.before, told)?;
-    Ok(1)
+    Ok(false)
 }
 
 // The same with a subject that was made for it.
@@ -65,94 +70,53 @@ fn play_made<S: Subject + Drop>(
     alloc: Global,
     made: io::Result<Box<S>>,
     case: &Case,
+    refuses: u32,
     told: &mut Vec<u8>,
-) -> io::Result<u64> {
+) -> io::Result<bool> {
     let mut subject = made?;
-    play_once(alloc, &mut *subject, case, told)
-}
-
-fn over_memory(alloc: Global, case: &Case, told: &mut Vec<u8>) -> io::Result<u64> {
-    let bytes = bytes_of(alloc, &case.blob)?;
-    play_made(alloc, Memory::new(alloc, &bytes), case, told)
-}
-
-fn over_plain(alloc: Global, case: &Case, told: &mut Vec<u8>) -> io::Result<u64> {
-    let bytes = bytes_of(alloc, &case.blob)?;
-    play_made(alloc, Plain::new(alloc, bytes), case, told)
-}
-
-fn over_requests(alloc: Global, case: &Case, told: &mut Vec<u8>) -> io::Result<u64> {
-    let bytes = bytes_of(alloc, &case.blob)?;
-    play_made(alloc, Server::new(alloc, bytes), case, told)
-}
-
-// The host's call of a number fails.
-fn over_mirror(
-    alloc: Global,
-    case: &Case,
-    words: &Arguments,
-    told: &mut Vec<u8>,
-) -> io::Result<u64> {
-    play_made(alloc, Mirrored::new(alloc, words.number(0)), case, told)
-}
-
-fn over_buffer(
-    alloc: Global,
-    case: &Case,
-    words: &Arguments,
-    told: &mut Vec<u8>,
-) -> io::Result<u64> {
-    let (offset, capacity, page_size) = (words.number(0), words.length(1), words.length(2));
-    play_made(
-        alloc,
-        Buffered::new(alloc, offset, capacity, page_size),
-        case,
-        told,
-    )
-}
-
-fn over_cache(
-    alloc: Global,
-    case: &Case,
-    words: &Arguments,
-    told: &mut Vec<u8>,
-) -> io::Result<u64> {
-    let page_size = page_size(words.number(0))?;
-    play_made(
-        alloc,
-        Cached::new(alloc, page_size, words.length(1)),
-        case,
-        told,
-    )
-}
-
-// The byte of the blob at an offset is another, if one is there.
-fn over_view(alloc: Global, case: &Case, words: &Arguments, told: &mut Vec<u8>) -> io::Result<u64> {
-    let changed = words.numbers.get(1).copied().unwrap_or(u64::MAX);
-    let viewed = Viewed::new(alloc, words.length(0), changed as usize);
-    play_made(alloc, viewed, case, told)
+    play_once(alloc, &mut *subject, case, refuses, told)
 }
 
 // The pages of its blob and its records have the same checksum function.
 fn over_journal(
     alloc: Global,
     case: &Case,
-    words: &Arguments,
+    sum: &[u8],
+    refuses: u32,
     told: &mut Vec<u8>,
-) -> io::Result<u64> {
-    match sum_of(words.bytes()) {
+) -> io::Result<bool> {
+    match sum_of(sum) {
         Some(SumName::Add) => {
-            play_made(alloc, Journals::<AddSum, AddSum>::new(alloc), case, told)
+            let made = Journals::<AddSum, AddSum>::new(alloc);
+            play_made(alloc, made, case, refuses, told)
         }
         Some(SumName::Const) => {
-            play_made(
-                alloc,
-                Journals::<ConstSum, ConstSum>::new(alloc),
-                case,
-                told,
-            )
+            let made = Journals::<ConstSum, ConstSum>::new(alloc);
+            play_made(alloc, made, case, refuses, told)
         }
         _ => Err(unreadable()),
+    }
+}
+
+// Over the devices.
+fn over_device(
+    alloc: Global,
+    case: &Case,
+    kind: Kind,
+    words: &Arguments,
+    refuses: u32,
+    told: &mut Vec<u8>,
+) -> io::Result<bool> {
+    let bytes = bytes_of(alloc, &case.blob)?;
+    match kind {
+        Kind::Memory => play_made(alloc, Memory::new(alloc, &bytes), case, refuses, told),
+        Kind::Plain => play_made(alloc, Plain::new(alloc, bytes), case, refuses, told),
+        Kind::Requests => play_made(alloc, Server::new(alloc, bytes), case, refuses, told),
+        // (the host's call of a number fails)
+        _ => {
+            let made = Mirrored::new(alloc, words.number(0));
+            play_made(alloc, made, case, refuses, told)
+        }
     }
 }
 
@@ -161,26 +125,65 @@ fn play_kind(
     case: &Case,
     kind: Kind,
     words: &Arguments,
+    refuses: u32,
+    told: &mut Vec<u8>,
+) -> io::Result<bool> {
+    let (first, len) = (words.number(0), words.length(1));
+    match kind {
+        Kind::Cases => play_once(alloc, &mut Nested, case, refuses, told),
+        Kind::Scripts => play_once(alloc, &mut Scripts, case, refuses, told),
+        Kind::Journal => over_journal(alloc, case, words.bytes(), refuses, told),
+        Kind::Buffer => {
+            let made = Buffered::new(alloc, first, len, words.length(2));
+            play_made(alloc, made, case, refuses, told)
+        }
+        Kind::Cache => {
+            let made = Cached::new(alloc, page_size(first)?, len);
+            play_made(alloc, made, case, refuses, told)
+        }
+        // (the byte of the blob at an offset is another, if one is there)
+        Kind::View => {
+            let changed = words.numbers.get(1).copied().unwrap_or(u64::MAX);
+            let made = Viewed::new(alloc, words.length(0), changed as usize);
+            play_made(alloc, made, case, refuses, told)
+        }
+        _ => over_device(alloc, case, kind, words, refuses, told),
+    }
+}
+
+// Whether a refused request doesn't show in a reply as itself: a host in memory fails then, the
+// cache leaves a page out, and requests are answered in bytes.
+fn hides_refusals(kind: Kind) -> bool {
+    match kind {
+        Kind::Cases | Kind::Requests | Kind::Mirror | Kind::Cache => true,
+        _ => false,
+    }
+}
+
+// Plays a case that isn't a session's, and then with each request refused in turn.
+fn play_other(
+    alloc: Global,
+    case: &Case,
+    kind: Kind,
+    words: &Arguments,
     told: &mut Vec<u8>,
 ) -> io::Result<u64> {
-    match kind {
-        Kind::Cases => play_once(alloc, &mut Nested, case, told),
-        Kind::Scripts => play_once(alloc, &mut Scripts, case, told),
-        Kind::Requests => over_requests(alloc, case, told),
-        Kind::Memory => over_memory(alloc, case, told),
-        Kind::Plain => over_plain(alloc, case, told),
-        Kind::Mirror => over_mirror(alloc, case, words, told),
-        Kind::Journal => over_journal(alloc, case, words, told),
-        Kind::Buffer => over_buffer(alloc, case, words, told),
-        Kind::Cache => over_cache(alloc, case, words, told),
-        Kind::View => over_view(alloc, case, words, told),
+    play_kind(alloc, case, kind, words, 0, told)?;
+    if hides_refusals(kind) {
+        return Ok(1);
     }
+    for number in 1..=MOST {
+        if !play_kind(alloc, case, kind, words, number, told)? {
+            return Ok(u64::from(number));
+        }
+    }
+    Ok(u64::from(MOST))
 }
 
 /// Plays a case in each of its ways, writes each difference, and answers how many runs that were.
 pub fn play_case(alloc: Global, case: &Case, told: &mut Vec<u8>) -> io::Result<u64> {
     match read_step(alloc, &KINDS, &case.start)? {
-        Some((kind, words)) => play_kind(alloc, case, kind, &words, told),
+        Some((kind, words)) => play_other(alloc, case, kind, &words, told),
         None => play_session(alloc, case, &words(alloc, &case.start)?, told),
     }
 }

@@ -8,7 +8,7 @@ ghost use Rattle.paged_read.specs.Tail.{tail_at, IsView, CanRead};
 
 use crate::calls::say_calls;
 use crate::forms::Argument::{Number, Numbers, Ranges};
-use crate::forms::{Arguments, Form, read_step};
+use crate::forms::{Form, read_step};
 use crate::in_order::len_together;
 use crate::line::Row;
 use crate::subject::Subject;
@@ -302,24 +302,13 @@ impl Viewed {
             Err(error) => say_error(error, said),
         }
     }
+}
 
-    fn fail_at(&mut self, number: u64, said: &mut Vec<u8>) -> io::Result<()> {
-        self.blob.fail_at(number.max(1));
-        say_done(Ok(()), said)
-    }
-
-    fn deliver_backwards(&mut self, said: &mut Vec<u8>) -> io::Result<()> {
-        self.blob.deliver_backwards(true);
-        say_done(Ok(()), said)
-    }
-
-    fn go(
-        &mut self,
-        alloc: Global,
-        verb: Verb,
-        words: &Arguments,
-        said: &mut Vec<u8>,
-    ) -> io::Result<()> {
+impl Subject for Viewed {
+    fn play(&mut self, alloc: Global, row: &Row, said: &mut Vec<u8>) -> io::Result<()> {
+        let Some((verb, words)) = read_step(alloc, &STEPS, &row.step)? else {
+            return Err(unreadable());
+        };
         let (first, len) = (words.number(0), words.length(1));
         match verb {
             Verb::ReadInto => say_count("read", self.read_into(first, len), said),
@@ -330,17 +319,14 @@ impl Viewed {
             Verb::Fours => self.play_fours(alloc, &words.numbers, said),
             Verb::CachedRanges => self.play_missed(&words.ranges, said),
             Verb::Has => say_whether(self.cache.holds(self.id, first), said),
-            Verb::Fail => self.fail_at(first, said),
-            Verb::Backwards => self.deliver_backwards(said),
-        }
-    }
-}
-
-impl Subject for Viewed {
-    fn play(&mut self, alloc: Global, row: &Row, said: &mut Vec<u8>) -> io::Result<()> {
-        match read_step(alloc, &STEPS, &row.step)? {
-            Some((verb, words)) => self.go(alloc, verb, &words, said),
-            None => Err(unreadable()),
+            Verb::Fail => {
+                self.blob.fail_at(first.max(1));
+                say_done(Ok(()), said)
+            }
+            Verb::Backwards => {
+                self.blob.deliver_backwards(true);
+                say_done(Ok(()), said)
+            }
         }
     }
 

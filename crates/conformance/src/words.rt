@@ -22,6 +22,11 @@ pub fn out_of_memory() -> io::Error {
     io::Error::from(ErrorKind::OutOfMemory)
 }
 
+/// Whether a reply tells of a request for memory that was refused.
+pub fn is_refusal(said: &[u8]) -> bool {
+    said == b"fault E8 OutOfMemory".as_slice()
+}
+
 fn as_io(error: ReadError) -> io::Error {
     match error {
         ReadError::Unreadable => unreadable(),
