@@ -28,7 +28,7 @@ pub record IsReadyApart (sum : List ℕ → ℕ) (session : SessionState) (d : D
 
 -- one step by a session that stood for this, after which its snapshots tell these contents, and its
 -- replays are these
-pub record SteppedApart (sum : List ℕ → ℕ) (P : ℕ) (step : Step) (reply : Reply) (session : SessionState) (old new : Life) (before : Standing) (snapshots : List (List ℕ)) (replays : List (Option Replayed)) : Type 0 where
+pub record SteppedApart (sum : List ℕ → ℕ) (P : ℕ) (step : Step) (reply : Reply) (session : SessionState) (old new : Life) (before : Standing) (snapshots : List (Option (List ℕ))) (replays : List (Option Replayed)) : Type 0 where
   pub moments : List Disk
   pub goes : new ≡ life_after old moments
   pub after : Standing
@@ -73,7 +73,7 @@ stands_apart sum P session s d stands = record {
 }
 
 -- and with them
-pub whole : (sum : List ℕ → ℕ) (P : ℕ) (session : SessionState) (s : Standing) (d : Disk) → s.snapshots ≡ map (λ t. told t d.readable) session.snapshots → s.replays ≡ map (option_map (replayed d.readable)) session.replays → StandsApart sum P session s d
+pub whole : (sum : List ℕ → ℕ) (P : ℕ) (session : SessionState) (s : Standing) (d : Disk) → s.snapshots ≡ map (option_map (λ t. told t d.readable)) session.snapshots → s.replays ≡ map (option_map (replayed d.readable)) session.replays → StandsApart sum P session s d
     → StandsFor sum P session s d
 whole sum P session s d tells gives stands = record {
   fits = stands.fits;

@@ -1,6 +1,6 @@
 -- What a step leaves of the session's snapshots, and of its replays.
 use Rattle.std.proofs.Common.{◌≡◌, ℕ, suc, ◌<◌, ◌≤◌, zero, List, [], ◌∷◌, ◌++◌, length, map, refl, sym, ap, ◌∙◌, subst, arith, append-nil, inl, Bool, true, false}
-use Rattle.std.specs.Prelude.{All, Option, Some, None, nat_lt, get_or, option_map}
+use Rattle.std.specs.Prelude.{All, IfSome, Option, Some, None, nat_lt, get_or, option_map}
 use Rattle.std.proofs.lemmas.List.Elements.{All-append}
 use Rattle.std.proofs.lemmas.Bool.{false≢true}
 use Rattle.std.proofs.lemmas.Bool.Decides.{nat_tests}
@@ -105,10 +105,27 @@ pub record LeftReplay (sum : List ℕ → ℕ) (now : Option WriterState) (old n
   pub replay : IsReplayIn sum now new o
   pub tells : option_map (replayed new.readable) o ≡ option_map (replayed old.readable) o
 
+-- a snapshot that stands
+abbrev pub LeftSnapshot : (List ℕ → ℕ) → Option WriterState → CacheState → Disk → Disk → Option Tail → Type 0
+LeftSnapshot sum now after old new o = IfSome o (λ t. Left sum now after old new t)
+
 -- of all
 pub record LeftAll (sum : List ℕ → ℕ) (was : SessionState) (now : Option WriterState) (after : CacheState) (old new : Disk) : Type 0 where
-  pub snapshots : All (Left sum now after old new) was.snapshots
+  pub snapshots : All (LeftSnapshot sum now after old new) was.snapshots
   pub replays : All (LeftReplay sum now old new) was.replays
+
+-- of one snapshot
+snapshot_left : (sum : List ℕ → ℕ) (was now : Option WriterState) (cache after : CacheState) (old new : Life) (o : Option Tail) → LeavesTaken sum was now cache after old new → IfSome o (λ t. IsSnapshot sum was t old.present) → IfSome o (λ t. CanRead t cache old.present)
+    → LeftSnapshot sum now after old.present new.present o
+snapshot_left sum was now cache after old new None leaves is can = tt
+snapshot_left sum was now cache after old new (Some t) leaves is can =
+    let after_it = leaves.snapshots t (told t old.present.readable) is.below (record { tail = record { there = is.there; full = is.full; is = refl }; can = can }) in
+    let tail = after_it.0.tail in
+    record { snapshot = record { there = tail.there; full = tail.full; below = after_it.1 }; can = after_it.0.can; tells = tail.is }
+
+snapshot_same : (sum : List ℕ → ℕ) (writer : Option WriterState) (cache : CacheState) (d : Disk) (o : Option Tail) → IfSome o (λ t. IsSnapshot sum writer t d) → IfSome o (λ t. CanRead t cache d) → LeftSnapshot sum writer cache d d o
+snapshot_same sum writer cache d None is can = tt
+snapshot_same sum writer cache d (Some t) is can = record { snapshot = is; can = can; tells = refl }
 
 -- of one replay
 replay_left : (sum : List ℕ → ℕ) (was now : Option WriterState) (cache after : CacheState) (old new : Life) (o : Option ReplayState) → LeavesTaken sum was now cache after old new → IsReplayIn sum was old.present o → LeftReplay sum now old.present new.present o
@@ -124,11 +141,7 @@ replay_left sum was now cache after old new (Some r) leaves (gives, below) =
 pub left_by : (sum : List ℕ → ℕ) (was : SessionState) (now : Option WriterState) (cache after : CacheState) (old new : Life) → IsReady sum was old.present → CacheFits was cache old.present → LeavesTaken sum was.writer now cache after old new
     → LeftAll sum was now after old.present new.present
 left_by sum was now cache after old new ready fits leaves = record {
-  snapshots = λ k t lt.
-      let s = ready.snapshots k t lt in
-      let after_it = leaves.snapshots _ _ s.below (record { tail = record { there = s.there; full = s.full; is = refl }; can = fits.snapshots k t lt }) in
-      let tail = after_it.0.tail in
-      record { snapshot = record { there = tail.there; full = tail.full; below = after_it.1 }; can = after_it.0.can; tells = tail.is };
+  snapshots = λ k o lt. snapshot_left sum was.writer now cache after old new (get_or was.snapshots k o) leaves (ready.snapshots k o lt) (fits.snapshots k o lt);
   replays = λ k o lt. replay_left sum was.writer now cache after old new (get_or was.replays k o) leaves (ready.replays k o lt);
 }
 
@@ -139,7 +152,7 @@ replays_same sum was now old new ready writer life = rw (writer, life) (λ k o l
 pub left_same : (sum : List ℕ → ℕ) (was : SessionState) (now : Option WriterState) (cache after : CacheState) (old new : Life) → IsReady sum was old.present → CacheFits was cache old.present → now ≡ was.writer → after ≡ cache → new ≡ old
     → LeftAll sum was now after old.present new.present
 left_same sum was now cache after old new ready fits writer same life = record {
-  snapshots = rw (writer, same, life) (λ k t lt. record { snapshot = ready.snapshots k t lt; can = fits.snapshots k t lt; tells = refl });
+  snapshots = rw (writer, same, life) (λ k o lt. snapshot_same sum was.writer cache old.present (get_or was.snapshots k o) (ready.snapshots k o lt) (fits.snapshots k o lt));
   replays = replays_same sum was now old new ready writer life;
 }
 
@@ -171,13 +184,16 @@ pub record Made (sum : List ℕ → ℕ) (now : Option WriterState) (after : Cac
   pub snapshot : IsSnapshot sum now t new
   pub can : CanRead t after new
 
+abbrev pub MadeSnapshot : (List ℕ → ℕ) → Option WriterState → CacheState → Disk → Option Tail → Type 0
+MadeSnapshot sum now after new o = IfSome o (λ t. Made sum now after new t)
+
 -- a step that makes these snapshots, and leaves these replays, whatever the session stood for
-abbrev pub AlwaysLeaves : (List ℕ → ℕ) → Step → Reply → SessionState → SessionState → Life → Life → (more : List Tail) → (replays : (P : ℕ) → Standing → List (Option Replayed)) → Type 0
+abbrev pub AlwaysLeaves : (List ℕ → ℕ) → Step → Reply → SessionState → SessionState → Life → Life → (more : List (Option Tail)) → (replays : (P : ℕ) → Standing → List (Option Replayed)) → Type 0
 AlwaysLeaves sum step reply was now old new more replays =
-    (P : ℕ) (before : Standing) → StandsFor sum P was before old.present → SteppedApart sum P step reply now old new before (before.snapshots ++ map (λ t. told t new.present.readable) more) (replays P before)
+    (P : ℕ) (before : Standing) → StandsFor sum P was before old.present → SteppedApart sum P step reply now old new before (before.snapshots ++ map (option_map (λ t. told t new.present.readable)) more) (replays P before)
 
 -- one that leaves the replays as they were
-abbrev pub AlwaysMakes : (List ℕ → ℕ) → Step → Reply → SessionState → SessionState → Life → Life → (more : List Tail) → Type 0
+abbrev pub AlwaysMakes : (List ℕ → ℕ) → Step → Reply → SessionState → SessionState → Life → Life → (more : List (Option Tail)) → Type 0
 AlwaysMakes sum step reply was now old new more = AlwaysLeaves sum step reply was now old new more (λ P s. s.replays)
 
 -- the replays of a session, and of what it stands for
@@ -185,33 +201,56 @@ pub record HasReplays (sum : List ℕ → ℕ) (was now : SessionState) (old new
   pub ready : All (IsReplayIn sum now.writer new) now.replays
   pub gives : (P : ℕ) (before : Standing) → StandsFor sum P was before old → replays P before ≡ map (option_map (replayed new.readable)) now.replays
 
+-- what is left, or made, is one, can be read, and tells what it told
+left_is : (sum : List ℕ → ℕ) (now : Option WriterState) (after : CacheState) (old new : Disk) (o : Option Tail) → LeftSnapshot sum now after old new o → IfSome o (λ t. IsSnapshot sum now t new)
+left_is sum now after old new None left = tt
+left_is sum now after old new (Some t) left = left.snapshot
+
+left_can : (sum : List ℕ → ℕ) (now : Option WriterState) (after : CacheState) (old new : Disk) (o : Option Tail) → LeftSnapshot sum now after old new o → IfSome o (λ t. CanRead t after new)
+left_can sum now after old new None left = tt
+left_can sum now after old new (Some t) left = left.can
+
+left_tells : (sum : List ℕ → ℕ) (now : Option WriterState) (after : CacheState) (old new : Disk) (o : Option Tail) → LeftSnapshot sum now after old new o → option_map (λ t. told t new.readable) o ≡ option_map (λ t. told t old.readable) o
+left_tells sum now after old new None left = refl
+left_tells sum now after old new (Some t) left = ap Some left.tells
+
+made_is : (sum : List ℕ → ℕ) (now : Option WriterState) (after : CacheState) (new : Disk) (o : Option Tail) → MadeSnapshot sum now after new o → IfSome o (λ t. IsSnapshot sum now t new)
+made_is sum now after new None made = tt
+made_is sum now after new (Some t) made = made.snapshot
+
+made_can : (sum : List ℕ → ℕ) (now : Option WriterState) (after : CacheState) (new : Disk) (o : Option Tail) → MadeSnapshot sum now after new o → IfSome o (λ t. CanRead t after new)
+made_can sum now after new None made = tt
+made_can sum now after new (Some t) made = made.can
+
 -- the whole of what it did
-pub framed_by : (sum : List ℕ → ℕ) (step : Step) (reply : Reply) (was now : SessionState) (after : CacheState) (old new : Life) (more : List Tail) (replays : (P : ℕ) → Standing → List (Option Replayed)) → now.snapshots ≡ was.snapshots ++ more → (now.recovering ≡ true → now.snapshots ≡ [])
-    → IsReadyApart sum now new.present → FitsWriter now.writer after new.present → All (Left sum now.writer after old.present new.present) was.snapshots → HasReplays sum was now old.present new.present replays → All (Made sum now.writer after new.present) more
+pub framed_by : (sum : List ℕ → ℕ) (step : Step) (reply : Reply) (was now : SessionState) (after : CacheState) (old new : Life) (more : List (Option Tail)) (replays : (P : ℕ) → Standing → List (Option Replayed)) → now.snapshots ≡ was.snapshots ++ more → (now.recovering ≡ true → now.snapshots ≡ [])
+    → IsReadyApart sum now new.present → FitsWriter now.writer after new.present → All (LeftSnapshot sum now.writer after old.present new.present) was.snapshots → HasReplays sum was now old.present new.present replays → All (MadeSnapshot sum now.writer after new.present) more
     → AlwaysLeaves sum step reply was now old new more replays → Steps sum step reply was now old new × CacheFits now after new.present
 framed_by sum step reply was now after old new more replays is begun ready fits left has made always =
     let ts = was.snapshots in
-    let snapshots : All (λ t. IsSnapshot sum now.writer t new.present) (ts ++ more) =
-    All-append (λ t. IsSnapshot sum now.writer t new.present) ts more (λ k t lt. (left k t lt).snapshot) (λ k t lt. (made k t lt).snapshot) in
-    let can : All (λ t. CanRead t after new.present) (ts ++ more) = All-append (λ t. CanRead t after new.present) ts more (λ k t lt. (left k t lt).can) (λ k t lt. (made k t lt).can) in
-    let tells : map (λ t. told t new.present.readable) ts ≡ map (λ t. told t old.present.readable) ts =
-    maps_alike (λ (t : Tail). told t new.present.readable) (λ (t : Tail). told t old.present.readable) ts (λ k t lt. (left k t lt).tells) in (
+    let old_told : Option Tail → Option (List ℕ) = option_map (λ t. told t old.present.readable) in
+    let new_told : Option Tail → Option (List ℕ) = option_map (λ t. told t new.present.readable) in
+    let snapshots : All (λ o. IfSome o (λ t. IsSnapshot sum now.writer t new.present)) (ts ++ more) =
+    All-append (λ o. IfSome o (λ t. IsSnapshot sum now.writer t new.present)) ts more (λ k o lt. left_is sum now.writer after old.present new.present (get_or ts k o) (left k o lt)) (λ k o lt. made_is sum now.writer after new.present (get_or more k o) (made k o lt)) in
+    let can : All (λ o. IfSome o (λ t. CanRead t after new.present)) (ts ++ more) =
+    All-append (λ o. IfSome o (λ t. CanRead t after new.present)) ts more (λ k o lt. left_can sum now.writer after old.present new.present (get_or ts k o) (left k o lt)) (λ k o lt. made_can sum now.writer after new.present (get_or more k o) (made k o lt)) in
+    let tells : map new_told ts ≡ map old_told ts =
+    maps_alike new_told old_told ts (λ k o lt. left_tells sum now.writer after old.present new.present (get_or ts k o) (left k o lt)) in (
       record {
         ready = record {
           writer = ready.writer;
           starts = ready.starts;
-          snapshots = subst (λ (l : List Tail). All (λ t. IsSnapshot sum now.writer t new.present) l) (sym is) snapshots;
+          snapshots = subst (λ (l : List (Option Tail)). All (λ o. IfSome o (λ t. IsSnapshot sum now.writer t new.present)) l) (sym is) snapshots;
           begun = begun;
           replays = has.ready;
         };
         always = λ P before stands.
             let a = always P before stands in
-            let all : a.after.snapshots ≡ map (λ t. told t new.present.readable) now.snapshots =
-            a.same ∙ ap (λ (l : List (List ℕ)). l ++ map (λ t. told t new.present.readable) more) (stands.snapshots ∙ sym tells)
-            ∙ sym (map_both (λ (t : Tail). told t new.present.readable) ts more) ∙ ap (λ (l : List Tail). map (λ t. told t new.present.readable) l) (sym is) in
+            let all : a.after.snapshots ≡ map new_told now.snapshots =
+            a.same ∙ ap (λ (l : List (Option (List ℕ))). l ++ map new_told more) (stands.snapshots ∙ sym tells) ∙ sym (map_both new_told ts more) ∙ ap (λ (l : List (Option Tail)). map new_told l) (sym is) in
             record { moments = a.moments; goes = a.goes; after = a.after; did = a.did; stands = whole sum P now a.after new.present all (a.alike ∙ has.gives P before stands) a.stands };
       },
-      record { writer = fits; snapshots = subst (λ (l : List Tail). All (λ t. CanRead t after new.present) l) (sym is) can },
+      record { writer = fits; snapshots = subst (λ (l : List (Option Tail)). All (λ o. IfSome o (λ t. CanRead t after new.present)) l) (sym is) can },
     )
 
 -- replays that are left are as they were
@@ -225,20 +264,20 @@ same_replays sum was now after old new is left = record {
 }
 
 -- of one that leaves the replays
-pub framed : (sum : List ℕ → ℕ) (step : Step) (reply : Reply) (was now : SessionState) (after : CacheState) (old new : Life) (more : List Tail) → now.snapshots ≡ was.snapshots ++ more → now.replays ≡ was.replays → (now.recovering ≡ true → now.snapshots ≡ [])
-    → IsReadyApart sum now new.present → FitsWriter now.writer after new.present → LeftAll sum was now.writer after old.present new.present → All (Made sum now.writer after new.present) more → AlwaysMakes sum step reply was now old new more
+pub framed : (sum : List ℕ → ℕ) (step : Step) (reply : Reply) (was now : SessionState) (after : CacheState) (old new : Life) (more : List (Option Tail)) → now.snapshots ≡ was.snapshots ++ more → now.replays ≡ was.replays → (now.recovering ≡ true → now.snapshots ≡ [])
+    → IsReadyApart sum now new.present → FitsWriter now.writer after new.present → LeftAll sum was now.writer after old.present new.present → All (MadeSnapshot sum now.writer after new.present) more → AlwaysMakes sum step reply was now old new more
     → Steps sum step reply was now old new × CacheFits now after new.present
 framed sum step reply was now after old new more is kept begun ready fits left made always =
     framed_by sum step reply was now after old new more (λ P s. s.replays) is begun ready fits left.snapshots (same_replays sum was now after old.present new.present kept left) made always
 
 -- of one that makes no snapshot, by what it leaves of the replays
 framed_alone : (cuts : Bool) (sum : List ℕ → ℕ) (step : Step) (reply : Reply) (was now : SessionState) (after : CacheState) (old new : Life) → now.snapshots ≡ was.snapshots → (now.recovering ≡ true → now.snapshots ≡ []) → FitsWriter now.writer after new.present
-    → All (Left sum now.writer after old.present new.present) was.snapshots → HasReplays sum was now old.present new.present (λ P s. left_replays cuts s.replays) → StepsBy cuts sum step reply was now old new
+    → All (LeftSnapshot sum now.writer after old.present new.present) was.snapshots → HasReplays sum was now old.present new.present (λ P s. left_replays cuts s.replays) → StepsBy cuts sum step reply was now old new
     → Steps sum step reply was now old new × CacheFits now after new.present
 framed_alone cuts sum step reply was now after old new is begun fits left has apart =
     framed_by sum step reply was now after old new [] (λ P s. left_replays cuts s.replays) (is ∙ sym (append-nil was.snapshots)) begun apart.ready fits left has (λ k t lt. absurd (omega (arith, lt)))
     (λ P before stands.
-    subst (λ (l : List (List ℕ)). SteppedApart sum P step reply now old new before l (left_replays cuts before.replays)) (sym (append-nil before.snapshots))
+    subst (λ (l : List (Option (List ℕ))). SteppedApart sum P step reply now old new before l (left_replays cuts before.replays)) (sym (append-nil before.snapshots))
     (apart.always P before (stands_apart sum P was before old.present stands)))
 
 -- of one that leaves both
@@ -254,7 +293,7 @@ none_left sum writer d (p ∷ os) zero o lt = tt
 none_left sum writer d (p ∷ os) (suc k) o lt = none_left sum writer d os k o (omega (arith, lt))
 
 pub framed_cut : (sum : List ℕ → ℕ) (step : Step) (reply : Reply) (was now : SessionState) (after : CacheState) (old new : Life) → now.snapshots ≡ was.snapshots → now.replays ≡ map (λ o. None) was.replays → (now.recovering ≡ true → now.snapshots ≡ [])
-    → FitsWriter now.writer after new.present → All (Left sum now.writer after old.present new.present) was.snapshots → StepsBy true sum step reply was now old new → Steps sum step reply was now old new × CacheFits now after new.present
+    → FitsWriter now.writer after new.present → All (LeftSnapshot sum now.writer after old.present new.present) was.snapshots → StepsBy true sum step reply was now old new → Steps sum step reply was now old new × CacheFits now after new.present
 framed_cut sum step reply was now after old new is forgot begun fits left apart =
     framed_alone true sum step reply was now after old new is begun fits left
     (record {

@@ -19,9 +19,9 @@ use Rattle.crash.proofs.Disks.{base_is_image}
 use Rattle.writer_state.proofs.Examples.{durable, six, all_keep}
 use Rattle.std.specs.declared.num.NonZeroUsize.{NonZeroUsize}
 use Rattle.session.specs.declared.steps.Step.{Step}
-use Rattle.session.specs.declared.steps.Step.TheVariants.{Append, Owned, TryAppend, Sync, StartSync, Wait, WaitSync, Needs, Size, Read, ReadUpTo, TryRead, ReadRanges, TryReadRanges, Begin, Truncate, Snapshot, TrySnapshot, Snap, Seal, Replay, Ensure, Take, Seek, Scan}
+use Rattle.session.specs.declared.steps.Step.TheVariants.{Append, Owned, TryAppend, Sync, StartSync, Wait, WaitSync, Needs, Size, Read, ReadUpTo, TryRead, ReadRanges, TryReadRanges, Begin, Truncate, Snapshot, TrySnapshot, Snap, Seal, Replay, Ensure, Take, Seek, DropSnapshot, DropReplay, Scan}
 use Rattle.session.specs.declared.steps.Reply.TheVariants.{At, Nothing, Done, Length, Bytes, Fault, Closed, NotRecovering, NoSuch, Served, Missed, BadRanges, Taken, Sealed, NotAppending}
-use Rattle.session.specs.Run.{HasEnsured, is_had, PassesEnd, passed, Replayed, replaying, rewritten, Standing, buffered_after, awaited_after, appended, synced, starting, truncated, noted, flushed, left_by_seal, sealed_by, snapshot_at, waited, begun, needs_sync, raised, started_by, ended, fit_together, turned_away, Accepts, faults, HasCause, Allocates, awaited_name, Refuses, Takes, Foretells, RiseBelow, Answers, touch, Ran}
+use Rattle.session.specs.Run.{HasEnsured, is_had, PassesEnd, passed, Replayed, replaying, rewritten, Standing, buffered_after, awaited_after, appended, synced, starting, truncated, noted, flushed, left_by_seal, sealed_by, snapshot_at, waited, begun, needs_sync, raised, started_by, ended, fit_together, turned_away, without_replay, without_snapshot, Accepts, faults, HasCause, Allocates, awaited_name, Refuses, Takes, Foretells, RiseBelow, Answers, touch, Ran}
 use Rattle.session.specs.Run.Touch.{Leaves, Looks, Changes}
 use Rattle.session.specs.Promise.{Crashes, fresh}
 
@@ -315,6 +315,8 @@ nothing_is_of_a_try sum P (Replay buffer_size) from to before after accepts = ab
 nothing_is_of_a_try sum P (Ensure index count) from to before after accepts = absurd accepts
 nothing_is_of_a_try sum P (Take index count) from to before after accepts = absurd accepts
 nothing_is_of_a_try sum P (Seek index offset) from to before after accepts = absurd accepts
+nothing_is_of_a_try sum P (DropSnapshot index) from to before after accepts = absurd accepts
+nothing_is_of_a_try sum P (DropReplay index) from to before after accepts = absurd accepts
 nothing_is_of_a_try sum P (Scan proven most buffer_size) from to before after accepts = absurd accepts
 nothing_is_of_a_try sum P (Append bytes) from to before after accepts = absurd accepts
 nothing_is_of_a_try sum P (Owned bytes) from to before after accepts = absurd accepts
@@ -466,7 +468,7 @@ no_other_size accepts = omega (arith, accepts.0)
 abbrev six_noted : Standing
 six_noted = noted (record six_stand { recovering = false })
 
-pub a_snapshot_tells_the_content : six_noted.snapshots ≡ six ∷ []
+pub a_snapshot_tells_the_content : six_noted.snapshots ≡ Some six ∷ []
 a_snapshot_tells_the_content = refl
 
 -- another has the next number
@@ -477,7 +479,7 @@ a_second_snapshot = (omega arith, refl, refl)
 pub none_while_a_page_is_buffered : Accepts add_sum 4 TrySnapshot Nothing durable durable none_synced none_synced
 none_while_a_page_is_buffered = (omega arith, refl)
 
-pub a_flushed_snapshot : noted (flushed 4 none_synced) ≡ record none_synced { buffered = 2; snapshots = six ∷ [] }
+pub a_flushed_snapshot : noted (flushed 4 none_synced) ≡ record none_synced { buffered = 2; snapshots = Some six ∷ [] }
 a_flushed_snapshot = refl
 
 pub a_snapshot_that_writes : touch 4 Snapshot none_synced ≡ Changes 2
@@ -497,14 +499,14 @@ pub no_seal_closed : turned_away Seal (ended six six_stand) ≡ Some Closed
 no_seal_closed = refl
 
 -- a seal of what is written has nothing to start, and closes the session
-pub an_idle_seal : Accepts add_sum 4 Seal (Sealed 1 AllDone) durable durable six_noted (record six_noted { has_writer = false; snapshots = six ∷ six ∷ [] })
+pub an_idle_seal : Accepts add_sum 4 Seal (Sealed 1 AllDone) durable durable six_noted (record six_noted { has_writer = false; snapshots = Some six ∷ Some six ∷ [] })
 an_idle_seal = (refl, refl, refl)
 
 pub a_seal_that_leaves_the_disk : touch 4 Seal six_noted ≡ Leaves
 a_seal_that_leaves_the_disk = refl
 
 -- of what isn't it starts a sync of its own, which covers all
-pub a_busy_seal : left_by_seal 4 (Named 0) none_synced ≡ record six_started { has_writer = false; snapshots = six ∷ [] }
+pub a_busy_seal : left_by_seal 4 (Named 0) none_synced ≡ record six_started { has_writer = false; snapshots = Some six ∷ [] }
 a_busy_seal = refl
 
 pub a_seal_that_starts : touch 4 Seal none_synced ≡ Changes 3
@@ -527,6 +529,26 @@ no_such_snapshot = refl
 -- what is appended after it isn't in it
 pub it_does_not_move : snapshot_at (appended 4 (103 ∷ []) six_noted) 0 ≡ six
 it_does_not_move = refl
+
+-- one that was let go is gone, also for a second such step, and the other stands; the next has the
+-- next number
+abbrev second_left : Standing
+second_left = without_snapshot 0 (noted six_noted)
+
+pub a_snapshot_is_let_go : Accepts add_sum 4 (DropSnapshot 0) Done durable durable (noted six_noted) second_left
+a_snapshot_is_let_go = refl
+
+pub a_snapshot_is_gone : turned_away (Snap 0 3 2) second_left ≡ Some NoSuch
+a_snapshot_is_gone = refl
+
+pub not_a_second_time : turned_away (DropSnapshot 0) second_left ≡ Some NoSuch
+not_a_second_time = refl
+
+pub the_second_stands : snapshot_at second_left 1 ≡ six
+the_second_stands = refl
+
+pub the_third_snapshot : Accepts add_sum 4 TrySnapshot (Taken 2) durable durable second_left (noted second_left)
+the_third_snapshot = (omega arith, refl, refl)
 
 -- ---- scans
 
@@ -608,6 +630,22 @@ it_is_gone = refl
 
 pub no_such_replay : turned_away (Take 0 1) six_stand ≡ Some NoSuch
 no_such_replay = refl
+
+-- one that was let go is gone, also for a second such step, and the next has the next number
+abbrev six_dropped : Standing
+six_dropped = without_replay 0 (replaying 4 64 six_stand)
+
+pub it_is_let_go : Accepts add_sum 4 (DropReplay 0) Done durable durable (replaying 4 64 six_stand) six_dropped
+it_is_let_go = refl
+
+pub it_was_let_go : turned_away (Take 0 1) six_dropped ≡ Some NoSuch
+it_was_let_go = refl
+
+pub not_twice : turned_away (DropReplay 0) six_dropped ≡ Some NoSuch
+not_twice = refl
+
+pub the_next_replay : (replaying 4 64 six_dropped).replays ≡ None ∷ Some six_replayed ∷ []
+the_next_replay = refl
 
 -- it goes on in a closed session
 pub it_goes_on_closed : turned_away (Ensure 0 1) (ended six (replaying 4 64 six_stand)) ≡ None

@@ -12,6 +12,7 @@ pub mod TruncateLaws
 pub mod SnapshotLaws
 pub mod Numbered
 pub mod ReplayLaws
+pub mod DropLaws
 pub mod WholeLaws
 pub mod RunLaws
 pub mod PromiseLaws

@@ -29,6 +29,9 @@ numbered_there xs i x is = by_case (slice_get xs i) is
 numbered_at : {A : Type 0} (xs : List (Option A)) (i : ℕ) (o : Option (Option A)) → slice_get xs i ≡ o → numbered xs i ≡ (elim o [ None ↦ None | Some y ↦ y ])
 numbered_at xs i o is = ap (λ (x : Option (Option _)). elim x [ None ↦ None | Some y ↦ y ]) is
 
+pub stands_at : {A : Type 0} (xs : List (Option A)) (i : ℕ) (x : A) → slice_get xs i ≡ Some (Some x) → numbered xs i ≡ Some x
+stands_at xs i x at = numbered_at xs i (Some (Some x)) at
+
 -- put where it was
 pub put_back : {X : Type 0} (xs : List X) (i : ℕ) (x : X) → slice_get xs i ≡ Some x → set xs i x ≡ xs
 put_back xs i x is = ap (λ (y : _). set xs i y) (sym (get_or_from_slice_get xs i x x is)) ∙ set-get_or xs i x

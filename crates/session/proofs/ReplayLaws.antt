@@ -116,7 +116,7 @@ replay_steps sum was w v r buffer_size old new at sound says = λ P before all.
     let buffered : length v.tip ≡ before.buffered % P = left_buffered sum was P w v old new before sound stands goes says.begins.1.short in
     let state = after_by P w v before old.present (has_work w true) refl fits (λ none. (says.idle none).0.0) (λ some. says.dirty some) in
     let number : length was.replays ≡ length before.replays = number_of sum P was before old.present all in
-    subst (λ (l : List (List ℕ)). SteppedApart sum P (Replay buffer_size) (Replaying (length was.replays)) now old new before l after.replays) (sym (append-nil before.snapshots))
+    subst (λ (l : List (Option (List ℕ))). SteppedApart sum P (Replay buffer_size) (Replaying (length was.replays)) now old new before l after.replays) (sym (append-nil before.snapshots))
     (stepped sum P (Replay buffer_size) (Replaying (length was.replays)) now old new before after through.moments fits.has_writer (turned_here before.has_writer fits.has_writer) h
     (replay_touch P w before old new through.moments fits h.goes says.calls (λ none. (says.idle none).1))
     (number, refl) (λ none. absurd none, λ none. absurd none)
@@ -378,7 +378,7 @@ module _ (sum : List ℕ → ℕ) (step : Step) (index : ℕ) (was : SessionStat
       always P before all =
           let stands = stands_apart sum P was before old.present all in
           let gone : turned_away step before ≡ Some NoSuch = away before ∙ ap (λ (o : Option Replayed). if is_some o then None else Some NoSuch) (not_found sum P was index before old.present none all) in
-          subst (λ (l : List (List ℕ)). SteppedApart sum P step NoSuch was old old before l before.replays) (sym (append-nil before.snapshots))
+          subst (λ (l : List (Option (List ℕ))). SteppedApart sum P step NoSuch was old old before l before.replays) (sym (append-nil before.snapshots))
           (record {
             moments = [];
             goes = refl;
@@ -431,7 +431,7 @@ module _ (sum : List ℕ → ℕ) (step : Step) (index : ℕ) (was : SessionStat
           let after = moved index (replayed old.present.readable q) before in
           let after_it = moved_stands sum P was (set was.replays index (Some q)) index (replayed old.present.readable q) before new.present (looked_stands sum P was before old.present new.present looked.same (stands_apart sum P was before old.present all)) in
           let end : new.present ≡ last old.present seen.moments = ap (λ (life : Life). life.present) seen.goes ∙ last_is old seen.moments in
-          subst (λ (l : List (List ℕ)). SteppedApart sum P step reply next old new before l after.replays) (sym (append-nil before.snapshots))
+          subst (λ (l : List (Option (List ℕ))). SteppedApart sum P step reply next old new before l after.replays) (sym (append-nil before.snapshots))
           (record {
             moments = seen.moments;
             goes = seen.goes;

@@ -1,12 +1,11 @@
 -- What the steps do that make snapshots, and read them.
 use Rattle.std.proofs.Common.{◌≡◌, ◌⊎◌, ℕ, zero, suc, ◌+◌, ◌<◌, ◌≤◌, ◌%◌, List, [], ◌∷◌, ◌++◌, length, map, take, drop, refl, sym, ap, ◌∙◌, subst, arith, append-nil, inl, inr, Bool, true, false, Ok, Err, lit<, lit≤}
-use Rattle.std.specs.Prelude.{All, Option, Some, None, nat_le, nat_lt, nat_eq, if◌then◌else◌, option_map}
-use Rattle.std.specs.List.{Contains, concat, slice_get}
+use Rattle.std.specs.Prelude.{All, IfSome, Option, Some, None, nat_le, nat_lt, nat_eq, if◌then◌else◌, is_some, option_map}
+use Rattle.std.specs.List.{Contains, concat}
 use Rattle.std.proofs.Math.Bool.{or-false}
 use Rattle.std.proofs.lemmas.Bool.{false≢true}
 use Rattle.std.proofs.lemmas.Bool.Decides.{nat_tests}
 use Rattle.std.proofs.lemmas.List.{length-map}
-use Rattle.std.proofs.lemmas.Option.{slice_get-map, slice_get_cases, slice_get_within}
 use Rattle.disk.specs.Disk.{Disk, Life, life_after, coverings}
 use Rattle.disk.specs.declared.started_sync.StartedSync.{StartedSync}
 use Rattle.disk.specs.declared.started_sync.StartedSync.TheVariants.{Done as AllDone, Named}
@@ -39,11 +38,12 @@ use Rattle.session.specs.declared.steps.Step.{Step}
 use Rattle.session.specs.declared.steps.Step.TheVariants.{Snapshot, TrySnapshot, Snap, Seal}
 use Rattle.session.specs.declared.steps.Reply.{Reply}
 use Rattle.session.specs.declared.steps.Reply.TheVariants.{Nothing, Bytes, Fault, Closed, NoSuch, Taken, Sealed, NotAppending}
-use Rattle.session.specs.Run.{Replayed, Standing, SessionState, begun, noted, flushed, left_by_seal, ended, sealed_by, snapshot_at, has_snapshot, turned_away, faults, HasCause, Takes, Foretells, Answers, Touches, wait_touch, last, AllCover, pending_in, WriterStandsFor, HasSoundWriter, FitsWriter, CacheFits, IsReady, IsBelow, IsSnapshot, StandsFor}
+use Rattle.session.specs.Run.{Replayed, Standing, SessionState, begun, noted, flushed, left_by_seal, ended, sealed_by, snapshot_at, numbered, turned_away, faults, HasCause, Takes, Foretells, Answers, Touches, wait_touch, last, AllCover, pending_in, WriterStandsFor, HasSoundWriter, FitsWriter, CacheFits, IsReady, IsBelow, IsSnapshot, StandsFor}
 use Rattle.session.specs.Run.Touch.{Leaves, Looks, Changes}
 use Rattle.session.specs.Calls.{IfAppending, SnapshotSays, with_snapshot, TakesSnapshot, TriesSnapshot, SealSays, sealed_with, SealsSession, DidSnapshot, DidTrySnapshot, DidSeal, DidSnap, ReadsBytes, ReadSays, LeavesTaken, Steps}
 use Rattle.session.proofs.Apart.{AlwaysApart, IsReadyApart, StandsApart, SteppedApart, StepsApart, stands_apart, ready_apart}
-use Rattle.session.proofs.Below.{AlwaysMakes, Made, can_in, framed, framed_same, leaves_all, leaves_here, LeftAll, left_by, left_same, of_each, sound_in}
+use Rattle.session.proofs.Below.{AlwaysMakes, MadeSnapshot, can_in, framed, framed_same, leaves_all, leaves_here, LeftAll, left_by, left_same, of_each, sound_in}
+use Rattle.session.proofs.Numbered.{numbered-map, numbered_there}
 use Rattle.session.proofs.StepLaws.{held, held_same, last_is, no_moments, answers_away, answers_here, leaves, few_calls, raised_within, only_there, Halves, each_end, stepped, unasked, unasked_over, stands_now, stands_ended}
 use Rattle.session.proofs.AppendLaws.{full_work, start_work, start_dirty, had_without_room, had_failed_as, wait_none, wait_one, owed_starts}
 use Rattle.session.proofs.SyncLaws.{same_halves, left_buffered}
@@ -146,12 +146,12 @@ stands_held sum P was w s d at stands = subst (λ (x : SessionState). StandsApar
 
 -- a snapshot has the number of those before it
 number_is : (sum : List ℕ → ℕ) (P : ℕ) (was : SessionState) (s : Standing) (d : Disk) → StandsFor sum P was s d → length was.snapshots ≡ length s.snapshots
-number_is sum P was s d stands = sym (ap length stands.snapshots ∙ length-map was.snapshots (λ t. told t d.readable))
+number_is sum P was s d stands = sym (ap length stands.snapshots ∙ length-map was.snapshots (option_map (λ t. told t d.readable)))
 
 -- and tells the content
 one_more : (sum : List ℕ → ℕ) (step : Step) (P : ℕ) (reply : Reply) (now : SessionState) (old new : Life) (before : Standing) (t : Tail) → told t new.present.readable ≡ before.content
-    → SteppedApart sum P step reply now old new before (before.snapshots ++ before.content ∷ []) before.replays → SteppedApart sum P step reply now old new before (before.snapshots ++ map (λ u. told u new.present.readable) (t ∷ [])) before.replays
-one_more sum step P reply now old new before t tells stepped_on = subst (λ (l : List ℕ). SteppedApart sum P step reply now old new before (before.snapshots ++ l ∷ []) before.replays) (sym tells) stepped_on
+    → SteppedApart sum P step reply now old new before (before.snapshots ++ Some before.content ∷ []) before.replays → SteppedApart sum P step reply now old new before (before.snapshots ++ map (option_map (λ u. told u new.present.readable)) (Some t ∷ [])) before.replays
+one_more sum step P reply now old new before t tells stepped_on = subst (λ (l : List ℕ). SteppedApart sum P step reply now old new before (before.snapshots ++ Some l ∷ []) before.replays) (sym tells) stepped_on
 
 pub snapshot_few : (work : Bool) (state : SyncState) → (if work then wait_calls state + 1 else 0) ≤ 2
 snapshot_few true Clean = lit≤ tt
@@ -161,14 +161,14 @@ snapshot_few false state = lit≤ tt
 
 -- a snapshot that is made
 snapshot_steps : (sum : List ℕ → ℕ) (was : SessionState) (w v : WriterState) (t : Tail) (after : CacheState) (old new : Life) → was.writer ≡ Some w → was.recovering ≡ false → IsSound sum w old.present → SnapshotSays sum w old new (Ok (v, t))
-    → StandsOn sum t (content_of w old.present.readable) after new.present → AlwaysMakes sum Snapshot (Taken (length was.snapshots)) was (with_snapshot was (Some v) t) old new (t ∷ [])
+    → StandsOn sum t (content_of w old.present.readable) after new.present → AlwaysMakes sum Snapshot (Taken (length was.snapshots)) was (with_snapshot was (Some v) t) old new (Some t ∷ [])
 unfolding Through
 snapshot_steps sum was w v t after old new at phase sound says on = λ P before all.
     let stands = stands_held sum P was w before old.present at all in
     one_more sum Snapshot P (Taken (length was.snapshots)) (with_snapshot was (Some v) t) old new before t (on.tail.is ∙ sym stands.fits.content) (by_work P before all stands (has_work w false) refl)
   where
     by_work : (P : ℕ) (before : Standing) → StandsFor sum P was before old.present → StandsApart sum P (held was (Some w)) before old.present → (work : Bool) → has_work w false ≡ work
-        → SteppedApart sum P Snapshot (Taken (length was.snapshots)) (with_snapshot was (Some v) t) old new before (before.snapshots ++ before.content ∷ []) before.replays
+        → SteppedApart sum P Snapshot (Taken (length was.snapshots)) (with_snapshot was (Some v) t) old new before (before.snapshots ++ Some before.content ∷ []) before.replays
     by_work P before all stands false none =
         let fits = stands.fits in
         let idle = says.idle none in
@@ -194,7 +194,7 @@ snapshot_steps sum was w v t after old new at phase sound says on = λ P before 
         stepped sum P Snapshot (Taken (length was.snapshots)) (with_snapshot was (Some v) t) old new before (noted (flushed P before)) through.moments fits.has_writer (here before.has_writer before.recovering fits.has_writer (sym stands.phase ∙ phase)) h
         (subst (λ (b : Bool). Touches (if b then Leaves else Changes 2) old.present through.moments) (sym full) (few_calls old new through.moments 2 h.goes most))
         (number, refl) (λ none. absurd none, λ none. absurd none)
-        (stands_now sum P (record was { snapshots = was.snapshots ++ t ∷ [] }) v old new (noted (flushed P before))
+        (stands_now sum P (record was { snapshots = was.snapshots ++ Some t ∷ [] }) v old new (noted (flushed P before))
         (record {
           page_size = goes.same.page_size ∙ fits.page_size;
           has_writer = fits.has_writer;
@@ -269,12 +269,12 @@ snapshot_takes sum was now cache after old new reply ready fits writer stay did 
         let goes = says.makes.0 in
         let below : IsBelow (Some v) t = subst (λ (u : Tail). IsBelow (Some v) u) (sym says.makes.2) (refl, omega arith) in
         subst (λ (n : ℕ). Steps sum Snapshot (Taken n) was now old new × CacheFits now after new.present) (sym number)
-        (framed sum Snapshot (Taken (length was.snapshots)) was now after old new (t ∷ []) (ap (λ (s : SessionState). s.snapshots) is) (ap (λ (s : SessionState). s.replays) is) (λ other. absurd (false≢true (sym phase ∙ sym (ap (λ (s : SessionState). s.recovering) is) ∙ other)))
+        (framed sum Snapshot (Taken (length was.snapshots)) was now after old new (Some t ∷ []) (ap (λ (s : SessionState). s.snapshots) is) (ap (λ (s : SessionState). s.replays) is) (λ other. absurd (false≢true (sym phase ∙ sym (ap (λ (s : SessionState). s.recovering) is) ∙ other)))
         (subst (λ (s : SessionState). IsReadyApart sum s new.present) (sym is) (record { writer = goes.sound; starts = inr says.owes.starts })) writer (left_by sum was now.writer cache after old new ready fits stay)
-        (subst (λ (s : SessionState). All (Made sum s.writer after new.present) (t ∷ [])) (sym is) (one_made (Some v) t below on))
-        (subst (λ (s : SessionState). AlwaysMakes sum Snapshot (Taken (length was.snapshots)) was s old new (t ∷ [])) (sym is) (snapshot_steps sum was w v t after old new at phase sound says on)))
+        (subst (λ (s : SessionState). All (MadeSnapshot sum s.writer after new.present) (Some t ∷ [])) (sym is) (one_made (Some v) t below on))
+        (subst (λ (s : SessionState). AlwaysMakes sum Snapshot (Taken (length was.snapshots)) was s old new (Some t ∷ [])) (sym is) (snapshot_steps sum was w v t after old new at phase sound says on)))
       where
-        one_made : (o : Option WriterState) (t : Tail) → IsBelow o t → StandsOn sum t (content_of w old.present.readable) after new.present → All (Made sum o after new.present) (t ∷ [])
+        one_made : (o : Option WriterState) (t : Tail) → IsBelow o t → StandsOn sum t (content_of w old.present.readable) after new.present → All (MadeSnapshot sum o after new.present) (Some t ∷ [])
         one_made o t below on zero d lt = record { snapshot = record { there = on.tail.there; full = on.tail.full; below = below }; can = on.can }
         one_made o t below on (suc k) d lt = absurd (omega (arith, lt))
     made w at phase (Fault e) goes = elim goes [
@@ -308,12 +308,12 @@ snapshot_takes sum was now cache after old new reply ready fits writer stay did 
 
 -- ---- snapshots for which nothing is written
 
-copy_made : (sum : List ℕ → ℕ) (w : WriterState) (cache : CacheState) (d : Disk) → IsSound sum w d → CanRead (tail_of w) cache d → All (Made sum (Some w) cache d) (tail_of w ∷ [])
+copy_made : (sum : List ℕ → ℕ) (w : WriterState) (cache : CacheState) (d : Disk) → IsSound sum w d → CanRead (tail_of w) cache d → All (MadeSnapshot sum (Some w) cache d) (Some (tail_of w) ∷ [])
 copy_made sum w cache d sound can zero t lt = record { snapshot = record { there = sound_there sum w d sound; full = sound_full sum w d sound; below = (refl, omega arith) }; can = can }
 copy_made sum w cache d sound can (suc k) t lt = absurd (omega (arith, lt))
 
 try_snapshot_steps : (sum : List ℕ → ℕ) (was : SessionState) (w : WriterState) (life : Life) → was.writer ≡ Some w → was.recovering ≡ false → length w.tip < w.page_size
-    → AlwaysMakes sum TrySnapshot (Taken (length was.snapshots)) was (with_snapshot was (Some w) (tail_of w)) life life (tail_of w ∷ [])
+    → AlwaysMakes sum TrySnapshot (Taken (length was.snapshots)) was (with_snapshot was (Some w) (tail_of w)) life life (Some (tail_of w) ∷ [])
 try_snapshot_steps sum was w life at phase short = λ P before all.
     let stands = stands_held sum P was w before life.present at all in
     let fits = stands.fits in
@@ -352,7 +352,7 @@ try_snapshot_takes sum was now cache life reply ready fits did = by_state was.re
         let next = with_snapshot was (Some w) (tail_of w) in
         subst (λ (n : ℕ). Steps sum TrySnapshot (Taken n) was now life life × CacheFits now cache life.present) (sym number)
         (subst (λ (s : SessionState). Steps sum TrySnapshot (Taken (length was.snapshots)) was s life life × CacheFits s cache life.present) (sym is)
-        (framed sum TrySnapshot (Taken (length was.snapshots)) was next cache life life (tail_of w ∷ []) refl refl (λ other. absurd (false≢true (sym phase ∙ other))) (record { writer = sound; starts = ready.starts }) can
+        (framed sum TrySnapshot (Taken (length was.snapshots)) was next cache life life (Some (tail_of w) ∷ []) refl refl (λ other. absurd (false≢true (sym phase ∙ other))) (record { writer = sound; starts = ready.starts }) can
         (left_same sum was (Some w) cache cache life life ready fits (sym at) refl refl) (copy_made sum w cache life.present sound can) (try_snapshot_steps sum was w life at phase short)))
     tries w at phase Nothing (full, is) =
         same_session Nothing is (same_apart Nothing w at phase is (λ P s stands. let more : P ≤ s.buffered = omega (arith, full, stands.buffered, stands.page_size) in (more, refl)))
@@ -404,7 +404,7 @@ seal_touch w P before old new moments fits goes few idle = by_written before.wri
     by_written false awaited is some = few_calls old new moments 3 goes (omega (arith, few, seal_few (has_work w true) w.sync))
 
 -- what a seal leaves but for the snapshot
-left_content : (P : ℕ) (sync : StartedSync) (s : Standing) → (left_by_seal P sync s).snapshots ≡ s.snapshots ++ s.content ∷ []
+left_content : (P : ℕ) (sync : StartedSync) (s : Standing) → (left_by_seal P sync s).snapshots ≡ s.snapshots ++ Some s.content ∷ []
 left_content P AllDone s = refl
 left_content P (Named name) s = refl
 
@@ -440,7 +440,7 @@ sealed_stands sum P was w t (Named name) old new before moments stands starts h 
 
 -- a writer that is sealed
 seal_steps : (sum : List ℕ → ℕ) (was : SessionState) (w : WriterState) (t : Tail) (sync : StartedSync) (after : CacheState) (old new : Life) → was.writer ≡ Some w → was.recovering ≡ false → SealSays sum w old new (Ok (t, sync))
-    → StandsOn sum t (content_of w old.present.readable) after new.present → AlwaysMakes sum Seal (Sealed (length was.snapshots) sync) was (sealed_with was t sync) old new (t ∷ [])
+    → StandsOn sum t (content_of w old.present.readable) after new.present → AlwaysMakes sum Seal (Sealed (length was.snapshots) sync) was (sealed_with was t sync) old new (Some t ∷ [])
 unfolding Through
 seal_steps sum was w t sync after old new at phase says on = λ P before all.
     let stands = stands_held sum P was w before old.present at all in
@@ -452,7 +452,7 @@ seal_steps sum was w t sync after old new at phase says on = λ P before all.
     let answer : sync ≡ sealed_by before old.present =
     says.answers ∙ ap (λ (b : Bool). if b then AllDone else Named (length old.present.started)) (seal_waits (has_work w true) w.sync ∙ sym fits.written) in
     one_more sum Seal P (Sealed (length was.snapshots) sync) (sealed_with was t sync) old new before t (on.tail.is ∙ sym fits.content)
-    (subst (λ (l : List (List ℕ)). SteppedApart sum P Seal (Sealed (length was.snapshots) sync) (sealed_with was t sync) old new before l before.replays) (left_content P sync before)
+    (subst (λ (l : List (Option (List ℕ))). SteppedApart sum P Seal (Sealed (length was.snapshots) sync) (sealed_with was t sync) old new before l before.replays) (left_content P sync before)
     (subst (λ (rs : List (Option Replayed)). SteppedApart sum P Seal (Sealed (length was.snapshots) sync) (sealed_with was t sync) old new before (left_by_seal P sync before).snapshots rs) (starting_keeps P sync before)
     (stepped sum P Seal (Sealed (length was.snapshots) sync) (sealed_with was t sync) old new before (left_by_seal P sync before) through.moments fits.has_writer (here before.has_writer before.recovering fits.has_writer (sym stands.phase ∙ phase)) h
     (seal_touch w P before old new through.moments fits h.goes says.calls (λ none. (says.idle none).1)) (number_is sum P was before old.present all, answer, refl) (λ none. absurd none, λ none. absurd none)
@@ -491,7 +491,7 @@ pub seal_takes : (sum : List ℕ → ℕ) (was now : SessionState) (cache after 
     → LeavesTaken sum was.writer now.writer cache after old new → DidSeal sum was now after old new reply → Steps sum Seal reply was now old new × CacheFits now after new.present
 seal_takes sum was now cache after old new reply ready fits writer stay did = by_state was.recovering was.writer refl refl did
   where
-    one_made : (t : Tail) (content : List ℕ) → StandsOn sum t content after new.present → All (Made sum None after new.present) (t ∷ [])
+    one_made : (t : Tail) (content : List ℕ) → StandsOn sum t content after new.present → All (MadeSnapshot sum None after new.present) (Some t ∷ [])
     one_made t content on zero d lt = record { snapshot = record { there = on.tail.there; full = on.tail.full; below = tt }; can = on.can }
     one_made t content on (suc k) d lt = absurd (omega (arith, lt))
 
@@ -499,10 +499,10 @@ seal_takes sum was now cache after old new reply ready fits writer stay did = by
     seals w at phase (Sealed index sync) (t, number, is, says, on) =
         let next = sealed_with was t sync in
         subst (λ (n : ℕ). Steps sum Seal (Sealed n sync) was now old new × CacheFits now after new.present) (sym number)
-        (framed sum Seal (Sealed (length was.snapshots) sync) was now after old new (t ∷ []) (ap (λ (s : SessionState). s.snapshots) is) (ap (λ (s : SessionState). s.replays) is) (λ other. absurd (false≢true (sym phase ∙ sym (ap (λ (s : SessionState). s.recovering) is) ∙ other)))
+        (framed sum Seal (Sealed (length was.snapshots) sync) was now after old new (Some t ∷ []) (ap (λ (s : SessionState). s.snapshots) is) (ap (λ (s : SessionState). s.replays) is) (λ other. absurd (false≢true (sym phase ∙ sym (ap (λ (s : SessionState). s.recovering) is) ∙ other)))
         (subst (λ (s : SessionState). IsReadyApart sum s new.present) (sym is) (record { writer = tt; starts = inr says.owes.starts })) writer (left_by sum was now.writer cache after old new ready fits stay)
-        (subst (λ (s : SessionState). All (Made sum s.writer after new.present) (t ∷ [])) (sym is) (one_made t (content_of w old.present.readable) on))
-        (subst (λ (s : SessionState). AlwaysMakes sum Seal (Sealed (length was.snapshots) sync) was s old new (t ∷ [])) (sym is) (seal_steps sum was w t sync after old new at phase says on)))
+        (subst (λ (s : SessionState). All (MadeSnapshot sum s.writer after new.present) (Some t ∷ [])) (sym is) (one_made t (content_of w old.present.readable) on))
+        (subst (λ (s : SessionState). AlwaysMakes sum Seal (Sealed (length was.snapshots) sync) was s old new (Some t ∷ [])) (sym is) (seal_steps sum was w t sync after old new at phase says on)))
     seals w at phase (Fault e) goes = elim goes [
       | inl (is, says) ↦
           framed_same sum Seal (Fault e) was now after old new (ap (λ (s : SessionState). s.snapshots) is) (ap (λ (s : SessionState). s.replays) is) (λ other. absurd (false≢true (sym phase ∙ sym (ap (λ (s : SessionState). s.recovering) is) ∙ other))) writer
@@ -571,25 +571,27 @@ snap_taken sum P t cache index offset len before old new (Fault e) tells size fu
     let cause = snap_cause sum P t cache index offset len before old new e size (λ is. full (ap Fault is)) reads in (cause.0, cause.1, refl)
 snap_taken sum P t cache index offset len before old new r tells size full reads = absurd reads
 
+-- the one of a number, as a standing has it
+found : (sum : List ℕ → ℕ) (P : ℕ) (was : SessionState) (index : ℕ) (before : Standing) (d : Disk) → StandsFor sum P was before d → numbered before.snapshots index ≡ option_map (λ u. told u d.readable) (numbered was.snapshots index)
+found sum P was index before d all = ap (λ (l : List (Option (List ℕ))). numbered l index) all.snapshots ∙ numbered-map (λ (u : Tail). told u d.readable) was.snapshots index
+
 -- one that there is
-snap_steps : (sum : List ℕ → ℕ) (was : SessionState) (t : Tail) (cache : CacheState) (index offset len : ℕ) (old new : Life) (reply : Reply) → slice_get was.snapshots index ≡ Some t → HasPages t old.present → ReadSays sum t cache offset len old new reply
+snap_steps : (sum : List ℕ → ℕ) (was : SessionState) (t : Tail) (cache : CacheState) (index offset len : ℕ) (old new : Life) (reply : Reply) → numbered was.snapshots index ≡ Some t → HasPages t old.present → ReadSays sum t cache offset len old new reply
     → AlwaysMakes sum (Snap index offset len) reply was was old new []
 unfolding Through
 snap_steps sum was t cache index offset len old new reply at there says = λ P before all.
     let stands = stands_apart sum P was before old.present all in
-    let found : slice_get before.snapshots index ≡ Some (told t old.present.readable) =
-    ap (λ (l : List (List ℕ)). slice_get l index) all.snapshots ∙ slice_get-map (λ (u : Tail). told u old.present.readable) was.snapshots index ∙ ap (λ (o : Option Tail). option_map (λ u. told u old.present.readable) o) at in
-    let tells : told t old.present.readable ≡ snapshot_at before index = sym (ap (λ (o : Option (List ℕ)). elim o [ None ↦ [] | Some content ↦ content ]) found) in
+    let here : numbered before.snapshots index ≡ Some (told t old.present.readable) =
+    found sum P was index before old.present all ∙ ap (λ (o : Option Tail). option_map (λ u. told u old.present.readable) o) at in
+    let tells : told t old.present.readable ≡ snapshot_at before index = sym (ap (λ (o : Option (List ℕ)). elim o [ None ↦ [] | Some content ↦ content ]) here) in
     let size : size_of_tail t ≡ length (snapshot_at before index) = sym (length-told t old.present.readable there) ∙ ap length tells in
-    let below : index < length before.snapshots = slice_get_within before.snapshots index (told t old.present.readable) found in
-    let has : has_snapshot before index ≡ true = grind (arith, nat_tests, below) in
-    let known : turned_away (Snap index offset len) before ≡ None = ap (λ (b : Bool). if b then None else Some NoSuch) has in
+    let known : turned_away (Snap index offset len) before ≡ None = ap (λ (o : Option (List ℕ)). if is_some o then None else Some NoSuch) here in
     let seen = says.looked.through in
     let at_each : (d : Disk) → SameButLog old.present d → StandsApart sum P was before d = λ d alike. looked_stands sum P was before old.present d alike stands in
     let after_it = at_each new.present says.looked.same in
     let end : new.present ≡ last old.present seen.moments = ap (λ (life : Life). life.present) seen.goes ∙ last_is old seen.moments in
     let foretold : Foretells P (Snap index offset len) reply before = (says.overflow, λ passes. says.end passes.0 (omega (arith, size, passes.1))) in
-    subst (λ (l : List (List ℕ)). SteppedApart sum P (Snap index offset len) reply was old new before l before.replays) (sym (append-nil before.snapshots))
+    subst (λ (l : List (Option (List ℕ))). SteppedApart sum P (Snap index offset len) reply was old new before l before.replays) (sym (append-nil before.snapshots))
     (record {
       moments = seen.moments;
       goes = seen.goes;
@@ -598,7 +600,7 @@ snap_steps sum was t cache index offset len old new reply at there says = λ P b
         answer = subst (λ (to : Disk). Answers sum P (Snap index offset len) reply old.present to before before) end
             (answers_here sum P (Snap index offset len) reply old.present new.present before before known (snap_taken sum P t cache index offset len before old new reply tells size says.full says.reads) foretold);
         touches = seen.each;
-        stopped = λ away. absurd (false≢true (sym (ap Rattle.std.specs.Prelude.is_some known) ∙ away));
+        stopped = λ away. absurd (false≢true (sym (ap (λ (o : Option Reply). is_some o) known) ∙ away));
         kept = (stands.kept, each_then (SameButLog old.present) (AllKeep sum P before.content before.floor) seen.moments (λ d alike. (at_each d alike).kept) seen.each);
         covered = (stands.covered, each_then (SameButLog old.present) (AllCover sum P before.content before.covers) seen.moments (λ d alike. (at_each d alike).covered) seen.each);
         only = (
@@ -614,18 +616,17 @@ snap_steps sum was t cache index offset len old new reply at there says = λ P b
     })
 
 -- one that there isn't
-no_snap_steps : (sum : List ℕ → ℕ) (was : SessionState) (index offset len : ℕ) (life : Life) → length was.snapshots ≤ index → AlwaysMakes sum (Snap index offset len) NoSuch was was life life []
-no_snap_steps sum was index offset len life past = λ P before all.
+no_snap_steps : (sum : List ℕ → ℕ) (was : SessionState) (index offset len : ℕ) (life : Life) → numbered was.snapshots index ≡ None → AlwaysMakes sum (Snap index offset len) NoSuch was was life life []
+no_snap_steps sum was index offset len life none = λ P before all.
     let stands = stands_apart sum P was before life.present all in
-    let number = number_is sum P was before life.present all in
-    let none : has_snapshot before index ≡ false = grind (arith, nat_tests, past, number) in
-    subst (λ (l : List (List ℕ)). SteppedApart sum P (Snap index offset len) NoSuch was life life before l before.replays) (sym (append-nil before.snapshots))
+    let gone : numbered before.snapshots index ≡ None = found sum P was index before life.present all ∙ ap (λ (o : Option Tail). option_map (λ u. told u life.present.readable) o) none in
+    subst (λ (l : List (Option (List ℕ))). SteppedApart sum P (Snap index offset len) NoSuch was life life before l before.replays) (sym (append-nil before.snapshots))
     (record {
       moments = [];
       goes = refl;
       after = before;
       did = record {
-        answer = answers_away sum P (Snap index offset len) NoSuch life.present life.present before (ap (λ (b : Bool). if b then None else Some NoSuch) none);
+        answer = answers_away sum P (Snap index offset len) NoSuch life.present life.present before (ap (λ (o : Option (List ℕ)). if is_some o then None else Some NoSuch) gone);
         touches = leaves Looks life.present;
         stopped = λ away. refl;
         kept = (stands.kept, tt);
@@ -648,9 +649,9 @@ fits_on None cache after old new stay fits = tt
 fits_on (Some w) cache after old new stay fits = stay (tail_of w) fits
 
 pub snap_takes : (sum : List ℕ → ℕ) (was : SessionState) (cache after : CacheState) (index offset len : ℕ) (old new : Life) (reply : Reply) → IsReady sum was old.present → CacheFits was cache old.present
-    → DidSnap sum (slice_get was.snapshots index) cache offset len old new reply → LeavesWriters sum old new → LeavesAllTails sum cache after old new → LeavesAllReplays old new → LeavesAllReads cache after old new
+    → DidSnap sum (numbered was.snapshots index) cache offset len old new reply → LeavesWriters sum old new → LeavesAllTails sum cache after old new → LeavesAllReplays old new → LeavesAllReads cache after old new
     → Steps sum (Snap index offset len) reply was was old new × CacheFits was after new.present
-snap_takes sum was cache after index offset len old new reply ready fits did writers tails replays reads = by_offset (slice_get was.snapshots index) refl did
+snap_takes sum was cache after index offset len old new reply ready fits did writers tails replays reads = by_offset (numbered was.snapshots index) refl did
   where
     left : LeftAll sum was was.writer after old.present new.present
     left = left_by sum was was.writer cache after old new ready fits (leaves_all sum was.writer cache after old new tails replays)
@@ -660,16 +661,13 @@ snap_takes sum was cache after index offset len old new reply ready fits did wri
         framed sum (Snap index offset len) r was was after old new [] (sym (append-nil was.snapshots)) refl ready.begun (record { writer = sound_on sum was.writer old new writers ready.writer; starts = starts })
         (fits_on was.writer cache after old new reads fits.writer) left (λ k t lt. absurd (omega (arith, lt))) always
 
-    past : slice_get was.snapshots index ≡ None → length was.snapshots ≤ index
-    past none = elim (slice_get_cases was.snapshots index).1 [ inl (t, below, is, same) ↦ absurd (cc (sym none ∙ is)) | inr (all, is) ↦ all ]
-
-    by_offset : (o : Option Tail) → slice_get was.snapshots index ≡ o → DidSnap sum o cache offset len old new reply → Steps sum (Snap index offset len) reply was was old new × CacheFits was after new.present
+    by_offset : (o : Option Tail) → numbered was.snapshots index ≡ o → DidSnap sum o cache offset len old new reply → Steps sum (Snap index offset len) reply was was old new × CacheFits was after new.present
     by_offset None none (replied, same) =
         let starts : (was.names ≡ []) ⊎ StartsStand new.present = subst (λ (life : Life). (was.names ≡ []) ⊎ StartsStand life.present) (sym same) ready.starts in
         whole_of reply starts
         (subst (λ (r : Reply). AlwaysMakes sum (Snap index offset len) r was was old new []) (sym replied)
-        (subst (λ (life : Life). AlwaysMakes sum (Snap index offset len) NoSuch was was old life []) (sym same) (no_snap_steps sum was index offset len old (past none))))
+        (subst (λ (life : Life). AlwaysMakes sum (Snap index offset len) NoSuch was was old life []) (sym same) (no_snap_steps sum was index offset len old none)))
     by_offset (Some t) at says =
-        let there = (of_each (λ u. IsSnapshot sum was.writer u old.present) was.snapshots index t at ready.snapshots).there in
+        let there = (of_each (λ o. IfSome o (λ u. IsSnapshot sum was.writer u old.present)) was.snapshots index (Some t) (numbered_there was.snapshots index t at) ready.snapshots).there in
         let starts : (was.names ≡ []) ⊎ StartsStand new.present = elim ready.starts [ inl none ↦ inl none | inr stand ↦ inr (alike_stays_started old.present new.present says.looked.same stand) ] in
         whole_of reply starts (snap_steps sum was t cache index offset len old new reply at there says)

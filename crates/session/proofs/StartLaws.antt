@@ -164,7 +164,7 @@ start_steps sum was w v sync old new sound says = λ P before stands.
     let fits = stands.fits in
     let through = goes_through sum P was w v old new before stands says.starts_sync.0 in
     let h = same_halves sum was P w old new before stands through (owed_starts sum P was w old new before stands says.owes) in
-    subst (λ (l : List (List ℕ)). SteppedApart sum P StartSync (Started sync) (record was { writer = Some v; names = names_after sync was.names }) old new before l before.replays) (starting_same P sync before)
+    subst (λ (l : List (Option (List ℕ))). SteppedApart sum P StartSync (Started sync) (record was { writer = Some v; names = names_after sync was.names }) old new before l before.replays) (starting_same P sync before)
     (subst (λ (rs : List (Option Replayed)). SteppedApart sum P StartSync (Started sync) (record was { writer = Some v; names = names_after sync was.names }) old new before (starting P sync before).snapshots rs) (starting_keeps P sync before)
     (stepped sum P StartSync (Started sync) (record was { writer = Some v; names = names_after sync was.names }) old new before (starting P sync before) through.moments fits.has_writer (turned_here before.has_writer fits.has_writer) h
     (start_touch w P before old new through.moments fits h.goes says.calls (λ none. (says.idle none).1))

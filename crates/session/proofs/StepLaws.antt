@@ -13,7 +13,7 @@ use Rattle.crash.proofs.Moments.{keeps_longer, keeps_shorter}
 use Rattle.crash.proofs.Promise.{keeps_less}
 use Rattle.page.specs.Page.{text}
 use Rattle.session.specs.declared.steps.Step.{Step}
-use Rattle.session.specs.declared.steps.Step.TheVariants.{Append, Owned, TryAppend, Sync, StartSync, Wait, WaitSync, Needs, Size, Read, ReadUpTo, TryRead, ReadRanges, TryReadRanges, Begin, Truncate, Snapshot, TrySnapshot, Snap, Seal, Replay, Ensure, Take, Seek, Scan}
+use Rattle.session.specs.declared.steps.Step.TheVariants.{Append, Owned, TryAppend, Sync, StartSync, Wait, WaitSync, Needs, Size, Read, ReadUpTo, TryRead, ReadRanges, TryReadRanges, Begin, Truncate, Snapshot, TrySnapshot, Snap, Seal, Replay, Ensure, Take, Seek, DropSnapshot, DropReplay, Scan}
 use Rattle.session.specs.declared.steps.Reply.{Reply}
 use Rattle.session.specs.declared.steps.Reply.TheVariants.{Closed}
 use Rattle.session.specs.Run.{Standing, SessionState, ended, is_complete, raised_floor, raised, lowered, forgetting, begun, turned_away, content_after, Takes, Foretells, Answers, Touch, touch, last, Touches, AllCover, WriterStandsFor, WriterFits, NamesFit}
@@ -187,6 +187,8 @@ begun_either Q (Replay buffer_size) s same less = same
 begun_either Q (Ensure index count) s same less = same
 begun_either Q (Take index count) s same less = same
 begun_either Q (Seek index offset) s same less = same
+begun_either Q (DropSnapshot index) s same less = same
+begun_either Q (DropReplay index) s same less = same
 begun_either Q (Scan proven most buffer_size) s same less = same
 
 pub begun_keeps : (sum : List ℕ → ℕ) (P : ℕ) (step : Step) (s : Standing) (d : Disk) → AllKeep sum P s.content s.floor d → AllKeep sum P s.content (begun step s).floor d

@@ -11,12 +11,12 @@ use Rattle.paged_read.specs.Replay.{LeavesAllReplays}
 use Rattle.paged_read.specs.Snapshots.{LeavesAllTails}
 use Rattle.paged.specs.Caches.{tail_of}
 use Rattle.session.specs.declared.steps.Step.{Step}
-use Rattle.session.specs.declared.steps.Step.TheVariants.{Append, Owned, TryAppend, Sync, StartSync, Wait, WaitSync, Needs, Size, Read, ReadUpTo, TryRead, ReadRanges, TryReadRanges, Begin, Truncate, Snapshot, TrySnapshot, Snap, Seal, Replay, Ensure, Take, Seek, Scan}
+use Rattle.session.specs.declared.steps.Step.TheVariants.{Append, Owned, TryAppend, Sync, StartSync, Wait, WaitSync, Needs, Size, Read, ReadUpTo, TryRead, ReadRanges, TryReadRanges, Begin, Truncate, Snapshot, TrySnapshot, Snap, Seal, Replay, Ensure, Take, Seek, DropSnapshot, DropReplay, Scan}
 use Rattle.session.specs.declared.steps.Reply.{Reply}
 use Rattle.session.specs.Run.{SessionState, CacheFits, FitsWriter, IsReady}
 use Rattle.session.specs.Calls.{Begins, is_given, IsClosed, KeepsRest, KeepsSnapshots, KeepsUncut, LeavesTaken, LeavesWriterState, Steps, TakenBy, Truncated, WaitsFor}
 use Rattle.session.proofs.Apart.{IsReadyApart, ready_apart, StepsApart, StepsBy, steps_with}
-use Rattle.session.proofs.Below.{framed_cut, framed_same, leaves_all, Left, LeftAll, left_by, left_same, replays_same}
+use Rattle.session.proofs.Below.{framed_cut, framed_same, leaves_all, LeftAll, LeftSnapshot, left_by, left_same, replays_same}
 use Rattle.session.proofs.SessionLaws.{appended_takes, owned_steps, tried_takes, synced_takes, sized_takes, read_takes}
 use Rattle.session.proofs.StartLaws.{started_takes, waited_takes, named_takes, needed_takes, begun_takes, both_same}
 use Rattle.session.proofs.ReadLaws.{read_up_to_takes, scan_takes, try_read_takes}
@@ -71,6 +71,8 @@ module _ (sum : List ℕ → ℕ) (was now : SessionState) (cache : CacheState) 
   taken_apart (Ensure index count) taken = absurd taken
   taken_apart (Take index count) taken = absurd taken
   taken_apart (Seek index offset) taken = absurd taken
+  taken_apart (DropSnapshot index) taken = absurd taken
+  taken_apart (DropReplay index) taken = absurd taken
 
 -- such a step, with the session's snapshots
 pub writer_takes : (sum : List ℕ → ℕ) (step : Step) (was now : SessionState) (cache after : CacheState) (old new : Life) (reply : Reply) → IsReady sum was old.present → CacheFits was cache old.present
@@ -135,7 +137,7 @@ cut_takes sum was now cache after n old new reply ready fits goes rest writer tu
     closed_left : (phase : Bool) → was.recovering ≡ phase → was.writer ≡ None → IsClosed now.writer old new reply → LeftAll sum was now.writer after old.present new.present
     closed_left false in_phase at closed = left_same sum was now.writer cache after old new ready fits (closed.writer ∙ sym at) (turned in_phase) closed.life
     closed_left true in_phase at closed = record {
-      snapshots = subst (λ (ts : List Tail). All (Left sum now.writer after old.present new.present) ts) (sym (ready.begun in_phase)) (λ k t lt. absurd (omega (arith, lt)));
+      snapshots = subst (λ (ts : List (Option Tail)). All (LeftSnapshot sum now.writer after old.present new.present) ts) (sym (ready.begun in_phase)) (λ k t lt. absurd (omega (arith, lt)));
       replays = replays_same sum was now.writer old new ready (closed.writer ∙ sym at) closed.life;
     }
 
@@ -148,7 +150,7 @@ cut_takes sum was now cache after n old new reply ready fits goes rest writer tu
     by_state true (Some w) in_phase at cuts =
         let both : (was.recovering && is_some was.writer) ≡ true = ap (λ (b : Bool). b && is_some was.writer) in_phase ∙ ap (λ (o : Option WriterState). is_some o) at in
         framed_cut sum (Truncate n) reply was now after old new same (kept true both) begun writer
-        (subst (λ (ts : List Tail). All (Left sum now.writer after old.present new.present) ts) (sym (ready.begun in_phase)) (λ k t lt. absurd (omega (arith, lt))))
+        (subst (λ (ts : List (Option Tail)). All (LeftSnapshot sum now.writer after old.present new.present) ts) (sym (ready.begun in_phase)) (λ k t lt. absurd (omega (arith, lt))))
         (steps true (truncated_cut sum was (record was { writer = now.writer }) w n old new reply (ready_apart sum was old.present ready) in_phase at refl cuts))
     by_state false (Some w) in_phase at turns =
         let none : (was.recovering && is_some was.writer) ≡ false = ap (λ (b : Bool). b && is_some was.writer) in_phase in

@@ -48,6 +48,7 @@ use Rattle.session.specs.declared.steps.Step.TheVariants.{ReadUpTo, TryRead, Tru
 use Rattle.session.specs.declared.steps.Step.TheVariants.{ReadRanges, TryReadRanges}
 use Rattle.session.specs.declared.steps.Step.TheVariants.{Snapshot, TrySnapshot, Snap, Seal}
 use Rattle.session.specs.declared.steps.Step.TheVariants.{Replay, Ensure, Take, Seek, Scan}
+use Rattle.session.specs.declared.steps.Step.TheVariants.{DropReplay, DropSnapshot}
 use Rattle.session.specs.declared.steps.Reply.TheVariants.{Served, Missed, BadRanges}
 use Rattle.session.specs.declared.steps.Reply.TheVariants.{Taken, Sealed, NotAppending}
 use Rattle.session.specs.declared.steps.Reply.TheVariants.{Replaying}
@@ -394,7 +395,10 @@ pub record SnapshotSays (sum : List ℕ → ℕ) (w : WriterState) (old new : Li
 
 -- the session with another writer and one snapshot more
 abbrev pub with_snapshot : SessionState → Option WriterState → Tail → SessionState
-with_snapshot was writer t = record was { writer = writer; snapshots = was.snapshots ++ t ∷ [] }
+with_snapshot was writer t = record was {
+  writer = writer;
+  snapshots = was.snapshots ++ Some t ∷ [];
+}
 
 -- there was no memory for a snapshot, or its name: nothing was done
 abbrev pub HadNoRoomFor : Error → SessionState → SessionState → Life → Life → Type 0
@@ -435,7 +439,7 @@ abbrev pub sealed_with : SessionState → Tail → StartedSync → SessionState
 sealed_with was t sync = record was {
   writer = None;
   names = names_after sync was.names;
-  snapshots = was.snapshots ++ t ∷ [];
+  snapshots = was.snapshots ++ Some t ∷ [];
 }
 
 -- the end of a writer that appends: the snapshot that it leaves tells the content, and can be read
@@ -481,7 +485,7 @@ DidSeal sum was now after old new reply =
     IfAppending was.recovering was.writer reply ((now ≡ was) × (new ≡ old)) (λ w.
     SealsSession sum w was now after old new reply)
 
--- a read of a snapshot, if there is one of this number
+-- a read of the snapshot of this number, if it stands
 abbrev pub DidSnap : (List ℕ → ℕ) → Option Tail → CacheState → (offset len : ℕ) → Life → Life
     → Reply → Type 0
 DidSnap sum None cache offset len old new reply = (reply ≡ NoSuch) × (new ≡ old)
@@ -548,12 +552,12 @@ SeeksOf r q offset Done = Seeks r offset q (Ok tt)
 SeeksOf r q offset (Fault e) = Seeks r offset q (Err e)
 SeeksOf r q offset _ = ⊥
 
--- a replay that wasn't forgotten can go on
+-- a replay that stands can go on
 abbrev pub CanGoOn : Option ReplayState → Disk → Type 0
 CanGoOn None d = Unit {0}
 CanGoOn (Some r) d = CanReplay r d
 
--- a step of one replay, which goes on so, or of one that was forgotten
+-- a step of one replay, which goes on so, or of one that was let go, or forgotten
 abbrev pub OfReplay : (was now : Option ReplayState) → Reply → (same : Type 0)
     → (goes : ReplayState → ReplayState → Type 0) → Type 0
 OfReplay None now reply same goes = (reply ≡ NoSuch) × (now ≡ None) × same
@@ -567,7 +571,17 @@ AtReplay index was now reply same goes = elim (numbered was index) [
   | Some r ↦ (q : ReplayState) × (now ≡ slice_set was index (Some q)) × goes r q
 ]
 
+-- what is of this number is let go, if it stands, and nothing else is
+abbrev pub LetsGo : {A : Type 0} → (index : ℕ) → (was now : List (Option A)) → Reply → Type 0
+LetsGo index was now reply = elim (numbered was index) [
+  | None ↦ (reply ≡ NoSuch) × (now ≡ was)
+  | Some one ↦ (reply ≡ Done) × (now ≡ slice_set was index None)
+]
+
 -- all else of the session stays
+abbrev pub KeepsAllButSnapshots : SessionState → SessionState → Type 0
+KeepsAllButSnapshots was now = now ≡ record was { snapshots = now.snapshots }
+
 abbrev pub KeepsAllButReplays : SessionState → SessionState → Type 0
 KeepsAllButReplays was now = now ≡ record was { replays = now.replays }
 
@@ -597,6 +611,8 @@ IsOfEither (Replay buffer_size) = ⊥
 IsOfEither (Ensure index count) = ⊥
 IsOfEither (Take index count) = ⊥
 IsOfEither (Seek index offset) = ⊥
+IsOfEither (DropSnapshot index) = ⊥
+IsOfEither (DropReplay index) = ⊥
 IsOfEither step = Unit {0}
 
 -- what only looks at a writer

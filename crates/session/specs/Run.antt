@@ -2,7 +2,7 @@
 use Rattle.std.specs.Prelude.{◌≡◌, ◌≢◌, ◌⊎◌, ◌<◌, ◌≤◌, ◌+◌, ◌%◌, ◌^◌, ◌++◌, ℕ, List, [], ◌∷◌}
 use Rattle.std.specs.Prelude.{length, take, drop, min, max, map, All, Bool, true, false, not}
 use Rattle.std.specs.Prelude.{nat_le, nat_lt, nat_eq, ◌||◌, ◌&&◌, ◌*◌, ◌-◌, ◌/◌}
-use Rattle.std.specs.Prelude.{option_map, slice_set}
+use Rattle.std.specs.Prelude.{option_map, slice_set, IfSome}
 use Rattle.std.specs.Prelude.{if◌then◌else◌, is_some, slice_get, sum_by, Option, Some, None, Err}
 use Rattle.std.specs.Int.NonZero.{non_zero_usize_get}
 use Rattle.std.specs.List.{Contains, list_any, flat_map, range_with_len}
@@ -36,6 +36,7 @@ use Rattle.session.specs.declared.steps.Step.TheVariants.{ReadUpTo, TryRead, Tru
 use Rattle.session.specs.declared.steps.Step.TheVariants.{ReadRanges, TryReadRanges}
 use Rattle.session.specs.declared.steps.Step.TheVariants.{Snapshot, TrySnapshot, Snap, Seal}
 use Rattle.session.specs.declared.steps.Step.TheVariants.{Replay, Ensure, Take, Seek, Scan}
+use Rattle.session.specs.declared.steps.Step.TheVariants.{DropReplay, DropSnapshot}
 use Rattle.session.specs.declared.steps.Reply.{Reply}
 use Rattle.session.specs.declared.steps.Reply.TheVariants.{At, Nothing, Done, Started, Answer}
 use Rattle.session.specs.declared.steps.Reply.TheVariants.{Length, Bytes, Fault, Closed, NoSuch}
@@ -74,9 +75,9 @@ pub record Standing : Type 0 where
   -- the names of started syncs, the newest first, and how much of the content every crash keeps
   -- once each has completed
   pub covers : List (ℕ × ℕ)
-  -- what each snapshot tells, the oldest first
-  pub snapshots : List (List ℕ)
-  -- the replays, the oldest first; none in the place of one that was forgotten
+  -- what each snapshot tells, the oldest first; none in the place of one that was let go
+  pub snapshots : List (Option (List ℕ))
+  -- the replays, the oldest first; none in the place of one that was let go, or forgotten
   pub replays : List (Option Replayed)
 
 -- so many bytes more fit what is buffered
@@ -140,7 +141,7 @@ truncated P n s =
 
 -- with one snapshot more, of all of the content
 abbrev pub noted : Standing → Standing
-noted s = record s { snapshots = s.snapshots ++ s.content ∷ [] }
+noted s = record s { snapshots = s.snapshots ++ Some s.content ∷ [] }
 
 -- with its full pages written, in pages of P bytes: a started sync was waited for then
 abbrev pub flushed : (P : ℕ) → Standing → Standing
@@ -177,6 +178,14 @@ replaying P buffer_size s = record s {
 -- with this replay in the place of the one of this number
 abbrev pub moved : (index : ℕ) → Replayed → Standing → Standing
 moved index r s = record s { replays = slice_set s.replays index (Some r) }
+
+-- with nothing in the place of the snapshot of this number, which isn't given again
+abbrev pub without_snapshot : (index : ℕ) → Standing → Standing
+without_snapshot index s = record s { snapshots = slice_set s.snapshots index None }
+
+-- with nothing in the place of the replay of this number, which isn't given again
+abbrev pub without_replay : (index : ℕ) → Standing → Standing
+without_replay index s = record s { replays = slice_set s.replays index None }
 
 -- without its replays, whose numbers aren't given again
 abbrev pub forgetting : Standing → Standing
@@ -227,17 +236,17 @@ begun step s = s
 abbrev pub has_name : Standing → ℕ → Bool
 has_name s name = list_any (λ c. nat_eq c.0 name) s.covers
 
+-- the one of this number: none where there is none, or it was let go, or forgotten
+abbrev pub numbered : {A : Type 0} → List (Option A) → (index : ℕ) → Option A
+numbered all index = elim (slice_get all index) [ None ↦ None | Some one ↦ one ]
+
 -- there is a snapshot of this number
 abbrev pub has_snapshot : Standing → ℕ → Bool
-has_snapshot s index = nat_lt index (length s.snapshots)
+has_snapshot s index = is_some (numbered s.snapshots index)
 
 -- what it tells
 abbrev pub snapshot_at : Standing → ℕ → List ℕ
-snapshot_at s index = elim (slice_get s.snapshots index) [ None ↦ [] | Some content ↦ content ]
-
--- the one of this number: none where there is none, or it was forgotten
-abbrev pub numbered : {A : Type 0} → List (Option A) → (index : ℕ) → Option A
-numbered replays index = elim (slice_get replays index) [ None ↦ None | Some one ↦ one ]
+snapshot_at s index = elim (numbered s.snapshots index) [ None ↦ [] | Some content ↦ content ]
 
 -- there is a replay of this number
 abbrev pub has_replay : Standing → ℕ → Bool
@@ -287,6 +296,8 @@ turned_away (Snap index offset len) s = if has_snapshot s index then None else S
 turned_away (Ensure index count) s = if has_replay s index then None else Some NoSuch
 turned_away (Take index count) s = if has_replay s index then None else Some NoSuch
 turned_away (Seek index offset) s = if has_replay s index then None else Some NoSuch
+turned_away (DropSnapshot index) s = if has_snapshot s index then None else Some NoSuch
+turned_away (DropReplay index) s = if has_replay s index then None else Some NoSuch
 turned_away step s = if s.has_writer then None else Some Closed
 
 -- ---- steps that are accepted
@@ -418,6 +429,8 @@ Accepts sum P (Take index count) (Bytes bytes) from to s after =
 Accepts sum P (Seek index offset) Done from to s after =
     (r : Replayed) × (numbered s.replays index ≡ Some r) × (offset ≤ length r.content)
     × (after ≡ moved index (record r { position = offset; hand = 0 }) s)
+Accepts sum P (DropSnapshot index) Done from to s after = after ≡ without_snapshot index s
+Accepts sum P (DropReplay index) Done from to s after = after ≡ without_replay index s
 Accepts sum P step reply from to s after = ⊥
 
 -- ---- steps that are refused
@@ -451,6 +464,8 @@ faults (Replay buffer_size) = WriteFailed ∷ SyncFailed ∷ OutOfMemory ∷ []
 faults (Ensure index count) = ReadFailed ∷ OutOfMemory ∷ []
 faults (Take index count) = OutOfMemory ∷ []
 faults (Seek index offset) = BlobInsufficientLength ∷ []
+faults (DropSnapshot index) = []
+faults (DropReplay index) = []
 
 -- an offset, or the blob that the new size needs in pages of P bytes, passes the greatest number;
 -- of ranges the first that can't be read decides
@@ -617,6 +632,8 @@ touch P (Ensure index count) s =
     if is_had (numbered s.replays index) count then Leaves else Looks
 touch P (Take index count) s = Leaves
 touch P (Seek index offset) s = Leaves
+touch P (DropSnapshot index) s = Leaves
+touch P (DropReplay index) s = Leaves
 touch P Seal s = if s.written then wait_touch s.awaited else Changes 3
 
 -- the last of some moments
@@ -668,12 +685,12 @@ Ran sum P (step ∷ steps) [] from moments s after = ⊥
 -- ---- what a session has
 
 -- as contracts see it: the syncs by their names, and the snapshots and the replays, the oldest
--- first; none in the place of a replay that was forgotten
+-- first; none in the place of one that was let go, or of a replay that was forgotten
 pub record SessionState : Type 0 where
   pub writer : Option WriterState
   pub recovering : Bool
   pub names : List ℕ
-  pub snapshots : List Tail
+  pub snapshots : List (Option Tail)
   pub replays : List (Option ReplayState)
 
 -- the one of two writers by which a session takes its steps
@@ -732,7 +749,7 @@ pub record StandsFor (sum : List ℕ → ℕ) (P : ℕ) (session : SessionState)
   pub kept : AllKeep sum P s.content s.floor d
   pub covered : AllCover sum P s.content s.covers d
   pub only : AllOnly sum P s.content s.otherwise d
-  pub snapshots : s.snapshots ≡ map (λ t. told t d.readable) session.snapshots
+  pub snapshots : s.snapshots ≡ map (option_map (λ t. told t d.readable)) session.snapshots
   pub replays : s.replays ≡ map (option_map (replayed d.readable)) session.replays
 
 -- the writer, if there is one, is sound over its blob
@@ -752,7 +769,7 @@ pub record IsSnapshot (sum : List ℕ → ℕ) (writer : Option WriterState) (t 
   pub full : HasFullPages sum t d
   pub below : IsBelow writer t
 
--- a replay that wasn't forgotten gives what it tells, in pages that the writer never writes again
+-- a replay that stands gives what it tells, in pages that the writer never writes again
 abbrev pub IsReplayIn : (List ℕ → ℕ) → Option WriterState → Disk → Option ReplayState → Type 0
 IsReplayIn sum writer d None = Unit {0}
 IsReplayIn sum writer d (Some r) =
@@ -764,7 +781,7 @@ IsReplayIn sum writer d (Some r) =
 pub record IsReady (sum : List ℕ → ℕ) (session : SessionState) (d : Disk) : Type 0 where
   pub writer : HasSoundWriter sum session.writer d
   pub starts : (session.names ≡ []) ⊎ StartsStand d
-  pub snapshots : All (λ t. IsSnapshot sum session.writer t d) session.snapshots
+  pub snapshots : All (λ o. IfSome o (λ t. IsSnapshot sum session.writer t d)) session.snapshots
   pub begun : session.recovering ≡ true → session.snapshots ≡ []
   pub replays : All (IsReplayIn sum session.writer d) session.replays
 
@@ -774,10 +791,10 @@ abbrev pub FitsWriter : Option WriterState → CacheState → Disk → Type 0
 FitsWriter None cache d = Unit {0}
 FitsWriter (Some w) cache d = CanRead (tail_of w) cache d
 
--- it fits the session: the writer, and each snapshot
+-- it fits the session: the writer, and each snapshot that stands
 pub record CacheFits (session : SessionState) (cache : CacheState) (d : Disk) : Type 0 where
   pub writer : FitsWriter session.writer cache d
-  pub snapshots : All (λ t. CanRead t cache d) session.snapshots
+  pub snapshots : All (λ o. IfSome o (λ t. CanRead t cache d)) session.snapshots
 
 -- where the cache fitted a writer, or none, it fits another over the same disk
 abbrev pub KeepsCache : Option WriterState → Option WriterState → Type 0

@@ -2,6 +2,7 @@
 //! back after a crash.
 #![tactic(auto)]
 
+mod drops;
 mod held;
 mod reads;
 mod recoveries;

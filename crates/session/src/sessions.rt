@@ -31,7 +31,8 @@ use std::marker::Model;
 ///
 /// A step whose call takes the writer and is refused closes the session, and so does a seal. Its
 /// names stay, its snapshots and its replays: what was started can be waited for, the snapshots be
-/// read, and the replays go on. A truncate forgets the replays.
+/// read, and the replays go on. A truncate forgets the replays. What isn't let go is kept until the
+/// session is dropped.
 #[derive(Drop)]
 pub struct Session<B, H> {
     pub(crate) alloc: Global,
@@ -40,8 +41,8 @@ pub struct Session<B, H> {
     pub(crate) recovery: Held<B, H, Recovering>,
     pub(crate) appending: Held<B, H, Append>,
     pub(crate) names: Vec<u64>,
-    pub(crate) snapshots: Vec<Sealed<B, H>>,
-    // None in the place of one that was forgotten.
+    // None in the place of one that was let go, or of a replay that was forgotten.
+    pub(crate) snapshots: Vec<Option<Sealed<B, H>>>,
     pub(crate) replays: Vec<Option<Replay<B, H>>>,
 }
 
@@ -127,10 +128,12 @@ impl<B: Blob, H: Sum> Session<B, H> {
             Step::TrySnapshot => self.try_snapshot(),
             Step::Snap(index, offset, len) => self.snap(blob, cache, *index, *offset, *len),
             Step::Seal => self.seal(blob, cache),
+            Step::DropSnapshot(index) => self.drop_snapshot(*index),
             Step::Replay(buffer_size) => self.replay(blob, cache, *buffer_size),
             Step::Ensure(index, count) => self.ensure(blob, *index, *count),
             Step::Take(index, count) => self.take(*index, *count),
             Step::Seek(index, offset) => self.seek(*index, *offset),
+            Step::DropReplay(index) => self.drop_replay(*index),
             _ => self.step_writer(blob, cache, step),
         }
     }
@@ -255,7 +258,9 @@ impl<B: Blob, H: Sum> Session<B, H> {
 ///
 /// A snapshot tells for good what was appended before it, also where the session is closed. What it
 /// tells is durable only by a sync or a seal, and a crash ends it. A replay gives, in order, what
-/// was appended before it, until a truncate is called, which forgets it, or a crash.
+/// was appended before it, until a truncate is called, which forgets it, or a crash. Each keeps its
+/// memory until it is let go, or the session is dropped. Letting one go asks no device, and changes
+/// nothing else: not the content, and no other snapshot or replay.
 ///
 /// Room for all the replies is made first. `OutOfMemory` where it is refused: then no step was
 /// taken.

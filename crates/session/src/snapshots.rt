@@ -1,12 +1,12 @@
 // Steps that make snapshots and read them.
-ghost use Rattle.std.specs.Prelude.{◌≡◌, All, slice_get, true};
+ghost use Rattle.std.specs.Prelude.{◌≡◌, All, IfSome, true};
 ghost use Rattle.cache.specs.Pages.{IsFresh};
 ghost use Rattle.paged_read.specs.Replay.{LeavesAllReplays};
 ghost use Rattle.paged_read.specs.Snapshots.{LeavesAllReads, LeavesAllTails, LeavesWriters};
 ghost use Rattle.paged_read.specs.Tail.{CanRead, HasFullPages};
 ghost use Rattle.session.specs.Calls.{DidSeal, DidSnap, DidSnapshot, DidTrySnapshot};
 ghost use Rattle.session.specs.Calls.{LeavesTaken, RefusesAppending};
-ghost use Rattle.session.specs.Run.{FitsWriter, HasSoundWriter};
+ghost use Rattle.session.specs.Run.{FitsWriter, HasSoundWriter, numbered};
 
 use crate::Session;
 use crate::reads::bytes_of;
@@ -54,7 +54,7 @@ impl<B: Blob, H: Sum> Session<B, H> {
             Ok((writer, snapshot)) => {
                 self.appending.writer = Some(writer);
                 let index = self.snapshots.len();
-                self.snapshots.push_reserved(snapshot);
+                self.snapshots.push_reserved(Some(snapshot));
                 Reply::Taken(index)
             }
             Err(error) => Reply::Fault(error),
@@ -76,7 +76,7 @@ impl<B: Blob, H: Sum> Session<B, H> {
         match writer.try_snapshot() {
             Ok(Some(snapshot)) => {
                 let index = self.snapshots.len();
-                self.snapshots.push_reserved(snapshot);
+                self.snapshots.push_reserved(Some(snapshot));
                 Reply::Taken(index)
             }
             Ok(None) => Reply::Nothing,
@@ -108,7 +108,7 @@ impl<B: Blob, H: Sum> Session<B, H> {
         match writer.seal(blob, cache) {
             Ok((snapshot, started)) => {
                 let index = self.snapshots.len();
-                self.snapshots.push_reserved(snapshot);
+                self.snapshots.push_reserved(Some(snapshot));
                 if let StartedSync::Named(name) = started {
                     self.names.push_reserved(name);
                 }
@@ -128,11 +128,11 @@ impl<B: Blob, H: Sum> Session<B, H> {
         len: usize,
     ) -> Reply
         requires full { let old = (B.life blob.old).present in
-            All (λ t. HasFullPages H.sum_of t old) self.now.snapshots }
+            All (λ o. IfSome o (λ t. HasFullPages H.sum_of t old)) self.now.snapshots }
         requires can { let old = (B.life blob.old).present in
-            All (λ t. CanRead t cache.old old) self.now.snapshots }
+            All (λ o. IfSome o (λ t. CanRead t cache.old old)) self.now.snapshots }
         ensures goes { let old = B.life blob.old in let new = B.life blob.new in
-            DidSnap H.sum_of (slice_get self.now.snapshots index) cache.old offset len old new
+            DidSnap H.sum_of (numbered self.now.snapshots index) cache.old offset len old new
             result }
         ensures fresh_ids { IsFresh cache.old → IsFresh cache.new }
         ensures writers { LeavesWriters H.sum_of (B.life blob.old) (B.life blob.new) }
@@ -142,7 +142,7 @@ impl<B: Blob, H: Sum> Session<B, H> {
         ensures can_read { let old = B.life blob.old in let new = B.life blob.new in
             LeavesAllReads cache.old cache.new old new }
     {
-        let Some(snapshot) = self.snapshots.get(index) else {
+        let Some(Some(snapshot)) = self.snapshots.get(index) else {
             return Reply::NoSuch;
         };
         match snapshot.read_at(blob, cache, offset, len) {

@@ -49,6 +49,9 @@ pub enum Step {
     TrySnapshot,
     /// Reads of the snapshot of this number, from this logical offset, so many bytes.
     Snap(usize, u64, usize),
+    /// Lets go of the snapshot of this number, and of the memory that it holds. The number isn't
+    /// given again: a later step of it replies `NoSuch`, a second one of these too.
+    DropSnapshot(usize),
     /// Begins a replay of all that was appended, with a buffer of so many bytes. What isn't written
     /// is written first, without a sync: two device calls at most.
     Replay(NonZeroUsize),
@@ -58,6 +61,9 @@ pub enum Step {
     Take(usize, usize),
     /// Moves the replay of this number to this logical offset.
     Seek(usize, u64),
+    /// Lets go of the replay of this number, and of the memory that it holds. The number isn't
+    /// given again: a later step of it replies `NoSuch`, a second one of these too.
+    DropReplay(usize),
     /// Ends the writer by a snapshot and a started sync, where the recovery has ended: three device
     /// calls at most.
     Seal,
@@ -93,8 +99,8 @@ pub enum Reply {
     NotRecovering,
     /// The ranges overlap, aren't in order, or are too long together.
     BadRanges,
-    /// The session wasn't given a sync of this name, or a snapshot or a replay of this number; or a
-    /// truncate has forgotten the replay.
+    /// The session wasn't given a sync of this name, or a snapshot or a replay of this number; or
+    /// it was let go, or a truncate has forgotten the replay.
     NoSuch,
     /// The number of the snapshot that was made.
     Taken(usize),

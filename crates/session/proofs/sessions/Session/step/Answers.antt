@@ -1,3 +1,4 @@
+use Rattle.session.proofs.DropLaws.{drop_replay_takes, drop_snapshot_takes}
 use Rattle.session.proofs.ReplayLaws.{all_can_go_on, ensure_takes, replay_takes, seek_takes, take_takes}
 use Rattle.session.proofs.SnapshotLaws.{snapshot_takes, try_snapshot_takes, seal_takes, snap_takes}
 use Rattle.session.proofs.WholeLaws.{begin_takes, cut_takes, name_takes, writer_takes}
@@ -119,6 +120,26 @@ pub returns-in-Seek-clause-cached : goal.returns-in-Seek-clause-cached
 returns-in-Seek-clause-cached g c =
     let life = g.B.Blob.life c.args.blob.now in
     (seek_takes g.H.Sum.sum_of c.args.self.now c.seek.new.self c.args.cache.now c.in-Seek.index c.in-Seek.offset life c.seek.result c.requires.ready c.requires.cached c.seek.ensures.goes c.seek.ensures.rest).1
+
+pub returns-in-DropReplay-clause-goes : goal.returns-in-DropReplay-clause-goes
+returns-in-DropReplay-clause-goes g c =
+    let life = g.B.Blob.life c.args.blob.now in
+    rw c.in-DropReplay.is (drop_replay_takes g.H.Sum.sum_of c.args.self.now c.drop_replay.new.self c.args.cache.now c.in-DropReplay.index life c.drop_replay.result c.requires.ready c.requires.cached c.drop_replay.ensures.goes c.drop_replay.ensures.rest).0
+
+pub returns-in-DropReplay-clause-cached : goal.returns-in-DropReplay-clause-cached
+returns-in-DropReplay-clause-cached g c =
+    let life = g.B.Blob.life c.args.blob.now in
+    (drop_replay_takes g.H.Sum.sum_of c.args.self.now c.drop_replay.new.self c.args.cache.now c.in-DropReplay.index life c.drop_replay.result c.requires.ready c.requires.cached c.drop_replay.ensures.goes c.drop_replay.ensures.rest).1
+
+pub returns-in-DropSnapshot-clause-goes : goal.returns-in-DropSnapshot-clause-goes
+returns-in-DropSnapshot-clause-goes g c =
+    let life = g.B.Blob.life c.args.blob.now in
+    rw c.in-DropSnapshot.is (drop_snapshot_takes g.H.Sum.sum_of c.args.self.now c.drop_snapshot.new.self c.args.cache.now c.in-DropSnapshot.index life c.drop_snapshot.result c.requires.ready c.requires.cached c.drop_snapshot.ensures.goes c.drop_snapshot.ensures.rest).0
+
+pub returns-in-DropSnapshot-clause-cached : goal.returns-in-DropSnapshot-clause-cached
+returns-in-DropSnapshot-clause-cached g c =
+    let life = g.B.Blob.life c.args.blob.now in
+    (drop_snapshot_takes g.H.Sum.sum_of c.args.self.now c.drop_snapshot.new.self c.args.cache.now c.in-DropSnapshot.index life c.drop_snapshot.result c.requires.ready c.requires.cached c.drop_snapshot.ensures.goes c.drop_snapshot.ensures.rest).1
 
 pub ensure-requires : goal.ensure-requires
 ensure-requires g c = record { can = all_can_go_on g.H.Sum.sum_of c.args.self.now (g.B.Blob.life c.args.blob.now).present c.requires.ready }

@@ -1,0 +1,33 @@
+// Steps that let go of what a session keeps.
+ghost use Rattle.std.specs.Prelude.{◌≡◌};
+ghost use Rattle.session.specs.Calls.{KeepsAllButReplays, KeepsAllButSnapshots, LetsGo};
+
+use crate::Session;
+use crate::steps::Reply;
+
+impl<B, H> Session<B, H> {
+    pub(crate) fn drop_snapshot(&mut self, index: usize) -> Reply
+        ensures goes { LetsGo index self.old.snapshots self.new.snapshots result }
+        ensures rest { KeepsAllButSnapshots self.old self.new }
+    {
+        let_go(&mut self.snapshots, index)
+    }
+
+    pub(crate) fn drop_replay(&mut self, index: usize) -> Reply
+        ensures goes { LetsGo index self.old.replays self.new.replays result }
+        ensures rest { KeepsAllButReplays self.old self.new }
+    {
+        let_go(&mut self.replays, index)
+    }
+}
+
+// The place stays, so that no number is given twice.
+fn let_go<T: Drop>(all: &mut Vec<Option<T>>, index: usize) -> Reply
+    ensures { LetsGo index all.old.items all.new.items result }
+{
+    let Some(Some(_)) = all.get(index) else {
+        return Reply::NoSuch;
+    };
+    all[index] = None;
+    Reply::Done
+}
