@@ -4,7 +4,7 @@ use Rattle.std.specs.Prelude.{Option, Some, None}
 use Rattle.std.proofs.lemmas.Bool.{cases_order}
 use Rattle.std.proofs.lemmas.Option.{same_Some}
 use Rattle.std.proofs.Math.Nat.{mul-le-mul_right}
-use Rattle.cache.specs.CacheState.{CacheState, held, empty_cache, SameSettings, IsHeld, one_skipped, PutGoes, Puts, PutsAll}
+use Rattle.cache.specs.CacheState.{CacheState, held, empty_cache, SameSettings, IsHeld, PutGoes, Puts, PutsAll}
 use Rattle.cache.specs.Pages.{page_of_content, IsTrueFor, IsFresh, CachesOnly}
 
 -- two keys are the same or not
@@ -26,15 +26,13 @@ PutKey key bytes other old new = (held new other ≡ held old other) ⊎ (held n
 -- in a relation that forgets which key went, and why
 pub record PutWeakly (key : ℕ × ℕ) (bytes : List ℕ) (old new : CacheState) : Type 0 where
   pub settings : SameSettings old new
-  pub skipped : old.skipped ≤ new.skipped
-  pub here : (held new key ≡ Some bytes) ⊎ (held new key ≡ None)
+  pub here : held new key ≡ Some bytes
   pub each : (other : ℕ × ℕ) → PutKey key bytes other old new
 
 held_weakly : (key gone : ℕ × ℕ) (bytes : List ℕ) (count : ℕ) (old new : CacheState) → (key ≡ gone) ⊎ (held new gone ≡ None) → IsHeld key gone bytes count old new → PutWeakly key bytes old new
 held_weakly key gone bytes count old new went h = record {
   settings = h.settings;
-  skipped = omega (arith, h.skipped);
-  here = inl h.here;
+  here = h.here;
   each = λ other. elim (same_keys other key) [
     | inl same ↦ inr (inr (same, ap (λ (k : ℕ × ℕ). held new k) same ∙ h.here))
     | inr apart ↦ elim (same_keys other gone) [
@@ -47,34 +45,17 @@ held_weakly key gone bytes count old new went h = record {
   ];
 }
 
-skipped_more : (n : ℕ) → n < 2 ^ 64 → n ≤ one_skipped n
-skipped_more n small = omega (arith, small)
-
 pub put_weakly : (key : ℕ × ℕ) (bytes : List ℕ) (old new : CacheState) → Puts key bytes old new → PutWeakly key bytes old new
 put_weakly key bytes old new puts = by_held (held old key) refl puts
   where
     by_held : (o : Option (List ℕ)) → held old key ≡ o → PutGoes o key bytes old new → PutWeakly key bytes old new
     by_held (Some page) is goes = held_weakly key key bytes (length old.pages) old new (inl refl) goes
     by_held None is (inl (room, goes)) = held_weakly key key bytes (length old.pages + 1) old new (inl refl) goes
-    by_held None is (inr (inl (full, (gone, there, none, goes)))) = held_weakly key gone bytes old.capacity old new (inr none) goes
-    by_held None is (inr (inr (small, same))) =
-        let alike : (other : ℕ × ℕ) → held new other ≡ held old other = λ other. ap (λ (c : CacheState). held c other) same in
-        record {
-          settings = record { page_size = ap (λ (c : CacheState). c.page_size) same; capacity = ap (λ (c : CacheState). c.capacity) same; ids_given = ap (λ (c : CacheState). c.ids_given) same };
-          skipped = omega (arith, skipped_more old.skipped small, ap (λ (c : CacheState). c.skipped) same);
-          here = inr (alike key ∙ is);
-          each = λ other. inl (alike other);
-        }
+    by_held None is (inr (full, (gone, there, none, goes))) = held_weakly key gone bytes old.capacity old new (inr none) goes
 
--- where nothing was left out, the page put last is held
-pub put_is_held : (key : ℕ × ℕ) (bytes : List ℕ) (old new : CacheState) → old.skipped < 2 ^ 64 - 1 → new.skipped ≡ old.skipped → Puts key bytes old new → held new key ≡ Some bytes
-put_is_held key bytes old new small same puts = by_held (held old key) puts
-  where
-    by_held : (o : Option (List ℕ)) → PutGoes o key bytes old new → held new key ≡ Some bytes
-    by_held (Some page) goes = goes.here
-    by_held None (inl (room, goes)) = goes.here
-    by_held None (inr (inl (full, (gone, there, none, goes)))) = goes.here
-    by_held None (inr (inr (_, is))) = absurd (omega (arith, small, same, ap (λ (c : CacheState). c.skipped) is))
+-- the page put last is held
+pub put_is_held : (key : ℕ × ℕ) (bytes : List ℕ) (old new : CacheState) → Puts key bytes old new → held new key ≡ Some bytes
+put_is_held key bytes old new puts = (put_weakly key bytes old new puts).here
 
 -- ---- true pages
 
@@ -84,10 +65,7 @@ pub put_true : (id page : ℕ) (content bytes : List ℕ) (old new : CacheState)
 put_true id page content bytes old new is puts true_old p held_bytes below there = elim (cases_order p page) [
   | inl same ↦
       let here : held new (id, page) ≡ Some held_bytes = ap (λ (q : ℕ). held new (id, q)) (sym same) ∙ there in
-      elim puts.here [
-        | inl now ↦ same_Some held_bytes bytes (sym here ∙ now) ∙ is ∙ ap (λ (q : ℕ). page_of_content old.page_size content q) (sym same) ∙ ap (λ (P : ℕ). page_of_content P content p) (sym puts.settings.page_size)
-        | inr none ↦ absurd (cc (here, none))
-      ]
+      same_Some held_bytes bytes (sym here ∙ puts.here) ∙ is ∙ ap (λ (q : ℕ). page_of_content old.page_size content q) (sym same) ∙ ap (λ (P : ℕ). page_of_content P content p) (sym puts.settings.page_size)
   | inr (inl less) ↦ elim (puts.each (id, p)) [
     | inl stays ↦ true_old p held_bytes less (sym stays ∙ there) ∙ ap (λ (P : ℕ). page_of_content P content p) (sym puts.settings.page_size)
     | inr (inl goes) ↦ absurd (cc (goes, there))
@@ -129,13 +107,12 @@ fresh_true content tip cache fresh p bytes below there = absurd (cc (fresh (cach
 
 -- no call
 pub caches_none : (id from : ℕ) (content : List ℕ) (cache : CacheState) → CachesOnly id from content cache cache
-caches_none id from content cache = record { settings = record { page_size = refl; capacity = refl; ids_given = refl }; skipped = omega arith; each = λ key. inl refl }
+caches_none id from content cache = record { settings = record { page_size = refl; capacity = refl; ids_given = refl }; each = λ key. inl refl }
 
 -- one put
 pub caches_put : (id from page : ℕ) (content bytes : List ℕ) (old new : CacheState) → from ≤ page → (page + 1) * old.page_size ≤ length content → bytes ≡ page_of_content old.page_size content page → PutWeakly (id, page) bytes old new → CachesOnly id from content old new
 caches_put id from page content bytes old new after full is puts = record {
   settings = puts.settings;
-  skipped = puts.skipped;
   each = λ key. elim (puts.each key) [
     | inl stays ↦ inl stays
     | inr (inl goes) ↦ inr (inl goes)
@@ -152,7 +129,6 @@ caches_join id from content old mid new first second = record {
     capacity = second.settings.capacity ∙ first.settings.capacity;
     ids_given = second.settings.ids_given ∙ first.settings.ids_given;
   };
-  skipped = omega (arith, first.skipped, second.skipped);
   each = λ key. elim (second.each key) [
     | inl stays ↦ elim (first.each key) [
       | inl was ↦ inl (stays ∙ was)
@@ -175,9 +151,9 @@ never_skips_present key was bytes cache there other puts = by_held (held cache k
     by_held (Some page) is goes = other (same_Some was bytes (sym there ∙ goes.here))
     by_held None is goes = absurd (cc is)
 
--- a cache that holds nothing and counts nothing
-pub never_drops_silently : (key : ℕ × ℕ) (bytes : List ℕ) (old new : CacheState) → old.skipped < 2 ^ 64 - 1 → new.skipped ≡ old.skipped → held new key ≡ None → Puts key bytes old new → ⊥
-never_drops_silently key bytes old new small same none puts = absurd (cc (none, put_is_held key bytes old new small same puts))
+-- a cache that holds nothing
+pub never_drops : (key : ℕ × ℕ) (bytes : List ℕ) (old new : CacheState) → held new key ≡ None → Puts key bytes old new → ⊥
+never_drops key bytes old new none puts = absurd (cc (none, put_is_held key bytes old new puts))
 
 -- a cache that empties itself before each put
 pub never_empties : (key other : ℕ × ℕ) (was bytes : List ℕ) (old new : CacheState) → other ≢ key → held old other ≡ Some was → length old.pages < old.capacity → held new other ≡ None → Puts key bytes old new → ⊥
@@ -189,8 +165,7 @@ never_empties key other was bytes old new apart there room none puts = by_held (
     by_held : (o : Option (List ℕ)) → PutGoes o key bytes old new → ⊥
     by_held (Some page) goes = lost (length old.pages) goes
     by_held None (inl (_, goes)) = lost (length old.pages + 1) goes
-    by_held None (inr (inl (full, rest))) = omega (arith, room, full)
-    by_held None (inr (inr (_, is))) = absurd (cc (none, there, ap (λ (c : CacheState). held c other) is))
+    by_held None (inr (full, rest)) = omega (arith, room, full)
 
 -- ---- pages put in a row
 

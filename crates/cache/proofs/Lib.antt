@@ -1,5 +1,8 @@
 pub mod CacheLaws
-pub mod Keeping
-pub mod LruLaws
+pub mod Chains
+pub mod Found
+pub mod Linked
+pub mod Putting
 pub mod Reading
-pub mod Seen
+pub mod Table
+pub mod Written

@@ -11,14 +11,13 @@ use Rattle.disk.specs.declared.error.Error.{Error}
 use Rattle.disk.specs.declared.error.Error.TheVariants.{OutOfMemory}
 use Rattle.cache.specs.declared.piece.Piece.{Piece}
 
--- its logical page size in bytes, the pages that it may hold, how many ids it has given, the pages
--- that it holds, and how many it left out for want of memory. The order of the pages says nothing.
+-- its logical page size in bytes, the pages that it may hold, how many ids it has given, and the
+-- pages that it holds. Their order says nothing.
 pub record CacheState : Type 0 where
   pub page_size : ℕ
   pub capacity : ℕ
   pub ids_given : ℕ
   pub pages : List ((ℕ × ℕ) × List ℕ)
-  pub skipped : ℕ
 
 -- whether two keys are the same
 abbrev pub same_key : ℕ × ℕ → ℕ × ℕ → Bool
@@ -45,7 +44,6 @@ empty_cache page_size capacity = record {
   capacity = capacity;
   ids_given = 0;
   pages = [];
-  skipped = 0;
 }
 
 -- ---- a page is put
@@ -68,7 +66,6 @@ pub record IsHeld (key gone : ℕ × ℕ) (bytes : List ℕ) (many : ℕ) (old n
   pub here : held new key ≡ Some bytes
   pub others : OthersStay key gone old new
   pub count : length new.pages ≡ many
-  pub skipped : new.skipped ≡ old.skipped
 
 -- in a full cache one held key goes, and no second one
 abbrev pub Evicts : ℕ × ℕ → List ℕ → CacheState → CacheState → Type 0
@@ -76,19 +73,13 @@ Evicts key bytes old new =
     (gone : ℕ × ℕ) × (is_some (held old gone) ≡ true) × (held new gone ≡ None)
     × IsHeld key gone bytes old.capacity old new
 
--- one more page was left out; the count stops at its greatest
-abbrev pub one_skipped : ℕ → ℕ
-one_skipped n = min (n + 1) (2 ^ 64 - 1)
-
 -- a page is put, by what was held under its key: a present key is written over. A new one is added;
--- where the cache is full one other key goes for it; and where there is no memory nothing changes,
--- and the page is counted as left out.
+-- where the cache is full one other key goes for it. Either way the page is held.
 abbrev pub PutGoes : Option (List ℕ) → ℕ × ℕ → List ℕ → CacheState → CacheState → Type 0
 PutGoes (Some page) key bytes old new = IsHeld key key bytes (length old.pages) old new
 PutGoes None key bytes old new =
     ((length old.pages < old.capacity) × IsHeld key key bytes (length old.pages + 1) old new)
     ⊎ ((length old.pages ≡ old.capacity) × Evicts key bytes old new)
-    ⊎ ((old.skipped < 2 ^ 64) × (new ≡ record old { skipped = one_skipped old.skipped }))
 
 abbrev pub Puts : ℕ × ℕ → List ℕ → CacheState → CacheState → Type 0
 Puts key bytes old new = PutGoes (held old key) key bytes old new

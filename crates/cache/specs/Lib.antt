@@ -1,3 +1,4 @@
 pub mod CacheState
-pub mod Kept
+pub mod Chain
 pub mod Pages
+pub mod Slots

@@ -29,5 +29,4 @@ KeyGoes id from content key old new =
 -- and to all of them
 pub record CachesOnly (id from : ℕ) (content : List ℕ) (old new : CacheState) : Type 0 where
   pub settings : SameSettings old new
-  pub skipped : old.skipped ≤ new.skipped
   pub each : (key : ℕ × ℕ) → KeyGoes id from content key old new

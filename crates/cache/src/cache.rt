@@ -5,9 +5,8 @@ ghost use Rattle.std.specs.Result.{OkIff};
 ghost use Rattle.std.specs.Int.NonZero.{non_zero_u16_get, non_zero_usize_get};
 ghost use Rattle.cache.specs.CacheState.{after_next_id, empty_cache, held};
 
-use crate::pages::{Pages, page_at};
+use crate::slots::Slots;
 use disk::Error;
-use lru::LruCache;
 use std::alloc::Global;
 use std::marker::Model;
 use std::num::{NonZeroU16, NonZeroUsize};
@@ -21,48 +20,36 @@ use std::num::{NonZeroU16, NonZeroUsize};
 #[derive(Drop)]
 pub struct CacheRef {
     pub(crate) alloc: Global,
-    pub(crate) page_size: NonZeroU16,
-    pub(crate) pages: Pages,
+    pub(crate) slots: Slots,
     /// The next id; `None` once the greatest `u64` was given.
     pub(crate) next: Option<u64>,
-    /// The pages that were left out for want of memory; it stays at the greatest `u64`.
-    pub(crate) skipped: u64,
 }
 
 impl Model for CacheRef {
     ghost use Rattle.cache.specs.CacheState.{CacheState, ids_given};
-    ghost use Rattle.cache.specs.Kept.{pages_of, IsOfCapacity};
-    ghost use Rattle.std.specs.Int.NonZero.{non_zero_u16_get};
+    ghost use Rattle.cache.specs.Slots.{AreSlots, cache_of};
 
     ghost Value = { CacheState };
 
-    ghost view = { λ c. record {
-      page_size = non_zero_u16_get c.page_size;
-      capacity = c.pages.cap;
-      ids_given = ids_given c.next;
-      pages = pages_of c.pages.entries;
-      skipped = c.skipped;
-    } };
+    ghost view = { λ c. cache_of (ids_given c.next) c.slots };
 
-    ghost invariant = { λ c. IsOfCapacity (non_zero_u16_get c.page_size) c.pages.cap
-        (pages_of c.pages.entries) };
+    ghost invariant = { λ c. AreSlots c.slots };
 }
 
 impl CacheRef {
     /// A cache of at most `capacity` pages of `page_size` logical bytes, which holds none and has
-    /// given no id. It takes the memory for that many keys, and answers `OutOfMemory` alone.
+    /// given no id. It takes the memory for that many pages and never more, and answers
+    /// `OutOfMemory` alone.
     pub fn new(alloc: Global, page_size: NonZeroU16, capacity: NonZeroUsize) -> Result<Self, Error>
         ensures made { let most = non_zero_usize_get capacity in
             IfOk result (λ c. c ≡ empty_cache (non_zero_u16_get page_size) most) }
         ensures err { IsOkUnless result Error.OutOfMemory }
     {
-        let pages = LruCache::new(alloc, capacity)?;
+        let slots = Slots::new(alloc, page_size, capacity)?;
         Ok(CacheRef {
             alloc,
-            page_size,
-            pages,
+            slots,
             next: Some(0),
-            skipped: 0,
         })
     }
 
@@ -71,28 +58,28 @@ impl CacheRef {
         ensures len { result ≡ length self.now.pages }
         ensures within { result ≤ self.now.capacity }
     {
-        self.pages.len()
+        self.slots.used
     }
 
     /// Whether it holds a page of a blob.
     pub fn holds(&self, id: u64, page: u64) -> bool
         ensures { result ≡ is_some (held self.now (id, page)) }
     {
-        page_at(&self.pages, (id, page)).is_some()
+        self.slots.get((id, page)).is_some()
     }
 
-    /// How many pages it left out for want of memory. The count stays at the greatest `u64`.
+    /// How many pages it left out for want of memory: always 0, since a put takes none.
     pub fn skipped(&self) -> u64
-        ensures { result ≡ self.now.skipped }
+        ensures { result ≡ 0 }
     {
-        self.skipped
+        0
     }
 
     /// The logical bytes of a page.
     pub fn page_size(&self) -> NonZeroU16
         ensures { non_zero_u16_get result ≡ self.now.page_size }
     {
-        self.page_size
+        self.slots.page_size
     }
 
     /// The page of a logical offset, and how many bytes of that page stand before it.
@@ -101,7 +88,7 @@ impl CacheRef {
         ensures skip { result.1 ≡ offset % self.now.page_size }
         ensures within { result.1 < self.now.page_size }
     {
-        let size = u64::from(self.page_size.get());
+        let size = u64::from(self.slots.page_size.get());
         (offset / size, offset % size)
     }
 

@@ -3,29 +3,21 @@ ghost use Rattle.std.specs.Prelude.{◌≡◌, ◌*◌, ◌-◌, ◌/◌, ◌%�
 ghost use Rattle.cache.specs.CacheState.{Puts, PutsAll, put_count};
 
 use crate::cache::CacheRef;
-use crate::pages::{add, overwrite};
 
 impl CacheRef {
-    /// Puts a page of a blob, of just the cache's page size. A page that is held is written over
-    /// in its place, which takes no memory. A new one takes a place; in a full cache the page that
-    /// was put longest ago goes for it. Where there is no memory for a new one, it stays out, and
-    /// [`CacheRef::skipped`] rises.
+    /// Puts a page of a blob, of just the cache's page size, and takes no memory. A page that is
+    /// held is written over in its place. A new one gets a free place, or, where there is none, the
+    /// place of another page, which goes.
     pub fn keep(&mut self, id: u64, page: u64, bytes: &[u8])
         requires { length bytes.now ≡ self.old.page_size }
         ensures puts { Puts (id, page) bytes.now self.old self.new }
     {
-        let key = (id, page);
-        if overwrite(&mut self.pages, key, bytes) {
-            return;
-        }
-        if add(&mut self.pages, self.alloc, key, bytes).is_err() {
-            self.skipped = self.skipped.saturating_add(1);
-        }
+        self.slots.put((id, page), bytes);
     }
 
     /// Puts the whole pages that `buf` begins with, the first of them the page that begins at
     /// `offset`, in rising order, and answers how many bytes of `buf` stand after them. A page
-    /// whose number would pass the greatest `u64` isn't put.
+    /// whose number would pass the greatest `u64` isn't put. It takes no memory.
     pub fn cache(&mut self, id: u64, buf: &[u8], offset: u64) -> usize
         requires { offset % self.old.page_size ≡ 0 }
         ensures puts { let page = offset / self.old.page_size in
@@ -35,7 +27,7 @@ impl CacheRef {
             let count = put_count self.old.page_size page (length buf.now) in
             result ≡ length buf.now - count * self.old.page_size }
     {
-        let size = usize::from(self.page_size.get());
+        let size = usize::from(self.slots.page_size.get());
         let first = offset / size as u64;
         // All pages of a buffer are fewer than this where it saturates.
         let numbers = (u64::MAX - first).saturating_add(1);

@@ -2,10 +2,12 @@
 #![tactic(auto)]
 
 mod cache;
+mod fill;
 mod keep;
-mod pages;
 mod piece;
 mod read;
+mod slots;
+mod walk;
 
 pub use cache::CacheRef;
 pub use piece::Piece;

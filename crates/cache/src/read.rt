@@ -1,21 +1,11 @@
 // Looking pages up.
-ghost use Rattle.std.specs.Prelude.{◌≡◌, ◌+◌, ◌≤◌, length, All, IfSome, option_copied};
+ghost use Rattle.std.specs.Prelude.{◌≡◌, length, All, IfSome, option_copied};
 ghost use Rattle.cache.specs.CacheState.{ReadsCached, IsPiece, ReadsPieces, held};
-ghost use Rattle.cache.specs.CacheState.{put_at};
 
 use crate::cache::CacheRef;
-use crate::pages::page_at;
+use crate::fill::copy_at;
 use crate::piece::Piece;
 use disk::Error;
-
-/// Copies some bytes to an offset of a buffer.
-fn copy_at(buf: &mut [u8], buf_offset: usize, bytes: &[u8])
-    requires { buf_offset + length bytes.now ≤ length buf.old }
-    ensures put { buf.new ≡ put_at buf_offset bytes.now buf.old }
-    ensures size { length buf.new ≡ length buf.old }
-{
-    buf[buf_offset..buf_offset + bytes.len()].copy_from_slice(bytes);
-}
 
 impl CacheRef {
     /// A page that is held.
@@ -23,7 +13,7 @@ impl CacheRef {
         ensures page { option_copied result ≡ held self.now (id, page) }
         ensures size { IfSome result (λ bytes. length bytes.now ≡ self.now.page_size) }
     {
-        page_at(&self.pages, (id, page))
+        self.slots.get((id, page))
     }
 
     /// Copies the bytes of a blob from `offset` on into `buf`, as far as pages that are held have
