@@ -1,5 +1,6 @@
 -- What a device call does to the life of a blob in memory.
-use Rattle.std.proofs.Common.{◌≡◌, ℕ, ◌==◌, List, length, Bool, true, false, Ok, Err, refl}
+use Rattle.std.proofs.Common.{◌≡◌, ℕ, ◌-◌, ◌==◌, List, length, Bool, true, false, Ok, Err, refl, arith}
+use Rattle.std.proofs.lemmas.Bool.Decides.{nat_tests}
 use Rattle.disk.specs.Disk.{Operation, Write, Resize, Request, WriteAt, ResizeTo, Disk, Life, Operated, WriteGoes, ResizeGoes}
 use Rattle.disk.specs.Images.{done_is_partial, same_is_partial}
 use Rattle.disk.specs.declared.error.Error.TheVariants.{WriteFailed, ResizeFailed}
@@ -11,6 +12,12 @@ use Rattle.disk.proofs.Histories.{life_told}
 -- the life after an action, as it went
 pub life_after : (a : Action) (failed : Bool) (old new : History) → failed ≡ (old.failing == 1) → new ≡ told a old → life_of new ≡ life_after_action a failed (life_of old)
 life_after a failed old new e same = rw (same, e) (life_told a old)
+
+-- the call that was to fail has failed, and no later one is to
+pub counts_failed : (a : Action) (old new : History) → true ≡ (old.failing == 1) → new ≡ told a old → (old.failing ≡ 1) × (new.failing ≡ 0)
+counts_failed a old new failed same =
+    let one : old.failing ≡ 1 = grind (arith, nat_tests, failed) in
+    (one, rw same (omega (arith, one)))
 
 -- an operation that was done, or failed and left all as it was
 operated_is : (o : Operation) (request : Request) (failed : Bool) (d : Disk) → Operated o request failed d (operated o request failed d)

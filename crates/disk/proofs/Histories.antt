@@ -132,6 +132,12 @@ pub history_more : (first : List ℕ) (earlier : ℕ) (calls : List Call) (faile
 history_more first earlier calls failed events failing a c before outcomes =
     rw (take-append-le earlier calls (c ∷ []) before, take-append-le earlier failed ((failing == 1) ∷ []) (omega arith)) refl
 
+-- the same with the fields after it by name
+pub told_next : (first : List ℕ) (calls calls' : List Call) (failed failed' : List Bool) (events events' : List Event) (earlier failing failing' : ℕ) (a : Action) (c : Call) (h : History) → earlier ≤ length calls → length failed ≡ length calls → history_of first earlier calls failed events failing ≡ h
+    → calls' ≡ calls ++ c ∷ [] → failed' ≡ failed ++ (failing == 1) ∷ [] → events' ≡ events ++ event a (failing == 1) ∷ [] → failing' ≡ failing - 1 → history_of first earlier calls' failed' events' failing' ≡ told a h
+told_next first calls calls' failed failed' events events' earlier failing failing' a c h before outcomes same ec ef ee en =
+    rw (ec, ef, ee, en, history_more first earlier calls failed events failing a c before outcomes) (ap (told a) same)
+
 -- the life of a history with one event more
 pub life_told : (a : Action) (h : History) → life_of (told a h) ≡ life_after_action a (h.failing == 1) (life_of h)
 life_told a h = goes_on-append h.events (begun h.first h.earlier) (event a (h.failing == 1))

@@ -1,7 +1,8 @@
 // New files beside a blob's: one that takes its place, and one for what is to be cut.
-ghost use Rattle.std.specs.Prelude.{◌≡◌, [], pos, ◌<ℤ◌, IfOk, false};
+ghost use Rattle.std.specs.Prelude.{◌≡◌, [], pos, ◌<ℤ◌, IfOk, false, codes, string_bytes};
 ghost use Rattle.std.specs.Fd.{file_raw_fd};
 ghost use Rattle.disk.specs.History.{life_of, begun};
+ghost use Rattle.file.specs.Names.{IsNumbered};
 
 use crate::opening::{Lock, beyond_streams, open_locked, sync_folder, take_lock};
 use crate::{FileBlob, FileHost, Mirror};
@@ -18,7 +19,8 @@ use std::{fs, io};
 /// gets the old one's permissions, is locked, written and synced, and then renamed over the old one;
 /// last the folder is synced. Where the path is a link, the file that it leads to is replaced.
 ///
-/// Let go of a blob over the old file first: it holds the lock, which this call takes too.
+/// Let go of a blob over the old file first: it holds the lock, which this call takes too. What
+/// another process wrote to the old file after these bytes were read from it is gone.
 ///
 /// After an error the path names the old file, untouched, or the new one, whole: the new one only
 /// where the folder's sync failed. What is left of `PATH.new-N` is removed where the system lets
@@ -51,7 +53,10 @@ pub fn replace(rt: &HostRuntime, path: &str, bytes: &[u8]) -> io::Result<FileBlo
 ///
 /// After an error no file of that name is left, where the system lets it be removed; if only the
 /// folder's sync failed, the new file stands, and is whole. The file at the path is never changed.
-pub fn set_aside(rt: &HostRuntime, path: &str, bytes: &[u8]) -> io::Result<String> {
+pub fn set_aside(rt: &HostRuntime, path: &str, bytes: &[u8]) -> io::Result<String>
+    ensures name { IfOk result (λ name.
+        IsNumbered path.now (codes "cut") (string_bytes name)) }
+{
     let beside = write_beside(rt, path, "cut", bytes)?;
     sync_folder(rt, &beside.name)?;
     Ok(beside.name)
@@ -67,6 +72,7 @@ struct Beside {
 // Makes a file beside another that has its permissions and these bytes, and is locked and synced.
 fn write_beside(rt: &HostRuntime, path: &str, word: &str, bytes: &[u8]) -> io::Result<Beside>
     ensures beyond { IfOk result (λ new. pos 2 <ℤ file_raw_fd new.file) }
+    ensures name { IfOk result (λ new. IsNumbered path.now word.now (string_bytes new.name)) }
 {
     let permissions = fs::metadata(rt, path)?.permissions();
     let Beside { file, name } = make_beside(rt, path, word)?;
@@ -80,7 +86,9 @@ fn write_beside(rt: &HostRuntime, path: &str, word: &str, bytes: &[u8]) -> io::R
 }
 
 // Makes an empty file beside another, for nobody else to read.
-fn make_beside(rt: &HostRuntime, path: &str, word: &str) -> io::Result<Beside> {
+fn make_beside(rt: &HostRuntime, path: &str, word: &str) -> io::Result<Beside>
+    ensures name { IfOk result (λ new. IsNumbered path.now word.now (string_bytes new.name)) }
+{
     let mut options = OpenOptions::new();
     options.read(true).write(true).create_new(true).mode(0o600);
     for number in 1..u64::MAX {

@@ -18,6 +18,20 @@ use std::num::NonZeroUsize;
 /// The device.
 pub type Device = Metered<MemBlob>;
 
+/// Why a call of the journal was refused.
+#[derive(Clone, Copy, Debug, PartialEq, Eq, thiserror::Error)]
+pub enum JournalError {
+    /// There is no writer, since a call that took it was refused: recover the journal.
+    #[error("there is no writer: recover the journal")]
+    NoWriter,
+    /// The record has more than 65,535 bytes. The journal is as it was.
+    #[error("the record has more than 65,535 bytes")]
+    RecordTooLong,
+    /// The layer below refused the call.
+    #[error("{0}")]
+    Refused(#[from] Error),
+}
+
 /// A record, and the offset after it.
 #[derive(Drop)]
 pub struct Record {
@@ -49,14 +63,8 @@ impl<H: Sum> Model for Journal<H> {
         IsReady H.sum_of journal.writer journal.cache (life_of journal.blob.inner) };
 }
 
-// What a call answers where there is no writer.
-const NO_WRITER: Error = Error::WriteFailed;
-
 // A record as it stands in the blob.
-fn frame_of(alloc: Global, record: &[u8]) -> Result<Vec<u8>, Error> {
-    let Ok(len) = u16::try_from(record.len()) else {
-        return Err(Error::OffsetOverflow);
-    };
+fn frame_of(alloc: Global, len: u16, record: &[u8]) -> Result<Vec<u8>, Error> {
     let mut framed = Vec::new(alloc);
     framed.extend_from_slice(&len.to_be_bytes())?;
     framed.extend_from_slice(record)?;
@@ -98,7 +106,7 @@ fn cut_to<B: Blob, H: Sum>(
 
 impl<H: Sum> Journal<H> {
     /// A journal of this blob, recovered.
-    pub fn open(alloc: Global, blob: MemBlob) -> Result<Self, Error> {
+    pub fn open(alloc: Global, blob: MemBlob) -> Result<Self, JournalError> {
         let mut journal = Journal {
             alloc,
             blob: Metered::new(blob),
@@ -111,7 +119,7 @@ impl<H: Sum> Journal<H> {
 
     /// Recovers the blob as it is, after a crash or at once after a call that was refused, and
     /// cuts off a record that is half there.
-    pub fn recover(&mut self) -> Result<(), Error> {
+    pub fn recover(&mut self) -> Result<(), JournalError> {
         self.recover_blob()?;
         let end = self.whole_end()?;
         if end < self.size() {
@@ -120,7 +128,7 @@ impl<H: Sum> Journal<H> {
         Ok(())
     }
 
-    fn recover_blob(&mut self) -> Result<(), Error> {
+    fn recover_blob(&mut self) -> Result<(), JournalError> {
         self.writer = None;
         let size = self.blob.inner.len();
         let writer = recovered(self.alloc, &mut self.blob, size, &mut self.cache)?;
@@ -129,7 +137,7 @@ impl<H: Sum> Journal<H> {
     }
 
     // The offset after the last whole record.
-    fn whole_end(&mut self) -> Result<u64, Error> {
+    fn whole_end(&mut self) -> Result<u64, JournalError> {
         let mut offset = 0;
         for _ in 0..self.size() {
             match self.read(offset)? {
@@ -140,9 +148,9 @@ impl<H: Sum> Journal<H> {
         Ok(offset)
     }
 
-    fn cut(&mut self, size: u64) -> Result<(), Error> {
+    fn cut(&mut self, size: u64) -> Result<(), JournalError> {
         let Some(writer) = self.writer.take() else {
-            return Err(NO_WRITER);
+            return Err(JournalError::NoWriter);
         };
         let writer = cut_to(writer, &mut self.blob, &mut self.cache, size)?;
         self.writer = Some(writer);
@@ -158,14 +166,17 @@ impl<H: Sum> Journal<H> {
     }
 
     /// Appends a record of at most 65,535 bytes, and answers its offset.
-    pub fn append(&mut self, record: &[u8]) -> Result<u64, Error> {
-        let framed = frame_of(self.alloc, record)?;
+    pub fn append(&mut self, record: &[u8]) -> Result<u64, JournalError> {
+        let Ok(len) = u16::try_from(record.len()) else {
+            return Err(JournalError::RecordTooLong);
+        };
+        let framed = frame_of(self.alloc, len, record)?;
         self.append_bytes(&framed)
     }
 
-    fn append_bytes(&mut self, bytes: &[u8]) -> Result<u64, Error> {
+    fn append_bytes(&mut self, bytes: &[u8]) -> Result<u64, JournalError> {
         let Some(writer) = self.writer.take() else {
-            return Err(NO_WRITER);
+            return Err(JournalError::NoWriter);
         };
         let (writer, offset) = writer.append(&mut self.blob, &mut self.cache, bytes)?;
         self.writer = Some(writer);
@@ -173,16 +184,16 @@ impl<H: Sum> Journal<H> {
     }
 
     /// Makes all records durable that were appended.
-    pub fn commit(&mut self) -> Result<(), Error> {
+    pub fn commit(&mut self) -> Result<(), JournalError> {
         let Some(writer) = self.writer.take() else {
-            return Err(NO_WRITER);
+            return Err(JournalError::NoWriter);
         };
         self.writer = Some(writer.sync(&mut self.blob, &mut self.cache)?);
         Ok(())
     }
 
     /// The record at an offset; none where no whole one stands there.
-    pub fn read(&mut self, offset: u64) -> Result<Option<Record>, Error> {
+    pub fn read(&mut self, offset: u64) -> Result<Option<Record>, JournalError> {
         let size = self.size();
         let body = offset.saturating_add(2);
         if size < body {
@@ -199,19 +210,23 @@ impl<H: Sum> Journal<H> {
         Ok(Some(Record { bytes, end }))
     }
 
-    fn read_into(&mut self, buf: &mut [u8], offset: u64) -> Result<(), Error> {
+    fn read_into(&mut self, buf: &mut [u8], offset: u64) -> Result<(), JournalError> {
         match &self.writer {
-            Some(writer) => writer.read_into(&mut self.blob, &mut self.cache, buf, offset),
-            None => Err(NO_WRITER),
+            Some(writer) => {
+                writer.read_into(&mut self.blob, &mut self.cache, buf, offset)?;
+                Ok(())
+            }
+            None => Err(JournalError::NoWriter),
         }
     }
 
-    fn read_bytes(&mut self, offset: u64, len: usize) -> Result<IoBuf, Error> {
+    fn read_bytes(&mut self, offset: u64, len: usize) -> Result<IoBuf, JournalError> {
         match &self.writer {
-            Some(writer) => writer
-                .read_at(&mut self.blob, &mut self.cache, offset, len)?
-                .coalesce(),
-            None => Err(NO_WRITER),
+            Some(writer) => {
+                let read = writer.read_at(&mut self.blob, &mut self.cache, offset, len)?;
+                Ok(read.coalesce()?)
+            }
+            None => Err(JournalError::NoWriter),
         }
     }
 
@@ -226,8 +241,9 @@ impl<H: Sum> Journal<H> {
     }
 
     /// Crashes the device: of the unsynced bytes those with a flag are left. The writer is gone.
-    pub fn crash(&mut self, keep: &[bool]) -> Result<(), Error> {
+    pub fn crash(&mut self, keep: &[bool]) -> Result<(), JournalError> {
         self.writer = None;
-        self.blob.inner.crash(keep)
+        self.blob.inner.crash(keep)?;
+        Ok(())
     }
 }

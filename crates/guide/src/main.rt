@@ -11,10 +11,10 @@ mod value;
 
 use crate::beside::{keep_and_copy, keep_and_look_back, keep_and_replay_a_snapshot, keep_two};
 use crate::calls::{keep, keep_a_replay, keep_a_snapshot, keep_and_go_on, keep_and_look};
-use crate::journal::Journal;
+use crate::journal::{Journal, JournalError};
 use crate::sum::Poly;
 use crate::value::keep_a_value;
-use disk::{Error, IoBuf, MemBlob};
+use disk::{IoBuf, MemBlob};
 use std::alloc::Global;
 use std::io;
 
@@ -83,7 +83,7 @@ struct Told {
 
 /// Commits a record; is refused as it commits another, and recovers at once; appends a third, and
 /// crashes.
-fn fail_and_crash(alloc: Global) -> Result<Told, Error> {
+fn fail_and_crash(alloc: Global) -> Result<Told, JournalError> {
     let mut journal = Journal::<Poly>::open(alloc, MemBlob::new(alloc))?;
     let offset = journal.append(b"one")?;
     journal.commit()?;

@@ -1,5 +1,5 @@
-// A blob over a file of the system: what the file holds, its lock, its second opening, and a folder
-// that isn't there.
+// A blob over a file of the system: what the file holds, its lock, its second opening, what no blob
+// is opened over, and the files that are put beside it or in its place.
 ghost use Rattle.std.specs.Prelude.{◌≡◌, []};
 
 use disk::{Blob, Error, IoBuf, IoBufs, WriteOptions};
@@ -37,11 +37,15 @@ fn change<B: Blob>(alloc: Global, blob: &mut B) -> Result<(), Error>
 // What that leaves.
 const LEFT: &[u8] = b"abcdef\0\0so\0\0";
 
-// How an opening that is to fail fails.
-fn refusal(rt: &HostRuntime, path: &str) -> Option<ErrorKind> {
-    let error: Option<io::Error> = open(rt, path).err();
-    error.map(|error| error.kind())
+// How an opening that is to fail fails, in its words.
+fn refusal(rt: &HostRuntime, path: &str) -> io::Result<String> {
+    match open(rt, path) {
+        Ok(_) => Ok(String::new(rt.alloc())),
+        Err(error) => Ok(error.to_string(rt.alloc())?),
+    }
 }
+
+const HELD: &str = "another process has it open: end that one first";
 
 #[test]
 fn a_file_holds_what_was_written(rt: HostRuntime) -> Result<(), Fail> {
@@ -51,9 +55,14 @@ fn a_file_holds_what_was_written(rt: HostRuntime) -> Result<(), Fail> {
     assert!(rt; blob.len() == 0);
     change(rt.alloc(), &mut blob)?;
     assert!(rt; blob.bytes() == LEFT && fs::read(&rt, path)?.as_slice() == LEFT);
-    // It is locked until it is let go.
-    assert!(rt; refusal(&rt, path) == Some(ErrorKind::WouldBlock));
+    // It is locked until it is let go, against who reads it too.
+    assert!(rt; refusal(&rt, path)?.as_str() == HELD);
+    let held = file::read(&rt, path).err();
+    assert!(rt; held.map(|error| error.kind()) == Some(ErrorKind::WouldBlock));
     drop(blob);
+    // Who reads it shares it.
+    let read = file::read(&rt, path)?;
+    assert!(rt; read.bytes() == LEFT && file::read(&rt, path)?.bytes() == LEFT);
     let again = open(&rt, path)?;
     assert!(rt; again.bytes() == LEFT);
     fs::remove_file(&rt, path)?;
@@ -61,7 +70,41 @@ fn a_file_holds_what_was_written(rt: HostRuntime) -> Result<(), Fail> {
 }
 
 #[test]
-fn a_folder_that_is_not_there(rt: HostRuntime) -> Result<(), Fail> {
-    assert!(rt; refusal(&rt, "no-such-folder/a.blob") == Some(ErrorKind::NotFound));
+fn what_no_blob_is_opened_over(rt: HostRuntime) -> Result<(), Fail> {
+    let missing = "No such file or directory (os error 2)";
+    assert!(rt; refusal(&rt, "no-such-folder/a.blob")?.as_str() == missing);
+    assert!(rt; refusal(&rt, ".")?.as_str() == "it is a folder: name a file in it");
+    let device = "it is a device: name a regular file, or a new one";
+    assert!(rt; refusal(&rt, "/dev/null")?.as_str() == device);
+    // A read makes no file.
+    let path = "file-missing.blob";
+    let _ = fs::remove_file(&rt, path);
+    assert!(rt; file::read(&rt, path).is_err() && !fs::exists(&rt, path)?);
+    Ok(())
+}
+
+#[test]
+fn bytes_are_set_aside_and_replaced(rt: HostRuntime) -> Result<(), Fail> {
+    let path = "file-replaced.blob";
+    fs::write(&rt, path, b"old".as_slice())?;
+    let first = file::set_aside(&rt, path, b"cut")?;
+    let second = file::set_aside(&rt, path, b"cut again")?;
+    assert!(rt; first.as_str() == "file-replaced.blob.cut-1");
+    assert!(rt; second.as_str() == "file-replaced.blob.cut-2");
+    assert!(rt; fs::read(&rt, &first)?.as_slice() == b"cut".as_slice());
+    assert!(rt; fs::read(&rt, &second)?.as_slice() == b"cut again".as_slice());
+    // The blob holds the lock of the new file.
+    let blob = file::replace(&rt, path, b"new")?;
+    assert!(rt;
+        blob.bytes() == b"new".as_slice() && fs::read(&rt, path)?.as_slice() == b"new".as_slice()
+    );
+    assert!(rt; refusal(&rt, path)?.as_str() == HELD);
+    assert!(rt; file::replace(&rt, path, b"newer").is_err());
+    drop(blob);
+    assert!(rt; open(&rt, path)?.bytes() == b"new".as_slice());
+    assert!(rt; !fs::exists(&rt, "file-replaced.blob.new-1")?);
+    fs::remove_file(&rt, &first)?;
+    fs::remove_file(&rt, &second)?;
+    fs::remove_file(&rt, path)?;
     Ok(())
 }

@@ -2,7 +2,7 @@ use Rattle.std.proofs.Common.{arith, ◌≡◌, ◌≤◌, ◌+◌, ◌==◌, �
 use Rattle.disk.specs.History.{redone}
 use Rattle.disk.specs.Memory.{settled_after, starts_after}
 use Rattle.disk.specs.declared.action.Start.{Start}
-use Rattle.disk.proofs.Histories.{kept_next, faults_le, one_at_most}
+use Rattle.disk.proofs.Histories.{kept_next, told_next, faults_le, one_at_most}
 use Rattle.disk.proofs.memory.MemBlob.ask.Goals as goal
 
 pub overflow_add-self : goal.overflow_add-self
@@ -28,3 +28,13 @@ invariant_of-self-2 c =
     (ap (λ n. inside.failures + n) c.faults.ensures)
     (c.settled_after-self-inside.ensures ∙ ap₂ (λ (starts : List Start) (n : ℕ). settled_after c.args.action (inside.failing == 1) starts inside.settled n) (c.deref.ensures.value ∙ c.try_reserve.ensures.items) count)
     (c.record_start.ensures ∙ ap₂ (λ (starts : List Start) (n : ℕ). starts_after c.args.action (inside.failing == 1) starts n) (c.try_reserve.ensures.items) (c.len-2.ensures ∙ events.ok.0 ∙ ap length room.events))
+
+pub returns-clause-told : goal.returns-clause-told
+returns-clause-told c =
+    let inside = c.self.inside in
+    let room = c.in_ok-make_room.ensures in
+    told_next inside.first.items inside.calls.items c.push_reserved.new.self.items inside.failed.items c.push_reserved-2.new.self.items inside.events.items c.push_reserved-3.new.self.items inside.earlier inside.failing c.saturating_sub-self-inside.result c.args.action c.in_ok-call.call c.args.self.now c.self.invariant.before c.self.invariant.outcomes c.self.view_is
+    (c.push_reserved.ensures.items ∙ ap (λ v. v ++ c.in_ok-call.call ∷ []) room.calls)
+    (c.push_reserved-2.ensures.items ∙ ap (λ v. v ++ (inside.failing == 1) ∷ []) room.failed)
+    (c.push_reserved-3.ensures.items ∙ ap (λ v. v ++ record { action = c.args.action; failed = inside.failing == 1 } ∷ []) room.events)
+    c.saturating_sub-self-inside.ensures

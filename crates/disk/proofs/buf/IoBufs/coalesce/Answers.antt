@@ -1,0 +1,6 @@
+use Rattle.std.proofs.Common.{arith}
+use Rattle.disk.proofs.Bufs.{concat_more}
+use Rattle.disk.proofs.buf.IoBufs.coalesce.Goals as goal
+
+pub loop-buf-preserved : goal.loop-buf-preserved
+loop-buf-preserved c = grind (arith, concat_more, c.in_ok-extend_from_slice.ensures.items)
