@@ -45,3 +45,5 @@ pub mod LaterExamples
 pub mod Scanned
 pub mod ScanExamples
 pub mod Foretelling
+pub mod Surveying
+pub mod SurveyExamples

@@ -15,9 +15,11 @@ mod scan;
 mod snapshot;
 mod start;
 mod truncate;
+mod verdict;
 mod writer;
 
-pub use outlook::{Outlook, look};
+pub use outlook::{Outlook, look, survey};
 pub use recovery::recover;
 pub use start::wait_sync;
+pub use verdict::{Survey, Verdict};
 pub use writer::{Append, Recovering, Recovery, Writer};
