@@ -7,9 +7,8 @@
 #![tactic(auto)]
 
 use crc32c::Crc32c;
-use disk::Blob;
 use file::FileBlob;
-use protocol::{Stop, serve_file};
+use protocol::{Setting, Stop, serve_file};
 use std::io::{BufReader, BufWriter, Write};
 use std::process::ExitCode;
 use std::{env, io};
@@ -17,10 +16,10 @@ use std::{env, io};
 // Serves a blob over a file to the program's input and output.
 fn serve_blob(rt: &HostRuntime, blob: &mut FileBlob) -> Result<(), Stop> {
     let alloc = rt.alloc();
-    let size = blob.len();
     let mut input = BufReader::new(alloc, rt.stdin())?;
     let mut out = BufWriter::new(alloc, rt.stdout())?;
-    let ended = serve_file::<_, Crc32c, _, _>(alloc, blob, size, &mut input, &mut out);
+    let setting = Setting::default();
+    let ended = serve_file::<_, Crc32c, _, _>(alloc, blob, &setting, "", &mut input, &mut out);
     out.flush()?;
     ended
 }
