@@ -40,7 +40,6 @@ module _ (t : Slots) (slot : ℕ) (page : List ℕ) (new : Slots) (but : ℕ) (a
   pub overwritten_others : (s : ℕ) → s ≢ slot → page_at (non_zero_u16_get t.page_size) new.bytes.items s ≡ page_at (non_zero_u16_get t.page_size) t.bytes.items s
   overwritten_others s other = ap (λ (b : List ℕ). page_at (non_zero_u16_get t.page_size) b s) over.written ∙ page_stays (non_zero_u16_get t.page_size) t.used slot page t.bytes.items size low are.bytes s other
 
-
 -- the hand goes on
 pub handed : (t : Slots) (but hand : ℕ) → AreSlotsBut but t → hand < length t.keys.items → AreSlotsBut but (record t { hand = hand })
 handed t but hand are low = record {

@@ -76,6 +76,7 @@ impl Slots {
         ensures taken { Taken result bytes.now self.old self.new }
     {
         let slot = self.used;
+        // There has been room for it since the table was made, so this can't be refused.
         if self.bytes.extend_from_slice(bytes).is_ok() {
             self.used = slot + 1;
         }
@@ -93,7 +94,11 @@ impl Slots {
     {
         let slot = self.hand;
         self.unlink(slot);
-        self.hand = if slot + 1 < self.keys.len() { slot + 1 } else { 0 };
+        self.hand = if slot + 1 < self.keys.len() {
+            slot + 1
+        } else {
+            0
+        };
         self.overwrite(slot, bytes);
         slot
     }
