@@ -29,10 +29,12 @@ enum Verb {
     Look,
     Holds,
     Has,
+    DropSnapshot,
+    DropReplay,
     Hostile,
 }
 
-const STEPS: [Form<Verb>; 11] = [
+const STEPS: [Form<Verb>; 13] = [
     (b"try-append", &[Bytes], Verb::TryAppend),
     (b"recover", &[Number], Verb::Recover),
     (b"mark", &[], Verb::Mark),
@@ -43,6 +45,8 @@ const STEPS: [Form<Verb>; 11] = [
     (b"holds", &[Bytes], Verb::Holds),
     (b"holds", &[Bytes, Bytes], Verb::Holds),
     (b"has", &[Number, Number], Verb::Has),
+    (b"drop-snapshot", &[Number], Verb::DropSnapshot),
+    (b"drop-replay", &[Number], Verb::DropReplay),
     (b"hostile", &[Number, Number], Verb::Hostile),
 ];
 
@@ -155,6 +159,8 @@ fn go<H: Sum>(
         Verb::Look => say_outlook(stage.look(by), said),
         Verb::Holds => holds(stage, bytes, words.piece(1), said),
         Verb::Has => say_whether(stage.holds(first, second), said),
+        Verb::DropSnapshot => say(&stage.step(Step::DropSnapshot(first as usize)), said),
+        Verb::DropReplay => say(&stage.step(Step::DropReplay(first as usize)), said),
         Verb::Hostile => try_hostile(alloc, stage, first, second, said),
     }
 }

@@ -8,7 +8,7 @@ use Rattle.std.specs.Int.NonZero.{non_zero_u64_get}
 use Rattle.std.proofs.lemmas.Fmt.{decimal_injective}
 use Rattle.scripts.specs.declared.script.Line.{Line}
 use Rattle.scripts.specs.declared.script.Line.TheVariants.{Step, Fail, Crash, Recover, Dump}
-use Rattle.session.specs.declared.steps.Step.TheVariants.{Append, Owned, TryAppend, Sync, StartSync, Wait, WaitSync, Needs, Size, Read, ReadUpTo, TryRead, ReadRanges, TryReadRanges, Begin, Truncate, Snapshot, TrySnapshot, Snap, Replay, Ensure, Take, Seek, Scan, Seal}
+use Rattle.session.specs.declared.steps.Step.TheVariants.{Append, Owned, TryAppend, Sync, StartSync, Wait, WaitSync, Needs, Size, Read, ReadUpTo, TryRead, ReadRanges, TryReadRanges, Begin, Truncate, Snapshot, TrySnapshot, Snap, Replay, Ensure, Take, Seek, DropSnapshot, DropReplay, Scan, Seal}
 use Rattle.scripts.specs.Script.{IsLine, AreRanges, line_words, parts_of, ranges_words}
 
 -- no line fails the call of number 0
@@ -38,6 +38,8 @@ no_fail_zero word n written zero (Step (Take index count)) is same = cc
 no_fail_zero word n written zero (Step (Seek index offset)) is same = cc
 no_fail_zero word n written zero (Step (Scan proven most size)) is same = cc
 no_fail_zero word n written zero (Step Seal) is same = cc
+no_fail_zero word n written zero (Step (DropSnapshot index)) is same = absurd is
+no_fail_zero word n written zero (Step (DropReplay index)) is same = absurd is
 no_fail_zero word n written zero (Fail number) is same =
     let e : decimal n ≡ decimal (non_zero_u64_get number) = cc in
     let same_number = decimal_injective n (non_zero_u64_get number) (omega arith) is.1 e in
@@ -70,6 +72,8 @@ no_one_word name a b c d e f g h i j k (Step (Take index count)) is same = cc
 no_one_word name a b c d e f g h i j k (Step (Seek index offset)) is same = cc
 no_one_word name a b c d e f g h i j k (Step (Scan proven most size)) is same = cc
 no_one_word name a b c d e f g h i j k (Step Seal) is same = k cc
+no_one_word name a b c d e f g h i j k (Step (DropSnapshot index)) is same = absurd is
+no_one_word name a b c d e f g h i j k (Step (DropReplay index)) is same = absurd is
 no_one_word name a b c d e f g h i j k (Step (Append bytes)) is same = cc
 no_one_word name a b c d e f g h i j k (Step (Owned bytes)) is same = cc
 no_one_word name a b c d e f g h i j k (Step (TryAppend bytes)) is same = cc
@@ -116,6 +120,8 @@ no_two_words name word x y a b c d e f g h (Step (Take index count)) is same = c
 no_two_words name word x y a b c d e f g h (Step (Seek index offset)) is same = cc
 no_two_words name word x y a b c d e f g h (Step (Scan proven most size)) is same = cc
 no_two_words name word x y a b c d e f g h (Step Seal) is same = cc
+no_two_words name word x y a b c d e f g h (Step (DropSnapshot index)) is same = absurd is
+no_two_words name word x y a b c d e f g h (Step (DropReplay index)) is same = absurd is
 
 -- one of three words begins with one of these
 pub no_three_words : (name first second : List ℕ) → name ≢ codes "ranges" → name ≢ codes "cached-ranges" → name ≢ codes "read" → name ≢ codes "upto" → name ≢ codes "cached" → name ≢ codes "ensure" → name ≢ codes "take" → name ≢ codes "seek"
@@ -149,6 +155,8 @@ no_three_words name first second x y a b c d e f (Step (Take index count)) is sa
 no_three_words name first second x y a b c d e f (Step (Seek index offset)) is same = f cc
 no_three_words name first second x y a b c d e f (Step (Scan proven most size)) is same = cc
 no_three_words name first second x y a b c d e f (Step Seal) is same = cc
+no_three_words name first second x y a b c d e f (Step (DropSnapshot index)) is same = absurd is
+no_three_words name first second x y a b c d e f (Step (DropReplay index)) is same = absurd is
 
 -- one of four words begins with one of these
 pub no_four_words : (name first second third : List ℕ) → name ≢ codes "ranges" → name ≢ codes "cached-ranges" → name ≢ codes "snap" → name ≢ codes "scan" → (v : Line) → IsLine v → name ∷ first ∷ second ∷ third ∷ [] ≢ line_words v
@@ -179,6 +187,8 @@ no_four_words name first second third x y a b (Step (Take index count)) is same 
 no_four_words name first second third x y a b (Step (Seek index offset)) is same = cc
 no_four_words name first second third x y a b (Step (Scan proven most size)) is same = b cc
 no_four_words name first second third x y a b (Step Seal) is same = cc
+no_four_words name first second third x y a b (Step (DropSnapshot index)) is same = absurd is
+no_four_words name first second third x y a b (Step (DropReplay index)) is same = absurd is
 no_four_words name first second third x y a b Recover is same = cc
 no_four_words name first second third x y a b Dump is same = cc
 

@@ -24,6 +24,7 @@ use Rattle.session.specs.declared.steps.Step.TheVariants.{ReadUpTo, TryRead, Tru
 use Rattle.session.specs.declared.steps.Step.TheVariants.{ReadRanges, TryReadRanges}
 use Rattle.session.specs.declared.steps.Step.TheVariants.{Snapshot, TrySnapshot, Snap, Seal}
 use Rattle.session.specs.declared.steps.Step.TheVariants.{Replay, Ensure, Take, Seek, Scan}
+use Rattle.session.specs.declared.steps.Step.TheVariants.{DropReplay, DropSnapshot}
 use Rattle.scripts.specs.Text.{hex_of}
 
 -- what reading answers, where each value has a text: the value of which this is the text, or that
@@ -97,7 +98,7 @@ range_word range = decimal range.0 ++ 58 ∷ decimal range.1
 abbrev pub ranges_words : List (ℕ × ℕ) → List (List ℕ)
 ranges_words ranges = map range_word ranges
 
--- the words of a step
+-- the words of a step; a script has none for letting go
 abbrev pub step_words : step.Step → List (List ℕ)
 step_words (Append bytes) = codes "append" ∷ hex_of bytes.items ∷ []
 step_words (Owned bytes) = codes "owned" ∷ hex_of bytes.items ∷ []
@@ -126,6 +127,8 @@ step_words (Seek index offset) = codes "seek" ∷ decimal index ∷ decimal offs
 step_words (Scan proven most size) =
     codes "scan" ∷ decimal proven ∷ decimal most ∷ decimal (non_zero_usize_get size) ∷ []
 step_words Seal = codes "seal" ∷ []
+step_words (DropSnapshot index) = []
+step_words (DropReplay index) = []
 
 -- the words of a line after the first
 abbrev pub line_words : Line → List (List ℕ)
@@ -147,7 +150,7 @@ AreRanges ranges = (0 < length ranges) × All IsRange ranges
 abbrev pub IsBufferSize : ℕ → Type 0
 IsBufferSize n = (0 < n) × IsU64 n
 
--- the numbers and the bytes of a line are in range, and no list of ranges is empty
+-- the step of a line has words, its numbers and bytes are in range, and no list of ranges is empty
 abbrev pub IsLine : Line → Type 0
 IsLine (Step (Append bytes)) = AreBytes bytes.items
 IsLine (Step (Owned bytes)) = AreBytes bytes.items
@@ -166,6 +169,8 @@ IsLine (Step (Take index count)) = IsU64 index × IsU64 count
 IsLine (Step (Seek index offset)) = IsU64 index × IsU64 offset
 IsLine (Step (Scan proven most size)) =
     IsU64 proven × IsU64 most × IsBufferSize (non_zero_usize_get size)
+IsLine (Step (DropSnapshot index)) = ⊥
+IsLine (Step (DropReplay index)) = ⊥
 IsLine (Fail number) = (0 < non_zero_u64_get number) × IsU64 (non_zero_u64_get number)
 IsLine _ = Unit {0}
 
