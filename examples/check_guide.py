@@ -79,7 +79,7 @@ def clauses(text):
 def sources(pattern):
     """The files of the crates that fit a pattern, without what was built."""
     found = glob.glob(os.path.join(ROOT, "crates", pattern), recursive=True)
-    return [path for path in found if "/out" not in path]
+    return [path for path in found if "/out/" not in path]
 
 
 def wrong_code(pages):
@@ -122,7 +122,7 @@ def wrong_places(pages):
         places += [(page, path) for path in re.findall(r"(?:crates|docs|examples)/[\w/.-]*\w", text)]
         links = re.findall(r"\]\(([^)#:]+)(?:#[^)]*)?\)", text)
         places += [(page, os.path.join(os.path.dirname(page), link)) for link in links]
-    places = [(page, path) for page, path in places if "/out" not in path]
+    places = [(page, path) for page, path in places if "/out/" not in path + "/"]
     wrong = [f"{page}: not there: {path}" for page, path in places if not os.path.exists(os.path.join(ROOT, path))]
     return wrong, len(places)
 
