@@ -4,12 +4,13 @@ Files that lost bytes once, or could, are given to each command. Of each it says
 why; the first that isn't so ends it. A file that is refused is compared with what it was.
 """
 import os
+import select
 import struct
 import subprocess
 import sys
 import tempfile
 
-from client import APPEND, CLOSE, READ, SYNC, crc32c
+from client import APPEND, CLOSE, READ, SIZE, SYNC, crc32c
 from served import Refused, Served
 
 PAYLOAD, PAGE = 4084, 4096
@@ -198,12 +199,27 @@ def a_good_blob(program, folder):
     blob.kill()
 
 
+def a_part_of_a_request(program, folder):
+    blob = Served(program, os.path.join(folder, "waits"))
+    request = struct.pack("<IB", 1, SIZE)
+    blob.process.stdin.write(request + request[:2])
+    blob.process.stdin.flush()
+    ready, _, _ = select.select([blob.process.stdout], [], [], 20)
+    expect(bool(ready) and blob.answer() == bytes(8),
+           "who has sent a request and two bytes of the next gets an answer to the first",
+           "no whole request is waiting")
+    blob.process.stdin.write(request[2:])
+    blob.process.stdin.flush()
+    expect(blob.answer() == bytes(8), "with the other bytes of the next it gets the second", "that is whole then")
+    blob.kill()
+
+
 def main():
     if len(sys.argv) != 2:
         raise SystemExit("usage: python3 faults.py PAGEDD")
     program = os.path.abspath(sys.argv[1])
     for fault in (a_good_blob, a_wrong_file, a_flipped_bit, a_closed_output, another_page_size, an_empty_file,
-                  a_torn_tail):
+                  a_torn_tail, a_part_of_a_request):
         with tempfile.TemporaryDirectory() as folder:
             fault(program, folder)
 
