@@ -2,7 +2,11 @@
  *
  * Recovers the records of FILE, appends those of the command line, syncs, and prints all. A record
  * is framed as the crate `journal` does it, with CRC-32C: its length (2 bytes), its bytes, their
- * checksum (4 bytes), both numbers with the highest byte first, and a byte 1. */
+ * checksum (4 bytes), both numbers with the highest byte first, and a byte 1.
+ *
+ * FILE is made where it is missing. docs/PROTOCOL.md says what each request does. */
+#include <errno.h>
+#include <signal.h>
 #include <stdint.h>
 #include <stdio.h>
 #include <stdlib.h>
@@ -13,9 +17,22 @@
 enum { APPEND = 1, SYNC = 2, READ = 6, BEGIN = 8, TRUNCATE = 9, CLOSE = 16 };
 
 static FILE *to_program, *from_program;
+static pid_t child;
 
 static void fail(const char *why) {
     fprintf(stderr, "client: %s\n", why);
+    exit(1);
+}
+
+/* The program has said why on standard error. */
+static void fail_ended(void) {
+    int status;
+    fclose(to_program);
+    if (waitpid(child, &status, 0) != child || !WIFEXITED(status))
+        fail("the program ended early");
+    if (WEXITSTATUS(status) == 127)
+        fail("the program can't be started");
+    fprintf(stderr, "client: the program ended early, with exit status %d\n", WEXITSTATUS(status));
     exit(1);
 }
 
@@ -48,22 +65,24 @@ static void ask(int kind, const void *fields, size_t len) {
     fwrite(head, 1, 5, to_program);
     fwrite(fields, 1, len, to_program);
     if (fflush(to_program) != 0)
-        fail("the program takes no request");
+        fail_ended();
 }
 
 /* The payload of the next answer, to be freed. */
 static unsigned char *answer(size_t *len) {
     unsigned char head[5];
     if (fread(head, 1, 5, from_program) != 5)
-        fail("the program gives no answer");
+        fail_ended();
     if (head[4] != 0) {
         fprintf(stderr, "client: refused with status %d\n", head[4]);
         exit(1);
     }
     *len = get_number(head, 4) - 1;
     unsigned char *payload = malloc(*len + 1);
-    if (payload == NULL || fread(payload, 1, *len, from_program) != *len)
-        fail("an answer is cut");
+    if (payload == NULL)
+        fail("there is no memory");
+    if (fread(payload, 1, *len, from_program) != *len)
+        fail_ended();
     return payload;
 }
 
@@ -74,23 +93,29 @@ static void do_step(int kind, const void *fields, size_t len) {
 }
 
 /* Starts the program, and answers how many bytes it recovered. */
-static uint64_t start(const char *program, const char *path, pid_t *child) {
+static uint64_t start(const char *program, const char *path) {
     int in[2], out[2];
-    if (pipe(in) != 0 || pipe(out) != 0 || (*child = fork()) < 0)
-        fail("the program is not started");
-    if (*child == 0) {
+    signal(SIGPIPE, SIG_IGN);
+    if (pipe(in) != 0 || pipe(out) != 0 || (child = fork()) < 0)
+        fail("the program can't be started");
+    if (child == 0) {
         dup2(in[0], 0);
         dup2(out[1], 1);
         close(in[0]), close(in[1]), close(out[0]), close(out[1]);
+        signal(SIGPIPE, SIG_DFL);
         execl(program, program, path, (char *)NULL);
+        fprintf(stderr, "client: %s: %s\n", program, strerror(errno));
         _exit(127);
     }
     close(in[0]), close(out[1]);
     to_program = fdopen(in[1], "w");
     from_program = fdopen(out[0], "r");
     fputc(1, to_program);
-    if (fgetc(from_program) != 1)
-        fail("this is not version 1");
+    int version = fgetc(from_program);
+    if (version == EOF)
+        fail_ended();
+    if (version != 1)
+        fail("the program doesn't speak version 1");
     size_t len;
     unsigned char *payload = answer(&len);
     uint64_t size = get_number(payload, 8);
@@ -134,11 +159,12 @@ static void append_record(const char *word) {
 }
 
 int main(int count, char **words) {
-    if (count < 3)
-        fail("client PAGEDD FILE [RECORD ..]");
-    pid_t child;
+    if (count < 3) {
+        fprintf(stderr, "usage: client PAGEDD FILE [RECORD ..]\n");
+        return 1;
+    }
     unsigned char range[16] = {0};
-    uint64_t size = start(words[1], words[2], &child);
+    uint64_t size = start(words[1], words[2]);
     put_number(range + 8, size, 8);
     ask(READ, range, 16);
     size_t len;
@@ -155,6 +181,7 @@ int main(int count, char **words) {
     do_step(SYNC, NULL, 0);
     ask(CLOSE, NULL, 0);
     int status;
-    waitpid(child, &status, 0);
-    return WIFEXITED(status) ? WEXITSTATUS(status) : 1;
+    if (waitpid(child, &status, 0) != child || !WIFEXITED(status))
+        fail("the program ended early");
+    return WEXITSTATUS(status);
 }

@@ -1,14 +1,15 @@
 -- What is told by the bytes of a request.
 use Rattle.std.proofs.Common.{◌≡◌, ◌≢◌, ℕ, ◌+◌, ◌*◌, ◌<◌, ◌≤◌, ◌^◌, List, [], ◌∷◌, ◌++◌, length, refl, sym, ap, ◌∙◌, subst, append_assoc, arith, true}
 use Rattle.std.proofs.lemmas.List.{length-append}
-use Rattle.std.specs.Prelude.{Option, Some, None, Result, Ok, Err, IsErrAnd, Bool, false, ◌==◌, if◌then◌else◌}
+use Rattle.std.specs.Prelude.{Option, Some, None, Result, Ok, Err, IsErrAnd, Bool, false, ◌==◌, if◌then◌else◌, ◌||◌, ok_or}
 use Rattle.std.proofs.lemmas.Bool.{false≢true, eqb-true}
 use Rattle.std.specs.Int.NonZero.{non_zero_usize_get}
 use Rattle.session.specs.declared.steps.Step.TheVariants as step
 use Rattle.protocol.specs.declared.request.Request.{Request}
 use Rattle.protocol.specs.declared.request.Request.TheVariants.{Step, Close}
 use Rattle.protocol.specs.declared.stop.Flaw.{Flaw}
-use Rattle.protocol.specs.Request.{number_bytes, length_bytes, kind_of, fields_of, request_bytes, IsRequest, FitsAnswer, has_kind, field_count, IsNoRequest, Builds}
+use Rattle.protocol.specs.declared.stop.Flaw.TheVariants.{LongRead, NoBuffer}
+use Rattle.protocol.specs.Request.{number_bytes, length_bytes, kind_of, fields_of, request_bytes, IsRequest, FitsAnswer, FieldsHave, asks_bytes, has_kind, field_count, IsNoRequest, Builds}
 use Rattle.protocol.proofs.Bytes.{length-number_bytes, length-length_bytes, same_number, same_length}
 
 -- ---- lists
@@ -186,7 +187,12 @@ snap_kind kind is =
 -- an error of a `?` is that of its call
 pub built_err : (kind : ℕ) (fields : List ℕ) (flaw : Flaw) (result : Result Request Flaw) → IsErrAnd result (λ e. e ≡ flaw) → Builds kind fields (Err flaw) → Builds kind fields result
 built_err kind fields flaw (Ok request) is none = absurd is
-built_err kind fields flaw (Err other) is none = none
+built_err kind fields flaw (Err other) is none = subst (λ (f : Flaw). Builds kind fields (Err f)) (sym is) none
+
+-- nor is that of an `ok_or` another
+pub of_none : {X : Type 0} (some : Option X) (flaw : Flaw) → Err flaw ≡ ok_or some NoBuffer → flaw ≡ NoBuffer
+of_none None flaw is = cc is
+of_none (Some x) flaw is = absurd (cc is)
 
 -- a length that an answer does not hold is not the last of these numbers
 not_fitting : (first second other len : ℕ) → second < 2 ^ 64 → (FitsAnswer second → ⊥) → FitsAnswer len → number_bytes first ++ number_bytes second ≢ number_bytes other ++ number_bytes len
@@ -199,6 +205,10 @@ not_fitting first second other len small long fits same =
 abbrev pub ends_with_len : ℕ → Bool
 ends_with_len kind = has_kind (6 ∷ 7 ∷ 14 ∷ []) kind
 
+-- a long read of two numbers, or three, is what is wrong
+pub asks_too_much : (kind : ℕ) (front : List ℕ) (len : ℕ) → asks_bytes kind ≡ true → len < 2 ^ 64 → (FitsAnswer len → ⊥) → FieldsHave LongRead kind (front ++ number_bytes len)
+asks_too_much kind front len asks small long = (asks, front, len, refl, small, long)
+
 -- none reads more than an answer holds
 long_read : (first second : ℕ) → second < 2 ^ 64 → (FitsAnswer second → ⊥) → (request : Request) → IsRequest request → ends_with_len (kind_of request) ≡ true → number_bytes first ++ number_bytes second ≢ fields_of request
 long_read first second small long (Step (step.Read offset len)) is asks same = not_fitting first second offset len small long is.1 same
@@ -206,26 +216,57 @@ long_read first second small long (Step (step.ReadUpTo offset len)) is asks same
 long_read first second small long (Step (step.Take index len)) is asks same = not_fitting first second index len small long is.1 same
 long_read first second small long request is asks same = absurd (false≢true asks)
 
-pub no_long_read : (kind first second : ℕ) (flaw : Flaw) → second < 2 ^ 64 → (FitsAnswer second → ⊥) → ends_with_len kind ≡ true → Builds kind (number_bytes first ++ number_bytes second) (Err flaw)
-no_long_read kind first second flaw small long asks request is e same =
-    long_read first second small long request is (sym (ap (λ (k : ℕ). ends_with_len k) e) ∙ asks) same
+pub no_long_read : (kind first second : ℕ) (flaw : Flaw) → second < 2 ^ 64 → (FitsAnswer second → ⊥) → ends_with_len kind ≡ true → asks_bytes kind ≡ true → flaw ≡ LongRead → Builds kind (number_bytes first ++ number_bytes second) (Err flaw)
+no_long_read kind first second flaw small long ends asks is = (
+  λ request asked e same. long_read first second small long request asked (sym (ap (λ (k : ℕ). ends_with_len k) e) ∙ ends) same,
+  subst (λ (f : Flaw). FieldsHave f kind (number_bytes first ++ number_bytes second)) (sym is) (asks_too_much kind (number_bytes first) second asks small long),
+)
 
 -- nor does a request of three numbers
-pub no_long_snap : (index offset len : ℕ) (flaw : Flaw) → len < 2 ^ 64 → (FitsAnswer len → ⊥) → Builds 11 (number_bytes index ++ number_bytes offset ++ number_bytes len) (Err flaw)
-no_long_snap index offset len flaw small long (Step (step.Snap i o n)) is e same =
+no_three : (index offset len : ℕ) → len < 2 ^ 64 → (FitsAnswer len → ⊥) → (request : Request) → IsRequest request → 11 ≡ kind_of request → number_bytes index ++ number_bytes offset ++ number_bytes len ≢ fields_of request
+no_three index offset len small long (Step (step.Snap i o n)) is e same =
     let fronts = two_numbers index offset ∙ sym (two_numbers i o) in
     let parts = same_fronts (number_bytes index ++ number_bytes offset) (number_bytes i ++ number_bytes o) (number_bytes len) (number_bytes n) fronts same in
     let same_len : len ≡ n = same_number len n small (omega (arith, is.2)) parts.1 in
     long (subst (λ (m : ℕ). FitsAnswer m) (sym same_len) is.2)
-no_long_snap index offset len flaw small long request is e same = absurd (omega (arith, e))
+no_three index offset len small long request is e same = absurd (omega (arith, e))
+
+pub no_long_snap : (index offset len : ℕ) (flaw : Flaw) → len < 2 ^ 64 → (FitsAnswer len → ⊥) → flaw ≡ LongRead → Builds 11 (number_bytes index ++ number_bytes offset ++ number_bytes len) (Err flaw)
+no_long_snap index offset len flaw small long is = (
+  no_three index offset len small long,
+  subst (λ (f : Flaw). FieldsHave f 11 (number_bytes index ++ number_bytes offset ++ number_bytes len)) (sym is)
+      (asks_too_much 11 (number_bytes index ++ number_bytes offset) len refl small long),
+)
 
 -- a replay has a buffer
-pub no_empty_buffer : (kind number : ℕ) (flaw : Flaw) → kind ≢ 4 → kind ≢ 9 → field_count kind ≡ Some 1 → number ≡ 0 → Builds kind (number_bytes number) (Err flaw)
-no_empty_buffer kind number flaw no_wait no_truncate one none (Step (step.WaitSync name)) is e same = no_wait e
-no_empty_buffer kind number flaw no_wait no_truncate one none (Step (step.Truncate size)) is e same = no_truncate e
-no_empty_buffer kind number flaw no_wait no_truncate one none (Step (step.Replay size)) is e same =
+no_buffer : (kind number : ℕ) → kind ≢ 4 → kind ≢ 9 → field_count kind ≡ Some 1 → number ≡ 0 → (request : Request) → IsRequest request → kind ≡ kind_of request → number_bytes number ≢ fields_of request
+no_buffer kind number no_wait no_truncate one none (Step (step.WaitSync name)) is e same = no_wait e
+no_buffer kind number no_wait no_truncate one none (Step (step.Truncate size)) is e same = no_truncate e
+no_buffer kind number no_wait no_truncate one none (Step (step.Replay size)) is e same =
     let same_size : number ≡ non_zero_usize_get size = same_number number (non_zero_usize_get size) (omega (arith, none)) is.1 same in
     absurd (omega (arith, none, same_size, is.0))
-no_empty_buffer kind number flaw no_wait no_truncate one none request is e same =
+no_buffer kind number no_wait no_truncate one none request is e same =
     let count : field_count (kind_of request) ≡ Some 1 = sym (ap field_count e) ∙ one in
     absurd (cc count)
+
+-- one kind of those with one number is neither of the others
+one_in : (none one two three : Bool) (count : ℕ) → count_in none one two three ≡ Some count → count ≡ 1 → one ≡ true
+one_in true one two three count is one_of = let e : 0 ≡ count = cc is in absurd (omega arith)
+one_in false true two three count is one_of = refl
+one_in false false true three count is one_of = let e : 2 ≡ count = cc is in absurd (omega arith)
+one_in false false false true count is one_of = let e : 3 ≡ count = cc is in absurd (omega arith)
+one_in false false false false count is one_of = absurd (cc is)
+
+third_in : (wait truncate third : Bool) → (wait ≡ true → ⊥) → (truncate ≡ true → ⊥) → (wait || (truncate || (third || false))) ≡ true → third ≡ true
+third_in true truncate third no_wait no_truncate is = absurd (no_wait refl)
+third_in false true third no_wait no_truncate is = absurd (no_truncate refl)
+third_in false false true no_wait no_truncate is = refl
+third_in false false false no_wait no_truncate is = is
+
+pub no_empty_buffer : (kind number : ℕ) (flaw : Flaw) → kind ≢ 4 → kind ≢ 9 → field_count kind ≡ Some 1 → number ≡ 0 → flaw ≡ NoBuffer → Builds kind (number_bytes number) (Err flaw)
+no_empty_buffer kind number flaw no_wait no_truncate one none is =
+    let same : kind ≡ 12 = eqb-true kind 12 (third_in (kind == 4) (kind == 9) (kind == 12) (λ e. no_wait (eqb-true kind 4 e)) (λ e. no_truncate (eqb-true kind 9 e))
+    (one_in (has_kind (2 ∷ 3 ∷ 5 ∷ 8 ∷ 10 ∷ 16 ∷ []) kind) (has_kind (4 ∷ 9 ∷ 12 ∷ []) kind) (has_kind (6 ∷ 7 ∷ 13 ∷ 14 ∷ 15 ∷ []) kind) (kind == 11) 1 one refl)) in (
+      no_buffer kind number no_wait no_truncate one none,
+      subst (λ (f : Flaw). FieldsHave f kind (number_bytes number)) (sym is) (same, ap number_bytes none),
+    )

@@ -1,8 +1,7 @@
 -- Steps are taken and answered, one after another.
-use Rattle.std.proofs.Common.{◌≡◌, ◌⊎◌, ◌≤◌, ◌<◌, Bool, true, false, slice_index_or, ℕ, ◌+◌, ◌*◌, take, arith, List, [], ◌∷◌, ◌++◌, length, refl, sym, ap, ◌∙◌, subst, append-nil, append_assoc, length-append, inr}
-use Rattle.std.specs.Prelude.{Option, Some, None, Result, Ok, Err, IfSome, IfErr, IsErrAnd, OnErr, OnOk, is_err}
+use Rattle.std.proofs.Common.{◌≡◌, ◌⊎◌, ◌≤◌, ◌<◌, Bool, true, false, slice_index_or, ℕ, ◌+◌, ◌*◌, take, arith, List, [], ◌∷◌, ◌++◌, length, refl, sym, ap, ◌∙◌, subst, append-nil, append_assoc, length-append, inl, inr}
+use Rattle.std.specs.Prelude.{Option, Some, None, Result, Ok, Err, IfSome, IfErr, IsErrAnd, OnErr, OnOk, is_err, ◌&&◌, ◌≢◌}
 use Rattle.std.specs.List.{flat_map}
-use Rattle.std.proofs.lemmas.List.Elements.{All-nil, All-push}
 use Rattle.std.specs.Io.KnownBytes.{Appends, Consumes, IsAtEnd, Keeps}
 use Rattle.std.proofs.KnownBytes.{Appends-nil, Appends-trans, Consumes-nil, Consumes-trans}
 use Rattle.disk.specs.Disk.{Life}
@@ -13,17 +12,21 @@ use Rattle.session.specs.declared.steps.Step.TheVariants.{Size}
 use Rattle.session.specs.declared.steps.Reply.{Reply}
 use Rattle.session.specs.Run.{SessionState, RunsAlways}
 use Rattle.session.proofs.Joined.{runs_join, runs_none, promised}
+use Rattle.protocol.specs.declared.request.Request.{Request}
 use Rattle.protocol.specs.declared.request.Request.TheVariants.{Step as StepOf, Close}
+use Rattle.protocol.specs.declared.setting.Setting.{Setting}
 use Rattle.protocol.specs.declared.stop.ReadError.{ReadError}
 use Rattle.protocol.specs.declared.stop.ReadError.TheVariants.{Malformed as IsMalformed, Failed as HasFailed, OutOfMemory as NoMemory}
 use Rattle.protocol.specs.declared.stop.Stop.{Stop}
-use Rattle.protocol.specs.declared.stop.Stop.TheVariants.{Malformed, Version, Refused, LongAnswer, Failed, OutOfMemory}
-use Rattle.protocol.specs.Answer.{answer_bytes, IsWriteError}
+use Rattle.protocol.specs.declared.stop.Stop.TheVariants.{Malformed, Version, WouldCut, Refused, LongAnswer, Failed, OutOfMemory}
+use Rattle.protocol.specs.Answer.{answer_bytes, payload, refusal_bytes, status_byte, IsLong, IsTooLong, IsWriteError}
 use Rattle.protocol.specs.Input.{IsBroken}
 use Rattle.protocol.specs.Stop.{stop_at}
 use Rattle.protocol.specs.Request.{IsRequest, request_bytes, number_bytes, length_bytes, frame_bytes}
-use Rattle.protocol.proofs.Bytes.{length-number_bytes}
-use Rattle.protocol.specs.Serve.{requests_bytes, answers_bytes, Took, TookSome, Answered, TakesStep, ReadsNext, ReadsVersion, Serves, Begun, Greets, Greeted, EndsEarly, ServedAfter, ServesFile, version_byte}
+use Rattle.protocol.proofs.Bytes.{length-number_bytes, length-length_bytes}
+use Rattle.protocol.specs.Serve.AreServed.{no_more, one_more}
+use Rattle.protocol.specs.Serve.Served.{taken, refused}
+use Rattle.protocol.specs.Serve.{requests_bytes, IsAny, Took, TookFor, TookNext, Answered, TakesRequest, ReadsNext, ReadsVersion, Serves, Begun, HasAttempted, IsNotBegun, Greets, Greeted, EndsEarly, ServedAfter, ServesFile, changes, version_byte}
 
 -- ---- lists of bytes
 
@@ -33,8 +36,8 @@ joined f [] ys = refl
 joined f (x ∷ xs) ys = ap (λ (l : List ℕ). f x ++ l) (joined f xs ys) ∙ sym (append_assoc (f x) (flat_map f xs) (flat_map f ys))
 
 -- one more
-pub one_more : {X : Type 0} (f : X → List ℕ) (xs : List X) (x : X) → flat_map f (xs ++ x ∷ []) ≡ flat_map f xs ++ f x
-one_more f xs x = joined f xs (x ∷ []) ∙ ap (λ (l : List ℕ). flat_map f xs ++ l) (append-nil (f x))
+pub flat_map_snoc : {X : Type 0} (f : X → List ℕ) (xs : List X) (x : X) → flat_map f (xs ++ x ∷ []) ≡ flat_map f xs ++ f x
+flat_map_snoc f xs x = joined f xs (x ∷ []) ∙ ap (λ (l : List ℕ). flat_map f xs ++ l) (append-nil (f x))
 
 -- known bytes that stayed, and then grew
 kept_then : (a b c : Option (List ℕ)) (bs : List ℕ) → Keeps a b → Appends b c bs → Appends a c bs
@@ -65,47 +68,43 @@ took_both sum steps more replies others was mid now old between new first second
     let runs = runs_join sum steps more was mid now old between new [] replies others first.runs second.runs in
     record { runs = runs; promises = promised sum (steps ++ more) was now old new [] (replies ++ others) runs }
 
--- of which it needn't be told how many
-pub took_more : (sum : List ℕ → ℕ) (steps : List Step) (replies : List Reply) (was mid now : SessionState) (old between new : Life) → Took sum steps replies was mid old between
-    → TookSome sum mid now between new → TookSome sum was now old new
-took_more sum steps replies was mid now old between new first (more, others, second) =
-    (steps ++ more, replies ++ others, took_both sum steps more replies others was mid now old between new first second)
-
 -- ---- requests and their answers
 
 -- none was read
-pub answered_none : (sum : List ℕ → ℕ) (was : SessionState) (life : Life) (input out : Option (List ℕ)) → Answered sum was was life life input input out out
-answered_none sum was life input out = record {
+pub answered_none : (sum : List ℕ → ℕ) (setting : Setting) (was : SessionState) (life : Life) (input out : Option (List ℕ)) → Answered sum setting was was life life input input out out
+answered_none sum setting was life input out = record {
+  requests = [];
   steps = [];
   replies = [];
-  asked = All-nil (λ (step : Step). IsRequest (StepOf step));
+  bytes = [];
+  served = no_more;
   took = took_none sum was life;
   takes = Consumes-nil input;
   answers = Appends-nil out;
 }
 
 -- one more was read, taken and answered
-pub answered_more : (sum : List ℕ → ℕ) (step : Step) (reply : Reply) (was mid now : SessionState) (old between new : Life) (input rest last out written kept all : Option (List ℕ))
-    → Answered sum was mid old between input rest out written → Keeps written kept → IsRequest (StepOf step) → Consumes rest last (request_bytes (StepOf step)) → Took sum (step ∷ []) (reply ∷ []) mid now between new
-    → Appends kept all (answer_bytes reply) → Answered sum was now old new input last out all
-answered_more sum step reply was mid now old between new input rest last out written kept all before stays is takes took answers = record {
-  steps = before.steps ++ step ∷ [];
-  replies = before.replies ++ reply ∷ [];
-  asked = All-push (λ (s : Step). IsRequest (StepOf s)) before.steps step before.asked is;
-  took = took_both sum before.steps (step ∷ []) before.replies (reply ∷ []) was mid now old between new before.took took;
-  takes = subst (Consumes input last) (sym (one_more (λ (s : Step). request_bytes (StepOf s)) before.steps step))
-      (Consumes-trans input rest last (requests_bytes before.steps) (request_bytes (StepOf step)) before.takes takes);
-  answers = subst (Appends out all) (sym (one_more answer_bytes before.replies reply))
-      (Appends-trans out written all (answers_bytes before.replies) (answer_bytes reply) before.answers (kept_then written kept all (answer_bytes reply) stays answers));
+pub answered_more : (sum : List ℕ → ℕ) (setting : Setting) (request : Request) (was mid now : SessionState) (old between new : Life) (input rest last out written kept all : Option (List ℕ))
+    → Answered sum setting was mid old between input rest out written → Keeps written kept → IsRequest request → Consumes rest last (request_bytes request) → TookFor sum setting (Appends kept all) request mid now between new
+    → Answered sum setting was now old new input last out all
+answered_more sum setting request was mid now old between new input rest last out written kept all before stays is takes (more, others, answer, served, took, answers) = record {
+  requests = before.requests ++ request ∷ [];
+  steps = before.steps ++ more;
+  replies = before.replies ++ others;
+  bytes = before.bytes ++ answer;
+  served = one_more before.requests before.steps before.replies before.bytes request more others answer before.served is served;
+  took = took_both sum before.steps more before.replies others was mid now old between new before.took took;
+  takes = subst (Consumes input last) (sym (flat_map_snoc request_bytes before.requests request))
+      (Consumes-trans input rest last (requests_bytes before.requests) (request_bytes request) before.takes takes);
+  answers = Appends-trans out written all before.bytes answer before.answers (kept_then written kept all answer stays answers);
 }
 
 -- ---- how a step ends
 
 -- no room for its reply
-pub took_unless : (sum : List ℕ → ℕ) (was now : SessionState) (old new : Life) (result : Result (Unit {0}) Error) → is_err result ≡ true → OnErr result (now ≡ was) → OnErr result (new ≡ old) → TookSome sum was now old new
-took_unless sum was now old new (Ok done) is session life = absurd (cc is)
-took_unless sum was now old new (Err error) is session life =
-    ([], [], subst (λ (s : SessionState). Took sum [] [] was s old new) (sym session) (subst (λ (l : Life). Took sum [] [] was was old l) (sym life) (took_none sum was old)))
+pub took_unless : (was now : SessionState) (old new : Life) (result : Result (Unit {0}) Error) → is_err result ≡ true → OnErr result (now ≡ was) → OnErr result (new ≡ old) → (now ≡ was) × (new ≡ old)
+took_unless was now old new (Ok done) is session life = absurd (cc is)
+took_unless was now old new (Err error) is session life = (session, life)
 
 -- a list of one
 pub one_of : {X : Type 0} (xs : List X) (x : X) → 1 ≤ length xs → length xs < 2 → x ≡ slice_index_or xs 0 x → xs ≡ x ∷ []
@@ -113,12 +112,35 @@ one_of [] x some few is = absurd (omega (arith, some))
 one_of (y ∷ []) x some few is = ap (λ (z : _). z ∷ []) (sym is)
 one_of (y ∷ z ∷ zs) x some few is = absurd (omega (arith, few))
 
+-- an answer with a long payload is too long
+too_long : (reply : Reply) → IsLong (length (payload reply)) → IsTooLong (answer_bytes reply)
+too_long reply long =
+    let body = status_byte reply ∷ payload reply in
+    omega (arith, long, length-append (length_bytes (length body)) body, length-length_bytes (length body))
+
+-- both hold
+pub both : (a b : Bool) → a ≡ true → b ≡ true → (a && b) ≡ true
+both true b one other = other
+both false b one other = absurd (cc one)
+
+-- it is refused: no step is taken
+pub step_refused : (sum : List ℕ → ℕ) (setting : Setting) (step : Step) (was : SessionState) (life : Life) (out written : Option (List ℕ)) (result : Result (Unit {0}) Stop) → (setting.read_only && changes step) ≡ true
+    → OnOk result (Appends out written refusal_bytes) → IfErr result (IsWriteError 0) → TakesRequest sum setting (StepOf step) was was life life out written result
+step_refused sum setting step was life out written (Ok done) is answers why = ([], [], refusal_bytes, refused step is, took_none sum was life, answers)
+step_refused sum setting step was life out written (Err LongAnswer) is answers why = absurd (omega (arith, why))
+step_refused sum setting step was life out written (Err Failed) is answers why = ([], [], refusal_bytes, refused step is, took_none sum was life, tt)
+step_refused sum setting step was life out written (Err OutOfMemory) is answers why = absurd why
+step_refused sum setting step was life out written (Err (Malformed number flaw)) is answers why = absurd why
+step_refused sum setting step was life out written (Err (Version byte)) is answers why = absurd why
+step_refused sum setting step was life out written (Err (WouldCut cut)) is answers why = absurd why
+step_refused sum setting step was life out written (Err (Refused error)) is answers why = absurd why
+
 -- its reply is the only one, and was written
-pub takes_step : (sum : List ℕ → ℕ) (step : Step) (reply : Reply) (was now : SessionState) (old new : Life) (earlier replies : List Reply) (out written : Option (List ℕ)) (ran : Result (Unit {0}) Error) (result : Result (Unit {0}) Stop)
-    → is_err ran ≡ false → OnOk ran (RunsAlways sum (step ∷ []) was now old new earlier replies) → earlier ≡ [] → replies ≡ reply ∷ [] → OnOk result (Appends out written (answer_bytes reply)) → IfErr result IsWriteError
-    → TakesStep sum step was now old new out written result
-takes_step sum step reply was now old new earlier replies out written (Err error) result is runs none one answers why = absurd (cc is)
-takes_step sum step reply was now old new earlier replies out written (Ok done) result is runs none one answers why = by_answer result answers why
+pub takes_step : (sum : List ℕ → ℕ) (setting : Setting) (step : Step) (reply : Reply) (was now : SessionState) (old new : Life) (earlier replies : List Reply) (out written : Option (List ℕ)) (ran : Result (Unit {0}) Error)
+    (result : Result (Unit {0}) Stop) → (setting.read_only && changes step) ≡ false → is_err ran ≡ false → OnOk ran (RunsAlways sum (step ∷ []) was now old new earlier replies) → earlier ≡ [] → replies ≡ reply ∷ []
+    → OnOk result (Appends out written (answer_bytes reply)) → IfErr result (IsWriteError (length (payload reply))) → TakesRequest sum setting (StepOf step) was now old new out written result
+takes_step sum setting step reply was now old new earlier replies out written (Err error) result may is runs none one answers why = absurd (cc is)
+takes_step sum setting step reply was now old new earlier replies out written (Ok done) result may is runs none one answers why = by_answer result answers why
   where
     alone : RunsAlways sum (step ∷ []) was now old new [] (reply ∷ [])
     alone = subst (λ (rs : List Reply). RunsAlways sum (step ∷ []) was now old new [] rs) one (subst (λ (rs : List Reply). RunsAlways sum (step ∷ []) was now old new rs replies) none runs)
@@ -126,84 +148,96 @@ takes_step sum step reply was now old new earlier replies out written (Ok done) 
     took : Took sum (step ∷ []) (reply ∷ []) was now old new
     took = record { runs = alone; promises = promised sum (step ∷ []) was now old new [] (reply ∷ []) alone }
 
-    by_answer : (r : Result (Unit {0}) Stop) → OnOk r (Appends out written (answer_bytes reply)) → IfErr r IsWriteError → TakesStep sum step was now old new out written r
-    by_answer (Ok done) answers why = (reply, took, answers)
-    by_answer (Err LongAnswer) answers why = (step ∷ [], reply ∷ [], took)
-    by_answer (Err Failed) answers why = (step ∷ [], reply ∷ [], took)
+    with_answer : (Is : List ℕ → Type 0) → Is (answer_bytes reply) → TookFor sum setting Is (StepOf step) was now old new
+    with_answer Is is = (step ∷ [], reply ∷ [], answer_bytes reply, taken step reply may, took, is)
+
+    by_answer : (r : Result (Unit {0}) Stop) → OnOk r (Appends out written (answer_bytes reply)) → IfErr r (IsWriteError (length (payload reply))) → TakesRequest sum setting (StepOf step) was now old new out written r
+    by_answer (Ok done) answers why = with_answer (Appends out written) answers
+    by_answer (Err LongAnswer) answers why = with_answer IsTooLong (too_long reply why)
+    by_answer (Err Failed) answers why = with_answer IsAny tt
     by_answer (Err OutOfMemory) answers why = absurd why
     by_answer (Err (Malformed number flaw)) answers why = absurd why
     by_answer (Err (Version byte)) answers why = absurd why
+    by_answer (Err (WouldCut cut)) answers why = absurd why
     by_answer (Err (Refused error)) answers why = absurd why
 
--- ---- how serving goes on, and how it ends
+-- ---- request after request
 
 -- the requests before that of this number were answered
-pub record Serving (sum : List ℕ → ℕ) (was now : SessionState) (old new : Life) (input rest out written : Option (List ℕ)) (number : ℕ) : Type 0 where
-  pub answered : Answered sum was now old new input rest out written
-  pub counts : number ≡ length answered.steps + 1
+pub record Serving (sum : List ℕ → ℕ) (setting : Setting) (was now : SessionState) (old new : Life) (input rest out written : Option (List ℕ)) (number : ℕ) : Type 0 where
+  pub answered : Answered sum setting was now old new input rest out written
+  pub counts : number ≡ length answered.requests + 1
 
 -- none is before the first
-pub serving_begins : (sum : List ℕ → ℕ) (was : SessionState) (life : Life) (input out : Option (List ℕ)) → Serving sum was was life life input input out out 1
+pub serving_begins : (sum : List ℕ → ℕ) (setting : Setting) (was : SessionState) (life : Life) (input out : Option (List ℕ)) → Serving sum setting was was life life input input out out 1
 unfolding answered_none
-serving_begins sum was life input out = record { answered = answered_none sum was life input out; counts = refl }
+serving_begins sum setting was life input out = record { answered = answered_none sum setting was life input out; counts = refl }
 
 -- one more
-pub serving_more : (sum : List ℕ → ℕ) (step : Step) (was mid now : SessionState) (old between new : Life) (input rest last out written kept all : Option (List ℕ)) (number : ℕ)
-    → Serving sum was mid old between input rest out written number → Keeps written kept → ReadsNext number rest last (Ok (Some (StepOf step))) → TakesStep sum step mid now between new kept all (Ok tt)
-    → Serving sum was now old new input last out all (number + 1)
+pub serving_more : (sum : List ℕ → ℕ) (setting : Setting) (request : Request) (was mid now : SessionState) (old between new : Life) (input rest last out written kept all : Option (List ℕ)) (number : ℕ)
+    → Serving sum setting was mid old between input rest out written number → Keeps written kept → ReadsNext number rest last (Ok (Some request)) → TakesRequest sum setting request mid now between new kept all (Ok tt)
+    → Serving sum setting was now old new input last out all (number + 1)
 unfolding answered_more
-serving_more sum step was mid now old between new input rest last out written kept all number before keeps (is, takes) (reply, took, answers) = record {
-  answered = answered_more sum step reply was mid now old between new input rest last out written kept all before.answered keeps is takes took answers;
-  counts = omega (arith, before.counts, length-append before.answered.steps (step ∷ []));
+serving_more sum setting request was mid now old between new input rest last out written kept all number before keeps (is, takes) took = record {
+  answered = answered_more sum setting request was mid now old between new input rest last out written kept all before.answered keeps is takes took;
+  counts = omega (arith, before.counts, length-append before.answered.requests (request ∷ []));
 }
 
 -- what was kept since was written
-unmoved : (sum : List ℕ → ℕ) (was now : SessionState) (old new : Life) (input rest out written kept : Option (List ℕ)) → Answered sum was now old new input rest out written → Keeps written kept → Answered sum was now old new input rest out kept
-unmoved sum was now old new input rest out written kept a keeps = record {
+unmoved : (sum : List ℕ → ℕ) (setting : Setting) (was now : SessionState) (old new : Life) (input rest out written kept : Option (List ℕ)) → Answered sum setting was now old new input rest out written → Keeps written kept
+    → Answered sum setting was now old new input rest out kept
+unmoved sum setting was now old new input rest out written kept a keeps = record {
+  requests = a.requests;
   steps = a.steps;
   replies = a.replies;
-  asked = a.asked;
+  bytes = a.bytes;
+  served = a.served;
   took = a.took;
   takes = a.takes;
-  answers = then_kept out written kept (answers_bytes a.replies) a.answers keeps;
+  answers = then_kept out written kept a.bytes a.answers keeps;
 }
 
 -- no further request was read
-pub serving_stops : (sum : List ℕ → ℕ) (was now : SessionState) (old new : Life) (input rest last out written kept : Option (List ℕ)) (number : ℕ) (stop : Stop) (result : Result (Unit {0}) Stop) → IsErrAnd result (λ x. x ≡ stop)
-    → Serving sum was now old new input rest out written number → Keeps written kept → ReadsNext number rest last (Err stop) → Serves sum was now old new input last out kept result
+pub serving_stops : (sum : List ℕ → ℕ) (setting : Setting) (was now : SessionState) (old new : Life) (input rest last out written kept : Option (List ℕ)) (number : ℕ) (stop : Stop) (result : Result (Unit {0}) Stop) → IsErrAnd result (λ x. x ≡ stop)
+    → Serving sum setting was now old new input rest out written number → Keeps written kept → ReadsNext number rest last (Err stop) → Serves sum setting was now old new input last out kept result
 unfolding unmoved
-serving_stops sum was now old new input rest last out written kept number stop (Ok done) is before keeps reads = absurd is
-serving_stops sum was now old new input rest last out written kept number stop (Err why) is before keeps reads = by_cause why (subst (λ (x : Stop). ReadsNext number rest last (Err x)) (sym is) reads)
+serving_stops sum setting was now old new input rest last out written kept number stop (Ok done) is before keeps reads = absurd is
+serving_stops sum setting was now old new input rest last out written kept number stop (Err why) is before keeps reads = by_cause why (subst (λ (x : Stop). ReadsNext number rest last (Err x)) (sym is) reads)
   where
-    by_cause : (x : Stop) → ReadsNext number rest last (Err x) → Serves sum was now old new input last out kept (Err x)
-    by_cause (Malformed which flaw) (this, none) = (rest, unmoved sum was now old new input rest out written kept before.answered keeps, this ∙ before.counts, none)
+    by_cause : (x : Stop) → ReadsNext number rest last (Err x) → Serves sum setting was now old new input last out kept (Err x)
+    by_cause (Malformed which flaw) (this, none) = (rest, unmoved sum setting was now old new input rest out written kept before.answered keeps, this ∙ before.counts, none)
     by_cause (Version byte) none = absurd none
+    by_cause (WouldCut cut) none = absurd none
     by_cause (Refused error) none = absurd none
     by_cause LongAnswer none = absurd none
-    by_cause Failed none = (before.answered.steps, before.answered.replies, before.answered.took)
-    by_cause OutOfMemory none = (before.answered.steps, before.answered.replies, before.answered.took)
+    by_cause Failed none = (now, new, rest, written, before.answered, inl (refl, refl))
+    by_cause OutOfMemory none = (now, new, rest, written, before.answered, inl (refl, refl))
 
--- a step wasn't answered
-pub serving_fails : (sum : List ℕ → ℕ) (step : Step) (was mid now : SessionState) (old between new : Life) (input rest last out written kept all : Option (List ℕ)) (number : ℕ) (stop : Stop) (result : Result (Unit {0}) Stop)
-    → IsErrAnd result (λ x. x ≡ stop) → Serving sum was mid old between input rest out written number → TakesStep sum step mid now between new kept all (Err stop) → Serves sum was now old new input last out all result
-serving_fails sum step was mid now old between new input rest last out written kept all number stop (Ok done) is before takes = absurd is
-serving_fails sum step was mid now old between new input rest last out written kept all number stop (Err why) is before takes = by_cause why (subst (λ (x : Stop). TakesStep sum step mid now between new kept all (Err x)) (sym is) takes)
+-- a request wasn't answered
+pub serving_fails : (sum : List ℕ → ℕ) (setting : Setting) (request : Request) (was mid now : SessionState) (old between new : Life) (input rest last out written kept all : Option (List ℕ)) (number : ℕ) (stop : Stop) (result : Result (Unit {0}) Stop)
+    → IsErrAnd result (λ x. x ≡ stop) → Serving sum setting was mid old between input rest out written number → ReadsNext number rest last (Ok (Some request)) → TakesRequest sum setting request mid now between new kept all (Err stop)
+    → Serves sum setting was now old new input last out all result
+serving_fails sum setting request was mid now old between new input rest last out written kept all number stop (Ok done) is before reads takes = absurd is
+serving_fails sum setting request was mid now old between new input rest last out written kept all number stop (Err why) is before reads takes =
+    by_cause why (subst (λ (x : Stop). TakesRequest sum setting request mid now between new kept all (Err x)) (sym is) takes)
   where
-    all_of : TookSome sum mid now between new → TookSome sum was now old new
-    all_of some = took_more sum before.answered.steps before.answered.replies was mid now old between new before.answered.took some
+    more : (Is : List ℕ → Type 0) → TookFor sum setting Is request mid now between new → TookNext sum setting Is mid now between new rest
+    more Is this = (request, last, reads.0, reads.1, this)
 
-    by_cause : (x : Stop) → TakesStep sum step mid now between new kept all (Err x) → Serves sum was now old new input last out all (Err x)
+    by_cause : (x : Stop) → TakesRequest sum setting request mid now between new kept all (Err x) → Serves sum setting was now old new input last out all (Err x)
     by_cause (Malformed which flaw) none = absurd none
     by_cause (Version byte) none = absurd none
+    by_cause (WouldCut cut) none = absurd none
     by_cause (Refused error) none = absurd none
-    by_cause LongAnswer some = all_of some
-    by_cause Failed some = all_of some
-    by_cause OutOfMemory some = all_of some
+    by_cause LongAnswer this = (mid, between, rest, written, before.answered, more IsTooLong this)
+    by_cause Failed this = (mid, between, rest, written, before.answered, inr (more IsAny this))
+    by_cause OutOfMemory same = (mid, between, rest, written, before.answered, inl same)
 
 -- a close, or the end of the input
-pub serving_ends : (sum : List ℕ → ℕ) (was now : SessionState) (old new : Life) (input rest last out written kept : Option (List ℕ)) (number : ℕ)
-    → Serving sum was now old new input rest out written number → Keeps written kept → IsAtEnd rest ⊎ Consumes rest last (request_bytes Close) → Serves sum was now old new input last out kept (Ok tt)
-serving_ends sum was now old new input rest last out written kept number before keeps ends = (rest, unmoved sum was now old new input rest out written kept before.answered keeps, ends)
+pub serving_ends : (sum : List ℕ → ℕ) (setting : Setting) (was now : SessionState) (old new : Life) (input rest last out written kept : Option (List ℕ)) (number : ℕ)
+    → Serving sum setting was now old new input rest out written number → Keeps written kept → IsAtEnd rest ⊎ Consumes rest last (request_bytes Close) → Serves sum setting was now old new input last out kept (Ok tt)
+unfolding unmoved
+serving_ends sum setting was now old new input rest last out written kept number before keeps ends = (rest, unmoved sum setting was now old new input rest out written kept before.answered keeps, ends)
 
 -- the end of an input
 pub at_end : (rest : Option (List ℕ)) → IfSome rest (λ bytes. bytes ≡ []) → IsAtEnd rest
@@ -212,6 +246,31 @@ at_end (Some bytes) none = none
 
 -- ---- how a session begins
 
+-- a recovery would cut more than it may
+pub would_cut : (sum : List ℕ → ℕ) (setting : Setting) (old new : Life) (out written : Option (List ℕ)) (stop : Stop) → IsNotBegun sum setting old new stop → ((error : Error) → stop ≢ Refused error) → written ≡ out → Greets sum setting old new out written (Err stop)
+would_cut sum setting old new out written (Malformed number flaw) none other same = absurd none
+would_cut sum setting old new out written (Version byte) none other same = absurd none
+would_cut sum setting old new out written (WouldCut cut) more other same = (more, same)
+would_cut sum setting old new out written (Refused error) had other same = absurd (other error refl)
+would_cut sum setting old new out written LongAnswer none other same = absurd none
+would_cut sum setting old new out written Failed none other same = absurd none
+would_cut sum setting old new out written OutOfMemory none other same = absurd none
+
+-- a refusal of the recovery wasn't written
+pub refusal_unwritten : (sum : List ℕ → ℕ) (setting : Setting) (old new : Life) (out written : Option (List ℕ)) (stop : Stop) (result : Result (SessionState × CacheState) Stop) → IsErrAnd result (λ x. x ≡ stop) → HasAttempted sum setting old new → IsWriteError 0 stop
+    → Greets sum setting old new out written result
+refusal_unwritten sum setting old new out written stop (Ok begun) is had why = absurd is
+refusal_unwritten sum setting old new out written stop (Err error) is had why = by_cause error (subst (IsWriteError 0) (sym is) why)
+  where
+    by_cause : (x : Stop) → IsWriteError 0 x → Greets sum setting old new out written (Err x)
+    by_cause (Malformed number flaw) none = absurd none
+    by_cause (Version byte) none = absurd none
+    by_cause (WouldCut cut) none = absurd none
+    by_cause (Refused error) none = absurd none
+    by_cause LongAnswer long = absurd (omega (arith, long))
+    by_cause Failed failed = inl had
+    by_cause OutOfMemory none = absurd none
+
 -- the version isn't read
 pub version_unread : (input rest : Option (List ℕ)) (error : ReadError) (stop : Stop) → IsBroken error → stop ≡ stop_at 0 error → ReadsVersion input rest (Err stop)
 version_unread input rest (IsMalformed flaw) stop broken is = absurd broken
@@ -219,75 +278,80 @@ version_unread input rest HasFailed stop broken is = subst (λ (x : Stop). Reads
 version_unread input rest NoMemory stop broken is = subst (λ (x : Stop). ReadsVersion input rest (Err x)) (sym is) tt
 
 -- the size isn't answered
-pub greeting_fails : (sum : List ℕ → ℕ) (was now : SessionState) (old mid new : Life) (out after written : Option (List ℕ)) (stop : Stop) (result : Result (SessionState × CacheState) Stop) → IsErrAnd result (λ x. x ≡ stop)
-    → Begun sum old mid was → TakesStep sum Size was now mid new after written (Err stop) → Greets sum old new out written result
-greeting_fails sum was now old mid new out after written stop (Ok begun) is begins takes = absurd is
-greeting_fails sum was now old mid new out after written stop (Err why) is begins takes = by_cause why (subst (λ (x : Stop). TakesStep sum Size was now mid new after written (Err x)) (sym is) takes)
+pub greeting_fails : (sum : List ℕ → ℕ) (setting : Setting) (was now : SessionState) (old mid new : Life) (out after written : Option (List ℕ)) (stop : Stop) (result : Result (SessionState × CacheState) Stop) → IsErrAnd result (λ x. x ≡ stop)
+    → Begun sum setting old mid was → TakesRequest sum setting (StepOf Size) was now mid new after written (Err stop) → Greets sum setting old new out written result
+greeting_fails sum setting was now old mid new out after written stop (Ok begun) is begins takes = absurd is
+greeting_fails sum setting was now old mid new out after written stop (Err why) is begins takes =
+    by_cause why (subst (λ (x : Stop). TakesRequest sum setting (StepOf Size) was now mid new after written (Err x)) (sym is) takes)
   where
-    by_cause : (x : Stop) → TakesStep sum Size was now mid new after written (Err x) → Greets sum old new out written (Err x)
+    by_cause : (x : Stop) → TakesRequest sum setting (StepOf Size) was now mid new after written (Err x) → Greets sum setting old new out written (Err x)
     by_cause (Malformed which flaw) none = absurd none
     by_cause (Version byte) none = absurd none
+    by_cause (WouldCut cut) none = absurd none
     by_cause (Refused error) none = absurd none
-    by_cause LongAnswer some = inr (mid, was, now, begins, some)
-    by_cause Failed some = inr (mid, was, now, begins, some)
-    by_cause OutOfMemory some = inr (mid, was, now, begins, some)
+    by_cause LongAnswer this = (mid, was, now, begins, this)
+    by_cause Failed this = inr (inr (mid, was, now, begins, this))
+    by_cause OutOfMemory same = inr (inl (was, subst (λ (life : Life). Begun sum setting old life was) (sym same.1) begins))
 
 -- or it isn't out
-pub greeting_unsent : (sum : List ℕ → ℕ) (was now : SessionState) (old mid new : Life) (out kept written : Option (List ℕ)) (result : Result (SessionState × CacheState) Stop) → IsErrAnd result (λ x. x ≡ Failed)
-    → Begun sum old mid was → TakesStep sum Size was now mid new kept written (Ok tt) → (last : Option (List ℕ)) → Greets sum old new out last result
-greeting_unsent sum was now old mid new out kept written result is begins (reply, took, answers) last =
-    greeting_fails sum was now old mid new out kept last Failed result is begins (Size ∷ [], reply ∷ [], took)
+pub greeting_unsent : (sum : List ℕ → ℕ) (setting : Setting) (was now : SessionState) (old mid new : Life) (out kept written : Option (List ℕ)) (result : Result (SessionState × CacheState) Stop) → IsErrAnd result (λ x. x ≡ Failed)
+    → Begun sum setting old mid was → TakesRequest sum setting (StepOf Size) was now mid new kept written (Ok tt) → (last : Option (List ℕ)) → Greets sum setting old new out last result
+greeting_unsent sum setting was now old mid new out kept written result is begins (steps, replies, answer, served, took, answers) last =
+    greeting_fails sum setting was now old mid new out kept last Failed result is begins (steps, replies, answer, served, took, tt)
 
 -- all of it is
-pub greeted : (sum : List ℕ → ℕ) (was now : SessionState) (old mid new : Life) (out first second last : Option (List ℕ)) → Begun sum old mid was → Appends out first (version_byte ∷ []) → TakesStep sum Size was now mid new first second (Ok tt)
-    → Keeps second last → Greeted sum old new now out last
-greeted sum was now old mid new out first second last begins version (reply, took, answers) keeps = record {
+pub greeted : (sum : List ℕ → ℕ) (setting : Setting) (was now : SessionState) (old mid new : Life) (out first second last : Option (List ℕ)) → Begun sum setting old mid was → Appends out first (version_byte ∷ [])
+    → TakesRequest sum setting (StepOf Size) was now mid new first second (Ok tt) → Keeps second last → Greeted sum setting old new now out last
+greeted sum setting was now old mid new out first second last begins version (steps, replies, answer, served, took, answers) keeps = record {
   mid = mid;
   was = was;
   begun = begins;
-  reply = reply;
-  took = took;
-  hello = then_kept out second last (version_byte ∷ answer_bytes reply) (Appends-trans out first second (version_byte ∷ []) (answer_bytes reply) version answers) keeps;
+  took = (
+    steps,
+    replies,
+    answer,
+    served,
+    took,
+    then_kept out second last (version_byte ∷ answer) (Appends-trans out first second (version_byte ∷ []) answer version answers) keeps,
+  );
 }
 
 -- ---- a whole session
 
--- the steps of a greeted one are all that were taken
-early : (sum : List ℕ → ℕ) (old between new : Life) (was now : SessionState) (out greeting : Option (List ℕ)) → Greeted sum old between was out greeting → TookSome sum was now between new → EndsEarly sum old new
-early sum old between new was now out greeting g some =
-    inr (g.mid, g.was, now, g.begun, took_more sum (Size ∷ []) (g.reply ∷ []) g.was was now g.mid between new g.took some)
-
 -- the greeting is a step too
-pub only_greeted : (sum : List ℕ → ℕ) (old new : Life) (was : SessionState) (out written : Option (List ℕ)) → Greeted sum old new was out written → EndsEarly sum old new
-only_greeted sum old new was out written g = inr (g.mid, g.was, was, g.begun, (Size ∷ [], g.reply ∷ [], g.took))
+pub only_greeted : (sum : List ℕ → ℕ) (setting : Setting) (old new : Life) (was : SessionState) (out written : Option (List ℕ)) → Greeted sum setting old new was out written → EndsEarly sum setting old new
+only_greeted sum setting old new was out written g =
+    inr (inr (g.mid, g.was, was, g.begun, (g.took.0, g.took.1, g.took.2, g.took.3, g.took.4, tt)))
 
 -- no session was greeted
-pub file_not_greeted : (sum : List ℕ → ℕ) (old new : Life) (input out written : Option (List ℕ)) (stop : Stop) (result : Result (Unit {0}) Stop) → IsErrAnd result (λ x. x ≡ stop) → Greets sum old new out written (Err stop)
-    → ServesFile sum old new input input out written result
-file_not_greeted sum old new input out written stop (Ok done) is greets = absurd is
-file_not_greeted sum old new input out written stop (Err why) is greets = by_cause why (subst (λ (x : Stop). Greets sum old new out written (Err x)) (sym is) greets)
+pub file_not_greeted : (sum : List ℕ → ℕ) (setting : Setting) (old new : Life) (input out written : Option (List ℕ)) (stop : Stop) (result : Result (Unit {0}) Stop) → IsErrAnd result (λ x. x ≡ stop) → Greets sum setting old new out written (Err stop)
+    → ServesFile sum setting old new input input out written result
+file_not_greeted sum setting old new input out written stop (Ok done) is greets = absurd is
+file_not_greeted sum setting old new input out written stop (Err why) is greets = by_cause why (subst (λ (x : Stop). Greets sum setting old new out written (Err x)) (sym is) greets)
   where
-    by_cause : (x : Stop) → Greets sum old new out written (Err x) → ServesFile sum old new input input out written (Err x)
+    by_cause : (x : Stop) → Greets sum setting old new out written (Err x) → ServesFile sum setting old new input input out written (Err x)
     by_cause (Malformed which flaw) none = absurd none
     by_cause (Version byte) none = absurd none
-    by_cause (Refused error) refused = refused
-    by_cause LongAnswer ends = ends
-    by_cause Failed ends = ends
-    by_cause OutOfMemory ends = ends
+    by_cause (WouldCut cut) (more, same) = (more, same, refl)
+    by_cause (Refused error) had = had
+    by_cause LongAnswer ends = inl ends
+    by_cause Failed ends = inl ends
+    by_cause OutOfMemory ends = inl ends
 
 -- its version wasn't read
-pub file_not_begun : (sum : List ℕ → ℕ) (old new : Life) (was : SessionState) (input rest out written : Option (List ℕ)) (stop : Stop) (result : Result (Unit {0}) Stop) → IsErrAnd result (λ x. x ≡ stop) → Greeted sum old new was out written
-    → ReadsVersion input rest (Err stop) → ServesFile sum old new input rest out written result
-file_not_begun sum old new was input rest out written stop (Ok done) is g reads = absurd is
-file_not_begun sum old new was input rest out written stop (Err why) is g reads = by_cause why (subst (λ (x : Stop). ReadsVersion input rest (Err x)) (sym is) reads)
+pub file_not_begun : (sum : List ℕ → ℕ) (setting : Setting) (old new : Life) (was : SessionState) (input rest out written : Option (List ℕ)) (stop : Stop) (result : Result (Unit {0}) Stop) → IsErrAnd result (λ x. x ≡ stop)
+    → Greeted sum setting old new was out written → ReadsVersion input rest (Err stop) → ServesFile sum setting old new input rest out written result
+file_not_begun sum setting old new was input rest out written stop (Ok done) is g reads = absurd is
+file_not_begun sum setting old new was input rest out written stop (Err why) is g reads = by_cause why (subst (λ (x : Stop). ReadsVersion input rest (Err x)) (sym is) reads)
   where
-    by_cause : (x : Stop) → ReadsVersion input rest (Err x) → ServesFile sum old new input rest out written (Err x)
+    by_cause : (x : Stop) → ReadsVersion input rest (Err x) → ServesFile sum setting old new input rest out written (Err x)
     by_cause (Malformed which flaw) none = absurd none
     by_cause (Version byte) (other, takes) = (other, takes, (was, g))
+    by_cause (WouldCut cut) none = absurd none
     by_cause (Refused error) none = absurd none
     by_cause LongAnswer none = absurd none
-    by_cause Failed none = only_greeted sum old new was out written g
-    by_cause OutOfMemory none = only_greeted sum old new was out written g
+    by_cause Failed none = inl (only_greeted sum setting old new was out written g)
+    by_cause OutOfMemory none = inl (only_greeted sum setting old new was out written g)
 
 -- the version was read
 pub version_read : (input rest : Option (List ℕ)) (right : Bool) → right ≡ true → ReadsVersion input rest (Ok right) → Consumes input rest (version_byte ∷ [])
@@ -300,21 +364,22 @@ version_none input rest true is reads = absurd (cc is)
 version_none input rest false is reads = reads
 
 -- its requests were served
-pub file_served : (sum : List ℕ → ℕ) (old between new : Life) (was now : SessionState) (input after rest out greeting written : Option (List ℕ)) (result : Result (Unit {0}) Stop) → Greeted sum old between was out greeting
-    → Consumes input after (version_byte ∷ []) → Serves sum was now between new after rest greeting written result → ServesFile sum old new input rest out written result
-file_served sum old between new was now input after rest out greeting written result g version serves = by_answer result serves
+pub file_served : (sum : List ℕ → ℕ) (setting : Setting) (old between new : Life) (was now : SessionState) (input after rest out greeting written : Option (List ℕ)) (result : Result (Unit {0}) Stop) → Greeted sum setting old between was out greeting
+    → Consumes input after (version_byte ∷ []) → Serves sum setting was now between new after rest greeting written result → ServesFile sum setting old new input rest out written result
+file_served sum setting old between new was now input after rest out greeting written result g version serves = by_answer result serves
   where
-    served : (r : Result (Unit {0}) Stop) → Serves sum was now between new after rest greeting written r → ServedAfter sum old new input rest out written r
+    served : (r : Result (Unit {0}) Stop) → Serves sum setting was now between new after rest greeting written r → ServedAfter sum setting old new input rest out written r
     served r s = record { between = between; was = was; now = now; greeting = greeting; after = after; greeted = g; version = version; serves = s }
 
-    by_answer : (r : Result (Unit {0}) Stop) → Serves sum was now between new after rest greeting written r → ServesFile sum old new input rest out written r
+    by_answer : (r : Result (Unit {0}) Stop) → Serves sum setting was now between new after rest greeting written r → ServesFile sum setting old new input rest out written r
     by_answer (Ok done) s = inr (served (Ok done) s)
     by_answer (Err (Malformed which flaw)) s = served (Err (Malformed which flaw)) s
     by_answer (Err (Version byte)) s = absurd s
+    by_answer (Err (WouldCut cut)) s = absurd s
     by_answer (Err (Refused error)) s = absurd s
-    by_answer (Err LongAnswer) s = early sum old between new was now out greeting g s
-    by_answer (Err Failed) s = early sum old between new was now out greeting g s
-    by_answer (Err OutOfMemory) s = early sum old between new was now out greeting g s
+    by_answer (Err LongAnswer) s = inr (served (Err LongAnswer) s)
+    by_answer (Err Failed) s = inr (served (Err Failed) s)
+    by_answer (Err OutOfMemory) s = inr (served (Err OutOfMemory) s)
 
 -- ---- numbers in an answer
 
@@ -323,7 +388,7 @@ pub numbers_more : (head : List ℕ) (numbers : List ℕ) (i n : ℕ) → take (
     → (head ++ flat_map number_bytes (take i numbers)) ++ number_bytes n ≡ head ++ flat_map number_bytes (take (i + 1) numbers)
 numbers_more head numbers i n more =
     append_assoc head (flat_map number_bytes (take i numbers)) (number_bytes n)
-    ∙ ap (λ (l : List ℕ). head ++ l) (sym (one_more number_bytes (take i numbers) n) ∙ ap (λ (l : List ℕ). flat_map number_bytes l) (sym more))
+    ∙ ap (λ (l : List ℕ). head ++ l) (sym (flat_map_snoc number_bytes (take i numbers) n) ∙ ap (λ (l : List ℕ). flat_map number_bytes l) (sym more))
 
 -- they have eight bytes each
 length_of_numbers : (numbers : List ℕ) → length (flat_map number_bytes numbers) ≡ 8 * length numbers
@@ -331,6 +396,13 @@ length_of_numbers [] = refl
 length_of_numbers (n ∷ ns) =
     let rest = length_of_numbers ns in
     length-append (number_bytes n) (flat_map number_bytes ns) ∙ omega (arith, rest, length-number_bytes n)
+
+-- where they are too many for an answer
+pub numbers_unwritten : (numbers : List ℕ) (len : ℕ) (stop : Stop) (result : Result (Unit {0}) Stop) → IsErrAnd result (λ x. x ≡ stop) → len ≡ 8 * length numbers → IsWriteError len stop
+    → IfErr result (IsWriteError (length (flat_map number_bytes numbers)))
+numbers_unwritten numbers len stop (Ok done) is long why = tt
+numbers_unwritten numbers len stop (Err other) is long why =
+    subst (λ (n : ℕ). IsWriteError n other) (long ∙ sym (length_of_numbers numbers)) (subst (λ (x : Stop). IsWriteError len x) (sym is) why)
 
 -- the whole answer
 pub numbers_frame : (numbers : List ℕ) → (length_bytes (8 * length numbers + 1) ++ 0 ∷ []) ++ flat_map number_bytes numbers ≡ frame_bytes (0 ∷ flat_map number_bytes numbers)

@@ -1,5 +1,6 @@
 -- How the reply to a step is written.
 use Rattle.std.specs.Prelude.{ℕ, List, [], ◌∷◌, ◌++◌, Bool, if◌then◌else◌}
+use Rattle.std.specs.Prelude.{◌≤◌, ◌+◌, ◌^◌, length}
 use Rattle.std.specs.List.{flat_map}
 use Rattle.disk.specs.Error.{number_of}
 use Rattle.disk.specs.declared.started_sync.StartedSync.{StartedSync}
@@ -51,8 +52,20 @@ payload reply = []
 abbrev pub answer_bytes : Reply → List ℕ
 answer_bytes reply = frame_bytes (status_byte reply ∷ payload reply)
 
--- why an answer may not be written
-abbrev pub IsWriteError : Stop → Type 0
-IsWriteError LongAnswer = Unit {0}
-IsWriteError Failed = Unit {0}
-IsWriteError _ = ⊥
+-- the answer to a request for a change, where the client may only read
+abbrev pub refusal_bytes : List ℕ
+refusal_bytes = frame_bytes (22 ∷ [])
+
+-- no frame holds this answer: its length has no four bytes
+abbrev pub IsTooLong : List ℕ → Type 0
+IsTooLong answer = 2 ^ 32 + 4 ≤ length answer
+
+-- nor one with so many bytes after its status
+abbrev pub IsLong : (len : ℕ) → Type 0
+IsLong len = 2 ^ 32 ≤ len + 1
+
+-- why an answer with so many bytes after its status may not be written
+abbrev pub IsWriteError : (len : ℕ) → Stop → Type 0
+IsWriteError len LongAnswer = IsLong len
+IsWriteError len Failed = Unit {0}
+IsWriteError len _ = ⊥

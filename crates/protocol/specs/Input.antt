@@ -1,6 +1,7 @@
 -- What reads of some bytes do to the bytes that an input has left, where those are known.
 use Rattle.std.specs.Prelude.{◌≡◌, ◌≤◌, ◌<◌, ℕ, List, ◌++◌, length, slice_index}
-use Rattle.std.specs.Prelude.{Bool, false, Option}
+use Rattle.std.specs.Prelude.{Bool, false, Option, [], ◌-◌, take, nat_le, ◌&&◌}
+use Rattle.std.specs.Int.{w32, from_le_bytes}
 use Rattle.std.specs.Io.KnownBytes.{Consumes, IsAtEnd}
 use Rattle.protocol.specs.declared.stop.ReadError.{ReadError}
 use Rattle.protocol.specs.declared.stop.ReadError.TheVariants.{Malformed, Failed, OutOfMemory}
@@ -29,3 +30,14 @@ abbrev pub IsBroken : ReadError → Type 0
 IsBroken (Malformed flaw) = ⊥
 IsBroken Failed = Unit {0}
 IsBroken OutOfMemory = Unit {0}
+
+-- these bytes begin with a whole frame: a length, and as many bytes as it tells
+abbrev pub has_frame : List ℕ → Bool
+has_frame bytes =
+    nat_le 4 (length bytes)
+    && nat_le (from_le_bytes w32 (take 4 bytes)) (length bytes - 4)
+
+-- of what was answered these bytes aren't out, and these have come of the next request: where it
+-- hasn't come whole, and so may have to be waited for, all that was answered is out
+abbrev pub IsSent : (come unsent : List ℕ) → Type 0
+IsSent come unsent = has_frame come ≡ false → unsent ≡ []

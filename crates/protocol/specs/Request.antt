@@ -1,7 +1,7 @@
 -- How a request is written.
 use Rattle.std.specs.Prelude.{◌≡◌, ◌≢◌, ◌<◌, ◌+◌, ◌^◌, ◌++◌, ◌==◌, ◌*◌, ℕ, List, [], ◌∷◌, length}
 use Rattle.std.specs.Prelude.{Option, Some, None, IfSome, Result, Ok, Err, Vec, Bool}
-use Rattle.std.specs.Prelude.{if◌then◌else◌}
+use Rattle.std.specs.Prelude.{if◌then◌else◌, ◌⊎◌, true}
 use Rattle.std.specs.declared.alloc.Global.{Global}
 use Rattle.std.specs.Int.{w32, w64, to_le_bytes}
 use Rattle.std.specs.Int.NonZero.{non_zero_usize_get}
@@ -14,6 +14,8 @@ use Rattle.protocol.specs.Input.{AreBytes}
 use Rattle.protocol.specs.declared.request.Request.{Request}
 use Rattle.protocol.specs.declared.request.Request.TheVariants.{Step, Close}
 use Rattle.protocol.specs.declared.stop.Flaw.{Flaw}
+use Rattle.protocol.specs.declared.stop.Flaw.TheVariants.{Cut, Empty, Kind, Length, LongRead}
+use Rattle.protocol.specs.declared.stop.Flaw.TheVariants.{NoBuffer}
 use Rattle.protocol.specs.declared.stop.ReadError.{ReadError}
 use Rattle.protocol.specs.declared.stop.ReadError.TheVariants.{Malformed, Failed, OutOfMemory}
 
@@ -99,7 +101,7 @@ IsRequest (Step (Seek index offset)) = IsNumber index × IsNumber offset
 IsRequest Close = Unit {0}
 IsRequest _ = ⊥
 
--- ---- what reading answers
+-- ---- kinds
 
 -- these kinds have this one
 abbrev pub has_kind : List ℕ → ℕ → Bool
@@ -119,19 +121,72 @@ pub record HasFields (kind : ℕ) (fields : List ℕ) : Type 0 where
   pub known : field_count kind ≡ Some count
   pub fits : length fields ≡ 8 * count
 
--- the request of a kind with these fields, or none
+-- ---- what is wrong with bytes
+
+-- they begin with this length, and these are after it
+abbrev pub IsFramed : (n : ℕ) → (after bytes : List ℕ) → Type 0
+IsFramed n after bytes = (n < 2 ^ 32) × (bytes ≡ length_bytes n ++ after)
+
+-- a frame of this length is one of the kind: of an append each but the empty one, of another kind
+-- those that hold its numbers
+abbrev pub TakesLength : (kind n : ℕ) → Type 0
+TakesLength kind n =
+    (kind ≡ 1) ⊎ ((count : ℕ) × (field_count kind ≡ Some count) × (n ≡ 8 * count + 1))
+
+-- fewer bytes came after a length than it tells; the length is one of the kind, where that came
+abbrev pub EndsInside : (n : ℕ) → List ℕ → Type 0
+EndsInside n [] = 0 < n
+EndsInside n (kind ∷ fields) = (length fields + 1 < n) × TakesLength kind n
+
+-- these kinds end with the number of bytes that they ask for
+abbrev pub asks_bytes : ℕ → Bool
+asks_bytes kind = has_kind (6 ∷ 7 ∷ 11 ∷ 14 ∷ []) kind
+
+-- what is wrong with fields that have the right length
+abbrev pub FieldsHave : Flaw → (kind : ℕ) → List ℕ → Type 0
+FieldsHave LongRead kind fields =
+    (asks_bytes kind ≡ true) × (front : List ℕ) × (len : ℕ) × (fields ≡ front ++ number_bytes len)
+    × IsNumber len × (FitsAnswer len → ⊥)
+FieldsHave NoBuffer kind fields = (kind ≡ 12) × (fields ≡ number_bytes 0)
+FieldsHave _ kind fields = ⊥
+
+-- a whole frame of the right length, in whose fields this is wrong
+abbrev pub FrameHas : Flaw → List ℕ → Type 0
+FrameHas flaw bytes =
+    (kind : ℕ) × (fields : List ℕ) × (rest : List ℕ) × (bytes ≡ frame_bytes (kind ∷ fields) ++ rest)
+    × HasFields kind fields × FieldsHave flaw kind fields
+
+-- what is wrong with bytes, by what they are; no two of these are true of the same ones
+abbrev pub HasFlaw : Flaw → List ℕ → Type 0
+HasFlaw Cut bytes =
+    (length bytes < 4)
+    ⊎ ((n : ℕ) × (after : List ℕ) × IsFramed n after bytes × EndsInside n after)
+HasFlaw Empty bytes = (after : List ℕ) × IsFramed 0 after bytes
+HasFlaw (Kind kind) bytes =
+    (n : ℕ) × (after : List ℕ) × IsFramed n (kind ∷ after) bytes
+    × (0 < n) × (kind ≢ 1) × (field_count kind ≡ None)
+HasFlaw Length bytes =
+    (n : ℕ) × (kind : ℕ) × (after : List ℕ) × (count : ℕ) × IsFramed n (kind ∷ after) bytes
+    × (0 < n) × (kind ≢ 1) × (field_count kind ≡ Some count) × (n ≢ 8 * count + 1)
+HasFlaw LongRead bytes = FrameHas LongRead bytes
+HasFlaw NoBuffer bytes = FrameHas NoBuffer bytes
+
+-- ---- what reading answers
+
+-- the request of a kind with these fields; or none has them, and why
 abbrev pub Builds : ℕ → List ℕ → Result Request Flaw → Type 0
 Builds kind fields (Ok request) =
     IsRequest request × (kind ≡ kind_of request) × (fields ≡ fields_of request)
 Builds kind fields (Err flaw) =
-    (request : Request) → IsRequest request → kind ≡ kind_of request
-    → fields ≢ fields_of request
+    ((request : Request) → IsRequest request → kind ≡ kind_of request
+    → fields ≢ fields_of request) × FieldsHave flaw kind fields
 
 -- bytes of this number, where there are so many
 abbrev pub ReadsFields : (len : ℕ) → Option (List ℕ) → Option (List ℕ)
     → Result (Vec ℕ Global) ReadError → Type 0
 ReadsFields len old new (Ok bytes) = Consumes old new bytes.items × (length bytes.items ≡ len)
-ReadsFields len old new (Err (Malformed flaw)) = IfSome old (λ xs. length xs < len)
+ReadsFields len old new (Err (Malformed flaw)) =
+    (flaw ≡ Cut) × IfSome old (λ xs. length xs < len)
 ReadsFields len old new (Err Failed) = Unit {0}
 ReadsFields len old new (Err OutOfMemory) = Unit {0}
 
@@ -140,9 +195,13 @@ abbrev pub IsNoRequest : List ℕ → Type 0
 IsNoRequest bytes =
     (request : Request) (rest : List ℕ) → IsRequest request → bytes ≢ request_bytes request ++ rest
 
--- the bytes after these are of no request
-abbrev pub HasNoRequest : (front : List ℕ) → Option (List ℕ) → Type 0
-HasNoRequest front old = IfSome old (λ bytes. IsNoRequest (front ++ bytes))
+-- nor so, and this is wrong
+abbrev pub IsFlawed : Flaw → List ℕ → Type 0
+IsFlawed flaw bytes = IsNoRequest bytes × HasFlaw flaw bytes
+
+-- this is wrong with the bytes that stand after these
+abbrev pub HasNoRequest : Flaw → (front : List ℕ) → Option (List ℕ) → Type 0
+HasNoRequest flaw front old = IfSome old (λ bytes. IsFlawed flaw (front ++ bytes))
 
 -- a request was read after these bytes, its first ones
 abbrev pub ReadsAfter : (front : List ℕ) → Option (List ℕ) → Option (List ℕ)
@@ -150,7 +209,7 @@ abbrev pub ReadsAfter : (front : List ℕ) → Option (List ℕ) → Option (Lis
 ReadsAfter front old new (Ok request) =
     IsRequest request
     × (after : List ℕ) × (request_bytes request ≡ front ++ after) × Consumes old new after
-ReadsAfter front old new (Err (Malformed flaw)) = HasNoRequest front old
+ReadsAfter front old new (Err (Malformed flaw)) = HasNoRequest flaw front old
 ReadsAfter front old new (Err Failed) = Unit {0}
 ReadsAfter front old new (Err OutOfMemory) = Unit {0}
 
@@ -161,6 +220,6 @@ ReadsRequest old new (Ok None) = IfSome old (λ bytes. bytes ≡ [])
 ReadsRequest old new (Ok (Some request)) =
     IsRequest request × Consumes old new (request_bytes request)
 ReadsRequest old new (Err (Malformed flaw)) =
-    IfSome old (λ bytes. (bytes ≢ []) × IsNoRequest bytes)
+    IfSome old (λ bytes. (bytes ≢ []) × IsFlawed flaw bytes)
 ReadsRequest old new (Err Failed) = Unit {0}
 ReadsRequest old new (Err OutOfMemory) = Unit {0}

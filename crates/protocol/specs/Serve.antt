@@ -1,12 +1,17 @@
 -- What serving an input does.
-use Rattle.std.specs.Prelude.{◌≡◌, ◌≢◌, ◌⊎◌, ◌+◌, ℕ, List, [], ◌∷◌, length, All, Option}
-use Rattle.std.specs.Prelude.{Result, Ok, Err, IfSome, Bool, true, false}
+use Rattle.std.specs.Prelude.{◌≡◌, ◌≢◌, ◌⊎◌, ◌+◌, ◌≤◌, ◌<◌, ◌++◌, ◌&&◌, ℕ, List, [], ◌∷◌, length}
+use Rattle.std.specs.Prelude.{Option, Result, Ok, Err, IfSome, Bool, true, false}
+use Rattle.std.specs.Int.NonZero.{non_zero_u16_get}
 use Rattle.std.specs.List.{flat_map}
 use Rattle.std.specs.Io.KnownBytes.{Appends, Consumes, IsAtEnd}
 use Rattle.disk.specs.Disk.{Life}
 use Rattle.disk.specs.declared.error.Error.{Error}
 use Rattle.cache.specs.CacheState.{CacheState}
+use Rattle.crash.specs.Looks.{Looked}
+use Rattle.paged.specs.declared.outlook.Outlook.{Outlook}
+use Rattle.paged.specs.Outlook.{IsOutlook}
 use Rattle.session.specs.declared.steps.Step.{Step}
+use Rattle.session.specs.declared.steps.Step.TheVariants.{Append, Sync, StartSync, Begin, Truncate}
 use Rattle.session.specs.declared.steps.Step.TheVariants.{Size}
 use Rattle.session.specs.declared.steps.Reply.{Reply}
 use Rattle.session.specs.declared.steps.Reply.TheVariants.{Fault}
@@ -14,20 +19,21 @@ use Rattle.session.specs.Run.{SessionState, RunsAlways}
 use Rattle.session.specs.Promise.{Promises, AttemptsThrough, BeginsBy}
 use Rattle.protocol.specs.declared.request.Request.{Request}
 use Rattle.protocol.specs.declared.request.Request.TheVariants.{Step as StepOf, Close}
+use Rattle.protocol.specs.declared.setting.Setting.{Setting}
 use Rattle.protocol.specs.declared.stop.ReadError.TheVariants.{Malformed as IsMalformed}
 use Rattle.protocol.specs.declared.stop.Stop.{Stop}
-use Rattle.protocol.specs.declared.stop.Stop.TheVariants.{Malformed, Version, Refused, LongAnswer}
-use Rattle.protocol.specs.declared.stop.Stop.TheVariants.{Failed, OutOfMemory}
-use Rattle.protocol.specs.Answer.{answer_bytes}
-use Rattle.protocol.specs.Request.{IsNoRequest, IsRequest, ReadsRequest, request_bytes}
+use Rattle.protocol.specs.declared.stop.Stop.TheVariants.{Malformed, Version, WouldCut, Refused}
+use Rattle.protocol.specs.declared.stop.Stop.TheVariants.{LongAnswer, Failed, OutOfMemory}
+use Rattle.protocol.specs.Answer.{answer_bytes, refusal_bytes, IsTooLong}
+use Rattle.protocol.specs.Request.{IsFlawed, IsRequest, ReadsRequest, request_bytes}
 
--- requests of steps, one after another
-abbrev pub requests_bytes : List Step → List ℕ
-requests_bytes steps = flat_map (λ step. request_bytes (StepOf step)) steps
+-- requests, one after another
+abbrev pub requests_bytes : List Request → List ℕ
+requests_bytes requests = flat_map request_bytes requests
 
--- the answers to them
-abbrev pub answers_bytes : List Reply → List ℕ
-answers_bytes replies = flat_map answer_bytes replies
+-- the logical bytes of a page
+abbrev pub page_bytes : Setting → ℕ
+page_bytes setting = non_zero_u16_get setting.page_size
 
 -- ---- what is done with requests
 
@@ -37,33 +43,70 @@ pub record Took (sum : List ℕ → ℕ) (steps : List Step) (replies : List Rep
   pub runs : RunsAlways sum steps was now old new [] replies
   pub promises : Promises sum steps was now old new [] replies
 
--- some were, whether or not they were answered
-abbrev pub TookSome : (List ℕ → ℕ) → SessionState → SessionState → Life → Life → Type 0
-TookSome sum was now old new =
-    (steps : List Step) × (replies : List Reply) × Took sum steps replies was now old new
+-- what a client that may only read is refused: to append, to sync, to cut, and to end the recovery
+abbrev pub changes : Step → Bool
+changes (Append bytes) = true
+changes Sync = true
+changes StartSync = true
+changes Begin = true
+changes (Truncate size) = true
+changes step = false
+
+-- how a request is served: its step is taken, and answered by its reply; or none is, where it asks
+-- for a change that the client may not make, and it is answered so
+pub data Served (setting : Setting) : Request → List Step → List Reply → List ℕ → Type 0 where
+  taken : (step : Step) (reply : Reply) → (setting.read_only && changes step) ≡ false
+      → Served setting (StepOf step) (step ∷ []) (reply ∷ []) (answer_bytes reply)
+  refused : (step : Step) → (setting.read_only && changes step) ≡ true
+      → Served setting (StepOf step) [] [] refusal_bytes
+
+-- requests, one after another: all their steps, their replies, and the answers
+pub data AreServed (setting : Setting) : List Request → List Step → List Reply → List ℕ
+    → Type 0 where
+  no_more : AreServed setting [] [] [] []
+  one_more : (requests : List Request) (steps : List Step) (replies : List Reply) (bytes : List ℕ)
+      (request : Request) (more : List Step) (others : List Reply) (answer : List ℕ)
+      → AreServed setting requests steps replies bytes
+      → IsRequest request → Served setting request more others answer
+      → AreServed setting (requests ++ request ∷ []) (steps ++ more) (replies ++ others)
+      (bytes ++ answer)
 
 -- the input begins with requests, whose steps were taken; the answers to them were written
-pub record Answered (sum : List ℕ → ℕ) (was now : SessionState) (old new : Life)
-    (input rest out written : Option (List ℕ)) : Type 0 where
+pub record Answered (sum : List ℕ → ℕ) (setting : Setting) (was now : SessionState)
+    (old new : Life) (input rest out written : Option (List ℕ)) : Type 0 where
+  pub requests : List Request
   pub steps : List Step
   pub replies : List Reply
-  pub asked : All (λ step. IsRequest (StepOf step)) steps
+  pub bytes : List ℕ
+  pub served : AreServed setting requests steps replies bytes
   pub took : Took sum steps replies was now old new
-  pub takes : Consumes input rest (requests_bytes steps)
-  pub answers : Appends out written (answers_bytes replies)
+  pub takes : Consumes input rest (requests_bytes requests)
+  pub answers : Appends out written bytes
 
--- one was taken and answered, by how it ended
-abbrev pub TakesStep : (List ℕ → ℕ) → Step → SessionState → SessionState → Life → Life
-    → Option (List ℕ) → Option (List ℕ) → Result (Unit {0}) Stop → Type 0
-TakesStep sum step was now old new out written (Ok done) =
-    (reply : Reply) × Took sum (step ∷ []) (reply ∷ []) was now old new
-    × Appends out written (answer_bytes reply)
-TakesStep sum step was now old new out written (Err (Malformed number flaw)) = ⊥
-TakesStep sum step was now old new out written (Err (Version byte)) = ⊥
-TakesStep sum step was now old new out written (Err (Refused error)) = ⊥
-TakesStep sum step was now old new out written (Err LongAnswer) = TookSome sum was now old new
-TakesStep sum step was now old new out written (Err Failed) = TookSome sum was now old new
-TakesStep sum step was now old new out written (Err OutOfMemory) = TookSome sum was now old new
+-- the steps of a request were taken, and this is so of its answer
+abbrev pub TookFor : (List ℕ → ℕ) → Setting → (List ℕ → Type 0) → Request → SessionState
+    → SessionState → Life → Life → Type 0
+TookFor sum setting Is request was now old new =
+    (steps : List Step) × (replies : List Reply) × (answer : List ℕ)
+    × Served setting request steps replies answer × Took sum steps replies was now old new
+    × Is answer
+
+-- any answer
+abbrev pub IsAny : List ℕ → Type 0
+IsAny answer = Unit {0}
+
+-- a request was served and answered, by how that ended
+abbrev pub TakesRequest : (List ℕ → ℕ) → Setting → Request → SessionState → SessionState → Life
+    → Life → (out written : Option (List ℕ)) → Result (Unit {0}) Stop → Type 0
+TakesRequest sum setting request was now old new out written (Ok done) =
+    TookFor sum setting (Appends out written) request was now old new
+TakesRequest sum setting request was now old new out written (Err LongAnswer) =
+    TookFor sum setting IsTooLong request was now old new
+TakesRequest sum setting request was now old new out written (Err Failed) =
+    TookFor sum setting IsAny request was now old new
+TakesRequest sum setting request was now old new out written (Err OutOfMemory) =
+    (now ≡ was) × (new ≡ old)
+TakesRequest sum setting request was now old new out written (Err other) = ⊥
 
 -- the request of this number was read, or there was none
 abbrev pub ReadsNext : (number : ℕ) → Option (List ℕ) → Option (List ℕ)
@@ -71,85 +114,148 @@ abbrev pub ReadsNext : (number : ℕ) → Option (List ℕ) → Option (List ℕ
 ReadsNext number input rest (Ok request) = ReadsRequest input rest (Ok request)
 ReadsNext number input rest (Err (Malformed which flaw)) =
     (which ≡ number) × ReadsRequest input rest (Err (IsMalformed flaw))
-ReadsNext number input rest (Err (Version byte)) = ⊥
-ReadsNext number input rest (Err (Refused error)) = ⊥
-ReadsNext number input rest (Err LongAnswer) = ⊥
 ReadsNext number input rest (Err Failed) = Unit {0}
 ReadsNext number input rest (Err OutOfMemory) = Unit {0}
+ReadsNext number input rest (Err other) = ⊥
+
+-- one more request was read, whose steps were taken, and this is so of its answer
+abbrev pub TookNext : (List ℕ → ℕ) → Setting → (List ℕ → Type 0) → SessionState → SessionState
+    → Life → Life → (input : Option (List ℕ)) → Type 0
+TookNext sum setting Is was now old new input =
+    (request : Request) × (rest : Option (List ℕ)) × IsRequest request
+    × Consumes input rest (request_bytes request)
+    × TookFor sum setting Is request was now old new
+
+-- the input begins with requests whose steps were taken and answered, and then it goes on so
+abbrev pub AnsweredThen : (List ℕ → ℕ) → Setting → SessionState → Life
+    → (input out : Option (List ℕ)) → (SessionState → Life → Option (List ℕ) → Type 0) → Type 0
+AnsweredThen sum setting was old input out Then =
+    (mid : SessionState) × (between : Life) × (rest : Option (List ℕ)) × (written : Option (List ℕ))
+    × Answered sum setting was mid old between input rest out written × Then mid between rest
+
+-- and maybe with one more, whose steps were taken; nothing else was done
+abbrev pub BreaksOff : (List ℕ → ℕ) → Setting → SessionState → SessionState → Life → Life
+    → (input out : Option (List ℕ)) → Type 0
+BreaksOff sum setting was now old new input out =
+    AnsweredThen sum setting was old input out (λ mid between rest.
+    ((now ≡ mid) × (new ≡ between)) ⊎ TookNext sum setting IsAny mid now between new rest)
 
 -- how the requests of an input were served, by how that ended: all of them up to the end or a
 -- close; or those before the first that isn't one, whose number is told
-abbrev pub Serves : (List ℕ → ℕ) → SessionState → SessionState → Life → Life
+abbrev pub Serves : (List ℕ → ℕ) → Setting → SessionState → SessionState → Life → Life
     → (input rest out written : Option (List ℕ)) → Result (Unit {0}) Stop → Type 0
-Serves sum was now old new input rest out written (Ok done) =
-    (mid : Option (List ℕ)) × Answered sum was now old new input mid out written
+Serves sum setting was now old new input rest out written (Ok done) =
+    (mid : Option (List ℕ)) × Answered sum setting was now old new input mid out written
     × (IsAtEnd mid ⊎ Consumes mid rest (request_bytes Close))
-Serves sum was now old new input rest out written (Err (Malformed number flaw)) =
-    (mid : Option (List ℕ)) × (answered : Answered sum was now old new input mid out written)
-    × (number ≡ length answered.steps + 1)
-    × IfSome mid (λ bytes. (bytes ≢ []) × IsNoRequest bytes)
-Serves sum was now old new input rest out written (Err (Version byte)) = ⊥
-Serves sum was now old new input rest out written (Err (Refused error)) = ⊥
-Serves sum was now old new input rest out written (Err LongAnswer) = TookSome sum was now old new
-Serves sum was now old new input rest out written (Err Failed) = TookSome sum was now old new
-Serves sum was now old new input rest out written (Err OutOfMemory) = TookSome sum was now old new
+Serves sum setting was now old new input rest out written (Err (Malformed number flaw)) =
+    (mid : Option (List ℕ))
+    × (answered : Answered sum setting was now old new input mid out written)
+    × (number ≡ length answered.requests + 1)
+    × IfSome mid (λ bytes. (bytes ≢ []) × IsFlawed flaw bytes)
+Serves sum setting was now old new input rest out written (Err LongAnswer) =
+    AnsweredThen sum setting was old input out (λ mid between after.
+    TookNext sum setting IsTooLong mid now between new after)
+Serves sum setting was now old new input rest out written (Err Failed) =
+    BreaksOff sum setting was now old new input out
+Serves sum setting was now old new input rest out written (Err OutOfMemory) =
+    BreaksOff sum setting was now old new input out
+Serves sum setting was now old new input rest out written (Err other) = ⊥
 
--- ---- a whole session
-
--- the logical bytes of a page, and those that the writer may hold back
-abbrev pub page_size : ℕ
-page_size = 4084
-
-abbrev pub buffer_bytes : ℕ
-buffer_bytes = 65536
+-- ---- how a session begins
 
 -- what is written first
 abbrev pub version_byte : ℕ
 version_byte = 1
 
--- a recovery of the file began a session
-pub record Begun (sum : List ℕ → ℕ) (old new : Life) (was : SessionState) : Type 0 where
+-- the blob was only looked at, which told that a recovery of it would cut so many bytes
+pub record LookedAt (sum : List ℕ → ℕ) (setting : Setting) (old new : Life)
+    (cut : ℕ) : Type 0 where
+  pub outlook : Outlook
+  pub is : IsOutlook sum (page_bytes setting) old.present.readable outlook
+  pub cuts : outlook.cut ≡ cut
+  pub looked : Looked old new
+
+-- no more than may be cut
+abbrev pub MayRecover : (List ℕ → ℕ) → Setting → Life → Life → Type 0
+MayRecover sum setting old new =
+    (cut : ℕ) × LookedAt sum setting old new cut × (cut ≤ setting.allowed)
+
+-- or more
+abbrev pub WouldCutMore : (List ℕ → ℕ) → Setting → Life → Life → ℕ → Type 0
+WouldCutMore sum setting old new cut =
+    LookedAt sum setting old new cut × (setting.allowed < cut)
+
+-- a look told that the blob may be recovered, and that began a session
+pub record Begun (sum : List ℕ → ℕ) (setting : Setting) (old new : Life)
+    (was : SessionState) : Type 0 where
+  pub between : Life
+  pub may : MayRecover sum setting old between
   pub cache : CacheState
-  pub pages : cache.page_size ≡ page_size
-  pub begins : BeginsBy sum cache buffer_bytes old new (Ok was)
+  pub pages : cache.page_size ≡ page_bytes setting
+  pub begins : BeginsBy sum cache setting.capacity between new (Ok was)
 
--- or none did: each moment of it is of a recovery, or nothing was done
-abbrev pub HasAttempted : (List ℕ → ℕ) → Life → Life → Type 0
-HasAttempted sum old new = (new ≡ old) ⊎ AttemptsThrough sum page_size old new
+-- or none began: the blob was only looked at; or it may be recovered, and each moment since is of a
+-- recovery
+abbrev pub HasAttempted : (List ℕ → ℕ) → Setting → Life → Life → Type 0
+HasAttempted sum setting old new =
+    Looked old new
+    ⊎ ((between : Life) × MayRecover sum setting old between
+    × AttemptsThrough sum (page_bytes setting) between new)
 
-abbrev pub Recovers : (List ℕ → ℕ) → Life → Life → Result (SessionState × CacheState) Error → Type 0
-Recovers sum old new (Ok begun) = Begun sum old new begun.0
-Recovers sum old new (Err error) = HasAttempted sum old new
+-- why no session began
+abbrev pub IsNotBegun : (List ℕ → ℕ) → Setting → Life → Life → Stop → Type 0
+IsNotBegun sum setting old new (Refused error) = HasAttempted sum setting old new
+IsNotBegun sum setting old new (WouldCut cut) = WouldCutMore sum setting old new cut
+IsNotBegun sum setting old new other = ⊥
 
--- the session began, or it didn't; where it did some steps were taken, whether or not they were
--- answered
-abbrev pub EndsEarly : (List ℕ → ℕ) → Life → Life → Type 0
-EndsEarly sum old new =
-    HasAttempted sum old new
-    ⊎ ((mid : Life) × (was : SessionState) × (now : SessionState)
-    × Begun sum old mid was × TookSome sum was now mid new)
+abbrev pub Recovers : (List ℕ → ℕ) → Setting → Life → Life
+    → Result (SessionState × CacheState) Stop → Type 0
+Recovers sum setting old new (Ok begun) = Begun sum setting old new begun.0
+Recovers sum setting old new (Err stop) = IsNotBegun sum setting old new stop
+
+-- the session began, and the step that asks for its size was taken; this is so of its answer
+abbrev pub TookSize : (List ℕ → ℕ) → Setting → (List ℕ → Type 0) → Life → Life → Type 0
+TookSize sum setting Is old new =
+    (mid : Life) × (was : SessionState) × (now : SessionState) × Begun sum setting old mid was
+    × TookFor sum setting Is (StepOf Size) was now mid new
+
+-- a session began or it didn't; where it did its size was asked for, or not even that
+abbrev pub EndsEarly : (List ℕ → ℕ) → Setting → Life → Life → Type 0
+EndsEarly sum setting old new =
+    HasAttempted sum setting old new
+    ⊎ ((was : SessionState) × Begun sum setting old new was)
+    ⊎ TookSize sum setting IsAny old new
 
 -- a session has begun, and was greeted: by the version, and the answer to a request for the size
-pub record Greeted (sum : List ℕ → ℕ) (old new : Life) (now : SessionState)
+pub record Greeted (sum : List ℕ → ℕ) (setting : Setting) (old new : Life) (now : SessionState)
     (out written : Option (List ℕ)) : Type 0 where
   pub mid : Life
   pub was : SessionState
-  pub begun : Begun sum old mid was
-  pub reply : Reply
-  pub took : Took sum (Size ∷ []) (reply ∷ []) was now mid new
-  pub hello : Appends out written (version_byte ∷ answer_bytes reply)
+  pub begun : Begun sum setting old mid was
+  pub took : TookFor sum setting (λ answer. Appends out written (version_byte ∷ answer))
+      (StepOf Size) was now mid new
 
--- or not, by why
-abbrev pub Greets : (List ℕ → ℕ) → Life → Life → (out written : Option (List ℕ))
+-- the recovery was refused, and so answered
+abbrev pub IsRefused : (List ℕ → ℕ) → Setting → Life → Life → (out written : Option (List ℕ))
+    → Error → Type 0
+IsRefused sum setting old new out written error =
+    HasAttempted sum setting old new
+    × Appends out written (version_byte ∷ answer_bytes (Fault error))
+
+-- a session was greeted or not, by why; where more would be cut than may be, nothing is written
+abbrev pub Greets : (List ℕ → ℕ) → Setting → Life → Life → (out written : Option (List ℕ))
     → Result (SessionState × CacheState) Stop → Type 0
-Greets sum old new out written (Ok begun) = Greeted sum old new begun.0 out written
-Greets sum old new out written (Err (Refused error)) =
-    HasAttempted sum old new × Appends out written (version_byte ∷ answer_bytes (Fault error))
-Greets sum old new out written (Err (Malformed number flaw)) = ⊥
-Greets sum old new out written (Err (Version byte)) = ⊥
-Greets sum old new out written (Err LongAnswer) = EndsEarly sum old new
-Greets sum old new out written (Err Failed) = EndsEarly sum old new
-Greets sum old new out written (Err OutOfMemory) = EndsEarly sum old new
+Greets sum setting old new out written (Ok begun) = Greeted sum setting old new begun.0 out written
+Greets sum setting old new out written (Err (Refused error)) =
+    IsRefused sum setting old new out written error
+Greets sum setting old new out written (Err (WouldCut cut)) =
+    WouldCutMore sum setting old new cut × (written ≡ out)
+Greets sum setting old new out written (Err LongAnswer) = TookSize sum setting IsTooLong old new
+Greets sum setting old new out written (Err Failed) = EndsEarly sum setting old new
+Greets sum setting old new out written (Err OutOfMemory) = EndsEarly sum setting old new
+Greets sum setting old new out written (Err other) = ⊥
+
+-- ---- a whole session
 
 -- the input begins with the version, or has no byte
 abbrev pub ReadsVersion : Option (List ℕ) → Option (List ℕ) → Result Bool Stop → Type 0
@@ -157,41 +263,49 @@ ReadsVersion input rest (Ok true) = Consumes input rest (version_byte ∷ [])
 ReadsVersion input rest (Ok false) = IsAtEnd input
 ReadsVersion input rest (Err (Version byte)) =
     (byte ≢ version_byte) × Consumes input rest (byte ∷ [])
-ReadsVersion input rest (Err (Malformed number flaw)) = ⊥
-ReadsVersion input rest (Err (Refused error)) = ⊥
-ReadsVersion input rest (Err LongAnswer) = ⊥
 ReadsVersion input rest (Err Failed) = Unit {0}
 ReadsVersion input rest (Err OutOfMemory) = Unit {0}
+ReadsVersion input rest (Err other) = ⊥
 
 -- a greeted session was served the requests after the version, and it ended so
-pub record ServedAfter (sum : List ℕ → ℕ) (old new : Life)
+pub record ServedAfter (sum : List ℕ → ℕ) (setting : Setting) (old new : Life)
     (input rest out written : Option (List ℕ)) (result : Result (Unit {0}) Stop) : Type 0 where
   pub between : Life
   pub was : SessionState
   pub now : SessionState
   pub greeting : Option (List ℕ)
   pub after : Option (List ℕ)
-  pub greeted : Greeted sum old between was out greeting
+  pub greeted : Greeted sum setting old between was out greeting
   pub version : Consumes input after (version_byte ∷ [])
-  pub serves : Serves sum was now between new after rest greeting written result
+  pub serves : Serves sum setting was now between new after rest greeting written result
 
 -- a greeted session had nothing of this to do
-abbrev pub OnlyGreeted : (List ℕ → ℕ) → Life → Life → (out written : Option (List ℕ)) → Type 0
-OnlyGreeted sum old new out written =
-    (was : SessionState) × Greeted sum old new was out written
+abbrev pub OnlyGreeted : (List ℕ → ℕ) → Setting → Life → Life → (out written : Option (List ℕ))
+    → Type 0
+OnlyGreeted sum setting old new out written =
+    (was : SessionState) × Greeted sum setting old new was out written
 
 -- how a whole input was served over a file, by how that ended
-abbrev pub ServesFile : (List ℕ → ℕ) → Life → Life → (input rest out written : Option (List ℕ))
-    → Result (Unit {0}) Stop → Type 0
-ServesFile sum old new input rest out written (Ok done) =
-    (IsAtEnd input × OnlyGreeted sum old new out written)
-    ⊎ ServedAfter sum old new input rest out written (Ok done)
-ServesFile sum old new input rest out written (Err (Malformed number flaw)) =
-    ServedAfter sum old new input rest out written (Err (Malformed number flaw))
-ServesFile sum old new input rest out written (Err (Version byte)) =
-    (byte ≢ version_byte) × Consumes input rest (byte ∷ []) × OnlyGreeted sum old new out written
-ServesFile sum old new input rest out written (Err (Refused error)) =
-    HasAttempted sum old new × Appends out written (version_byte ∷ answer_bytes (Fault error))
-ServesFile sum old new input rest out written (Err LongAnswer) = EndsEarly sum old new
-ServesFile sum old new input rest out written (Err Failed) = EndsEarly sum old new
-ServesFile sum old new input rest out written (Err OutOfMemory) = EndsEarly sum old new
+abbrev pub ServesFile : (List ℕ → ℕ) → Setting → Life → Life
+    → (input rest out written : Option (List ℕ)) → Result (Unit {0}) Stop → Type 0
+ServesFile sum setting old new input rest out written (Ok done) =
+    (IsAtEnd input × OnlyGreeted sum setting old new out written)
+    ⊎ ServedAfter sum setting old new input rest out written (Ok done)
+ServesFile sum setting old new input rest out written (Err (Malformed number flaw)) =
+    ServedAfter sum setting old new input rest out written (Err (Malformed number flaw))
+ServesFile sum setting old new input rest out written (Err (Version byte)) =
+    (byte ≢ version_byte) × Consumes input rest (byte ∷ [])
+    × OnlyGreeted sum setting old new out written
+ServesFile sum setting old new input rest out written (Err (WouldCut cut)) =
+    WouldCutMore sum setting old new cut × (written ≡ out) × (rest ≡ input)
+ServesFile sum setting old new input rest out written (Err (Refused error)) =
+    IsRefused sum setting old new out written error
+ServesFile sum setting old new input rest out written (Err LongAnswer) =
+    TookSize sum setting IsTooLong old new
+    ⊎ ServedAfter sum setting old new input rest out written (Err LongAnswer)
+ServesFile sum setting old new input rest out written (Err Failed) =
+    EndsEarly sum setting old new
+    ⊎ ServedAfter sum setting old new input rest out written (Err Failed)
+ServesFile sum setting old new input rest out written (Err OutOfMemory) =
+    EndsEarly sum setting old new
+    ⊎ ServedAfter sum setting old new input rest out written (Err OutOfMemory)

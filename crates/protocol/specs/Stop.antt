@@ -8,8 +8,8 @@ use Rattle.protocol.specs.declared.stop.Flaw.TheVariants.{NoBuffer}
 use Rattle.protocol.specs.declared.stop.ReadError.{ReadError}
 use Rattle.protocol.specs.declared.stop.ReadError.TheVariants as read
 use Rattle.protocol.specs.declared.stop.Stop.{Stop}
-use Rattle.protocol.specs.declared.stop.Stop.TheVariants.{Malformed, Version, Refused, LongAnswer}
-use Rattle.protocol.specs.declared.stop.Stop.TheVariants.{Failed, OutOfMemory}
+use Rattle.protocol.specs.declared.stop.Stop.TheVariants.{Malformed, Version, WouldCut, Refused}
+use Rattle.protocol.specs.declared.stop.Stop.TheVariants.{LongAnswer, Failed, OutOfMemory}
 
 -- where the request of this number isn't read
 abbrev pub stop_at : ℕ → ReadError → Stop
@@ -21,6 +21,7 @@ stop_at number read.OutOfMemory = OutOfMemory
 abbrev pub status_of : Stop → ℕ
 status_of (Malformed number flaw) = 2
 status_of (Version byte) = 2
+status_of (WouldCut cut) = 3
 status_of (Refused error) = 1
 status_of LongAnswer = 1
 status_of Failed = 1
@@ -41,6 +42,8 @@ stop_text (Malformed number flaw) =
     codes "pagedd: request " ++ decimal number ++ codes ": " ++ flaw_text flaw
 stop_text (Version byte) =
     codes "pagedd: version " ++ decimal byte ++ codes " of the protocol is not 1"
+stop_text (WouldCut cut) =
+    codes "pagedd: nothing was done: a recovery would cut " ++ decimal cut ++ codes " bytes"
 stop_text (Refused error) = codes "pagedd: the recovery failed: " ++ name_of error
 stop_text LongAnswer = codes "pagedd: an answer is too long"
 stop_text Failed = codes "pagedd: the input or the output failed"

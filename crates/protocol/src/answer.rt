@@ -1,8 +1,9 @@
 // Answers: how the reply to a step is written.
-ghost use Rattle.std.specs.Prelude.{◌∷◌, [], ◌++◌, ◌+◌, OnOk, IfErr};
+ghost use Rattle.std.specs.Prelude.{◌∷◌, [], ◌++◌, ◌+◌, length, OnOk, IfErr};
 ghost use Rattle.std.specs.List.{flat_map};
 ghost use Rattle.std.specs.Io.KnownBytes.{Appends};
-ghost use Rattle.protocol.specs.Answer.{answer_bytes, started_bytes, IsWriteError};
+ghost use Rattle.protocol.specs.Answer.{answer_bytes, payload, refusal_bytes, started_bytes};
+ghost use Rattle.protocol.specs.Answer.{IsWriteError};
 ghost use Rattle.protocol.specs.Request.{frame_bytes, length_bytes, number_bytes};
 
 use crate::request::MOST_BYTES;
@@ -16,7 +17,7 @@ use std::io::Write;
 pub fn write_answer<W: Write>(out: &mut W, reply: &Reply) -> Result<(), Stop>
     ensures answers { OnOk result
         (Appends (W.contents out.old) (W.contents out.new) (answer_bytes reply.now)) }
-    ensures err { IfErr result IsWriteError }
+    ensures err { IfErr result (IsWriteError (length (payload reply.now))) }
 {
     match reply {
         Reply::At(number) | Reply::Length(number) => write_number(out, *number),
@@ -40,12 +41,21 @@ pub fn write_answer<W: Write>(out: &mut W, reply: &Reply) -> Result<(), Stop>
     }
 }
 
+/// Writes the answer to a request for a change, where the client may only read.
+pub fn write_refusal<W: Write>(out: &mut W) -> Result<(), Stop>
+    ensures answers { OnOk result
+        (Appends (W.contents out.old) (W.contents out.new) refusal_bytes) }
+    ensures err { IfErr result (IsWriteError 0) }
+{
+    write_frame(out, 22, &[], &[])
+}
+
 // An answer with one number.
 #[tactic(auto, unfolding(crate::specs::Request::number_bytes))]
 fn write_number<W: Write>(out: &mut W, number: u64) -> Result<(), Stop>
     ensures answers { OnOk result (Appends (W.contents out.old) (W.contents out.new)
         (frame_bytes (0 ∷ number_bytes number))) }
-    ensures err { IfErr result IsWriteError }
+    ensures err { IfErr result (IsWriteError (length (number_bytes number))) }
 {
     write_frame(out, 0, &number.to_le_bytes(), &[])
 }
@@ -55,7 +65,7 @@ fn write_number<W: Write>(out: &mut W, number: u64) -> Result<(), Stop>
 fn write_started<W: Write>(out: &mut W, front: &[u8], started: StartedSync) -> Result<(), Stop>
     ensures answers { OnOk result (Appends (W.contents out.old) (W.contents out.new)
         (frame_bytes (0 ∷ front.now ++ started_bytes started))) }
-    ensures err { IfErr result IsWriteError }
+    ensures err { IfErr result (IsWriteError (length (front.now ++ started_bytes started))) }
 {
     match started {
         StartedSync::Done => write_frame(out, 0, front, &[0]),
@@ -70,7 +80,7 @@ fn write_started<W: Write>(out: &mut W, front: &[u8], started: StartedSync) -> R
 fn write_numbers<W: Write>(out: &mut W, numbers: &[usize]) -> Result<(), Stop>
     ensures answers { OnOk result (Appends (W.contents out.old) (W.contents out.new)
         (frame_bytes (0 ∷ flat_map number_bytes numbers.now))) }
-    ensures err { IfErr result IsWriteError }
+    ensures err { IfErr result (IsWriteError (length (flat_map number_bytes numbers.now))) }
 {
     let len = numbers.len().checked_mul(8).ok_or(Stop::LongAnswer)?;
     write_head(out, 0, len)?;
@@ -84,7 +94,7 @@ fn write_numbers<W: Write>(out: &mut W, numbers: &[usize]) -> Result<(), Stop>
 fn write_frame<W: Write>(out: &mut W, status: u8, front: &[u8], bytes: &[u8]) -> Result<(), Stop>
     ensures answers { OnOk result (Appends (W.contents out.old) (W.contents out.new)
         (frame_bytes (status ∷ front.now ++ bytes.now))) }
-    ensures err { IfErr result IsWriteError }
+    ensures err { IfErr result (IsWriteError (length (front.now ++ bytes.now))) }
 {
     let len = front
         .len()
@@ -101,7 +111,7 @@ fn write_frame<W: Write>(out: &mut W, status: u8, front: &[u8], bytes: &[u8]) ->
 fn write_head<W: Write>(out: &mut W, status: u8, len: usize) -> Result<(), Stop>
     ensures answers { OnOk result (Appends (W.contents out.old) (W.contents out.new)
         (length_bytes (len + 1) ++ status ∷ [])) }
-    ensures err { IfErr result IsWriteError }
+    ensures err { IfErr result (IsWriteError len) }
 {
     if len as u64 > MOST_BYTES {
         return Err(Stop::LongAnswer);

@@ -3,10 +3,14 @@
 #![tactic(auto)]
 
 mod answer;
+mod cause;
 mod input;
 mod request;
 mod server;
+mod setting;
 mod stop;
 
+pub use cause::Cause;
 pub use server::{serve, serve_file};
+pub use setting::Setting;
 pub use stop::{Flaw, Stop};

@@ -1,9 +1,9 @@
 // Requests: what a client asks for, and how it is read.
 ghost use Rattle.std.specs.Prelude.{◌≡◌, ◌+◌, ◌*◌, ◌≤◌, ◌^◌, ◌<◌, length, take, drop, OkIff, IfOk};
-ghost use Rattle.std.specs.Prelude.{◌++◌, ◌∷◌, [], Some, Ok};
+ghost use Rattle.std.specs.Prelude.{◌++◌, ◌∷◌, [], Some, Ok, IfErr};
 ghost use Rattle.protocol.specs.Input.{AreBytes};
-ghost use Rattle.protocol.specs.Request.{field_count, number_bytes, length_bytes, Builds, HasFields};
-ghost use Rattle.protocol.specs.Request.{FitsAnswer, ReadsAfter, ReadsFields, ReadsRequest};
+ghost use Rattle.protocol.specs.Request.{Builds, HasFields, field_count, length_bytes};
+ghost use Rattle.protocol.specs.Request.{FitsAnswer, number_bytes, ReadsAfter, ReadsFields, ReadsRequest};
 
 use crate::input::read_some;
 use crate::stop::{Flaw, ReadError};
@@ -206,7 +206,8 @@ fn build_snap(index: u64, offset: u64, len: u64) -> Result<Request, Flaw>
 
 // How many bytes are asked for, where an answer holds as many.
 fn len_of(number: u64) -> Result<usize, Flaw>
-    ensures { OkIff result (FitsAnswer number) number }
+    ensures fits { OkIff result (FitsAnswer number) number }
+    ensures flaw { IfErr result (λ flaw. flaw ≡ Flaw.LongRead) }
 {
     if number > MOST_BYTES {
         return Err(Flaw::LongRead);

@@ -1,108 +1,140 @@
 // Serving: requests are read, taken as steps of a session, and answered.
-ghost use Rattle.std.specs.Prelude.{◌≡◌, length, IfOk};
-ghost use Rattle.std.specs.Io.Buffered.{reader_remaining};
+ghost use Rattle.std.specs.Prelude.{◌≡◌, [], IfErr, IfOk, OnOk};
+ghost use Rattle.std.specs.Io.Buffered.{reader_buffer, reader_remaining};
+ghost use Rattle.std.specs.Io.Buffered.{writer_buffer, writer_contents};
 ghost use Rattle.std.specs.Io.KnownBytes.{Keeps};
 ghost use Rattle.session.specs.Run.{IsReady, CacheFits};
-ghost use Rattle.protocol.specs.Serve.{Greets, ReadsNext, ReadsVersion, Recovers, Serves, ServesFile};
-ghost use Rattle.protocol.specs.Serve.{TakesStep};
+ghost use Rattle.protocol.specs.Input.{IsSent, has_frame};
+ghost use Rattle.protocol.specs.Serve.{Greets, IsNotBegun, MayRecover, ReadsNext, ReadsVersion};
+ghost use Rattle.protocol.specs.Serve.{Recovers, Serves, ServesFile, TakesRequest, changes};
 
-use crate::answer::write_answer;
+use crate::answer::{write_answer, write_refusal};
 use crate::input::read_some;
 use crate::request::{Request, read_request};
 use crate::stop::Stop;
+use crate::{Cause, Setting};
 use cache::CacheRef;
-use disk::{Blob, Error};
+use disk::Blob;
 use page::Sum;
+use paged::look;
 use session::{Reply, Session, Step, run};
 use std::alloc::Global;
-use std::io::{BufReader, Read, Write};
-use std::num::{NonZeroU16, NonZeroUsize};
+use std::io::{BufReader, BufWriter, Read, Write};
 
 /// The version of the protocol.
 pub const VERSION: u8 = 1;
 
-/// The logical bytes of a page.
-pub const PAGE_SIZE: u16 = 4084;
-
-/// The bytes that the writer may hold back, and those of a read of a recovery.
-pub const CAPACITY: usize = 65_536;
-
-/// The pages that the cache may hold.
-pub const PAGES: usize = 64;
-
-/// Recovers a blob of `size` physical bytes, and serves it: the input is a client's whole session,
-/// from its version on, and the output gets all that it is answered. What is written last may be
-/// held back by the output: the caller flushes it.
-pub fn serve_file<B: Blob, H: Sum, R: Read, W: Write>(
+/// Recovers a blob, and serves it: the input is a client's whole session, from its version on, and
+/// the output gets all that it is answered. Whenever the program may have to wait for input, what
+/// was answered is out. What is answered last may be held back by the output: the caller flushes
+/// it.
+///
+/// Before it recovers the blob it looks at it. [`Stop::WouldCut`] where the recovery would cut more
+/// than the setting allows: then the blob is as it was, and nothing is read or written.
+pub fn serve_file<B: Blob + Cause, H: Sum, R: Read, W: Write + Drop>(
     alloc: Global,
     blob: &mut B,
-    size: u64,
+    setting: &Setting,
+    _set_aside: &str,
     input: &mut BufReader<R>,
-    out: &mut W,
+    out: &mut BufWriter<W>,
 ) -> Result<(), Stop>
-    requires { size ≡ length (B.life blob.old).present.readable }
     ensures { let old = B.life blob.old in let new = B.life blob.new in
         let input_old = reader_remaining R.remaining input.old in
         let input_new = reader_remaining R.remaining input.new in
-        ServesFile H.sum_of old new input_old input_new (W.contents out.old) (W.contents out.new)
-        result }
+        let out_old = writer_contents W.contents out.old in
+        let out_new = writer_contents W.contents out.new in
+        ServesFile H.sum_of setting.now old new input_old input_new out_old out_new result }
 {
-    let (mut session, mut cache) = greet::<B, H, W>(alloc, blob, size, out)?;
-    if !read_version(alloc, input)? {
+    let (mut session, mut cache) = greet::<B, H, W>(alloc, blob, setting, out)?;
+    if !read_version(alloc, input, out)? {
         return Ok(());
     }
-    serve(alloc, &mut session, blob, &mut cache, input, out)
+    serve(alloc, &mut session, blob, &mut cache, setting, input, out)
 }
 
-// Begins a session, and writes the version and the size.
-fn greet<B: Blob, H: Sum, W: Write>(
+// Begins a session, and writes the version and the size, which are out then.
+fn greet<B: Blob, H: Sum, W: Write + Drop>(
     alloc: Global,
     blob: &mut B,
-    size: u64,
-    out: &mut W,
+    setting: &Setting,
+    out: &mut BufWriter<W>,
 ) -> Result<(Session<B, H>, CacheRef), Stop>
-    requires { size ≡ length (B.life blob.old).present.readable }
     ensures greets { let old = B.life blob.old in let new = B.life blob.new in
-        Greets H.sum_of old new (W.contents out.old) (W.contents out.new) result }
+        let out_old = writer_contents W.contents out.old in
+        let out_new = writer_contents W.contents out.new in
+        Greets H.sum_of setting.now old new out_old out_new result }
+    ensures sent { OnOk result (writer_buffer out.new ≡ []) }
     ensures ready { let new = B.life blob.new in
         IfOk result (λ r. IsReady H.sum_of r.0 new.present) }
     ensures cached { let new = B.life blob.new in IfOk result (λ r. CacheFits r.0 r.1 new.present) }
 {
-    out.write_all(&[VERSION])?;
-    let (mut session, mut cache) = match recover::<B, H>(alloc, blob, size) {
+    let (mut session, mut cache) = match recover::<B, H>(alloc, blob, setting) {
         Ok(begun) => begun,
-        Err(error) => {
+        Err(Stop::Refused(error)) => {
+            out.write_all(&[VERSION])?;
             write_answer(out, &Reply::Fault(error))?;
             return Err(Stop::Refused(error));
         }
+        Err(stop) => return Err(stop),
     };
-    take_step(alloc, &mut session, blob, &mut cache, Step::Size, out)?;
+    out.write_all(&[VERSION])?;
+    take_step(
+        alloc,
+        &mut session,
+        blob,
+        &mut cache,
+        setting,
+        Step::Size,
+        out,
+    )?;
     out.flush()?;
     Ok((session, cache))
 }
 
-// A session on a blob, and its cache.
+// A session on a blob, and its cache, where the recovery may cut what it would.
 fn recover<B: Blob, H: Sum>(
     alloc: Global,
     blob: &mut B,
-    size: u64,
-) -> Result<(Session<B, H>, CacheRef), Error>
-    requires { size ≡ length (B.life blob.old).present.readable }
-    ensures recovers { Recovers H.sum_of (B.life blob.old) (B.life blob.new) result }
+    setting: &Setting,
+) -> Result<(Session<B, H>, CacheRef), Stop>
+    ensures recovers { Recovers H.sum_of setting.now (B.life blob.old) (B.life blob.new) result }
     ensures ready { let new = B.life blob.new in
         IfOk result (λ r. IsReady H.sum_of r.0 new.present) }
     ensures cached { let new = B.life blob.new in IfOk result (λ r. CacheFits r.0 r.1 new.present) }
 {
-    let page_size = NonZeroU16::new(PAGE_SIZE).unwrap();
-    let pages = NonZeroUsize::new(PAGES).unwrap();
-    let buffer_size = NonZeroUsize::new(CAPACITY).unwrap();
-    let mut cache = CacheRef::new(alloc, page_size, pages)?;
-    let session = Session::recover(alloc, blob, size, CAPACITY, &mut cache, buffer_size)?;
+    look_first::<B, H>(alloc, blob, setting)?;
+    let mut cache = CacheRef::new(alloc, setting.page_size, setting.pages)?;
+    let size = blob.len();
+    let capacity = setting.capacity;
+    let buffer_size = setting.buffer_size;
+    let session = Session::recover(alloc, blob, size, capacity, &mut cache, buffer_size)?;
     Ok((session, cache))
 }
 
-// Reads the version with which a client begins; false where its input has no byte.
-fn read_version<R: Read>(alloc: Global, input: &mut R) -> Result<bool, Stop>
+// Looks at a blob, and tells where a recovery would cut more than it may.
+fn look_first<B: Blob, H: Sum>(alloc: Global, blob: &mut B, setting: &Setting) -> Result<(), Stop>
+    ensures may { let old = B.life blob.old in let new = B.life blob.new in
+        OnOk result (MayRecover H.sum_of setting.now old new) }
+    ensures err { let old = B.life blob.old in let new = B.life blob.new in
+        IfErr result (IsNotBegun H.sum_of setting.now old new) }
+{
+    let size = blob.len();
+    let outlook = look::<B, H>(alloc, blob, size, setting.page_size, setting.buffer_size)?;
+    if outlook.cut > setting.allowed {
+        return Err(Stop::WouldCut(outlook.cut));
+    }
+    Ok(())
+}
+
+// Reads the version with which a client begins; false where its input has no byte. What was written
+// is out.
+fn read_version<R: Read, W: Write + Drop>(
+    alloc: Global,
+    input: &mut R,
+    _out: &BufWriter<W>,
+) -> Result<bool, Stop>
+    requires sent { writer_buffer _out.now ≡ [] }
     ensures { ReadsVersion (R.remaining input.old) (R.remaining input.new) result }
 {
     let first = match read_some(alloc, input, 1) {
@@ -117,15 +149,17 @@ fn read_version<R: Read>(alloc: Global, input: &mut R) -> Result<bool, Stop>
 }
 
 /// Takes the requests of the input as steps of the session, one after another, and writes an
-/// answer to each after its step, up to a close or the end of the input. What is written is out
-/// whenever the next request is to be waited for.
-pub fn serve<B: Blob, H: Sum, R: Read, W: Write>(
+/// answer to each after its step, up to a close or the end of the input; where the client may only
+/// read, a request for a change is refused, and no step taken. What was answered is out before the
+/// program reads a request that hasn't come whole.
+pub fn serve<B: Blob, H: Sum, R: Read, W: Write + Drop>(
     alloc: Global,
     session: &mut Session<B, H>,
     blob: &mut B,
     cache: &mut CacheRef,
+    setting: &Setting,
     input: &mut BufReader<R>,
-    out: &mut W,
+    out: &mut BufWriter<W>,
 ) -> Result<(), Stop>
     requires ready { IsReady H.sum_of session.old (B.life blob.old).present }
     requires cached { CacheFits session.old cache.old (B.life blob.old).present }
@@ -134,45 +168,78 @@ pub fn serve<B: Blob, H: Sum, R: Read, W: Write>(
     ensures serves { let old = B.life blob.old in let new = B.life blob.new in
         let input_old = reader_remaining R.remaining input.old in
         let input_new = reader_remaining R.remaining input.new in
-        Serves H.sum_of session.old session.new old new input_old input_new (W.contents out.old)
-        (W.contents out.new) result }
+        let out_old = writer_contents W.contents out.old in
+        let out_new = writer_contents W.contents out.new in
+        Serves H.sum_of setting.now session.old session.new old new input_old input_new out_old
+        out_new result }
 {
     for number in 1..u64::MAX {
         match next_request(alloc, number, input, out)? {
-            Some(Request::Step(step)) => take_step(alloc, session, blob, cache, step, out)?,
+            Some(Request::Step(step)) => {
+                take_step(alloc, session, blob, cache, setting, step, out)?;
+            }
             Some(Request::Close) | None => return Ok(()),
         }
     }
     Err(Stop::Failed)
 }
 
-// The request of this number. What was written is out before it is waited for.
-fn next_request<R: Read, W: Write>(
+// The request of this number. Where it hasn't come whole, what was answered is out before the rest
+// of it is waited for.
+fn next_request<R: Read, W: Write + Drop>(
     alloc: Global,
     number: u64,
     input: &mut BufReader<R>,
-    out: &mut W,
+    out: &mut BufWriter<W>,
 ) -> Result<Option<Request>, Stop>
-    ensures keeps { Keeps (W.contents out.old) (W.contents out.new) }
+    ensures keeps { let out_old = writer_contents W.contents out.old in
+        Keeps out_old (writer_contents W.contents out.new) }
+    ensures sent { OnOk result (IsSent (reader_buffer input.old) (writer_buffer out.new)) }
     ensures reads { let input_old = reader_remaining R.remaining input.old in
         let input_new = reader_remaining R.remaining input.new in
         ReadsNext number input_old input_new result }
 {
-    if input.buffer().is_empty() {
+    if !holds_frame(input.buffer()) {
         out.flush()?;
     }
+    read_sent(alloc, number, input, out)
+}
+
+// Whether these bytes begin with a whole frame: then its request is read without waiting.
+fn holds_frame(bytes: &[u8]) -> bool
+    ensures { result ≡ has_frame bytes.now }
+{
+    match bytes.first_chunk::<4>() {
+        Some(four) => bytes.len() as u64 - 4 >= u64::from(u32::from_le_bytes(*four)),
+        None => false,
+    }
+}
+
+// Reads the request of this number. It has come whole, or what was answered is out.
+fn read_sent<R: Read, W: Write + Drop>(
+    alloc: Global,
+    number: u64,
+    input: &mut BufReader<R>,
+    _out: &BufWriter<W>,
+) -> Result<Option<Request>, Stop>
+    requires sent { IsSent (reader_buffer input.old) (writer_buffer _out.now) }
+    ensures reads { let input_old = reader_remaining R.remaining input.old in
+        let input_new = reader_remaining R.remaining input.new in
+        ReadsNext number input_old input_new result }
+{
     match read_request(alloc, input) {
         Ok(request) => Ok(request),
         Err(error) => Err(Stop::at(number, error)),
     }
 }
 
-// Takes one step, and writes its answer after it.
+// Takes one step, unless it is refused, and writes its answer after it.
 fn take_step<B: Blob, H: Sum, W: Write>(
     alloc: Global,
     session: &mut Session<B, H>,
     blob: &mut B,
     cache: &mut CacheRef,
+    setting: &Setting,
     step: Step,
     out: &mut W,
 ) -> Result<(), Stop>
@@ -181,9 +248,12 @@ fn take_step<B: Blob, H: Sum, W: Write>(
     ensures ready { IsReady H.sum_of session.new (B.life blob.new).present }
     ensures cached { CacheFits session.new cache.new (B.life blob.new).present }
     ensures takes { let old = B.life blob.old in let new = B.life blob.new in
-        TakesStep H.sum_of step session.old session.new old new (W.contents out.old)
-        (W.contents out.new) result }
+        TakesRequest H.sum_of setting.now (Request.Step step) session.old session.new old new
+        (W.contents out.old) (W.contents out.new) result }
 {
+    if setting.read_only && is_change(&step) {
+        return write_refusal(out);
+    }
     let mut replies = Vec::new(alloc);
     if run(session, blob, cache, &[step], &mut replies).is_err() {
         return Err(Stop::OutOfMemory);
@@ -192,4 +262,14 @@ fn take_step<B: Blob, H: Sum, W: Write>(
         [reply] => write_answer(out, reply),
         _ => unreachable!(),
     }
+}
+
+// Whether a client that may only read is refused this step.
+fn is_change(step: &Step) -> bool
+    ensures { result ≡ changes step.now }
+{
+    matches!(
+        step,
+        Step::Append(_) | Step::Sync | Step::StartSync | Step::Begin | Step::Truncate(_)
+    )
 }

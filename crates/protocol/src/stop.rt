@@ -42,6 +42,9 @@ pub enum Stop {
     Malformed(u64, Flaw),
     /// The input begins with this byte in place of the version.
     Version(u8),
+    /// A recovery of the file would cut so many physical bytes, which is more than it may. It was
+    /// only looked at.
+    WouldCut(u64),
     /// The recovery of the file was refused.
     Refused(Error),
     /// The answer to a request is longer than a frame.
@@ -70,6 +73,7 @@ impl Stop {
     {
         match self {
             Stop::Malformed(_, _) | Stop::Version(_) => 2,
+            Stop::WouldCut(_) => 3,
             Stop::Refused(_) | Stop::LongAnswer | Stop::Failed | Stop::OutOfMemory => 1,
         }
     }
@@ -97,6 +101,10 @@ impl fmt::Display for Stop {
         match self {
             Stop::Malformed(number, flaw) => write!(f, "pagedd: request {number}: {flaw}"),
             Stop::Version(byte) => write!(f, "pagedd: version {byte} of the protocol is not 1"),
+            Stop::WouldCut(cut) => write!(
+                f,
+                "pagedd: nothing was done: a recovery would cut {cut} bytes"
+            ),
             Stop::Refused(error) => write!(f, "pagedd: the recovery failed: {}", error.name()),
             Stop::LongAnswer => write!(f, "pagedd: an answer is too long"),
             Stop::Failed => write!(f, "pagedd: the input or the output failed"),
@@ -122,6 +130,16 @@ impl From<io::Error> for Stop {
 
     fn from(_: io::Error) -> Self {
         Stop::Failed
+    }
+}
+
+impl From<Error> for Stop {
+    ghost use Rattle.protocol.specs.declared.stop.Stop.TheVariants.{Refused};
+
+    ghost from_gives = { λ error stop. stop ≡ Refused error };
+
+    fn from(error: Error) -> Self {
+        Stop::Refused(error)
     }
 }
 

@@ -13,7 +13,7 @@ returns-then-is_empty g c =
     let came = c.in_ok-kind.ensures.came in
     let none : length kind.items ≡ 0 = omega (arith, kind.ok.0, eqb-true (vec_len kind) 0 (sym c.if-is_empty.ensures)) in
     record {
-      reads = after_end c.args.length kind.items (g.R.Read.remaining c.args.input.now) (g.R.Read.remaining c.read_some.new.input) c.requires none came.takes (came.ends (omega (arith, none)));
+      reads = after_end c.args.length kind.items (g.R.Read.remaining c.args.input.now) (g.R.Read.remaining c.read_some.new.input) c.requires (omega (arith, c.if-length-eq0.false)) none came.takes (came.ends (omega (arith, none)));
     }
 
 pub returns : goal.returns

@@ -1,14 +1,20 @@
-use Rattle.std.proofs.Common.{◌∷◌, [], ◌≡◌, ◌∙◌, sym}
-use Rattle.protocol.proofs.Serving.{took_unless, takes_step, one_of}
+use Rattle.std.proofs.Common.{◌∷◌, [], ◌≡◌, ◌∙◌, sym, rules}
+use Rattle.protocol.specs.Serve.{changes}
+use Rattle.protocol.proofs.Serving.{both, step_refused, took_unless, takes_step, one_of}
 use Rattle.protocol.proofs.server.take_step.Goals as goal
+
+pub returns-then-is_change-clause-takes : goal.returns-then-is_change-clause-takes
+returns-then-is_change-clause-takes g c =
+    step_refused g.H.Sum.sum_of c.args.setting.now c.args.step c.args.session.now (g.B.Blob.life c.args.blob.now) (g.W.Write.contents c.args.out.now) (g.W.Write.contents c.write_refusal.new.out) c.write_refusal.result
+    (both c.args.setting.now.read_only (changes c.args.step) c.if-setting.true (sym c.is_change.ensures ∙ c.if-is_change.true)) c.write_refusal.ensures.answers c.write_refusal.ensures.err
 
 pub returns-then-is_err-clause-takes : goal.returns-then-is_err-clause-takes
 returns-then-is_err-clause-takes g c =
-    took_unless g.H.Sum.sum_of c.args.session.now c.run.new.session (g.B.Blob.life c.args.blob.now) (g.B.Blob.life c.run.new.blob) c.run.result (sym c.if-is_err.ensures.value) c.run.ensures.same_session c.run.ensures.same_life
+    took_unless c.args.session.now c.run.new.session (g.B.Blob.life c.args.blob.now) (g.B.Blob.life c.run.new.blob) c.run.result (sym c.if-is_err.ensures.value) c.run.ensures.same_session c.run.ensures.same_life
 
 pub returns-clause-takes : goal.returns-clause-takes
 returns-clause-takes g c =
     let one : c.run.new.replies.items ≡ c.reply-item.result ∷ [] = sym c.as_slice.ensures.value ∙ one_of c.as_slice.result.now c.reply-item.result c.in-len1.len_at_least c.in-len1.len_below c.reply-item.is in
-    takes_step g.H.Sum.sum_of c.args.step c.reply-item.result c.args.session.now c.run.new.session (g.B.Blob.life c.args.blob.now) (g.B.Blob.life c.run.new.blob) c.new-replies.result.items c.run.new.replies.items
-    (g.W.Write.contents c.args.out.now) (g.W.Write.contents c.write_answer.new.out) c.run.result c.write_answer.result (sym c.if-is_err.ensures.value) c.run.ensures.runs c.new-replies.ensures.items one
+    takes_step g.H.Sum.sum_of c.args.setting.now c.args.step c.reply-item.result c.args.session.now c.run.new.session (g.B.Blob.life c.args.blob.now) (g.B.Blob.life c.run.new.blob) c.new-replies.result.items c.run.new.replies.items
+    (g.W.Write.contents c.args.out.now) (g.W.Write.contents c.write_answer.new.out) c.run.result c.write_answer.result (search rules) (sym c.if-is_err.ensures.value) c.run.ensures.runs c.new-replies.ensures.items one
     c.write_answer.ensures.answers c.write_answer.ensures.err
