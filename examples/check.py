@@ -15,7 +15,8 @@ import sys
 import tempfile
 
 import reader
-from client import APPEND, READ, SYNC, Blob
+from client import APPEND, READ, SYNC
+from served import Served, opened
 
 TOP = os.path.dirname(os.path.dirname(os.path.abspath(__file__)))
 PROGRAM = os.path.join(TOP, "crates", "pagedctl")
@@ -161,28 +162,31 @@ def play(program, script):
     return ended.stdout.decode()
 
 
-def recovers(program, image, folder):
-    """Whether `pagedd` recovers of an image just the text that the reader finds in it."""
+def recovers(program, image, synced, folder):
+    """Whether `pagedd` recovers of an image just the text that the reader finds in it, and `pagedd
+    cat` writes that text."""
     path = os.path.join(folder, "image")
     with open(path, "wb") as file:
         file.write(image)
     _, text = reader.read(image, 4084, reader.crc32c)
-    blob = Blob(program, path)
+    written = subprocess.run([program, "cat", path], capture_output=True, check=False).stdout
+    blob = opened(program, path, synced)
     content = blob.ask(READ, 0, blob.size)
-    blob.process.kill()
-    blob.process.wait()
-    return content == text
+    blob.kill()
+    return content == text == written
 
 
 def read_files(program, rng):
     """Files that `pagedd` wrote, read after each call, and torn; how many of both."""
-    states, sent, images = [b""], b"", 0
+    states, sent, synced, images = [b""], b"", 0, 0
     with tempfile.TemporaryDirectory() as folder:
         path = os.path.join(folder, "blob")
-        blob = Blob(program, path)
+        blob = Served(program, path)
         for turn in range(24):
+            before = synced
             if turn % 3 == 2:
                 blob.ask(SYNC)
+                synced = len(sent)
             else:
                 data = rng.randbytes(rng.choice([5, 3000, 9000, 80_000]))
                 blob.ask(APPEND, data=data)
@@ -196,14 +200,15 @@ def read_files(program, rng):
             cut = rng.randrange(len(states[-1]) + 1)
             torn = states[-1][:cut] + states[-2][cut:]
             images += 1
-            if not recovers(program, torn, folder):
+            if not recovers(program, torn, before, folder):
                 raise SystemExit(f"at call {turn} the program recovers another text")
-        blob.process.kill()
-        blob.process.wait()
+        blob.kill()
     return len(states) - 1, images
 
 
 def main():
+    if len(sys.argv) > 3:
+        raise SystemExit("usage: python3 check.py [PAGEDCTL [PAGEDD]]")
     programs = [os.path.abspath(path) for path in sys.argv[1:]]
     found = scripts()
     dumps = sum(compare(name, *texts) for name, texts in found.items())

@@ -2,7 +2,8 @@
 
 A client appends numbered records and syncs now and then; what an answered sync covers is noted. The
 program is killed by SIGKILL at a random moment and started again. What it recovers must begin with
-all that was synced, and be the beginning of what was appended, record by record.
+all that was synced, and be the beginning of what was appended, record by record. Once a record was
+synced it is never refused; before, there may be nothing to keep, and then it is cut by `--cut`.
 
 It shows what the program keeps when it is killed. It doesn't show what a disk keeps when its power
 fails: what the system was given is still there. `tear.py` is for that.
@@ -14,7 +15,8 @@ import sys
 import tempfile
 import threading
 
-from client import APPEND, BEGIN, READ, SYNC, TRUNCATE, Blob
+from client import APPEND, BEGIN, READ, SYNC, TRUNCATE
+from served import opened
 
 
 def record(number):
@@ -43,11 +45,13 @@ def work(blob, number, sent, synced, rng):
             if rng.random() < 0.3:
                 blob.ask(SYNC)
                 synced = len(sent)
-    except (OSError, struct.error, IndexError):
+    except (OSError, EOFError, struct.error, IndexError):
         return sent, synced
 
 
 def main():
+    if not 2 <= len(sys.argv) <= 4:
+        raise SystemExit("usage: python3 kill.py PAGEDD [KILLS [SEED]]")
     program = os.path.abspath(sys.argv[1])
     kills = int(sys.argv[2]) if len(sys.argv) > 2 else 50
     rng = random.Random(int(sys.argv[3]) if len(sys.argv) > 3 else 1)
@@ -55,7 +59,7 @@ def main():
     with tempfile.TemporaryDirectory() as folder:
         path = os.path.join(folder, "log")
         for kill in range(kills + 1):
-            blob = Blob(program, path)
+            blob = opened(program, path, synced)
             content = blob.ask(READ, 0, blob.size)
             if content[:synced] != sent[:synced]:
                 raise SystemExit(f"kill {kill}: synced bytes are gone: {len(content)} of {synced}")

@@ -1,5 +1,6 @@
 //! Keeps two records in a journal over a blob that counts its calls, and then shows what comes back
-//! of a journal whose blob crashed inside a record.
+//! of a journal whose blob crashed inside a record. What the crash left is looked at first, so that
+//! nothing is cut that a crash doesn't leave.
 #![tactic(auto)]
 
 ghost use Rattle.std.specs.Prelude.{IfOk};
@@ -7,8 +8,9 @@ ghost use Rattle.cache.specs.Pages.{IsFresh};
 
 use cache::CacheRef;
 use disk::{Blob, Counted, Error, IoBuf, MemBlob};
-use journal::{Journal, crash_and_recover};
+use journal::Journal;
 use page::AddSum;
+use paged::{Survey, Verdict, survey};
 use std::alloc::Global;
 use std::io;
 use std::num::{NonZeroU16, NonZeroUsize};
@@ -21,6 +23,9 @@ const CAPACITY: usize = 32;
 // The physical bytes of a page.
 const PAGE: usize = 28;
 
+// How many bytes may be cut although a page among them has a value.
+const LIMIT: u64 = 1 << 20;
+
 /// What is told of a journal.
 #[derive(Drop)]
 struct Told {
@@ -30,11 +35,22 @@ struct Told {
     written: u64,
 }
 
+/// What a crash left, and what came back of it.
+#[derive(Drop)]
+struct Found {
+    survey: Survey,
+    verdict: Verdict,
+    records: Vec<IoBuf>,
+}
+
+fn page_size() -> NonZeroU16 {
+    NonZeroU16::new(PAGE_SIZE).unwrap_or(NonZeroU16::MIN)
+}
+
 fn new_cache(alloc: Global) -> Result<CacheRef, Error>
     ensures { IfOk result (λ cache. IsFresh cache) }
 {
-    let page_size = NonZeroU16::new(PAGE_SIZE).unwrap_or(NonZeroU16::MIN);
-    CacheRef::new(alloc, page_size, NonZeroUsize::MIN)
+    CacheRef::new(alloc, page_size(), NonZeroUsize::MIN)
 }
 
 /// Commits a record, reads it, and commits another.
@@ -63,9 +79,9 @@ fn keep_two(alloc: Global) -> Result<Told, Error> {
     })
 }
 
-/// Commits a record, and answers what comes back where the commit of another is cut short after
-/// its first page.
-fn cut_short(alloc: Global) -> Result<Vec<IoBuf>, Error> {
+/// Commits a record, and answers what a crash leaves that cuts the commit of another short within
+/// its second page.
+fn cut_short(alloc: Global) -> Result<MemBlob, Error> {
     let mut cache = new_cache(alloc)?;
     let mut blob = MemBlob::new(alloc);
     let size = blob.len();
@@ -82,16 +98,33 @@ fn cut_short(alloc: Global) -> Result<Vec<IoBuf>, Error> {
     let (journal, _) = journal.append_record(&mut blob, &mut cache, b"world")?;
     blob.fail_at(1);
     drop(journal.commit(&mut blob, &mut cache));
-    let keep = [true; PAGE];
-    let (_, found) = crash_and_recover::<AddSum, AddSum>(
-        alloc,
-        &mut blob,
-        &keep,
-        CAPACITY,
-        &mut cache,
-        NonZeroUsize::MIN,
-    )?;
-    Ok(found)
+    blob.crash(&[true; PAGE + 2])?;
+    Ok(blob)
+}
+
+/// Looks at a blob, and recovers its journal, except where it is to be left as it is.
+fn look_and_recover(alloc: Global, blob: &mut MemBlob) -> Result<Found, Error> {
+    let size = blob.len();
+    let survey = survey::<MemBlob, AddSum>(alloc, blob, size, page_size(), NonZeroUsize::MIN)?;
+    let verdict = survey.verdict(page_size(), LIMIT);
+    let mut records = Vec::new(alloc);
+    if verdict != Verdict::Refuse {
+        let mut cache = new_cache(alloc)?;
+        let (_, found) = Journal::<MemBlob, AddSum, AddSum>::recover(
+            alloc,
+            blob,
+            size,
+            CAPACITY,
+            &mut cache,
+            NonZeroUsize::MIN,
+        )?;
+        records = found;
+    }
+    Ok(Found {
+        survey,
+        verdict,
+        records,
+    })
 }
 
 fn text_of(record: &IoBuf) -> &str {
@@ -107,10 +140,17 @@ fn main(rt: HostRuntime) -> io::Result<()> {
         }
         Err(error) => println!(rt; "error {error}")?,
     }
-    match cut_short(rt.alloc()) {
+    let found = cut_short(rt.alloc()).and_then(|mut blob| look_and_recover(rt.alloc(), &mut blob));
+    match found {
         Ok(found) => {
-            println!(rt; "{} came back", found.len())?;
-            for record in &found {
+            let Survey { outlook, beyond } = found.survey;
+            println!(rt;
+                "{} bytes in {} page, {} to be cut",
+                outlook.len, outlook.pages, outlook.cut
+            )?;
+            println!(rt; "{beyond} pages with a value after it: {:?}", found.verdict)?;
+            println!(rt; "{} came back", found.records.len())?;
+            for record in &found.records {
                 println!(rt; "  {}", text_of(record))?;
             }
             Ok(())

@@ -1,52 +1,78 @@
-//! Serves a paged blob over a file to a program in any language: requests come on standard input,
-//! answers go to standard output, in frames of bytes that `docs/PROTOCOL.md` describes.
+//! Serves a paged blob over a file to a program in any language, and looks at such files.
+//!
+//! `pagedd FILE`, or `pagedd serve FILE`: requests come on standard input, answers go to standard
+//! output, in frames of bytes that `docs/PROTOCOL.md` describes. Before anything is cut the file is
+//! looked at: what isn't a page's worth is set aside, and what a crash doesn't leave is refused.
 //!
 //! The exit status is 0 at the end of the input or after a `close`, 2 where the input is not one
-//! request after another, and 1 where the file, the input, the output or the recovery failed or
-//! memory was refused. Where it isn't 0, standard error gets one line that says why.
+//! request after another, 3 where the file is refused, and 1 where the file, the input, the output
+//! or the recovery failed, memory was refused, or the command line isn't understood. Where it isn't
+//! 0, the last line of standard error says why.
+//!
+//! `check`, `map`, `cat` and `salvage` read a file and change nothing of it.
 #![tactic(auto)]
 
+mod cat;
+mod check;
+mod command;
+mod map;
+mod opening;
+mod pages;
+mod salvage;
+mod session;
+
+use crate::cat::cat;
+use crate::check::check;
+use crate::command::{Checksum, Request, Task, command};
+use crate::map::map;
+use crate::pages::fail;
+use crate::salvage::salvage;
+use crate::session::serve;
 use crc32c::Crc32c;
-use file::FileBlob;
-use protocol::{Setting, Stop, serve_file};
-use std::io::{BufReader, BufWriter, Write};
+use page::{AddSum, Sum};
+use std::io::ErrorKind;
 use std::process::ExitCode;
 use std::{env, io};
 
-// Serves a blob over a file to the program's input and output.
-fn serve_blob(rt: &HostRuntime, blob: &mut FileBlob) -> Result<(), Stop> {
-    let alloc = rt.alloc();
-    let mut input = BufReader::new(alloc, rt.stdin())?;
-    let mut out = BufWriter::new(alloc, rt.stdout())?;
-    let setting = Setting::default();
-    let ended = serve_file::<_, Crc32c, _, _>(alloc, blob, &setting, "", &mut input, &mut out);
-    out.flush()?;
-    ended
+// Does what is asked for, with this checksum function.
+fn run<H: Sum>(rt: &HostRuntime, request: &Request) -> io::Result<ExitCode> {
+    if let Task::Serve = request.task {
+        return serve::<H>(rt, request);
+    }
+    let blob = match file::read(rt, request.file) {
+        Ok(blob) => blob,
+        Err(error) => return fail(rt, request.file, error),
+    };
+    match request.task {
+        Task::Serve | Task::Check => check::<H>(rt, request, blob),
+        Task::Map { from, to, long } => map::<H>(rt, request, blob.bytes(), from, to, long),
+        Task::Cat { from, len } => cat::<H>(rt, request, blob.bytes(), from, len),
+        Task::Salvage { out } => salvage::<H>(rt, request, blob.bytes(), out),
+    }
 }
 
 fn main(rt: HostRuntime) -> io::Result<ExitCode> {
-    let words: Vec<String> = env::args(&rt)?.collect(rt.alloc())?;
-    let [_, path] = words.as_slice() else {
-        eprintln!(rt; "usage: pagedd FILE")?;
-        return Ok(ExitCode::from(1));
-    };
-    let mut blob = match file::open(&rt, path) {
-        Ok(blob) => blob,
-        Err(error) => {
-            eprintln!(rt; "pagedd: {path}: {error}")?;
+    let alloc = rt.alloc();
+    let words: Vec<String> = match env::args(&rt) {
+        Ok(words) => words.collect(alloc)?,
+        Err(error) if error.kind() == ErrorKind::InvalidData => {
+            eprintln!(rt;
+                "pagedd: a word of the command line is no text: give the file another name"
+            )?;
             return Ok(ExitCode::from(1));
         }
+        Err(error) => return Err(error),
     };
-    let ended = serve_blob(&rt, &mut blob);
-    // Why the file failed says more than the answer that a request got.
-    if let Some(error) = blob.failure() {
-        eprintln!(rt; "pagedd: {path}: {error}")?;
-    }
-    match ended {
-        Ok(()) => Ok(ExitCode::from(0)),
-        Err(stop) => {
-            eprintln!(rt; "{stop}")?;
-            Ok(ExitCode::from(stop.status()))
+    let matches = match command(alloc)?.try_get_matches_from(words.as_slice()) {
+        Ok(matches) => matches,
+        Err(error) => {
+            error.print(&rt)?;
+            return Ok(ExitCode::from(u8::from(error.use_stderr())));
         }
+    };
+    let request = Request::of(&matches);
+    match request.checksum {
+        Checksum::Add => run::<AddSum>(&rt, &request),
+        Checksum::Crc32c => run::<Crc32c>(&rt, &request),
     }
 }

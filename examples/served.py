@@ -1,0 +1,45 @@
+"""A blob that `pagedd` serves with options, for the other scripts."""
+import subprocess
+
+from client import Blob
+
+
+class Refused(Exception):
+    """The program served nothing: its exit status, and what it said."""
+
+    def __init__(self, status, words):
+        super().__init__(f"status {status}: {words}")
+        self.status, self.words = status, words
+
+
+class Served(Blob):
+    """A blob that is served with these options."""
+
+    def __init__(self, program, path, *options):
+        self.process = subprocess.Popen([program, *options, path], stdin=subprocess.PIPE,
+                                        stdout=subprocess.PIPE, stderr=subprocess.PIPE)
+        self.process.stdin.write(b"\x01")
+        if self.process.stdout.read(1) != b"\x01":
+            words = self.process.stderr.read().decode()
+            raise Refused(self.process.wait(), words)
+        self.size = int.from_bytes(self.answer()[:8], "little")
+
+    def ended(self):
+        """The program is gone."""
+        raise EOFError
+
+    def kill(self):
+        """Kills the program, and waits until it is gone."""
+        self.process.kill()
+        self.process.wait()
+
+
+def opened(program, path, synced):
+    """The blob of a file after a crash. Where a byte was synced it is never refused; where none was
+    there may be nothing to keep, and then it is cut by `--cut`."""
+    try:
+        return Served(program, path)
+    except Refused as refused:
+        if refused.status != 3 or synced:
+            raise SystemExit(f"{synced} bytes were synced, and it is refused: {refused}") from refused
+        return Served(program, path, "--cut")
