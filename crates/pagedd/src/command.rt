@@ -105,7 +105,7 @@ fn non_zero(number: Option<usize>) -> NonZeroUsize {
 pub fn command<'a>(alloc: Global) -> Result<Command<'a>, AllocError> {
     let top = Command::new(alloc, "pagedd")
         .about("serves a paged blob over a file to one client, and looks at such files")
-        .version("2")
+        .version("0.2.0")
         .args_conflicts_with_subcommands(true);
     with_serving(alloc, with_shape(alloc, top)?)?
         .subcommand(serve_command(alloc)?)?
@@ -209,7 +209,7 @@ fn with_serving<'a>(alloc: Global, command: Command<'a>) -> Result<Command<'a>, 
     let read_only = Arg::new(alloc, "read-only")
         .long("read-only")
         .action(ArgAction::SetTrue)
-        .help("changes nothing, recovers nothing, and serves what verifies");
+        .help("serves a copy in memory as it would be recovered, and changes no file");
     let cut = Arg::new(alloc, "cut")
         .long("cut")
         .action(ArgAction::SetTrue)

@@ -34,24 +34,33 @@ pub fn open<H: Sum>(rt: &HostRuntime, request: &Request) -> io::Result<Result<Op
         Err(error) => return Ok(Err(fail(rt, file, error)?)),
     };
     let allowed = surveyed.outlook.cut;
-    let set_aside = String::new(rt.alloc());
     match surveyed.verdict(page_size, request.cut_limit) {
-        Verdict::Whole | Verdict::Cut => return Ok(Ok(Opened {
+        Verdict::Whole | Verdict::Cut => Ok(Ok(Opened {
             blob,
             allowed,
-            set_aside,
+            set_aside: String::new(rt.alloc()),
         })),
         Verdict::Refuse if !request.cut => {
             let found = Found::of::<H>(blob.bytes(), page_size, surveyed);
             eprintln!(rt;
                 "pagedd: {file} {found}; nothing was cut: use 'pagedd salvage FILE OUT', or --cut"
             )?;
-            return Ok(Err(ExitCode::from(3)));
+            Ok(Err(ExitCode::from(3)))
         }
-        Verdict::Refuse | Verdict::Keep => {}
+        Verdict::Refuse | Verdict::Keep => keep(rt, file, blob, allowed),
     }
-    let start = size.saturating_sub(allowed) as usize;
-    match set_aside_bytes(rt, file, blob.bytes().get(start..).unwrap_or_default()) {
+}
+
+// Sets aside the last bytes of a file, which a recovery is to cut, and says where they are.
+fn keep(
+    rt: &HostRuntime,
+    file: &str,
+    blob: FileBlob,
+    allowed: u64,
+) -> io::Result<Result<Opened, ExitCode>> {
+    let start = blob.len().saturating_sub(allowed) as usize;
+    let cut = blob.bytes().get(start..).unwrap_or_default();
+    match file::set_aside(rt, file, cut) {
         Ok(set_aside) => {
             eprintln!(rt;
                 "pagedd: {file}: {allowed} bytes after its text go; they are in {set_aside}"
@@ -64,8 +73,4 @@ pub fn open<H: Sum>(rt: &HostRuntime, request: &Request) -> io::Result<Result<Op
         }
         Err(error) => Ok(Err(fail(rt, file, error)?)),
     }
-}
-
-fn set_aside_bytes(rt: &HostRuntime, file: &str, bytes: &[u8]) -> io::Result<String> {
-    file::set_aside(rt, file, bytes)
 }

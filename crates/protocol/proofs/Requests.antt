@@ -65,6 +65,8 @@ shaped (Step (step.TryReadRanges ranges)) is = absurd is
 shaped (Step (step.Scan proven most size)) is = absurd is
 shaped (Step step.TrySnapshot) is = absurd is
 shaped (Step step.Seal) is = absurd is
+shaped (Step (step.DropSnapshot index)) is = absurd is
+shaped (Step (step.DropReplay index)) is = absurd is
 
 -- the fields of an append fit an answer, too
 append_fits : (request : Request) → IsRequest request → kind_of request ≡ 1 → FitsAnswer (length (fields_of request))
