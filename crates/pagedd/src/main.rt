@@ -19,7 +19,7 @@ mod map;
 mod opening;
 mod pages;
 mod salvage;
-mod session;
+mod serving;
 
 use crate::cat::cat;
 use crate::check::check;
@@ -27,7 +27,7 @@ use crate::command::{Checksum, Request, Task, command};
 use crate::map::map;
 use crate::pages::fail;
 use crate::salvage::salvage;
-use crate::session::serve;
+use crate::serving::serve;
 use crc32c::Crc32c;
 use page::{AddSum, Sum};
 use std::io::ErrorKind;
