@@ -1,5 +1,6 @@
 // Playing a workload.
-ghost use Rattle.std.specs.Prelude.{IfOk};
+ghost use Rattle.std.specs.Prelude.{◌≡◌, IfOk};
+ghost use Rattle.std.specs.Vec.{vec_len};
 ghost use Rattle.cache.specs.Pages.{IsFresh};
 ghost use Rattle.disk.specs.History.{life_of};
 ghost use Rattle.bench.specs.Ready.{IsReady};
@@ -45,7 +46,9 @@ pub fn play<H: Sum>(rt: &HostRuntime, workload: &Workload, rounds: u64) -> Resul
 }
 
 /// A record of so many bytes.
-fn record(alloc: Global, len: usize) -> Result<Vec<u8>> {
+pub fn record(alloc: Global, len: usize) -> Result<Vec<u8>>
+    ensures { IfOk result (λ bytes. vec_len bytes ≡ len) }
+{
     let mut record = Vec::with_capacity(alloc, len)?;
     record.resize(len, 0x5A)?;
     Ok(record)

@@ -67,7 +67,7 @@ fn strided(alloc: Global, count: u64, stride: u64) -> Result<Vec<u64>> {
 
 /// Offsets below `span` at random, and the same ones each time: the upper bits of a linear
 /// congruential generator, with the numbers that Knuth's MMIX takes.
-fn scattered(alloc: Global, count: u64, span: u64) -> Result<Vec<u64>> {
+pub fn scattered(alloc: Global, count: u64, span: u64) -> Result<Vec<u64>> {
     let mut offsets = Vec::new(alloc);
     let mut state = 1u64;
     for _ in 0..count {

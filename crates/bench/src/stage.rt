@@ -53,6 +53,17 @@ impl Stage {
         })
     }
 
+    /// An empty blob, and a cache that may hold so many pages.
+    pub fn holding(alloc: Global, pages: u64) -> Result<Self> {
+        let page_size = NonZeroU16::new(PAGE_SIZE).unwrap_or(NonZeroU16::MIN);
+        let held = NonZeroUsize::new(pages as usize).unwrap_or(NonZeroUsize::MIN);
+        Ok(Stage {
+            alloc,
+            blob: Counted::new(VecBlob::from_vec(Vec::new(alloc))),
+            cache: CacheRef::new(alloc, page_size, held)?,
+        })
+    }
+
     /// The writer of the blob, emptied.
     pub fn restart<H: Sum>(&mut self) -> Result<Writer<Device, H>, Error>
         requires { IsFresh self.old.cache }

@@ -1,16 +1,15 @@
 -- What a put into the table does to the cache.
-use Rattle.std.proofs.Common.{◌≡◌, ◌≢◌, ◌⊎◌, inl, inr, ◌∙◌, ℕ, ◌+◌, ◌*◌, ◌<◌, ◌≤◌, List, length, refl, sym, ap, subst, arith, true}
-use Rattle.std.specs.Prelude.{Option, Some, None, Vec, is_some, slice_index_or, slice_set}
+use Rattle.std.proofs.Common.{◌≡◌, ◌≢◌, inl, inr, ◌∙◌, ℕ, ◌+◌, ◌<◌, List, length, refl, sym, ap, subst, arith, true}
+use Rattle.std.specs.Prelude.{Option, None, Vec, is_some, slice_index_or, slice_set}
 use Rattle.std.specs.Vec.{vec_capacity}
 use Rattle.std.specs.Int.NonZero.{non_zero_u16_get}
 use Rattle.std.specs.declared.alloc.Global.{Global}
-use Rattle.std.proofs.lemmas.Bool.{cases_eq}
 use Rattle.std.proofs.lemmas.List.{get_or-set_same, get_or-set_other, length-set}
 use Rattle.std.specs.Map.{lookup}
-use Rattle.cache.specs.CacheState.{held, same_key, SameSettings, IsHeld, Evicts, PutGoes, Puts, put_at}
-use Rattle.cache.specs.Slots.{AreSlots, AreSlotsBut, HoldsKey, IsAbsent, IsNowhere, Linked, Overwritten, Taken, Unlinked, cache_of, key_at, page_at, pages_in, pages_of}
+use Rattle.cache.specs.CacheState.{held, same_key, IsHeld, PutGoes, Puts}
+use Rattle.cache.specs.Slots.{AreSlots, AreSlotsBut, HoldsKey, IsNowhere, Linked, Overwritten, Taken, Unlinked, cache_of, key_at, page_at, pages_in, pages_of}
 use Rattle.cache.specs.declared.slots.Slots.{Slots}
-use Rattle.cache.proofs.Found.{Changes, IsOnce, changes_here, changes_others, changes_gone, pages_many}
+use Rattle.cache.proofs.Found.{Changes, changes_here, changes_others, changes_gone, pages_many}
 use Rattle.cache.proofs.Table.{held_none, held_page, keys_once}
 use Rattle.cache.proofs.Written.{page_written, page_stays, pages_long}
 

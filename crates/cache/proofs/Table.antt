@@ -1,7 +1,7 @@
 -- The table's pages by their keys.
-use Rattle.std.proofs.Common.{◌≡◌, ◌≢◌, ◌∙◌, ℕ, ◌+◌, ◌-◌, ◌*◌, ◌<◌, ◌≤◌, List, length, take, drop, sym, ap, subst, arith}
+use Rattle.std.proofs.Common.{◌≡◌, ◌∙◌, ℕ, ◌+◌, ◌-◌, ◌*◌, ◌≤◌, List, length, take, drop, sym, ap, subst, arith}
 use Rattle.std.specs.Vec.{vec_capacity}
-use Rattle.std.specs.Prelude.{Some, None, slice_index_or, Vec}
+use Rattle.std.specs.Prelude.{Some, None, Vec}
 use Rattle.std.specs.Map.{lookup}
 use Rattle.std.specs.Int.NonZero.{non_zero_u16_get}
 use Rattle.cache.specs.CacheState.{same_key}

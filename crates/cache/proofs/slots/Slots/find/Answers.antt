@@ -1,4 +1,4 @@
-use Rattle.std.proofs.Common.{◌≡◌, ◌∙◌, ℕ, ap, sym, length, ◌<◌, arith}
+use Rattle.std.proofs.Common.{◌∙◌, ℕ, ap, sym, length, arith}
 use Rattle.cache.specs.Chain.{place_of}
 use Rattle.cache.proofs.Linked.{nowhere, somewhere}
 use Rattle.cache.proofs.slots.Slots.find.Goals as goal

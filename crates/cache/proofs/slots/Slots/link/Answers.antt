@@ -1,4 +1,4 @@
-use Rattle.std.proofs.Common.{◌≡◌, ◌∙◌, ℕ, ap, sym, subst, length, ◌<◌, arith}
+use Rattle.std.proofs.Common.{◌∙◌, ℕ, ap, sym, subst, length, ◌<◌, arith}
 use Rattle.std.specs.Prelude.{slice_set}
 use Rattle.std.specs.Vec.{with_item}
 use Rattle.std.proofs.lemmas.List.{get_or_read_under, length-set}

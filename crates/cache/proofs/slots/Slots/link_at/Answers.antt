@@ -1,8 +1,7 @@
-use Rattle.std.proofs.Common.{◌≡◌, ◌∙◌, ℕ, List, ap, sym, subst, length}
-use Rattle.std.specs.Prelude.{Option, slice_index_or, MatchOption}
+use Rattle.std.proofs.Common.{◌≡◌, ℕ, List, ap, subst, length}
+use Rattle.std.specs.Prelude.{slice_index_or, MatchOption}
 use Rattle.std.proofs.lemmas.List.{get_or_read_under}
-use Rattle.cache.specs.Chain.{IsChain, IsLink, NoneHolds}
-use Rattle.cache.specs.declared.slots.Link.{Link}
+use Rattle.cache.specs.Chain.{IsLink, NoneHolds}
 use Rattle.cache.proofs.Linked.{chain_as}
 use Rattle.cache.proofs.slots.Slots.link_at.Goals as goal
 

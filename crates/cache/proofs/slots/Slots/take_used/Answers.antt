@@ -1,4 +1,4 @@
-use Rattle.std.proofs.Common.{ℕ, ◌+◌, ◌<◌, length, refl, arith}
+use Rattle.std.proofs.Common.{◌<◌, length, refl, arith}
 use Rattle.cache.proofs.Putting.{taken_over}
 use Rattle.cache.proofs.slots.Slots.take_used.Goals as goal
 use Rattle.cache.proofs.slots.Slots.take_used.Goals.{then-slot-len, else-slot-len}

@@ -1,0 +1,5 @@
+use Rattle.std.proofs.Common.{◌≡◌}
+use Rattle.bench.proofs.held.play_held.Given as goal
+
+abbrev pub invariant-loop : goal.invariant-loop
+invariant-loop l = l.stage.cache.page_size ≡ l.initial.stage.cache.page_size
