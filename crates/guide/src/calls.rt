@@ -36,15 +36,7 @@ pub fn new_cache(alloc: Global) -> Result<CacheRef, Error>
 pub fn keep(alloc: Global) -> Result<IoBuf, Error> {
     let mut blob = VecBlob::new(alloc);
     let mut cache = new_cache(alloc)?;
-    let size = blob.len();
-    let recovery = recover::<VecBlob, Crc32c>(
-        alloc,
-        &mut blob,
-        size,
-        CAPACITY,
-        &mut cache,
-        NonZeroUsize::MIN,
-    )?;
+    let recovery = open::<Crc32c>(alloc, &mut blob, &mut cache)?;
     let writer: Writer<VecBlob, Crc32c> = Writer::from(recovery);
     let (writer, offset) = writer.append(&mut blob, &mut cache, b"hello")?;
     let writer = writer.sync(&mut blob, &mut cache)?;

@@ -5,7 +5,6 @@ ghost use Rattle.std.specs.Prelude.{◌≡◌, []};
 use disk::{Blob, Error, IoBuf, IoBufs, WriteOptions};
 use file::open;
 use std::alloc::Global;
-use std::io::ErrorKind;
 use std::test::Fail;
 use std::{fs, io};
 
@@ -37,34 +36,54 @@ fn change<B: Blob>(alloc: Global, blob: &mut B) -> Result<(), Error>
 // What that leaves.
 const LEFT: &[u8] = b"abcdef\0\0so\0\0";
 
-// How an opening that is to fail fails, in its words.
-fn refusal(rt: &HostRuntime, path: &str) -> io::Result<String> {
+// Whether an opening fails, in these words.
+fn is_refused(rt: &HostRuntime, path: &str, words: &str) -> io::Result<bool> {
     match open(rt, path) {
-        Ok(_) => Ok(String::new(rt.alloc())),
-        Err(error) => Ok(error.to_string(rt.alloc())?),
+        Ok(_) => Ok(false),
+        Err(error) => Ok(error.to_string(rt.alloc())?.as_str() == words),
     }
 }
 
-const HELD: &str = "another process has it open: end that one first";
+// Whether the file is locked against who opens it, and against who reads it.
+fn is_locked(rt: &HostRuntime, path: &str) -> io::Result<bool> {
+    let is_read = file::read(rt, path).is_ok();
+    Ok(!is_read && is_refused(rt, path, "another process has it open: end that one first")?)
+}
+
+fn holds(rt: &HostRuntime, path: &str, bytes: &[u8]) -> io::Result<bool> {
+    Ok(fs::read(rt, path)?.as_slice() == bytes)
+}
+
+// Whether these bytes are what a new file has, what the blob in memory has, and what the file has.
+fn is_changed(rt: &HostRuntime, path: &str) -> Result<bool, Fail> {
+    let mut blob = open(rt, path)?;
+    let was_empty = blob.len() == 0;
+    change(rt.alloc(), &mut blob)?;
+    Ok(was_empty && blob.bytes() == LEFT && holds(rt, path, LEFT)? && is_locked(rt, path)?)
+}
+
+fn is_read(rt: &HostRuntime, path: &str, bytes: &[u8]) -> io::Result<bool> {
+    Ok(file::read(rt, path)?.bytes() == bytes && open(rt, path)?.bytes() == bytes)
+}
+
+// Whether these bytes are put in a file of this name.
+fn is_set_aside(rt: &HostRuntime, path: &str, bytes: &[u8], name: &str) -> io::Result<bool> {
+    let given = file::set_aside(rt, path, bytes)?;
+    Ok(given.as_str() == name && holds(rt, name, bytes)?)
+}
+
+// Whether the file is another one with these bytes, which the blob has locked.
+fn is_replaced(rt: &HostRuntime, path: &str, bytes: &[u8]) -> io::Result<bool> {
+    let blob = file::replace(rt, path, bytes)?;
+    Ok(blob.bytes() == bytes && holds(rt, path, bytes)? && is_locked(rt, path)?)
+}
 
 #[test]
 fn a_file_holds_what_was_written(rt: HostRuntime) -> Result<(), Fail> {
     let path = "file-written.blob";
     let _ = fs::remove_file(&rt, path);
-    let mut blob = open(&rt, path)?;
-    assert!(rt; blob.len() == 0);
-    change(rt.alloc(), &mut blob)?;
-    assert!(rt; blob.bytes() == LEFT && fs::read(&rt, path)?.as_slice() == LEFT);
-    // It is locked until it is let go, against who reads it too.
-    assert!(rt; refusal(&rt, path)?.as_str() == HELD);
-    let held = file::read(&rt, path).err();
-    assert!(rt; held.map(|error| error.kind()) == Some(ErrorKind::WouldBlock));
-    drop(blob);
-    // Who reads it shares it.
-    let read = file::read(&rt, path)?;
-    assert!(rt; read.bytes() == LEFT && file::read(&rt, path)?.bytes() == LEFT);
-    let again = open(&rt, path)?;
-    assert!(rt; again.bytes() == LEFT);
+    assert!(rt; is_changed(&rt, path)?);
+    assert!(rt; is_read(&rt, path, LEFT)?);
     fs::remove_file(&rt, path)?;
     Ok(())
 }
@@ -72,14 +91,14 @@ fn a_file_holds_what_was_written(rt: HostRuntime) -> Result<(), Fail> {
 #[test]
 fn what_no_blob_is_opened_over(rt: HostRuntime) -> Result<(), Fail> {
     let missing = "No such file or directory (os error 2)";
-    assert!(rt; refusal(&rt, "no-such-folder/a.blob")?.as_str() == missing);
-    assert!(rt; refusal(&rt, ".")?.as_str() == "it is a folder: name a file in it");
+    assert!(rt; is_refused(&rt, "no-such-folder/a.blob", missing)?);
+    assert!(rt; is_refused(&rt, ".", "it is a folder: name a file in it")?);
     let device = "it is a device: name a regular file, or a new one";
-    assert!(rt; refusal(&rt, "/dev/null")?.as_str() == device);
+    assert!(rt; is_refused(&rt, "/dev/null", device)?);
     // A read makes no file.
     let path = "file-missing.blob";
-    let _ = fs::remove_file(&rt, path);
-    assert!(rt; file::read(&rt, path).is_err() && !fs::exists(&rt, path)?);
+    assert!(rt; file::read(&rt, path).is_err());
+    assert!(rt; !fs::exists(&rt, path)?);
     Ok(())
 }
 
@@ -87,24 +106,16 @@ fn what_no_blob_is_opened_over(rt: HostRuntime) -> Result<(), Fail> {
 fn bytes_are_set_aside_and_replaced(rt: HostRuntime) -> Result<(), Fail> {
     let path = "file-replaced.blob";
     fs::write(&rt, path, b"old".as_slice())?;
-    let first = file::set_aside(&rt, path, b"cut")?;
-    let second = file::set_aside(&rt, path, b"cut again")?;
-    assert!(rt; first.as_str() == "file-replaced.blob.cut-1");
-    assert!(rt; second.as_str() == "file-replaced.blob.cut-2");
-    assert!(rt; fs::read(&rt, &first)?.as_slice() == b"cut".as_slice());
-    assert!(rt; fs::read(&rt, &second)?.as_slice() == b"cut again".as_slice());
-    // The blob holds the lock of the new file.
-    let blob = file::replace(&rt, path, b"new")?;
-    assert!(rt;
-        blob.bytes() == b"new".as_slice() && fs::read(&rt, path)?.as_slice() == b"new".as_slice()
-    );
-    assert!(rt; refusal(&rt, path)?.as_str() == HELD);
-    assert!(rt; file::replace(&rt, path, b"newer").is_err());
-    drop(blob);
-    assert!(rt; open(&rt, path)?.bytes() == b"new".as_slice());
-    assert!(rt; !fs::exists(&rt, "file-replaced.blob.new-1")?);
-    fs::remove_file(&rt, &first)?;
-    fs::remove_file(&rt, &second)?;
-    fs::remove_file(&rt, path)?;
+    assert!(rt; is_set_aside(&rt, path, b"cut", "file-replaced.blob.cut-1")?);
+    assert!(rt; is_set_aside(&rt, path, b"cut again", "file-replaced.blob.cut-2")?);
+    assert!(rt; is_replaced(&rt, path, b"new")?);
+    assert!(rt; is_read(&rt, path, b"new")?);
+    for made in [
+        "file-replaced.blob",
+        "file-replaced.blob.cut-1",
+        "file-replaced.blob.cut-2",
+    ] {
+        fs::remove_file(&rt, made)?;
+    }
     Ok(())
 }
