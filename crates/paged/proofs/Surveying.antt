@@ -1,5 +1,5 @@
 -- Counting the pages that have a value, and what a survey owes.
-use Rattle.std.proofs.Common.{◌≡◌, ℕ, ◌+◌, ◌-◌, ◌*◌, ◌/◌, ◌≤◌, ◌<◌, List, [], ◌∷◌, ◌++◌, length, take, drop, Bool, true, false, refl, sym, ap, ◌∙◌, subst, arith, Result, Ok, Err}
+use Rattle.std.proofs.Common.{◌≡◌, ℕ, ◌+◌, ◌-◌, ◌*◌, ◌/◌, ◌≤◌, List, ◌++◌, length, take, drop, Bool, true, false, sym, ap, ◌∙◌, arith, Result, Ok, Err}
 use Rattle.std.specs.Prelude.{is_some, cond}
 use Rattle.std.proofs.lemmas.List.{drop-drop, length-drop}
 use Rattle.std.proofs.lemmas.List.Sums.{count_by-le-length, sum_by-append, sum_by_push}
@@ -19,7 +19,6 @@ use Rattle.paged_read.proofs.Outliving.{look_leaves_reads, look_leaves_tails, lo
 use Rattle.paged_read.proofs.OutlivingReplays.{look_leaves_replays}
 use Rattle.paged_read.proofs.Searching.{gained_joins, within_joins}
 use Rattle.paged.specs.declared.outlook.Outlook.{Outlook}
-use Rattle.paged.specs.declared.verdict.Survey.{Survey}
 use Rattle.paged.specs.Outlook.{IsOutlook, IsSurvey, LeavesAsIs, Looks, ReadsTwice, Surveys, values_of}
 use Rattle.paged.proofs.Foretelling.{look_keeps_text, look_leaves_text}
 
