@@ -142,7 +142,8 @@ impl Slots {
         requires are { AreSlots self.old }
         requires size { length bytes.now ≡ non_zero_u16_get self.old.page_size }
         ensures are { AreSlots self.new }
-        ensures puts { (ids : ℕ) → Puts key bytes.now (cache_of ids self.old) (cache_of ids self.new) }
+        ensures puts { (ids : ℕ)
+            → Puts key bytes.now (cache_of ids self.old) (cache_of ids self.new) }
     {
         if let Some(slot) = self.find(key) {
             self.overwrite(slot, bytes);

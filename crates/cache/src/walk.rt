@@ -25,7 +25,8 @@ pub(crate) fn walk(keys: &[Key], nexts: &[usize], first: usize, key: Key) -> Opt
     requires nexts { length nexts.now ≡ length keys.now }
     requires chain { HasChain nexts.now (length keys.now) first }
     ensures { (slots : List ℕ) → IsChain nexts.now (length keys.now) first slots
-        → MatchOption result (NoneHolds keys.now key slots) (λ link. IsLink keys.now key slots link) }
+        → MatchOption result (NoneHolds keys.now key slots)
+        (λ link. IsLink keys.now key slots link) }
 {
     let mut before = None;
     let mut slot = first;

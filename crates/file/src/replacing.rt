@@ -16,8 +16,8 @@ use std::{fs, io};
 /// What follows a failed sync is this call, and so does a compaction.
 ///
 /// The new file stands beside the old one, as `PATH.new-N` with the first N from 1 that is free. It
-/// gets the old one's permissions, is locked, written and synced, and then renamed over the old one;
-/// last the folder is synced. Where the path is a link, the file that it leads to is replaced.
+/// gets the old one's permissions, is locked, written and synced, and then renamed over the old
+/// one. Last the folder is synced. Where the path is a link, the file that it leads to is replaced.
 ///
 /// Let go of a blob over the old file first: it holds the lock, which this call takes too. What
 /// another process wrote to the old file after these bytes were read from it is gone.

@@ -32,9 +32,9 @@ pub enum Verdict {
 
 impl Survey {
     /// What to do with the surveyed blob, with pages of `page_size` logical bytes. A crash leaves
-    /// few pages after the text, none of them synced; but rot, another page size and a file that is
-    /// no blob leave such bytes too, and nothing tells them apart. So at most `limit` physical bytes
-    /// may go where a page among them has a value.
+    /// few pages after the text, none of them synced. Rot, another page size and a file that is no
+    /// blob leave such bytes too, and nothing tells them apart. So at most `limit` physical bytes may
+    /// go where a page among them has a value.
     pub fn verdict(&self, page_size: NonZeroU16, limit: u64) -> Verdict
         ensures cases { result ≡ verdict_of (non_zero_u16_get page_size) limit self.now }
         ensures whole { (result ≡ Verdict.Whole) ↔ (self.now.outlook.cut ≡ 0) }
@@ -44,7 +44,8 @@ impl Survey {
             ⊎ ((0 < self.now.beyond) × (limit < cut))) }
 
         // Of a blob's survey: it is refused where nothing of it would be kept, and it has a byte.
-        ensures nothing { (sum : List ℕ → ℕ) (bytes : List ℕ) → let P = non_zero_u16_get page_size in
+        ensures nothing { (sum : List ℕ → ℕ) (bytes : List ℕ) →
+            let P = non_zero_u16_get page_size in
             IsSurvey sum P bytes self.now → text sum P bytes ≡ [] → 0 < length bytes
             → result ≡ Verdict.Refuse }
     {

@@ -27,7 +27,7 @@ pub enum Task<'a> {
     Salvage { out: &'a str },
 }
 
-/// What the words of the command line ask for. Sizes are bytes, but for the cache's, which is pages.
+/// What the words of the command line ask for. Sizes are bytes, except for the cache's: pages.
 #[derive(Clone, Copy)]
 pub struct Request<'a> {
     pub task: Task<'a>,
