@@ -1,0 +1,5 @@
+use Rattle.workloads.specs.Ready.{IsReady}
+use Rattle.workloads.proofs.commit.start_all.Given as goal
+
+abbrev pub invariant-loop : goal.invariant-loop
+invariant-loop g l = IsReady g.H.Sum.sum_of l.writer l.cache (g.B.Blob.life l.blob)

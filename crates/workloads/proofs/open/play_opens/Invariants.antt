@@ -1,0 +1,11 @@
+use Rattle.cache.specs.Pages.{IsFresh}
+use Rattle.workloads.proofs.open.play_opens.Given as goal
+
+abbrev pub invariant-loop : goal.invariant-loop
+invariant-loop g l = IsFresh l.stage.cache
+
+abbrev pub invariant-loop-number : goal.invariant-loop-number
+invariant-loop-number g l = IsFresh l.stage.cache
+
+abbrev pub invariant-loop-number-2 : goal.invariant-loop-number-2
+invariant-loop-number-2 g l = IsFresh l.stage.cache

@@ -1,0 +1,189 @@
+// Serving another program: requests as bytes, and their answers.
+use crate::digest::Digest;
+use crate::random::{Random, Records};
+use crate::stage::Plan;
+use anyhow::Result;
+use disk::VecBlob;
+use page::Sum;
+use protocol::{Setting, serve_file};
+use std::alloc::{AllocError, Global};
+use std::io::{BufReader, BufWriter, Write};
+
+/// The requests of a client that goes on over what it has appended.
+#[derive(Drop)]
+struct Client {
+    bytes: Vec<u8>,
+    /// How many bytes it has appended, syncs started, and snapshots and replays begun.
+    size: u64,
+    starts: u64,
+    snapshots: u64,
+    replays: u64,
+}
+
+/// The version, and the kinds of requests.
+const VERSION: u8 = 1;
+
+const APPEND: u8 = 1;
+
+const SYNC: u8 = 2;
+
+const START_SYNC: u8 = 3;
+
+const WAIT_SYNC: u8 = 4;
+
+const SIZE: u8 = 5;
+
+const READ: u8 = 6;
+
+const READ_UP_TO: u8 = 7;
+
+const BEGIN: u8 = 8;
+
+const SNAPSHOT: u8 = 10;
+
+const SNAP: u8 = 11;
+
+const REPLAY: u8 = 12;
+
+const ENSURE: u8 = 13;
+
+const TAKE: u8 = 14;
+
+impl Client {
+    // One that has sent its version, and ended the recovery.
+    fn new(alloc: Global) -> Result<Self, AllocError> {
+        let mut bytes = Vec::new(alloc);
+        bytes.push(VERSION)?;
+        let mut client = Client {
+            bytes,
+            size: 0,
+            starts: 0,
+            snapshots: 0,
+            replays: 0,
+        };
+        client.ask(BEGIN, &[])?;
+        Ok(client)
+    }
+
+    // Sends a request with these fields.
+    fn ask(&mut self, kind: u8, fields: &[u64]) -> Result<(), AllocError> {
+        let len = fields.len().saturating_mul(8).min(64) as u32 + 1;
+        self.bytes.extend_from_slice(&len.to_le_bytes())?;
+        self.bytes.push(kind)?;
+        for field in fields {
+            self.bytes.extend_from_slice(&field.to_le_bytes())?;
+        }
+        Ok(())
+    }
+
+    // Appends a record.
+    fn append(&mut self, record: &[u8]) -> Result<(), AllocError> {
+        let len = record.len().min(65_535) as u32 + 1;
+        self.bytes.extend_from_slice(&len.to_le_bytes())?;
+        self.bytes.push(APPEND)?;
+        self.bytes.extend_from_slice(record)?;
+        self.size = self.size.saturating_add(record.len() as u64);
+        Ok(())
+    }
+
+    // Reads at random: 100 bytes mostly, and at most 64 KiB.
+    fn read(&mut self, kind: u8, random: &mut Random) -> Result<(), AllocError> {
+        let len = 100u64.wrapping_shl(random.below(10).min(9) as u32 / 3 * 3);
+        let offset = random.hot(self.size.saturating_sub(len));
+        let len = len.min(self.size.saturating_sub(offset));
+        self.ask(kind, &[offset, len])
+    }
+
+    // Starts a sync, appends a record, and waits for the sync.
+    fn start(&mut self, record: &[u8]) -> Result<(), AllocError> {
+        self.append(record)?;
+        self.ask(START_SYNC, &[])?;
+        self.append(record)?;
+        self.ask(WAIT_SYNC, &[self.starts])?;
+        self.starts = self.starts.saturating_add(1);
+        Ok(())
+    }
+
+    // Keeps a snapshot, and reads of it.
+    fn snapshot(&mut self, random: &mut Random) -> Result<(), AllocError> {
+        self.ask(SNAPSHOT, &[])?;
+        let len = 1000.min(self.size);
+        for _ in 0..16 {
+            let offset = random.hot(self.size.saturating_sub(len));
+            self.ask(SNAP, &[self.snapshots, offset, len])?;
+        }
+        self.snapshots = self.snapshots.saturating_add(1);
+        Ok(())
+    }
+
+    // Goes over the content from its first byte on, up to a megabyte.
+    fn replay(&mut self) -> Result<(), AllocError> {
+        self.ask(REPLAY, &[65_536])?;
+        for _ in 0..256 {
+            self.ask(ENSURE, &[self.replays, 4096])?;
+            self.ask(TAKE, &[self.replays, 4096])?;
+        }
+        self.replays = self.replays.saturating_add(1);
+        Ok(())
+    }
+
+    // Sends the next few requests.
+    fn go_on(&mut self, number: u64, records: &mut Records) -> Result<(), AllocError> {
+        if number % 1024 == 1023 {
+            self.snapshot(&mut records.random)?;
+        }
+        if number % 4096 == 4095 {
+            self.replay()?;
+        }
+        match records.random.below(16) {
+            0..=6 => self.append(records.next()),
+            7 => self.ask(SYNC, &[]),
+            8 => self.start(records.next()),
+            9..=13 => self.read(READ, &mut records.random),
+            14 => self.read(READ_UP_TO, &mut records.random),
+            _ => self.ask(SIZE, &[]),
+        }
+    }
+}
+
+/// Plays the workload, and answers how often a client went on.
+pub fn play_serve<H: Sum>(alloc: Global, plan: &Plan, digest: &mut Digest) -> Result<u64> {
+    let mut records = Records::new(alloc, plan.seed, 5)?;
+    let count = plan.bytes / 250;
+    let mut answers = Vec::new(alloc);
+    for _ in 0..plan.rounds {
+        let mut client = Client::new(alloc)?;
+        for number in 0..count {
+            client.go_on(number, &mut records)?;
+        }
+        answers = serve_once::<H>(alloc, plan, &client.bytes, answers, digest)?;
+    }
+    Ok(plan.rounds.saturating_mul(count))
+}
+
+// Serves an empty blob, and answers the memory of the answers, for those of the next one.
+fn serve_once<H: Sum>(
+    alloc: Global,
+    plan: &Plan,
+    requests: &[u8],
+    mut answers: Vec<u8>,
+    digest: &mut Digest,
+) -> Result<Vec<u8>> {
+    answers.clear();
+    let setting = Setting {
+        page_size: plan.page_size,
+        ..Setting::default()
+    };
+    let mut blob = VecBlob::new(alloc);
+    let mut input = BufReader::new(alloc, requests)?;
+    let mut out = BufWriter::new(alloc, answers)?;
+    let ended = serve_file::<VecBlob, H, _, _>(
+        alloc, &mut blob, &setting, "", &mut input, &mut out,
+    );
+    digest.number(ended.map_or_else(|stop| u64::from(stop.status()), |()| 0));
+    out.flush()?;
+    let (answers, _) = out.into_parts();
+    digest.bytes(&answers);
+    digest.bytes(blob.bytes());
+    Ok(answers)
+}
