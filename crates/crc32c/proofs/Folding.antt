@@ -257,8 +257,19 @@ unfolding crc32c
 checked bytes state is =
     inverted state (subst (λ s. s < 2 ^ 32) (sym is) (small_bytes bytes 4294967295 (lit< tt))) ∙ ap (λ s. bit_xor s 4294967295) is
 
-pub in_two : (bytes front back left : List ℕ) (one two n : ℕ) → front ≡ take n bytes → back ≡ drop n bytes → one ≡ after_bytes 4294967295 front
-    → after_bytes 0 left ≡ after_bytes one back → two ≡ after_bytes 0 left → 4294967295 - two ≡ crc32c bytes
-in_two bytes front back left one two n is_front is_back is_one is_left is_two =
-    checked bytes two (is_two ∙ is_left ∙ ap (λ s. after_bytes s back) is_one ∙ sym (bytes_more 4294967295 front back)
-    ∙ ap (after_bytes 4294967295) (ap₂ (λ k l. k ++ l) is_front is_back ∙ take-append-drop n bytes))
+-- the check of bytes, given that of the first of them
+pub goes_on : (bytes : List ℕ) (k check state : ℕ) → check ≡ crc32c (take k bytes) → state ≡ after_bytes (4294967295 - check) (drop k bytes)
+    → 4294967295 - state ≡ crc32c bytes
+goes_on bytes k check state is_check is =
+    let first : ℕ = after_bytes 4294967295 (take k bytes) in
+    let small : first < 2 ^ 32 = small_bytes (take k bytes) 4294967295 (lit< tt) in
+    let same : 4294967295 - check ≡ first = omega (arith, small, is_check, checked (take k bytes) first refl) in
+    checked bytes state (is ∙ ap (λ s. after_bytes s (drop k bytes)) same ∙ sym (bytes_more 4294967295 (take k bytes) (drop k bytes))
+    ∙ ap (after_bytes 4294967295) (take-append-drop k bytes))
+
+-- the state after bytes in two parts
+pub in_two : (state : ℕ) (bytes front back left : List ℕ) (one two n : ℕ) → front ≡ take n bytes → back ≡ drop n bytes → one ≡ after_bytes state front
+    → after_bytes 0 left ≡ after_bytes one back → two ≡ after_bytes 0 left → two ≡ after_bytes state bytes
+in_two state bytes front back left one two n is_front is_back is_one is_left is_two =
+    is_two ∙ is_left ∙ ap (λ s. after_bytes s back) is_one ∙ sym (bytes_more state front back)
+    ∙ ap (after_bytes state) (ap₂ (λ k l. k ++ l) is_front is_back ∙ take-append-drop n bytes)

@@ -44,10 +44,26 @@ fn checks(rt: HostRuntime) {
     // From 576 bytes on the message is folded, and from 2,400 on its window moves.
     for len in 0..=700 {
         let bytes = &message[..len];
-        assert_eq!(rt; Crc32c::sum(bytes), bit_by_bit(bytes), "at {len}");
+        let check = bit_by_bit(bytes);
+        assert_eq!(rt; Crc32c::sum(bytes), check, "at {len}");
+        let known = len / 3;
+        let first = Crc32c::sum(&bytes[..known]);
+        assert_eq!(rt;
+            Crc32c::sum_from(bytes, known, first),
+            check,
+            "from {known} to {len}"
+        );
     }
     for len in [2399, 2400, 2431, 2432, 4084, 5000] {
         let bytes = &message[..len];
-        assert_eq!(rt; Crc32c::sum(bytes), bit_by_bit(bytes), "at {len}");
+        let check = bit_by_bit(bytes);
+        assert_eq!(rt; Crc32c::sum(bytes), check, "at {len}");
+        let known = len / 7;
+        let first = Crc32c::sum(&bytes[..known]);
+        assert_eq!(rt;
+            Crc32c::sum_from(bytes, known, first),
+            check,
+            "from {known} to {len}"
+        );
     }
 }

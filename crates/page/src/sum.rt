@@ -1,5 +1,5 @@
 // Checksum functions.
-ghost use Rattle.std.specs.Prelude.{◌≡◌, ◌<◌, ◌^◌, ◌%◌, ℕ, List, sum};
+ghost use Rattle.std.specs.Prelude.{◌≡◌, ◌<◌, ◌≤◌, ◌^◌, ◌%◌, ℕ, List, length, take, sum};
 
 /// A checksum of bytes. Nothing is asked of it but that it is one function of the bytes.
 pub trait Sum {
@@ -9,6 +9,16 @@ pub trait Sum {
     /// The checksum of these bytes.
     fn sum(bytes: &[u8]) -> u32
         ensures { result ≡ sum_of bytes.now };
+
+    /// The checksum of these bytes, given that of the first `known` of them. One that can go on from
+    /// there overrides this, and looks at the others alone.
+    fn sum_from(bytes: &[u8], known: usize, sum: u32) -> u32
+        requires within { known ≤ length bytes.now }
+        requires sum { sum ≡ sum_of (take known bytes.now) }
+        ensures { result ≡ sum_of bytes.now }
+    {
+        Self::sum(bytes)
+    }
 
     /// A checksum fits 32 bits.
     ghost small: { (bytes : List ℕ) → sum_of bytes < 2 ^ 32 };

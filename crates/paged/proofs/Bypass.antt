@@ -11,14 +11,14 @@ use Rattle.page.specs.Tip.{Tip, ArePages, full_len, joined, drained}
 use Rattle.page.specs.declared.slot.ActiveChecksum.{ActiveChecksum}
 use Rattle.writer_state.specs.WriterState.{WriterState}
 use Rattle.writer_state.specs.declared.sync_state.SyncState.{SyncState}
-use Rattle.crash.specs.Built.{built, durable_after}
+use Rattle.crash.specs.Built.{built}
 use Rattle.writer_state.specs.Sound.{CanWrite}
 use Rattle.paged.specs.Writer.{FitsBlob, IsWriter}
 use Rattle.paged.specs.Direct.{buffering, fill_of, is_too_big, IsDirect}
 use Rattle.paged.specs.Calls.{waited}
 use Rattle.paged.specs.Flush.{full_in, rest_of, carried, advanced, written, flush_bytes, footers_of, with_footers}
 use Rattle.paged.proofs.Building.{built-take}
-use Rattle.paged.proofs.Drains.{is_writer_drained, drained_state}
+use Rattle.paged.proofs.Drains.{is_writer_drained, slot_gone, drained_state}
 use Rattle.paged.proofs.Footers.{length-pages, with_footers-built}
 
 -- ---- whole pages, and less than a page after them
@@ -118,11 +118,6 @@ put_after P old new start whole rest size empty pages short at is =
     let left : rest ≡ drop (full_len (joined old (whole ++ rest))) bytes = sym (ap (λ n. drop n bytes) len ∙ rest_left P whole rest bytes pages short tip) in
     is ∙ (λ i. record old { offset = offset i; bytes = left i })
 
--- the durable slot goes with the first page
-durable_gone : (durable : Option ActiveChecksum) (k : ℕ) → 0 < k → None ≡ durable_after durable k
-durable_gone durable zero some = absurd (omega (arith, some))
-durable_gone durable (suc k) some = refl
-
 -- the writer then
 module _ (P id start : ℕ) (old new : Tip) (flushed durable : Option ActiveChecksum) (sync : SyncState) (w : WriterState) (whole rest : List ℕ) (some : 0 < P) (is : IsWriter P old)
     (view : record { page_size = P; id = id; capacity = old.capacity; full_pages = old.offset / P; tip = old.bytes; flushed = flushed; durable = durable; sync = sync } ≡ w) (direct : IsDirect w whole rest)
@@ -144,7 +139,7 @@ module _ (P id start : ℕ) (old new : Tip) (flushed durable : Option ActiveChec
       let pages : 0 < length (old.bytes ++ (whole ++ rest)) / P = (direct_can (record { page_size = P; id = id; capacity = old.capacity; full_pages = old.offset / P; tip = old.bytes; flushed = flushed; durable = durable; sync = sync }) whole rest here).0 in
       drained_state P id (joined old (whole ++ rest)) new None durable None sync (record (buffering w (whole ++ rest)) { flushed = None }) some is_joined drains
       (ap (λ (v : WriterState). record (buffering v (whole ++ rest)) { flushed = None }) view)
-      (durable_gone durable (length (old.bytes ++ (whole ++ rest)) / P) pages)
+      (slot_gone durable (length (old.bytes ++ (whole ++ rest)) / P) pages)
 
 -- ---- what fills the tip, the whole pages after, and the rest
 

@@ -1,11 +1,9 @@
 -- A tip without its full pages.
-use Rattle.std.proofs.Common.{◌≡◌, ℕ, suc, zero, ◌+◌, ◌-◌, ◌*◌, ◌/◌, ◌<◌, List, length, take, drop, refl, sym, ap, ◌∙◌, subst, arith, length-drop}
-use Rattle.std.specs.Prelude.{Option, None, false, true, ◌==◌}
-use Rattle.std.specs.List.{concat}
-use Rattle.std.proofs.Math.Nat.{mul-div_cancel, add-mul, div-mul-le_self}
-use Rattle.std.proofs.lemmas.Bool.Decides.{nat_tests}
-use Rattle.std.proofs.lemmas.List.{length-take-le}
-use Rattle.page.specs.Tip.{Tip, ArePages, full_len, drained}
+use Rattle.std.proofs.Common.{◌≡◌, ℕ, suc, zero, ◌+◌, ◌-◌, ◌*◌, ◌/◌, ◌<◌, ◌≤◌, List, length, drop, refl, sym, ap, ◌∙◌, subst, arith, length-drop}
+use Rattle.std.specs.Prelude.{Option, None}
+use Rattle.std.proofs.Math.Nat.{mul-div_cancel, add-mul}
+use Rattle.std.proofs.lemmas.Nat.{le-div}
+use Rattle.page.specs.Tip.{Tip, full_len, drained}
 use Rattle.page.specs.declared.slot.ActiveChecksum.{ActiveChecksum}
 use Rattle.writer_state.specs.WriterState.{WriterState}
 use Rattle.writer_state.specs.declared.sync_state.SyncState.{SyncState}
@@ -13,7 +11,6 @@ use Rattle.crash.specs.Built.{durable_after}
 use Rattle.paged.specs.Writer.{physical_blob_size, IsWriter}
 use Rattle.paged.specs.Flush.{advanced}
 use Rattle.paged.proofs.Flushing.{fits-rest}
-use Rattle.paged.proofs.Footers.{length-pages}
 
 -- the bytes of a tip's full pages
 length-full : (P : ℕ) (old : Tip) → old.page_size ≡ P → full_len old ≡ length old.bytes / P * P
@@ -45,21 +42,14 @@ is_writer_drained P old new some is goes =
       fits = omega (arith, same, is.fits);
     })
 
--- so many pages were drained
-pub pages_drained : (P : ℕ) (old : Tip) (pages : List (List ℕ)) → 0 < P → old.page_size ≡ P → ArePages P pages → concat pages ≡ take (full_len old) old.bytes → length pages ≡ length old.bytes / P
-pages_drained P old pages some size are is =
-    let full = length-full P old size in
-    let bytes : length (concat pages) ≡ length old.bytes / P * P = ap length is ∙ length-take-le (full_len old) old.bytes (omega (arith, full, div-mul-le_self (length old.bytes) P)) ∙ full in
-    sym (mul-div_cancel (length pages) some) ∙ ap (λ n. n / P) (sym (length-pages P pages are) ∙ bytes) ∙ mul-div_cancel (length old.bytes / P) some
+-- a slot goes with the first full page
+pub slot_gone : (slot : Option ActiveChecksum) (k : ℕ) → 0 < k → None ≡ durable_after slot k
+slot_gone slot zero some = absurd (omega (arith, some))
+slot_gone slot (suc k) some = refl
 
--- the durable slot, where there were some, and where there was none
-pub durable_some : (durable : Option ActiveChecksum) (n k : ℕ) → n ≡ k → false ≡ (n == 0) → None ≡ durable_after durable k
-durable_some durable n zero is more = absurd (grind (arith, nat_tests, is, more))
-durable_some durable n (suc k) is more = refl
-
-pub durable_none : (durable : Option ActiveChecksum) (n k : ℕ) → n ≡ k → true ≡ (n == 0) → durable ≡ durable_after durable k
-durable_none durable n zero is none = refl
-durable_none durable n (suc k) is none = absurd (grind (arith, nat_tests, is, none))
+-- there is one among a page's bytes and more
+pub full_some : (P : ℕ) (bytes : List ℕ) → 0 < P → P ≤ length bytes → 0 < length bytes / P
+full_some P bytes some enough = le-div 1 (length bytes) P some (omega (arith, enough))
 
 -- the writer then
 pub drained_state : (P id : ℕ) (old new : Tip) (flushed durable durable_now : Option ActiveChecksum) (sync : SyncState) (w : WriterState) → 0 < P → IsWriter P old → new ≡ drained old

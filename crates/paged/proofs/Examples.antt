@@ -14,7 +14,7 @@ use Rattle.writer_state.specs.declared.sync_state.SyncState.TheVariants.{Clean, 
 use Rattle.writer_state.proofs.StartedLaws.{ab_page, ab_started}
 use Rattle.writer_state.proofs.Examples.{at_rest, with_g}
 use Rattle.paged.specs.Writer.{physical_blob_size, FitsBlob}
-use Rattle.paged.specs.Flush.{full_in, rest_of, has_work, carried, advanced, synced, offset_of, flush_bytes, rest_bytes, footers_of, with_footers}
+use Rattle.paged.specs.Flush.{full_in, rest_of, has_work, carried, advanced, synced, offset_of, flush_bytes, rest_bytes, footers_of, with_footers, TellsFirst, TellsFirstPage}
 use Rattle.paged.specs.Recovery.{RecoveryCause}
 use Rattle.paged.specs.Calls.{IsSettled, TryAppends, CallCause, SettlesBy, sync_calls, start_calls, started_already, waited}
 use Rattle.paged.specs.Direct.{fill_of, is_too_big, IsDirect}
@@ -141,6 +141,14 @@ a_try_that_does_not_fit = (omega arith, omega arith, refl)
 -- a footer after each of two pages of one byte
 pub footers_of_two : with_footers ((97 ∷ []) ∷ (98 ∷ []) ∷ []) (footers_of add_sum None ((97 ∷ []) ∷ (98 ∷ []) ∷ [])) ≡ built add_sum 1 None 2 (97 ∷ 98 ∷ [])
 footers_of_two = refl
+
+-- the slot of "ef" tells the first of "efg"
+pub a_slot_of_the_first : TellsFirst add_sum (Some (record { slot = First; len = 2; crc = 203 })) (101 ∷ 102 ∷ 103 ∷ [])
+a_slot_of_the_first = (omega arith, refl)
+
+-- and of pages the first alone
+pub a_page_of_the_first : TellsFirstPage add_sum (Some (record { slot = First; len = 2; crc = 203 })) ((101 ∷ 102 ∷ 103 ∷ []) ∷ (97 ∷ []) ∷ [])
+a_page_of_the_first = (omega arith, refl)
 
 -- ---- started syncs
 

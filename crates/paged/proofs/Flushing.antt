@@ -1,5 +1,5 @@
 -- What a flush writes, and that offsets still fit.
-use Rattle.std.proofs.Common.{◌≡◌, ℕ, ◌+◌, ◌*◌, ◌-◌, ◌/◌, ◌%◌, ◌<◌, ◌≤◌, ◌^◌, List, ◌++◌, length, take, drop, refl, sym, ap, ◌∙◌, subst, arith, append-nil, length-drop, inl, inr, Bool, true, false, min}
+use Rattle.std.proofs.Common.{◌≡◌, ℕ, ◌+◌, ◌*◌, ◌-◌, ◌/◌, ◌%◌, ◌<◌, ◌≤◌, ◌^◌, List, [], ◌++◌, length, take, drop, refl, sym, ap, ◌∙◌, subst, arith, append-nil, length-drop, inl, inr, Bool, true, false, min}
 use Rattle.std.proofs.Math.Nat.{mod-lt, div-zero, div-add-mod', mod-eq_of_lt, div-eq_of_lt, mul-div_cancel, mul-le-mul_right, add-mul, zero-mul}
 use Rattle.std.proofs.lemmas.List.{take_all, length-take-le}
 use Rattle.std.specs.Prelude.{Option, not, ◌==◌, ◌&&◌}
@@ -44,22 +44,44 @@ rest_bytes-short sum w short = ap (λ k. page_of sum w.page_size (durable_after 
 pub short_drained : (w : WriterState) → 0 < w.page_size → length (rest_of w) < w.page_size
 short_drained w some = omega (arith, length-rest w, mod-lt (length w.tip) some)
 
-rest_bytes-drained : (sum : List ℕ → ℕ) (w : WriterState) (rest : Bool) → 0 < w.page_size → rest_bytes sum (advanced w w.flushed w.sync) rest ≡ rest_bytes sum w rest
-rest_bytes-drained sum w false some = refl
-rest_bytes-drained sum w true some = rest_bytes-short sum (advanced w w.flushed w.sync) (short_drained w some)
+rest_bytes-drained : (sum : List ℕ → ℕ) (w : WriterState) (flushed : Option ActiveChecksum) (rest : Bool) → 0 < w.page_size → rest_bytes sum (advanced w flushed w.sync) rest ≡ rest_bytes sum w rest
+rest_bytes-drained sum w flushed false some = refl
+rest_bytes-drained sum w flushed true some = rest_bytes-short sum (advanced w flushed w.sync) (short_drained w some)
 
--- the same, as a program builds it
-pub flush_bytes-drained : (sum : List ℕ → ℕ) (w v : WriterState) (rest : Bool) (durable : Option ActiveChecksum) (pages : List (List ℕ)) → 0 < w.page_size → durable ≡ w.durable
-    → ArePages w.page_size pages → concat pages ≡ take (full_in w * w.page_size) w.tip → v ≡ advanced w w.flushed w.sync
-    → with_footers pages (footers_of sum durable pages) ++ rest_bytes sum v rest ≡ flush_bytes sum w rest
-flush_bytes-drained sum w v rest durable pages some slot are is state =
+-- the same, as a program builds it: first the full pages
+pub pages-drained : (sum : List ℕ → ℕ) (w : WriterState) (durable : Option ActiveChecksum) (pages : List (List ℕ)) → 0 < w.page_size → durable ≡ w.durable
+    → ArePages w.page_size pages → concat pages ≡ take (full_in w * w.page_size) w.tip
+    → with_footers pages (footers_of sum durable pages) ≡ built sum w.page_size w.durable (full_in w) w.tip
+pages-drained sum w durable pages some slot are is =
     let bytes : length pages * w.page_size ≡ full_in w * w.page_size = sym (length-pages w.page_size pages are) ∙ ap length is ∙ length-full w in
     let count : length pages ≡ full_in w = sym (mul-div_cancel (length pages) some) ∙ ap (λ n. n / w.page_size) bytes ∙ mul-div_cancel (full_in w) some in
-    ap (λ b. b ++ rest_bytes sum v rest) (with_footers-built sum w.page_size durable pages are)
-    ∙ (λ i. built sum w.page_size (slot i) (count i) (is i) ++ rest_bytes sum (state i) rest)
-    ∙ ap (λ b. b ++ rest_bytes sum (advanced w w.flushed w.sync) rest) (built-take sum w.page_size w.durable (full_in w) w.tip)
-    ∙ ap (λ b. built sum w.page_size w.durable (full_in w) w.tip ++ b) (rest_bytes-drained sum w rest some)
+    with_footers-built sum w.page_size durable pages are
+    ∙ (λ i. built sum w.page_size (slot i) (count i) (is i))
+    ∙ built-take sum w.page_size w.durable (full_in w) w.tip
+
+-- and then the rest
+pub flush_bytes-drained : (sum : List ℕ → ℕ) (w v : WriterState) (flushed : Option ActiveChecksum) (rest : Bool) → 0 < w.page_size → v ≡ advanced w flushed w.sync
+    → built sum w.page_size w.durable (full_in w) w.tip ++ rest_bytes sum v rest ≡ flush_bytes sum w rest
+flush_bytes-drained sum w v flushed rest some state =
+    ap (λ (u : WriterState). built sum w.page_size w.durable (full_in w) w.tip ++ rest_bytes sum u rest) state
+    ∙ ap (λ b. built sum w.page_size w.durable (full_in w) w.tip ++ b) (rest_bytes-drained sum w flushed rest some)
     ∙ flush_bytes-by_rest sum w rest some
+
+-- a tip without full pages is as it is without them
+pub none_full : (w : WriterState) → length w.tip < w.page_size → 0 ≡ full_in w
+none_full w short = sym (div-eq_of_lt short)
+
+pub built-none : (sum : List ℕ → ℕ) (w : WriterState) (bufs : List (List ℕ)) → length w.tip < w.page_size → bufs ≡ [] → concat bufs ≡ built sum w.page_size w.durable (full_in w) w.tip
+built-none sum w bufs short is = ap concat is ∙ ap (λ k. built sum w.page_size w.durable k w.tip) (none_full w short)
+
+pub advanced-none : (w : WriterState) → length w.tip < w.page_size → w ≡ advanced w (durable_after w.flushed (full_in w)) w.sync
+advanced-none w short =
+    let none = none_full w short in
+    let pages : w.full_pages ≡ w.full_pages + full_in w = omega (arith, none) in
+    let rest : w.tip ≡ rest_of w = ap (λ n. drop n w.tip) (sym (zero-mul w.page_size)) ∙ ap (λ k. drop (k * w.page_size) w.tip) none in
+    let flushed : w.flushed ≡ durable_after w.flushed (full_in w) = ap (durable_after w.flushed) none in
+    let durable : w.durable ≡ durable_after w.durable (full_in w) = ap (durable_after w.durable) none in
+    λ i. record w { full_pages = pages i; tip = rest i; flushed = flushed i; durable = durable i }
 
 -- pages that are taken off the front of some bytes are counted off
 pub div_ceil-rest : (n r P : ℕ) → 0 < P → r ≡ n - n / P * P → n / P + div_ceil r P ≡ div_ceil n P

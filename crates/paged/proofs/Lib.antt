@@ -4,6 +4,7 @@ pub mod Sizes
 pub mod Footers
 pub mod Building
 pub mod Flushing
+pub mod Known
 pub mod Drains
 pub mod Causes
 pub mod Flushes

@@ -6,7 +6,7 @@ ghost use Rattle.page.specs.Slot.{other};
 ghost use Rattle.page.specs.Page.{slot_bytes};
 ghost use Rattle.page.specs.Footer.{footer_bytes};
 ghost use Rattle.crash.specs.Built.{kept_slot, kept_bytes, footer, page_of};
-ghost use Rattle.paged.specs.Flush.{footers_of, with_footers};
+ghost use Rattle.paged.specs.Flush.{TellsFirst, TellsFirstPage, footers_of, with_footers};
 
 use bytes::Bytes;
 use disk::{Error, IoBuf, IoBufs};
@@ -16,9 +16,26 @@ use std::alloc::Global;
 /// The bytes of a footer.
 const FOOTER: usize = CHECKSUM_SIZE as usize;
 
-/// The slot that a page with these bytes gets: the one that isn't kept.
-fn new_slot<H: Sum>(durable: Option<ActiveChecksum>, chunk: &[u8]) -> ActiveChecksum
-    requires { length chunk.now < 2 ^ 16 }
+/// The checksum of these bytes, of which the known slot, where there is one, tells the first.
+fn sum_after<H: Sum>(known: Option<ActiveChecksum>, chunk: &[u8]) -> u32
+    requires { TellsFirst H.sum_of known chunk.now }
+    ensures { result ≡ H.sum_of chunk.now }
+{
+    match known {
+        None => H::sum(chunk),
+        Some(first) => H::sum_from(chunk, usize::from(first.len), first.crc),
+    }
+}
+
+/// The slot that a page with these bytes gets: the one that isn't kept. The known slot, where
+/// there is one, tells the first of them.
+fn new_slot<H: Sum>(
+    durable: Option<ActiveChecksum>,
+    known: Option<ActiveChecksum>,
+    chunk: &[u8],
+) -> ActiveChecksum
+    requires small { length chunk.now < 2 ^ 16 }
+    requires known { TellsFirst H.sum_of known chunk.now }
     ensures { result ≡ record {
       slot = other (kept_slot durable);
       len = length chunk.now;
@@ -29,7 +46,7 @@ fn new_slot<H: Sum>(durable: Option<ActiveChecksum>, chunk: &[u8]) -> ActiveChec
         None => Slot::First,
         Some(kept) => kept.slot.other(),
     };
-    ActiveChecksum::new(slot, chunk.len() as u16, H::sum(chunk))
+    ActiveChecksum::new(slot, chunk.len() as u16, sum_after::<H>(known, chunk))
 }
 
 /// A footer with the durable slot as it is, and the new checksum in the other one.
@@ -67,15 +84,18 @@ fn push_zeros(out: &mut Vec<u8>, count: usize) -> Result<(), Error>
 }
 
 /// Adds one physical page: the chunk, zeros up to the page size, and the footer. It answers the
-/// slot that tells the chunk. `OutOfMemory` alone.
+/// slot that tells the chunk; the known one, where there is one, tells the first of it.
+/// `OutOfMemory` alone.
 pub(crate) fn push_page<H: Sum>(
     out: &mut Vec<u8>,
     page_size: usize,
     durable: Option<ActiveChecksum>,
+    known: Option<ActiveChecksum>,
     chunk: &[u8],
 ) -> Result<ActiveChecksum, Error>
     requires small { page_size < 2 ^ 16 }
     requires fits { length chunk.now ≤ page_size }
+    requires known { TellsFirst H.sum_of known chunk.now }
     ensures page { OnOk result
         (out.new.items ≡ out.old.items ++ page_of H.sum_of page_size durable chunk.now) }
     ensures slot { IfOk result (λ new. new ≡ record {
@@ -85,7 +105,7 @@ pub(crate) fn push_page<H: Sum>(
     }) }
     ensures err { IsOkUnless result Error.OutOfMemory }
 {
-    let new = new_slot::<H>(durable, chunk);
+    let new = new_slot::<H>(durable, known, chunk);
     let padding = page_size - chunk.len();
     out.extend_from_slice(chunk)?;
     push_zeros(out, padding)?;
@@ -93,21 +113,25 @@ pub(crate) fn push_page<H: Sum>(
     Ok(new)
 }
 
-/// The footers of full pages, joined; the first repeats the durable slot. `OutOfMemory` alone.
+/// The footers of full pages, joined; the first repeats the durable slot, and the known one, where
+/// there is one, tells the first of its page. `OutOfMemory` alone.
 fn footers_of<H: Sum>(
     alloc: Global,
     mut durable: Option<ActiveChecksum>,
+    mut known: Option<ActiveChecksum>,
     pages: &[IoBuf],
 ) -> Result<Vec<u8>, Error>
-    requires { All (λ page. length page < 2 ^ 16) pages.now }
+    requires small { All (λ page. length page < 2 ^ 16) pages.now }
+    requires known { TellsFirstPage H.sum_of known pages.now }
     ensures footers { IfOk result (λ out. out.items ≡ footers_of H.sum_of durable pages.now) }
     ensures err { IsOkUnless result Error.OutOfMemory }
 {
     let mut out = Vec::with_capacity(alloc, pages.len().saturating_mul(FOOTER))?;
     for page in pages {
-        let new = new_slot::<H>(durable, page.as_ref());
+        let new = new_slot::<H>(durable, known, page.as_ref());
         out.extend_from_slice(&footer_with(durable, new).to_bytes())?;
         durable = None;
+        known = None;
     }
     Ok(out)
 }
@@ -130,18 +154,21 @@ fn with_footers(alloc: Global, pages: Vec<IoBuf>, footers: &IoBuf) -> Result<IoB
     Ok(bufs)
 }
 
-/// The physical pages of full pages, of which the first repeats the durable slot. The pages aren't
-/// copied, and their footers are parts of one buffer. `OutOfMemory` alone.
+/// The physical pages of full pages, of which the first repeats the durable slot, and begins with
+/// what the known one tells, where there is one. The pages aren't copied, and their footers are
+/// parts of one buffer. `OutOfMemory` alone.
 pub(crate) fn physical_pages<H: Sum>(
     alloc: Global,
     durable: Option<ActiveChecksum>,
+    known: Option<ActiveChecksum>,
     pages: Vec<IoBuf>,
 ) -> Result<IoBufs, Error>
-    requires { All (λ page. length page < 2 ^ 16) pages.items }
+    requires small { All (λ page. length page < 2 ^ 16) pages.items }
+    requires known { TellsFirstPage H.sum_of known pages.items }
     ensures bytes { IfOk result (λ bufs.
         concat bufs ≡ with_footers pages.items (footers_of H.sum_of durable pages.items)) }
     ensures err { IsOkUnless result Error.OutOfMemory }
 {
-    let footers = footers_of::<H>(alloc, durable, &pages)?;
+    let footers = footers_of::<H>(alloc, durable, known, &pages)?;
     with_footers(alloc, pages, &IoBuf::from(Bytes::from_vec(footers)?))
 }

@@ -46,7 +46,7 @@ fn cut_pages<H: Sum>(
     let mut chunks = IoBufs::new(alloc);
     chunks.append(whole)?;
     let pages = split_pages(alloc, &chunks, page_size)?;
-    physical_pages::<H>(alloc, durable, pages)
+    physical_pages::<H>(alloc, durable, None, pages)
 }
 
 impl<B, H, Phase> Writer<B, H, Phase> {

@@ -5,7 +5,7 @@ ghost use Rattle.std.specs.Prelude.{take};
 ghost use Rattle.std.specs.List.{concat};
 ghost use Rattle.disk.specs.Disk.{WriteGoes, SyncGoes, WaitGoes};
 ghost use Rattle.writer_state.specs.declared.sync_state.SyncState.TheVariants.{Clean, Dirty};
-ghost use Rattle.crash.specs.Built.{durable_after, rest_written};
+ghost use Rattle.crash.specs.Built.{built, durable_after, rest_written};
 ghost use Rattle.writer_state.specs.Sound.{CanWrite, IsSound, MayFlush, content, guard_slot};
 ghost use Rattle.crash.specs.Below.{PagesStay};
 ghost use Rattle.crash.specs.Started.{CoversThrough, StartsStand};
@@ -21,6 +21,7 @@ ghost use Rattle.cache.specs.CacheState.{PutsAll};
 ghost use Rattle.cache.specs.Pages.{CachesOnly, IsFresh};
 ghost use Rattle.paged.specs.Flush.{full_in, rest_of, rest_bytes, has_work, carried, advanced};
 ghost use Rattle.paged.specs.Flush.{offset_of, flush_bytes, synced, written, outcome, answered};
+ghost use Rattle.paged.specs.Flush.{TellsFirst};
 ghost use Rattle.paged_read.specs.Replay.{LeavesReplays};
 ghost use Rattle.paged_read.specs.Snapshots.{LeavesOthers, LeavesTails};
 
@@ -102,21 +103,22 @@ impl<B, H, Phase> Writer<B, H, Phase> {
         self.full_pages() * self.physical_page_size()
     }
 
-    /// The tip's full pages, which are taken out of it. `OutOfMemory` alone.
+    /// The tip's full pages, of which there are some, taken out of it. `OutOfMemory` alone.
     fn drain(&mut self) -> Result<Vec<IoBuf>, Error>
+        requires { self.old.page_size ≤ length self.old.tip }
         ensures bytes { IfOk result (λ pages.
             concat pages.items ≡ take (full_in self.old * self.old.page_size) self.old.tip) }
         ensures pages { IfOk result (λ pages. ArePages self.old.page_size pages.items) }
         ensures small { IfOk result (λ pages. All (λ page. length page < 2 ^ 16) pages.items) }
-        ensures state { OnOk result (self.new ≡ advanced self.old self.old.flushed self.old.sync) }
+        ensures state { let flushed = durable_after self.old.flushed (full_in self.old) in
+            OnOk result (self.new ≡ advanced self.old flushed self.old.sync) }
         ensures err { IsOkUnless result Error.OutOfMemory }
     {
         let page_size = usize::from(self.page_size.get());
         let chunks = self.tip.drain_full_pages()?;
         let pages = split_pages(self.alloc, &chunks, page_size)?;
-        if !pages.is_empty() {
-            self.durable = None;
-        }
+        self.flushed = None;
+        self.durable = None;
         Ok(pages)
     }
 }
@@ -125,7 +127,8 @@ impl<B, H: Sum, Phase> Writer<B, H, Phase> {
     /// Adds the physical page of the bytes of a tip without full pages, where asked, and answers
     /// the slot that tells them. `OutOfMemory` alone.
     fn push_rest(&self, bufs: &mut IoBufs, rest: bool) -> Result<Option<ActiveChecksum>, Error>
-        requires { length self.now.tip < self.now.page_size }
+        requires short { length self.now.tip < self.now.page_size }
+        requires known { TellsFirst H.sum_of self.now.flushed self.now.tip }
         ensures bytes { OnOk result
             (concat bufs.new ≡ concat bufs.old ++ rest_bytes H.sum_of self.now rest) }
         ensures slot { IfOk result (λ slot.
@@ -137,9 +140,33 @@ impl<B, H: Sum, Phase> Writer<B, H, Phase> {
         }
         let page_size = usize::from(self.page_size.get());
         let mut page = Vec::with_capacity(self.alloc, self.physical_page_size() as usize)?;
-        let slot = push_page::<H>(&mut page, page_size, self.durable, self.tip.partial())?;
+        let (durable, known) = (self.durable, self.flushed);
+        let slot = push_page::<H>(&mut page, page_size, durable, known, self.tip.partial())?;
         bufs.append(IoBuf::from(Bytes::from_vec(page)?))?;
         Ok(Some(slot))
+    }
+
+    /// Takes the tip's full pages out of it, and answers their physical pages: the writer stands
+    /// then as once they are written. They are put in the cache. `OutOfMemory` alone.
+    fn take_full(&mut self, cache: &mut CacheRef) -> Result<IoBufs, Error>
+        requires cached { cache.old.page_size ≡ self.old.page_size }
+        requires known { let page = take self.old.page_size self.old.tip in
+            TellsFirst H.sum_of self.old.flushed page }
+        ensures bytes { IfOk result (λ bufs. let old = self.old in
+            concat bufs ≡ built H.sum_of old.page_size old.durable (full_in old) old.tip) }
+        ensures state { let flushed = durable_after self.old.flushed (full_in self.old) in
+            OnOk result (self.new ≡ advanced self.old flushed self.old.sync) }
+        ensures puts { CachesTo self.old self.new self.old.tip cache.old cache.new result }
+        ensures err { IsOkUnless result Error.OutOfMemory }
+    {
+        if self.tip.len() < usize::from(self.page_size.get()) {
+            return IoBufs::with_capacity(self.alloc, 1);
+        }
+        let (durable, known) = (self.durable, self.flushed);
+        let (id, first) = (self.id, self.full_pages());
+        let pages = self.drain()?;
+        cache_pages(cache, id, first, &pages);
+        physical_pages::<H>(self.alloc, durable, known, pages)
     }
 
     /// Takes the tip's full pages out of it, and answers the physical pages of these and of the
@@ -147,6 +174,8 @@ impl<B, H: Sum, Phase> Writer<B, H, Phase> {
     /// the cache. `OutOfMemory` alone.
     fn take_pages(&mut self, cache: &mut CacheRef, rest: bool) -> Result<IoBufs, Error>
         requires cached { cache.old.page_size ≡ self.old.page_size }
+        requires known { let page = take self.old.page_size self.old.tip in
+            TellsFirst H.sum_of self.old.flushed page }
         ensures bytes { IfOk result (λ bufs. concat bufs ≡ flush_bytes H.sum_of self.old rest) }
         ensures state { let durable = durable_after self.old.durable (full_in self.old) in
             let flushed = rest_written H.sum_of durable (rest_of self.old) rest in
@@ -154,11 +183,7 @@ impl<B, H: Sum, Phase> Writer<B, H, Phase> {
         ensures puts { CachesTo self.old self.new self.old.tip cache.old cache.new result }
         ensures err { IsOkUnless result Error.OutOfMemory }
     {
-        let durable = self.durable;
-        let (id, first) = (self.id, self.full_pages());
-        let pages = self.drain()?;
-        cache_pages(cache, id, first, &pages);
-        let mut bufs = physical_pages::<H>(self.alloc, durable, pages)?;
+        let mut bufs = self.take_full(cache)?;
         self.flushed = self.push_rest(&mut bufs, rest)?;
         Ok(bufs)
     }
@@ -176,6 +201,8 @@ impl<B: Blob, H: Sum, Phase> Writer<B, H, Phase> {
     ) -> Result<(), Error>
         requires cached { cache.old.page_size ≡ self.old.page_size }
         requires can { CanWrite self.old.page_size self.old.tip (full_in self.old) rest }
+        requires known { let page = take self.old.page_size self.old.tip in
+            TellsFirst H.sum_of self.old.flushed page }
         requires settled { sync ≡ true → (B.life blob.old).present.since ≡ [] }
         ensures fits { IsErrOf result Error.OffsetOverflow → ⊥ }
         ensures goes { let old = B.life blob.old in let new = B.life blob.new in

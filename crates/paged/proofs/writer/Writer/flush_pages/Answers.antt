@@ -9,6 +9,7 @@ use Rattle.paged.proofs.Below.{flush_pages}
 use Rattle.paged.proofs.Causes.{write_asks, write_names}
 use Rattle.paged.proofs.Covers.{carried_covers}
 use Rattle.paged.proofs.Flushing.{can_flush_rest}
+use Rattle.paged.proofs.Known.{carried_tells}
 use Rattle.paged.proofs.Flushes.{flush_call, flush_short, flush_written, flush_dirty, ready_settled}
 use Rattle.paged.proofs.writer.Writer.flush_pages.Goals as goal
 
@@ -17,6 +18,10 @@ unfolding IsSound
 write_pages-requires-clause-can g c =
     subst (λ (v : WriterState). CanWrite v.page_size v.tip (full_in v) c.writes_rest-after.result) (sym c.carry.ensures.is)
     (can_flush_rest c.args.self.now c.args.rest c.writes_rest-after.result c.requires.sound.stands.some c.requires.work c.writes_rest-after.ensures)
+
+pub write_pages-requires-clause-known : goal.write_pages-requires-clause-known
+write_pages-requires-clause-known g c =
+    carried_tells g.H.Sum.sum_of c.args.self.now c.carry.new.self (g.B.Blob.life c.args.blob.now).present c.requires.sound c.carry.ensures.is
 
 pub returns : goal.returns
 unfolding IsSound

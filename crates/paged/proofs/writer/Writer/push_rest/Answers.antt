@@ -14,4 +14,4 @@ returns-clause-bytes g c =
     c.from.ensures ∙ c.in_ok-from_vec.ensures.ok ∙ c.in_ok-slot.ensures.page
     ∙ ap (λ b. b ++ page_of g.H.Sum.sum_of c.from-page_size.result c.self.inside.durable c.partial.result.now) c.in_ok-page.ensures.items
     ∙ (λ i. page_of g.H.Sum.sum_of (size i) (slot i) (tip i)) in
-    rw (c.if-not-rest.false) (c.in_ok-append.ensures.bytes ∙ ap (λ b. concat c.args.bufs.now ++ b) (page ∙ sym (rest_bytes-short g.H.Sum.sum_of w c.requires)))
+    rw (c.if-not-rest.false) (c.in_ok-append.ensures.bytes ∙ ap (λ b. concat c.args.bufs.now ++ b) (page ∙ sym (rest_bytes-short g.H.Sum.sum_of w c.requires.short)))

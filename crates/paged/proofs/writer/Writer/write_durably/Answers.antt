@@ -13,6 +13,7 @@ use Rattle.writer_state.specs.Sound.{IsSound, CanWrite, StateFits}
 use Rattle.std.specs.Prelude.{Ok, Err}
 use Rattle.paged.specs.Flush.{full_in, offset_of, flush_bytes}
 use Rattle.paged.proofs.Flushing.{can_sync}
+use Rattle.paged.proofs.Known.{sound_tells, carried_tells}
 use Rattle.paged.proofs.Flushes.{flush_goes, dirty_carried, sync_write, sync_second, sync_asks_once, sync_asks_twice, dirty_state, ready_settled, dirty_settled}
 use Rattle.paged.proofs.Causes.{write_asks, sync_asks}
 use Rattle.paged.proofs.writer.Writer.write_durably.Goals as goal
@@ -28,6 +29,21 @@ unfolding IsSound
 write_pages-requires-clause-settled g c =
     let clean : c.args.self.now.sync ≡ Clean = sym (ap (λ s. s.sync) c.self.view_is) ∙ c.in-Clean.is in
     λ durable. (subst (λ (s : SyncState). StateFits (g.B.Blob.life c.args.blob.now).present s) clean c.requires.sound.stands.state).0
+
+pub write_pages-requires-clause-known : goal.write_pages-requires-clause-known
+write_pages-requires-clause-known g c =
+    carried_tells g.H.Sum.sum_of c.args.self.now c.carry.new.self (g.B.Blob.life c.args.blob.now).present c.requires.sound c.carry.ensures.is
+
+pub write_pages-requires-in-Dirty : goal.write_pages-requires-in-Dirty
+unfolding IsSound
+write_pages-requires-in-Dirty g c =
+    let w = c.args.self.now in
+    record {
+      cached = c.requires.cached;
+      can = can_sync w c.has_rest-rest.result c.requires.sound.stands.some c.requires.work c.has_rest-rest.ensures;
+      known = sound_tells g.H.Sum.sum_of w (g.B.Blob.life c.args.blob.now).present c.requires.sound;
+      settled = λ durable. absurd (cc durable);
+    }
 
 pub returns-in_err-write_pages-in-Dirty : goal.returns-in_err-write_pages-in-Dirty
 unfolding IsSound
