@@ -13,7 +13,7 @@ use Rattle.std.specs.Int.{to_le_bytes}
 use mir.Syntax.{w32}
 use lib.Lanes.{zip2, Each1, chunk, put_chunk}
 use Rattle.crc32c.specs.Crc.{after_bits, after_byte, after_bytes, crc32c, small_bytes}
-use Rattle.crc32c.specs.Division.{xored, remaining, next_quotient, far, near}
+use Rattle.crc32c.specs.Division.{xored, remaining, next_quotient, far}
 use Rattle.crc32c.proofs.Steps.{byte_out, bits_more, zero_bits, no_bits, bytes_apart, bytes_more, first_apart, inverted}
 use Rattle.crc32c.proofs.Multiples.{IsMultiple, total, remaining_leaves, divides, joined, length-quotient, length-remaining}
 
@@ -56,7 +56,7 @@ pub remaining_all : (ss m : List ℕ) (d : ℕ) → remaining ss (replicate d 0)
 remaining_all [] m d = refl
 remaining_all (s ∷ ss) m d = ap₂ xored (remaining_all ss m d) (drop-replicate s d 0) ∙ xored_none m (d - s)
 
-xored_zeros : (xs ys : List ℕ) (k : ℕ) → xored xs (ys ++ replicate k 0) ≡ xored xs ys
+pub xored_zeros : (xs ys : List ℕ) (k : ℕ) → xored xs (ys ++ replicate k 0) ≡ xored xs ys
 xored_zeros [] ys k = refl
 xored_zeros (x ∷ xs) [] k = xored_none (x ∷ xs) k
 xored_zeros (x ∷ xs) (y ∷ ys) k = ap (λ l. bit_xor x y ∷ l) (xored_zeros xs ys k)
@@ -102,9 +102,6 @@ moves_to_front at d done room =
 -- 32 bytes from each exponent on are within the window
 pub fits_far : Each1 (λ s. s + 32 ≤ 290) far
 fits_far = (lit≤ tt, (lit≤ tt, (lit≤ tt, (lit≤ tt, (lit≤ tt, tt)))))
-
-pub fits_near : Each1 (λ s. s + 32 ≤ 104) near
-fits_near = (lit≤ tt, (lit≤ tt, (lit≤ tt, (lit≤ tt, (lit≤ tt, (lit≤ tt, (lit≤ tt, tt)))))))
 
 within_each : (n d k : ℕ) (ss : List ℕ) → d ≤ k → Each1 (λ s. s + n ≤ d) ss → Each1 (λ s. s ≤ k) ss
 within_each n d k [] less all = tt
@@ -160,13 +157,13 @@ end_all i k ss left taken bytes long all of_bytes so_far =
     sym (take_all i left (omega arith)) ∙ so_far ∙ take_all i (remaining ss taken bytes) (omega (arith, length-remaining ss taken bytes))
 
 -- zeros leave the state 0 as it is
-zeros_leave : (k : ℕ) → after_bytes 0 (replicate k 0) ≡ 0
+pub zeros_leave : (k : ℕ) → after_bytes 0 (replicate k 0) ≡ 0
 unfolding after_byte after_bits
 zeros_leave zero = refl
 zeros_leave (suc k) = zeros_leave k
 
 -- the bytes of a state leave what it leaves
-four_leave : (state : ℕ) → state < 2 ^ 32 → after_bytes 0 (to_le_bytes w32 state) ≡ after_bits 32 state
+pub four_leave : (state : ℕ) → state < 2 ^ 32 → after_bytes 0 (to_le_bytes w32 state) ≡ after_bits 32 state
 four_leave state small =
     let a = state % 256 in
     let b = state / 256 % 256 in
@@ -268,8 +265,8 @@ goes_on bytes k check state is_check is =
     ∙ ap (after_bytes 4294967295) (take-append-drop k bytes))
 
 -- the state after bytes in two parts
-pub in_two : (state : ℕ) (bytes front back left : List ℕ) (one two n : ℕ) → front ≡ take n bytes → back ≡ drop n bytes → one ≡ after_bytes state front
-    → after_bytes 0 left ≡ after_bytes one back → two ≡ after_bytes 0 left → two ≡ after_bytes state bytes
-in_two state bytes front back left one two n is_front is_back is_one is_left is_two =
-    is_two ∙ is_left ∙ ap (λ s. after_bytes s back) is_one ∙ sym (bytes_more state front back)
+pub in_two : (state : ℕ) (bytes front back : List ℕ) (one two n : ℕ) → front ≡ take n bytes → back ≡ drop n bytes → one ≡ after_bytes state front
+    → two ≡ after_bytes one back → two ≡ after_bytes state bytes
+in_two state bytes front back one two n is_front is_back is_one is_two =
+    is_two ∙ ap (λ s. after_bytes s back) is_one ∙ sym (bytes_more state front back)
     ∙ ap (after_bytes state) (ap₂ (λ k l. k ++ l) is_front is_back ∙ take-append-drop n bytes)

@@ -6,7 +6,7 @@
 ghost use Rattle.std.specs.Prelude.{◌≡◌, ◌+◌, ◌%◌, ◌≤◌, ◌++◌, length, take, drop};
 ghost use Rattle.std.specs.Simd.Lanes.{chunk, put_chunk};
 ghost use Rattle.crc32c.specs.Crc.{after_bytes};
-ghost use Rattle.crc32c.specs.Division.{far, near, next_quotient, remaining};
+ghost use Rattle.crc32c.specs.Division.{far, next_quotient, remaining};
 
 use std::simd::u8x32;
 
@@ -22,23 +22,6 @@ fn far_quotient(bytes: &[u8], window: &[u8]) -> u8x32
         ^ u8x32::from_slice(&window[113..])
         ^ u8x32::from_slice(&window[107..])
         ^ u8x32::from_slice(&window[32..])
-        ^ u8x32::from_slice(window)
-}
-
-// The next 32 bytes of the quotient by the near multiple. The window has the 104 before them.
-#[inline(always)]
-fn near_quotient(bytes: &[u8], window: &[u8]) -> u8x32
-    requires next { 32 ≤ length bytes.now }
-    requires window { 104 ≤ length window.now }
-    ensures { result ≡ next_quotient 32 near window.now (take 32 bytes.now) }
-{
-    u8x32::from_slice(bytes)
-        ^ u8x32::from_slice(&window[57..])
-        ^ u8x32::from_slice(&window[53..])
-        ^ u8x32::from_slice(&window[49..])
-        ^ u8x32::from_slice(&window[19..])
-        ^ u8x32::from_slice(&window[14..])
-        ^ u8x32::from_slice(&window[4..])
         ^ u8x32::from_slice(window)
 }
 
@@ -74,20 +57,6 @@ fn far_step(quotient: &mut [u8], at: usize, bytes: &[u8])
     store(lanes, quotient, at + 290);
 }
 
-// Divides 32 bytes by the near multiple.
-#[inline(always)]
-fn near_step(quotient: &mut [u8], at: usize, bytes: &[u8])
-    requires room { at + 136 ≤ length quotient.old }
-    requires next { 32 ≤ length bytes.now }
-    ensures len { length quotient.new ≡ length quotient.old }
-    ensures window { let window = chunk at 104 quotient.old in
-        chunk (at + 32) 104 quotient.new
-        ≡ drop 32 window ++ next_quotient 32 near window (take 32 bytes.now) }
-{
-    let lanes = near_quotient(bytes, &quotient[at..]);
-    store(lanes, quotient, at + 104);
-}
-
 // Makes room for two steps: at the array's end the window moves to its front. It answers where the
 // window stands.
 #[inline(always)]
@@ -121,25 +90,8 @@ fn far_remainder(window: &[u8], bytes: &[u8], remainder: &mut [u8; 320])
     }
 }
 
-// What is left of the last 128 bytes.
-#[inline(always)]
-fn near_remainder(window: &[u8], bytes: &[u8], remainder: &mut [u8; 128])
-    requires window { length window.now ≡ 104 }
-    requires bytes { length bytes.now ≡ 128 }
-    ensures { remainder.new ≡ remaining near window.now bytes.now }
-{
-    let mut quotient = [0u8; 232];
-    put_first(&mut quotient, window);
-    let mut i = 0;
-    while i < 128 {
-        let lanes = near_quotient(&bytes[i..], &quotient[i..]);
-        store(lanes, remainder, i);
-        i += 32;
-    }
-}
-
-// Leaves 320 bytes that lead from the state 0 to where these lead from `state`.
-fn fold_far(state: u32, bytes: &[u8], remainder: &mut [u8; 320])
+/// Leaves 320 bytes that lead from the state 0 to where these lead from `state`.
+pub fn fold(state: u32, bytes: &[u8], remainder: &mut [u8; 320])
     requires lanes { length bytes.now % 32 ≡ 0 }
     requires long { 320 ≤ length bytes.now }
     ensures { after_bytes 0 remainder.new ≡ after_bytes state bytes.now }
@@ -166,32 +118,4 @@ fn fold_far(state: u32, bytes: &[u8], remainder: &mut [u8; 320])
     let (next, after) = rest.split_at(32);
     far_step(&mut quotient, at, next);
     far_remainder(&quotient[at + 32..at + 322], after, remainder);
-}
-
-// Leaves 128 bytes that lead from the state 0 to where these lead from it.
-#[inline(always)]
-fn fold_near(bytes: &[u8; 320], remainder: &mut [u8; 128])
-    ensures { after_bytes 0 remainder.new ≡ after_bytes 0 bytes.now }
-{
-    let mut quotient = [0u8; 296];
-    let mut at = 0;
-    let mut rest: &[u8] = bytes;
-    while rest.len() > 128 {
-        let (next, after) = rest.split_at(32);
-        near_step(&mut quotient, at, next);
-        at += 32;
-        rest = after;
-    }
-    near_remainder(&quotient[at..at + 104], rest, remainder);
-}
-
-/// Leaves 128 bytes that lead from the state 0 to where these lead from `state`.
-pub fn fold(state: u32, bytes: &[u8], remainder: &mut [u8; 128])
-    requires lanes { length bytes.now % 32 ≡ 0 }
-    requires long { 320 ≤ length bytes.now }
-    ensures { after_bytes 0 remainder.new ≡ after_bytes state bytes.now }
-{
-    let mut between = [0u8; 320];
-    fold_far(state, bytes, &mut between);
-    fold_near(&between, remainder);
 }

@@ -632,8 +632,8 @@ const TABLES: [[u32; 256]; 16] = [
     ],
 ];
 
-// The state that a byte and so many zero bytes after it leave, from the state 0.
-fn with_zeros(byte: u8, zeros: usize) -> u32
+/// The state that a byte and so many zero bytes after it leave, from the state 0.
+pub fn with_zeros(byte: u8, zeros: usize) -> u32
     requires { zeros < 16 }
     ensures { result ≡ after_bits (8 * (zeros + 1)) byte }
 {
@@ -669,8 +669,8 @@ fn eight(state: u32, bytes: &[u8], zeros: usize) -> u32
     with_zeros(low(state) ^ bytes[0], zeros + 7) ^ rest
 }
 
-// The state after sixteen bytes.
-fn sixteen(state: u32, bytes: &[u8; 16]) -> u32
+/// The state after sixteen bytes.
+pub fn sixteen(state: u32, bytes: &[u8; 16]) -> u32
     ensures { result ≡ after_bytes state bytes.now }
 {
     // The front needs the state, so it is added last: the rest is summed before the state is known.

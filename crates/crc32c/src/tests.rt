@@ -41,7 +41,7 @@ fn checks(rt: HostRuntime) {
         random = random.wrapping_mul(1664525).wrapping_add(1013904223);
         *byte = (random >> 24) as u8;
     }
-    // From 576 bytes on the message is folded, and from 2,400 on its window moves.
+    // From 640 bytes on the message is folded, and from 2,400 on its window moves.
     for len in 0..=700 {
         let bytes = &message[..len];
         let check = bit_by_bit(bytes);

@@ -2,7 +2,7 @@ use Rattle.std.proofs.Common.{◌≡◌, ◌%◌, ◌≤◌, length}
 use lib.Lanes.{chunk}
 use Rattle.crc32c.specs.Crc.{after_bytes}
 use Rattle.crc32c.specs.Division.{remaining, far}
-use Rattle.crc32c.proofs.fold.fold_far.Given as goal
+use Rattle.crc32c.proofs.fold.fold.Given as goal
 
 abbrev pub invariant-loop-rest : goal.invariant-loop-rest
 invariant-loop-rest l = record {

@@ -5,7 +5,7 @@ use Rattle.crc32c.specs.Crc.{after_bytes}
 use Rattle.crc32c.specs.Division.{remaining, far}
 use Rattle.crc32c.proofs.Multiples.{far_is}
 use Rattle.crc32c.proofs.Folding.{started, step_keeps, stays_long, far_window, fits_far, fours_far}
-use Rattle.crc32c.proofs.fold.fold_far.Goals as goal
+use Rattle.crc32c.proofs.fold.fold.Goals as goal
 
 pub loop-rest-init : goal.loop-rest-init
 loop-rest-init c =
