@@ -61,13 +61,13 @@ xored_zeros [] ys k = refl
 xored_zeros (x ∷ xs) [] k = xored_none (x ∷ xs) k
 xored_zeros (x ∷ xs) (y ∷ ys) k = ap (λ l. bit_xor x y ∷ l) (xored_zeros xs ys k)
 
-take_xored : (n : ℕ) (xs ys : List ℕ) → n ≤ length xs → n ≤ length ys → take n (xored xs ys) ≡ zip2 bit_xor (take n xs) (take n ys)
+pub take_xored : (n : ℕ) (xs ys : List ℕ) → n ≤ length xs → n ≤ length ys → take n (xored xs ys) ≡ zip2 bit_xor (take n xs) (take n ys)
 take_xored zero xs ys one two = refl
 take_xored (suc n) [] ys one two = absurd (omega arith)
 take_xored (suc n) (x ∷ xs) [] one two = absurd (omega arith)
 take_xored (suc n) (x ∷ xs) (y ∷ ys) one two = ap (λ l. bit_xor x y ∷ l) (take_xored n xs ys (omega arith) (omega arith))
 
-chunk_xored : (i n : ℕ) (xs ys : List ℕ) → i + n ≤ length xs → i + n ≤ length ys → chunk i n (xored xs ys) ≡ zip2 bit_xor (chunk i n xs) (chunk i n ys)
+pub chunk_xored : (i n : ℕ) (xs ys : List ℕ) → i + n ≤ length xs → i + n ≤ length ys → chunk i n (xored xs ys) ≡ zip2 bit_xor (chunk i n xs) (chunk i n ys)
 chunk_xored zero n xs ys one two = take_xored n xs ys (omega arith) (omega arith)
 chunk_xored (suc i) n [] ys one two = absurd (omega arith)
 chunk_xored (suc i) n (x ∷ xs) [] one two = absurd (omega arith)
@@ -136,7 +136,7 @@ step_keeps n d ss law all h after front back rest of_h within long is_front is_b
     ∙ ap (λ k. after_bytes 0 (remaining ss h k)) (take-append-drop n rest)
 
 -- more of the remainder
-pub end_step : (i n d k : ℕ) (ss : List ℕ) (left before taken bytes y : List ℕ) → Each1 (λ s. s + n ≤ d) ss → length left ≡ k → i + n ≤ k → length taken ≡ d → length bytes ≡ k
+pub end_step : (i n d k : ℕ) (ss : List ℕ) (left before taken bytes y : List ℕ) → Each1 (λ s. s + n ≤ d) ss → k ≤ length left → i + n ≤ k → length taken ≡ d → length bytes ≡ k
     → before ≡ taken ++ drop (length taken) (replicate (d + k) 0) → y ≡ next_quotient n ss (take (d + k - i) (drop i before)) (take n (take (length bytes - i) (drop i bytes)))
     → take i left ≡ take i (remaining ss taken bytes) → take (i + n) (put_chunk i left y) ≡ take (i + n) (remaining ss taken bytes)
 end_step i n d k ss left before taken bytes y all long within of_taken of_bytes of_before is_y so_far =
@@ -152,9 +152,9 @@ end_step i n d k ss left before taken bytes y all long within of_taken of_bytes 
     let of_y : length y ≡ n = ap length same ∙ length-chunk i n c (omega arith) in
     take_more_put_chunk i left y (i + n) (omega arith) (omega arith) ∙ ap₂ (λ k l. k ++ l) so_far same ∙ sym (take-add i n c)
 
-pub end_all : (i k : ℕ) (ss left taken bytes : List ℕ) → length left ≡ k → k ≤ i → length bytes ≡ k → take i left ≡ take i (remaining ss taken bytes) → left ≡ remaining ss taken bytes
-end_all i k ss left taken bytes long all of_bytes so_far =
-    sym (take_all i left (omega arith)) ∙ so_far ∙ take_all i (remaining ss taken bytes) (omega (arith, length-remaining ss taken bytes))
+pub end_all : (i k : ℕ) (ss left taken bytes : List ℕ) → i ≡ k → length bytes ≡ k → take i left ≡ take i (remaining ss taken bytes) → take k left ≡ remaining ss taken bytes
+end_all i k ss left taken bytes all of_bytes so_far =
+    ap (λ n. take n left) (sym all) ∙ so_far ∙ take_all i (remaining ss taken bytes) (omega (arith, length-remaining ss taken bytes))
 
 -- zeros leave the state 0 as it is
 pub zeros_leave : (k : ℕ) → after_bytes 0 (replicate k 0) ≡ 0

@@ -1,18 +1,15 @@
 -- What the states leave that were looked up for the bytes of some rows.
-use Rattle.std.proofs.Common.{◌≡◌, ◌<◌, ◌/◌, ◌%◌, ◌+◌, ◌*◌, ◌^◌, ℕ, List, [], ◌∷◌, ◌++◌, length, get_or, map, take, drop, replicate, ◌≤◌, ◌-◌, zero, suc, refl, sym, ap, ap₂, ◌∙◌, arith, subst, take-append-drop, append_assoc, take_at, take_all, length-take-le, length-append, length-drop}
+use Rattle.std.proofs.Common.{◌≡◌, ◌<◌, ◌/◌, ◌%◌, ◌+◌, ◌*◌, ◌^◌, ℕ, List, [], ◌∷◌, ◌++◌, length, get_or, map, take, drop, replicate, ◌≤◌, ◌-◌, zero, suc, refl, sym, ap, ap₂, ◌∙◌, arith, subst, take-append-drop, append_assoc, take_at, drop_at, take_all, length-take-le, length-append, length-drop}
 use Rattle.std.specs.Int.Bits.{bit_xor, xor_assoc, xor_zero_l, xor_zero_r}
-use Rattle.std.specs.Int.{to_le_bytes}
 use Rattle.std.proofs.lemmas.Nat.{xor_comm}
 use Rattle.std.proofs.lemmas.List.{length-map}
 use Rattle.std.proofs.lemmas.Simd.{length-zip2, length-chunk, length-replicate}
-use mir.Syntax.{w32}
 use lib.Lanes.{zip2, Each1, chunk}
 use Rattle.crc32c.specs.Crc.{after_bits, after_byte, after_bytes, small_bytes}
-use Rattle.crc32c.specs.Division.{xored}
 use Rattle.crc32c.specs.Rows.{state_byte, leaves}
 use Rattle.crc32c.proofs.Steps.{bits_xor, bits_more, zero_bits, no_bits, byte_out, bytes_apart, bytes_more, first_apart, xor_swap}
 use Rattle.crc32c.proofs.Multiples.{joined, apart_zero, zip_xored}
-use Rattle.crc32c.proofs.Folding.{four_leave, xored_zeros, zeros_leave}
+use Rattle.crc32c.proofs.Folding.{zeros_leave}
 
 -- of two messages of one length, added lane by lane, each leaves what it leaves alone
 zip_leaves : (x y : List ℕ) → length x ≡ length y → after_bytes 0 (zip2 bit_xor x y) ≡ bit_xor (after_bytes 0 x) (after_bytes 0 y)
@@ -121,28 +118,7 @@ row_flat k (x ∷ v) all =
 
 -- ---- the loop over the rows
 
--- the first row, with the state added
-pub started_rows : (state : ℕ) (q next rest bytes : List ℕ) → state < 2 ^ 32 → q ≡ to_le_bytes w32 state → next ≡ take 16 bytes → rest ≡ drop 16 bytes → 16 ≤ length bytes
-    → after_bytes 0 (zip2 bit_xor (take 16 next) (q ++ replicate 12 0) ++ rest) ≡ after_bytes state bytes
-started_rows state q next rest bytes small is_q is_next is_rest long =
-    let first : List ℕ = take 16 next in
-    let of_next : length next ≡ 16 = ap length is_next ∙ length-take-le 16 bytes long in
-    let of_first : length first ≡ 16 = length-take-le 16 next (omega arith) in
-    let four : length q ≡ 4 = ap length is_q in
-    let same : length first ≡ length (q ++ replicate 12 0) = omega (arith, length-append q (replicate 12 0)) in
-    let bits : 32 + 8 * (length first - length q) ≡ 8 * length first = omega arith in
-    let alone : after_bytes 0 (zip2 bit_xor first (q ++ replicate 12 0)) ≡ after_bytes state first =
-    ap (after_bytes 0) (zip_xored first (q ++ replicate 12 0) same ∙ xored_zeros first q 12)
-    ∙ apart_zero first q (omega arith)
-    ∙ ap (λ s. bit_xor (after_bytes 0 first) (after_bits (8 * (length first - length q)) s)) (ap (after_bytes 0) is_q ∙ four_leave state small)
-    ∙ ap (bit_xor (after_bytes 0 first)) (sym (bits_more 32 (8 * (length first - length q)) state) ∙ ap (λ k. after_bits k state) bits)
-    ∙ xor_comm (after_bytes 0 first) (after_bits (8 * length first) state)
-    ∙ sym (bytes_apart state first) in
-    let is_first : first ≡ take 16 bytes = take_all 16 next (omega arith) ∙ is_next in
-    bytes_more 0 (zip2 bit_xor first (q ++ replicate 12 0)) rest
-    ∙ ap (λ s. after_bytes s rest) alone ∙ sym (bytes_more state first rest)
-    ∙ ap₂ (λ k l. after_bytes state (k ++ l)) is_first is_rest ∙ ap (after_bytes state) (take-append-drop 16 bytes)
-
+-- no sums yet
 pub none_left : (l : List ℕ) → bit_xor (leaves (replicate 16 0) (replicate 16 0) (replicate 16 0) (replicate 16 0)) (after_bytes 0 l) ≡ after_bytes 0 l
 unfolding flat
 none_left l =
@@ -176,6 +152,18 @@ row_keeps n a b c d p q r s row rest next after la lb lc ld lrow all of_rest is_
     ap₂ (λ x y. bit_xor x (after_bytes 0 y)) sums joins
     ∙ xor_assoc (leaves a b c d) (after_bits (8 * length rest) (after_bytes 0 row)) (after_bytes 0 rest)
     ∙ ap (bit_xor (leaves a b c d)) (sym (joined row rest))
+
+-- the first row begins the sums
+pub row_begins : (n : ℕ) (p q r s first second rest : List ℕ) → length first ≡ 16 → Each1 (λ x. x < 256) first → length second ≡ 16 → length rest ≡ 16 * n
+    → p ≡ zip2 bit_xor (replicate 16 0) (map (state_byte (128 * n + 104) 0) first) → q ≡ zip2 bit_xor (replicate 16 0) (map (state_byte (128 * n + 104) 1) first)
+    → r ≡ zip2 bit_xor (replicate 16 0) (map (state_byte (128 * n + 104) 2) first) → s ≡ zip2 bit_xor (replicate 16 0) (map (state_byte (128 * n + 104) 3) first)
+    → bit_xor (leaves p q r s) (after_bytes 0 (second ++ rest)) ≡ after_bytes 0 (first ++ (second ++ rest))
+row_begins n p q r s first second rest lfirst all lsecond lrest ep eq er es =
+    let z : List ℕ = replicate 16 0 in
+    ap (λ (l : List ℕ). bit_xor (leaves p q r s) (after_bytes 0 (l ++ rest))) (sym (take_all 16 second (omega arith)))
+    ∙ row_keeps n z z z z p q r s first (second ++ rest) second rest refl refl refl refl lfirst all (omega (arith, length-append second rest))
+    (sym (take_at second rest 16 lsecond)) (sym (drop_at second rest 16 lsecond)) ep eq er es
+    ∙ none_left (first ++ (second ++ rest))
 
 -- the last row is added to the fourth sums
 pub last_row : (a b c d row rest : List ℕ) → length d ≡ 16 → length row ≡ 16 → length rest ≡ 0

@@ -75,10 +75,10 @@ fn make_room(quotient: &mut [u8; 2338], at: usize) -> usize
 // What is left of the last 320 bytes. They add nothing to the quotient, so zeros stand behind the
 // window.
 #[inline(always)]
-fn far_remainder(window: &[u8], bytes: &[u8], remainder: &mut [u8; 320])
+fn far_remainder(window: &[u8], bytes: &[u8], remainder: &mut [u8; 352])
     requires window { length window.now ≡ 290 }
     requires bytes { length bytes.now ≡ 320 }
-    ensures { remainder.new ≡ remaining far window.now bytes.now }
+    ensures { take 320 remainder.new ≡ remaining far window.now bytes.now }
 {
     let mut quotient = [0u8; 610];
     put_first(&mut quotient, window);
@@ -90,11 +90,11 @@ fn far_remainder(window: &[u8], bytes: &[u8], remainder: &mut [u8; 320])
     }
 }
 
-/// Leaves 320 bytes that lead from the state 0 to where these lead from `state`.
-pub fn fold(state: u32, bytes: &[u8], remainder: &mut [u8; 320])
+/// Leaves in front 320 bytes that lead from the state 0 to where these lead from `state`.
+pub fn fold(state: u32, bytes: &[u8], remainder: &mut [u8; 352])
     requires lanes { length bytes.now % 32 ≡ 0 }
     requires long { 320 ≤ length bytes.now }
-    ensures { after_bytes 0 remainder.new ≡ after_bytes state bytes.now }
+    ensures { after_bytes 0 (take 320 remainder.new) ≡ after_bytes state bytes.now }
 {
     let mut quotient = [0u8; 2338];
     // 290 bytes ahead of the message, as quotient, the state is added to its first four bytes.

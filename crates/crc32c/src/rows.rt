@@ -1,10 +1,10 @@
 // By rows of sixteen bytes: what each of them leaves is looked up by four bits at a time, sixteen
 // look-ups at once.
-ghost use Rattle.std.specs.Prelude.{◌≡◌, ◌<◌, ◌≤◌, ◌+◌, ◌*◌, ◌/◌, ◌%◌, ◌++◌, length, map, replicate};
-ghost use Rattle.std.specs.Prelude.{get_or};
+ghost use Rattle.std.specs.Prelude.{◌≡◌, ◌<◌, ◌≤◌, ◌+◌, ◌-◌, ◌*◌, ◌/◌, ◌%◌, ◌++◌, length, map};
+ghost use Rattle.std.specs.Prelude.{get_or, replicate, take, drop};
 ghost use Rattle.std.specs.Int.Bits.{bit_xor};
 ghost use Rattle.std.specs.Int.{w32, to_le_bytes};
-ghost use Rattle.std.specs.Simd.Lanes.{chunk, zip2};
+ghost use Rattle.std.specs.Simd.Lanes.{Each1, chunk, zip2};
 ghost use Rattle.crc32c.specs.Crc.{after_bytes};
 ghost use Rattle.crc32c.specs.Rows.{state_byte, leaves};
 
@@ -1377,6 +1377,13 @@ const ROWS: [[[u8; 16]; 8]; 40] = [
     ],
 ];
 
+// Sixteen lanes, and places ahead and behind that give 0.
+const MOVES: [u8; 48] = [
+    128, 128, 128, 128, 128, 128, 128, 128, 128, 128, 128, 128, 128, 128, 128, 128, 0, 1, 2, 3, 4,
+    5, 6, 7, 8, 9, 10, 11, 12, 13, 14, 15, 128, 128, 128, 128, 128, 128, 128, 128, 128, 128, 128,
+    128, 128, 128, 128, 128,
+];
+
 // Adds up two look-ups for each byte of a row: by its low four bits, and by its high ones.
 #[inline(always)]
 fn looked_up(row: u8x16, low: &[u8; 16], high: &[u8; 16]) -> u8x16
@@ -1419,6 +1426,24 @@ fn moved(lanes: u8x16, others: u8x16) -> u8x16
     ) ^ others
 }
 
+// The first so many lanes, moved to the end, and zeros ahead.
+#[inline(always)]
+fn to_end(lanes: u8x16, count: usize) -> u8x16
+    requires { count ≤ 16 }
+    ensures { result ≡ replicate (16 - count) 0 ++ take count lanes }
+{
+    lanes.swizzle_dyn(u8x16::from_slice(&MOVES[count..]))
+}
+
+// The lanes from one on, moved to the front, and zeros behind.
+#[inline(always)]
+fn from_lane(lanes: u8x16, count: usize) -> u8x16
+    requires { count ≤ 16 }
+    ensures { result ≡ drop count lanes ++ replicate count 0 }
+{
+    lanes.swizzle_dyn(u8x16::from_slice(&MOVES[count + 16..]))
+}
+
 // The first lane.
 #[inline(always)]
 fn first(lanes: u8x16) -> u8
@@ -1440,24 +1465,44 @@ fn last(a: u8x16, b: u8x16, c: u8x16, d: u8x16) -> u32
     sixteen(state, &d.to_array())
 }
 
-/// The state after these bytes, which are whole rows.
+// The first rows of a message that a state was added to. Zeros are ahead of the first one, which
+// leave the state 0 as it is.
+#[inline(always)]
+fn first_rows(state: u32, bytes: &[u8]) -> (u8x16, u8x16)
+    requires { 32 ≤ length bytes.now }
+    ensures first { (length result.0 ≡ 16) × Each1 (λ x. x < 256) result.0 }
+    ensures second { length result.1 ≡ 16 }
+    ensures same { let odd = length bytes.now % 16 in
+        after_bytes 0 (result.0 ++ (result.1 ++ drop (odd + 16) bytes.now))
+        ≡ after_bytes state bytes.now }
+{
+    let odd = bytes.len() % 16;
+    let lanes = lanes_of(state);
+    let first = to_end(u8x16::from_slice(bytes) ^ lanes, odd);
+    let second = u8x16::from_slice(&bytes[odd..]) ^ from_lane(lanes, odd);
+    (first, second)
+}
+
+/// The state after these bytes.
 pub fn by_rows(state: u32, bytes: &[u8]) -> u32
-    requires whole { length bytes.now % 16 ≡ 0 }
-    requires some { 16 ≤ length bytes.now }
-    requires tables { length bytes.now ≤ 656 }
+    requires some { 32 ≤ length bytes.now }
+    requires tables { length bytes.now < 656 }
     ensures { result ≡ after_bytes state bytes.now }
 {
-    let (mut a, mut b) = (u8x16::splat(0), u8x16::splat(0));
-    let (mut c, mut d) = (u8x16::splat(0), u8x16::splat(0));
-    let (next, mut rest) = bytes.split_at(16);
-    let mut row = u8x16::from_slice(next) ^ lanes_of(state);
+    let (first, mut row) = first_rows(state, bytes);
+    let (_, mut rest) = bytes.split_at(bytes.len() % 16 + 16);
+    let rows = rest.len() / 16;
+    let mut a = with_row(u8x16::splat(0), first, rows, 0);
+    let mut b = with_row(u8x16::splat(0), first, rows, 1);
+    let mut c = with_row(u8x16::splat(0), first, rows, 2);
+    let mut d = with_row(u8x16::splat(0), first, rows, 3);
     while rest.len() >= 16 {
-        let rows = rest.len() / 16 - 1;
+        let (next, after) = rest.split_at(16);
+        let rows = after.len() / 16;
         a = with_row(a, row, rows, 0);
         b = with_row(b, row, rows, 1);
         c = with_row(c, row, rows, 2);
         d = with_row(d, row, rows, 3);
-        let (next, after) = rest.split_at(16);
         row = u8x16::from_slice(next);
         rest = after;
     }

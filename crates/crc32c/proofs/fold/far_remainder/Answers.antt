@@ -14,9 +14,9 @@ loop-i-preserved c =
       long = omega (arith, length-put_chunk l.i l.remainder y);
       so_far =
           ap (take (l.i + 32)) c.store.ensures
-          ∙ end_step l.i 32 290 320 far l.remainder c.put_first.new.bytes c.args.window.now c.args.bytes.now y fits_far l.invariant.long (omega arith) c.requires.window c.requires.bytes
+          ∙ end_step l.i 32 290 320 far l.remainder c.put_first.new.bytes c.args.window.now c.args.bytes.now y fits_far (omega (arith, l.invariant.long)) (omega arith) c.requires.window c.requires.bytes
           c.put_first.ensures c.far_quotient-lanes.ensures l.invariant.so_far;
     }
 
 pub returns : goal.returns
-returns c = end_all c.loop-i.i 320 far c.loop-i.remainder c.args.window.now c.args.bytes.now c.loop-i.invariant.long (omega arith) c.requires.bytes c.loop-i.invariant.so_far
+returns c = end_all c.loop-i.i 320 far c.loop-i.remainder c.args.window.now c.args.bytes.now (omega arith) c.requires.bytes c.loop-i.invariant.so_far
