@@ -99,6 +99,17 @@ moves_to_front at d done room =
     ∙ ap (λ n. take n (paste done 0 (drop at done) d)) (sym two)
     ∙ take-paste done 0 (drop at done) d (omega arith) (omega (arith, length-drop at done))
 
+-- zeros are put behind the window
+pub zeros_put : (at : ℕ) (q rest : List ℕ) → at + 290 ≤ length q → chunk at 610 (take (at + 290) q ++ (replicate 320 0 ++ rest)) ≡ chunk at 290 q ++ replicate 320 0
+zeros_put at q rest room =
+    let z : List ℕ = replicate 320 0 in
+    let h : List ℕ = chunk at 290 q in
+    let of_h : length h ≡ 290 = length-chunk at 290 q room in
+    let both : length (h ++ z) ≡ 610 = omega (arith, length-append h z) in
+    ap (take 610) (drop-append-le at (take (at + 290) q) (z ++ rest) (omega (arith, length-take-le (at + 290) q room))
+    ∙ ap (λ (l : List ℕ). l ++ (z ++ rest)) (drop-take at 290 q) ∙ sym (append_assoc h z rest))
+    ∙ take_at (h ++ z) rest 610 both
+
 -- 32 bytes from each exponent on are within the window
 pub fits_far : Each1 (λ s. s + 32 ≤ 290) far
 fits_far = (lit≤ tt, (lit≤ tt, (lit≤ tt, (lit≤ tt, (lit≤ tt, tt)))))
@@ -108,7 +119,7 @@ within_each n d k [] less all = tt
 within_each n d k (s ∷ ss) less all = let fits = all.0 in (omega arith, within_each n d k ss less all.1)
 
 -- a slice to the end
-to_end : (i n : ℕ) (xs : List ℕ) → length xs ≡ n → take (n - i) (drop i xs) ≡ drop i xs
+pub to_end : (i n : ℕ) (xs : List ℕ) → length xs ≡ n → take (n - i) (drop i xs) ≡ drop i xs
 to_end i n xs is = take_all (n - i) (drop i xs) (omega (arith, length-drop i xs))
 
 -- so the window slides over the next bytes of the quotient
@@ -236,7 +247,7 @@ started n d ss all fours state h q m small is long room is_h =
 pub fours_far : Each1 (λ s. 4 ≤ s) (32 ∷ 107 ∷ 113 ∷ 136 ∷ [])
 fours_far = (lit≤ tt, (lit≤ tt, (lit≤ tt, (lit≤ tt, tt))))
 
-pub far_window : (q : List ℕ) → length q ≡ 4 → chunk 0 290 (q ++ drop (length q) (replicate 2338 0)) ≡ q ++ replicate 286 0
+pub far_window : (q : List ℕ) → length q ≡ 4 → chunk 0 290 (q ++ drop (length q) (replicate 2658 0)) ≡ q ++ replicate 286 0
 far_window [] is = absurd (omega arith)
 far_window (a ∷ []) is = absurd (omega arith)
 far_window (a ∷ b ∷ []) is = absurd (omega arith)

@@ -3,7 +3,7 @@
 // The eighth power of a sum of powers of x is the sum of their eighth powers: its exponents are
 // whole bytes. So the division goes by bytes, by exclusive ors alone, and 32 of them at a time,
 // since a byte of the quotient depends on none of the 32 before it.
-ghost use Rattle.std.specs.Prelude.{◌≡◌, ◌+◌, ◌%◌, ◌≤◌, ◌++◌, length, take, drop};
+ghost use Rattle.std.specs.Prelude.{◌≡◌, ◌+◌, ◌%◌, ◌≤◌, ◌++◌, length, take, drop, replicate};
 ghost use Rattle.std.specs.Simd.Lanes.{chunk, put_chunk};
 ghost use Rattle.crc32c.specs.Crc.{after_bytes};
 ghost use Rattle.crc32c.specs.Division.{far, next_quotient, remaining};
@@ -43,48 +43,71 @@ fn put_first(bytes: &mut [u8], first: &[u8])
     bytes[..first.len()].copy_from_slice(first);
 }
 
-// Divides 32 bytes by the far multiple. The window stands at `at`, and slides over their quotient.
+// Divides 32 bytes by the far multiple, and answers those behind them. The window stands at `at`,
+// and slides over the quotient.
 #[inline(always)]
-fn far_step(quotient: &mut [u8], at: usize, bytes: &[u8])
-    requires room { at + 322 ≤ length quotient.old }
-    requires next { 32 ≤ length bytes.now }
-    ensures len { length quotient.new ≡ length quotient.old }
-    ensures window { let window = chunk at 290 quotient.old in
-        chunk (at + 32) 290 quotient.new
-        ≡ drop 32 window ++ next_quotient 32 far window (take 32 bytes.now) }
+fn far_step<'a>(quotient: &mut [u8; 2658], at: usize, bytes: &'a [u8]) -> &'a [u8]
+    requires room { at + 322 ≤ 2658 }
+    requires long { 322 ≤ length bytes.now }
+    ensures len { length result.now + 32 ≡ length bytes.now }
+    ensures same { after_bytes 0 (remaining far (chunk (at + 32) 290 quotient.new) result.now)
+        ≡ after_bytes 0 (remaining far (chunk at 290 quotient.old) bytes.now) }
 {
     let lanes = far_quotient(bytes, &quotient[at..]);
     store(lanes, quotient, at + 290);
+    &bytes[32..]
 }
 
-// Makes room for two steps: at the array's end the window moves to its front. It answers where the
-// window stands.
+// Divides 128 bytes.
 #[inline(always)]
-fn make_room(quotient: &mut [u8; 2338], at: usize) -> usize
-    requires { at + 290 ≤ 2338 }
-    ensures room { result + 354 ≤ 2338 }
+fn four_steps<'a>(quotient: &mut [u8; 2658], at: usize, bytes: &'a [u8]) -> &'a [u8]
+    requires room { at + 418 ≤ 2658 }
+    requires long { 418 ≤ length bytes.now }
+    ensures len { length result.now + 128 ≡ length bytes.now }
+    ensures same { after_bytes 0 (remaining far (chunk (at + 128) 290 quotient.new) result.now)
+        ≡ after_bytes 0 (remaining far (chunk at 290 quotient.old) bytes.now) }
+{
+    let rest = far_step(quotient, at, bytes);
+    let rest = far_step(quotient, at + 32, rest);
+    let rest = far_step(quotient, at + 64, rest);
+    far_step(quotient, at + 96, rest)
+}
+
+// Makes room for four steps: at the array's end the window moves to its front. It answers where the
+// window stands. The last 320 bytes of the array are left for `zeros_behind`.
+#[inline(always)]
+fn make_room(quotient: &mut [u8; 2658], at: usize) -> usize
+    requires { at ≤ 2048 }
+    ensures room { result ≤ 1920 }
     ensures window { chunk result 290 quotient.new ≡ chunk at 290 quotient.old }
 {
-    if at + 354 <= 2338 {
+    if at <= 1920 {
         return at;
     }
     quotient.copy_within(at..at + 290, 0);
     0
 }
 
-// What is left of the last 320 bytes. They add nothing to the quotient, so zeros stand behind the
-// window.
+// Zeros stand behind the window: the last 320 bytes add nothing to the quotient.
+#[inline(always)]
+fn zeros_behind(quotient: &mut [u8; 2658], at: usize)
+    requires { at ≤ 2048 }
+    ensures { chunk at 610 quotient.new ≡ chunk at 290 quotient.old ++ replicate 320 0 }
+{
+    quotient[at + 290..at + 610].copy_from_slice(&[0; 320]);
+}
+
+// What is left of the last 320 bytes.
 #[inline(always)]
 fn far_remainder(window: &[u8], bytes: &[u8], remainder: &mut [u8; 352])
-    requires window { length window.now ≡ 290 }
+    requires window { length window.now ≡ 610 }
+    requires zeros { drop 290 window.now ≡ replicate 320 0 }
     requires bytes { length bytes.now ≡ 320 }
-    ensures { take 320 remainder.new ≡ remaining far window.now bytes.now }
+    ensures { take 320 remainder.new ≡ remaining far (take 290 window.now) bytes.now }
 {
-    let mut quotient = [0u8; 610];
-    put_first(&mut quotient, window);
     let mut i = 0;
     while i < 320 {
-        let lanes = far_quotient(&bytes[i..], &quotient[i..]);
+        let lanes = far_quotient(&bytes[i..], &window[i..]);
         store(lanes, remainder, i);
         i += 32;
     }
@@ -96,26 +119,21 @@ pub fn fold(state: u32, bytes: &[u8], remainder: &mut [u8; 352])
     requires long { 320 ≤ length bytes.now }
     ensures { after_bytes 0 (take 320 remainder.new) ≡ after_bytes state bytes.now }
 {
-    let mut quotient = [0u8; 2338];
+    let mut quotient = [0u8; 2658];
     // 290 bytes ahead of the message, as quotient, the state is added to its first four bytes.
     put_first(&mut quotient, &state.to_le_bytes());
     let mut at = 0;
     let mut rest = bytes;
-    while rest.len() >= 384 {
+    while rest.len() >= 448 {
         at = make_room(&mut quotient, at);
-        let (next, after) = rest.split_at(32);
-        far_step(&mut quotient, at, next);
-        let (next, after) = after.split_at(32);
-        far_step(&mut quotient, at + 32, next);
-        at += 64;
-        rest = after;
-    }
-    if rest.len() == 320 {
-        far_remainder(&quotient[at..at + 290], rest, remainder);
-        return;
+        rest = four_steps(&mut quotient, at, rest);
+        at += 128;
     }
     at = make_room(&mut quotient, at);
-    let (next, after) = rest.split_at(32);
-    far_step(&mut quotient, at, next);
-    far_remainder(&quotient[at + 32..at + 322], after, remainder);
+    while rest.len() > 320 {
+        rest = far_step(&mut quotient, at, rest);
+        at += 32;
+    }
+    zeros_behind(&mut quotient, at);
+    far_remainder(&quotient[at..at + 610], rest, remainder);
 }

@@ -7,7 +7,7 @@ invariant-loop-i l = record {
   whole : l.i % 32 ≡ 0;
   within : l.i ≤ 320;
   long : length l.remainder ≡ 352;
-  so_far : take l.i l.remainder ≡ take l.i (remaining far l.window l.bytes);
+  so_far : take l.i l.remainder ≡ take l.i (remaining far (take 290 l.window) l.bytes);
 }
 
 abbrev pub decreases-loop-i : goal.decreases-loop-i
