@@ -97,8 +97,8 @@ from_lane_is v count long fits =
 
 -- ---- the first rows
 
-lit≤4 : (odd : ℕ) → 4 ≤ odd + 16
-lit≤4 odd = omega arith
+lit≤4 : (count : ℕ) → 4 ≤ count + 16
+lit≤4 count = omega arith
 
 drop_xored : (k : ℕ) (xs ys : List ℕ) → length ys ≤ k → drop k (xored xs ys) ≡ drop k xs
 drop_xored k [] ys few = refl
@@ -117,41 +117,41 @@ with_state state q bytes small is_q long =
     ∙ xor_comm (after_bytes 0 bytes) (after_bits (8 * length bytes) state)
     ∙ sym (bytes_apart state bytes)
 
-pub started_rows : (state odd : ℕ) (bytes first second : List ℕ) → state < 2 ^ 32 → odd < 16 → 32 ≤ length bytes
-    → first ≡ replicate (16 - odd) 0 ++ take odd (zip2 bit_xor (take 16 bytes) (to_le_bytes w32 state ++ replicate 12 0))
-    → second ≡ zip2 bit_xor (chunk odd 16 bytes) (drop odd (to_le_bytes w32 state ++ replicate 12 0) ++ replicate odd 0)
-    → after_bytes 0 (first ++ (second ++ drop (odd + 16) bytes)) ≡ after_bytes state bytes
-started_rows state odd bytes first second small less long is_first is_second =
+pub started_rows : (state count : ℕ) (bytes first second : List ℕ) → state < 2 ^ 32 → count ≤ 16 → 32 ≤ length bytes
+    → first ≡ replicate (16 - count) 0 ++ take count (zip2 bit_xor (take 16 bytes) (to_le_bytes w32 state ++ replicate 12 0))
+    → second ≡ zip2 bit_xor (chunk count 16 bytes) (drop count (to_le_bytes w32 state ++ replicate 12 0) ++ replicate count 0)
+    → after_bytes 0 (first ++ (second ++ drop (count + 16) bytes)) ≡ after_bytes state bytes
+started_rows state count bytes first second small less long is_first is_second =
     let q : List ℕ = to_le_bytes w32 state in
     let n = length bytes in
     let lanes : List ℕ = q ++ replicate 12 0 in
     let more : List ℕ = replicate (n - 16) 0 in
     let all : List ℕ = q ++ replicate (n - 4) 0 in
     let x : List ℕ = xored bytes all in
-    let z : List ℕ = replicate (16 - odd) 0 in
+    let z : List ℕ = replicate (16 - count) 0 in
     let of_more : length more ≡ n - 16 = length-replicate {A = ℕ} (n - 16) 0 in
     let of_lanes : length lanes ≡ 16 = refl in
     let in_all : lanes ++ more ≡ all =
     append_assoc q (replicate 12 0) more ∙ ap (λ (l : List ℕ). q ++ l) (replicate-append-replicate 12 (n - 16) 0 ∙ (let e : 12 + (n - 16) ≡ n - 4 = omega arith in ap (λ (k : ℕ). replicate k 0) e)) in
     let of_all : length all ≡ n = ap length (sym in_all) ∙ (omega (arith, length-append lanes more)) in
     let front : take 16 all ≡ lanes = ap (take 16) (sym in_all) ∙ take_at lanes more 16 of_lanes in
-    let tail : List ℕ = drop odd lanes in
-    let rest : List ℕ = replicate (n - 16 - odd) 0 in
-    let of_tail : length (tail ++ replicate odd 0) ≡ 16 = omega (arith, length-append tail (replicate odd 0), length-drop odd lanes, length-replicate {A = ℕ} odd 0) in
-    let apart : more ≡ replicate odd 0 ++ rest = (let e : n - 16 ≡ odd + (n - 16 - odd) = omega arith in ap (λ (k : ℕ). replicate k 0) e) ∙ sym (replicate-append-replicate odd (n - 16 - odd) 0) in
-    let back : chunk odd 16 all ≡ tail ++ replicate odd 0 =
-    ap (λ l. take 16 (drop odd l)) (sym in_all) ∙ ap (take 16) (drop-append-le odd lanes more (omega arith) ∙ ap (λ (l : List ℕ). tail ++ l) apart ∙ sym (append_assoc tail (replicate odd 0) rest))
-    ∙ take_at (tail ++ replicate odd 0) rest 16 of_tail in
+    let tail : List ℕ = drop count lanes in
+    let rest : List ℕ = replicate (n - 16 - count) 0 in
+    let of_tail : length (tail ++ replicate count 0) ≡ 16 = omega (arith, length-append tail (replicate count 0), length-drop count lanes, length-replicate {A = ℕ} count 0) in
+    let apart : more ≡ replicate count 0 ++ rest = (let e : n - 16 ≡ count + (n - 16 - count) = omega arith in ap (λ (k : ℕ). replicate k 0) e) ∙ sym (replicate-append-replicate count (n - 16 - count) 0) in
+    let back : chunk count 16 all ≡ tail ++ replicate count 0 =
+    ap (λ l. take 16 (drop count l)) (sym in_all) ∙ ap (take 16) (drop-append-le count lanes more (omega arith) ∙ ap (λ (l : List ℕ). tail ++ l) apart ∙ sym (append_assoc tail (replicate count 0) rest))
+    ∙ take_at (tail ++ replicate count 0) rest 16 of_tail in
     let same : x ≡ xored bytes q = xored_zeros bytes q (n - 4) in
-    let one : first ≡ z ++ take odd x =
+    let one : first ≡ z ++ take count x =
     is_first ∙ ap (λ (l : List ℕ). z ++ l)
-    (ap (take odd) (ap (zip2 bit_xor (take 16 bytes)) (sym front) ∙ sym (take_xored 16 bytes all (omega arith) (omega arith))) ∙ take-take odd 16 x (omega arith)) in
-    let two : second ≡ chunk odd 16 x = is_second ∙ ap (zip2 bit_xor (chunk odd 16 bytes)) (sym back) ∙ sym (chunk_xored odd 16 bytes all (omega arith) (omega arith)) in
-    let three : drop (odd + 16) bytes ≡ drop 16 (drop odd x) =
-    sym (drop_xored (odd + 16) bytes q (lit≤4 odd)) ∙ ap (drop (odd + 16)) (sym same) ∙ sym (drop-drop 16 odd x) in
-    let parts : take odd x ++ (chunk odd 16 x ++ drop 16 (drop odd x)) ≡ x = ap (λ (l : List ℕ). take odd x ++ l) (take-append-drop 16 (drop odd x)) ∙ take-append-drop odd x in
-    let whole : first ++ (second ++ drop (odd + 16) bytes) ≡ z ++ x =
+    (ap (take count) (ap (zip2 bit_xor (take 16 bytes)) (sym front) ∙ sym (take_xored 16 bytes all (omega arith) (omega arith))) ∙ take-take count 16 x (omega arith)) in
+    let two : second ≡ chunk count 16 x = is_second ∙ ap (zip2 bit_xor (chunk count 16 bytes)) (sym back) ∙ sym (chunk_xored count 16 bytes all (omega arith) (omega arith)) in
+    let three : drop (count + 16) bytes ≡ drop 16 (drop count x) =
+    sym (drop_xored (count + 16) bytes q (lit≤4 count)) ∙ ap (drop (count + 16)) (sym same) ∙ sym (drop-drop 16 count x) in
+    let parts : take count x ++ (chunk count 16 x ++ drop 16 (drop count x)) ≡ x = ap (λ (l : List ℕ). take count x ++ l) (take-append-drop 16 (drop count x)) ∙ take-append-drop count x in
+    let whole : first ++ (second ++ drop (count + 16) bytes) ≡ z ++ x =
     ap₂ (λ (k l : List ℕ). k ++ l) one (ap₂ (λ (k l : List ℕ). k ++ l) two three)
-    ∙ append_assoc z (take odd x) (chunk odd 16 x ++ drop 16 (drop odd x)) ∙ ap (λ (l : List ℕ). z ++ l) parts in
-    ap (after_bytes 0) whole ∙ bytes_more 0 z x ∙ ap (λ s. after_bytes s x) (zeros_leave (16 - odd))
+    ∙ append_assoc z (take count x) (chunk count 16 x ++ drop 16 (drop count x)) ∙ ap (λ (l : List ℕ). z ++ l) parts in
+    ap (after_bytes 0) whole ∙ bytes_more 0 z x ∙ ap (λ s. after_bytes s x) (zeros_leave (16 - count))
     ∙ ap (after_bytes 0) same ∙ with_state state q bytes small refl (omega arith)

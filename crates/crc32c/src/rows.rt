@@ -1465,21 +1465,30 @@ fn last(a: u8x16, b: u8x16, c: u8x16, d: u8x16) -> u32
     sixteen(state, &d.to_array())
 }
 
-// The first rows of a message that a state was added to. Zeros are ahead of the first one, which
-// leave the state 0 as it is.
+// How many bytes of a message are in its first row, so that the others are whole.
 #[inline(always)]
-fn first_rows(state: u32, bytes: &[u8]) -> (u8x16, u8x16)
+fn in_first(bytes: &[u8]) -> usize
     requires { 32 ≤ length bytes.now }
+    ensures most { result ≤ 16 }
+    ensures others { (length bytes.now - result) % 16 ≡ 0 }
+{
+    (bytes.len() - 1) % 16 + 1
+}
+
+// The first rows of a message that a state was added to, of which `count` bytes are in the first.
+// Zeros are ahead of these, which leave the state 0 as it is.
+#[inline(always)]
+fn first_rows(state: u32, bytes: &[u8], count: usize) -> (u8x16, u8x16)
+    requires long { 32 ≤ length bytes.now }
+    requires count { count ≤ 16 }
     ensures first { (length result.0 ≡ 16) × Each1 (λ x. x < 256) result.0 }
     ensures second { length result.1 ≡ 16 }
-    ensures same { let odd = length bytes.now % 16 in
-        after_bytes 0 (result.0 ++ (result.1 ++ drop (odd + 16) bytes.now))
+    ensures same { after_bytes 0 (result.0 ++ (result.1 ++ drop (count + 16) bytes.now))
         ≡ after_bytes state bytes.now }
 {
-    let odd = bytes.len() % 16;
     let lanes = lanes_of(state);
-    let first = to_end(u8x16::from_slice(bytes) ^ lanes, odd);
-    let second = u8x16::from_slice(&bytes[odd..]) ^ from_lane(lanes, odd);
+    let first = to_end(u8x16::from_slice(bytes) ^ lanes, count);
+    let second = u8x16::from_slice(&bytes[count..]) ^ from_lane(lanes, count);
     (first, second)
 }
 
@@ -1489,8 +1498,9 @@ pub fn by_rows(state: u32, bytes: &[u8]) -> u32
     requires tables { length bytes.now < 656 }
     ensures { result ≡ after_bytes state bytes.now }
 {
-    let (first, mut row) = first_rows(state, bytes);
-    let (_, mut rest) = bytes.split_at(bytes.len() % 16 + 16);
+    let count = in_first(bytes);
+    let (first, mut row) = first_rows(state, bytes, count);
+    let (_, mut rest) = bytes.split_at(count + 16);
     let rows = rest.len() / 16;
     let mut a = with_row(u8x16::splat(0), first, rows, 0);
     let mut b = with_row(u8x16::splat(0), first, rows, 1);

@@ -12,11 +12,11 @@ loop-rest-init c =
     let cut = c.split_at.ensures in
     let lanes = c.first_rows.ensures in
     record {
-      whole = omega (arith, cut.back_len);
+      whole = omega (arith, cut.back_len, c.in_first-count.ensures.others);
       tables = omega (arith, cut.back_len);
       same =
           row_begins (length rest / 16) c.with_row-a.result c.with_row-b.result c.with_row-c.result c.with_row-d.result first second rest
-          lanes.first.0 lanes.first.1 lanes.second (omega (arith, cut.back_len)) c.with_row-a.ensures c.with_row-b.ensures c.with_row-c.ensures c.with_row-d.ensures
+          lanes.first.0 lanes.first.1 lanes.second (omega (arith, cut.back_len, c.in_first-count.ensures.others)) c.with_row-a.ensures c.with_row-b.ensures c.with_row-c.ensures c.with_row-d.ensures
           ∙ ap (λ l. after_bytes 0 (first ++ (second ++ l))) cut.back ∙ lanes.same;
     }
 
