@@ -68,12 +68,12 @@ to_end_is v count long fits =
     ext_get_or 0 _ _ (of_js ∙ (omega (arith, length-append z (take count v)))) (λ i h.
     let less : i < 16 = omega arith in
     elim (cases_lt i (16 - count)) [
-    | inl l ↦ none v count i (omega arith) less (ahead (count + i) (omega arith)) ∙ sym (get_or_append_left z (take count v) 0 i (omega arith) ∙ get_or-replicate (16 - count) i 0 0 l)
-    | inr g ↦
-      let j = i - (16 - count) in
-      let e : count + i - 16 ≡ j = omega arith in
-      one v count i j (omega arith) less (within (count + i) (omega arith) (omega arith) ∙ e) (omega arith)
-      ∙ sym (get_or-append_right z (take count v) (16 - count) i 0 of_z g ∙ get_or-take count v j 0 (omega arith))
+      | inl l ↦ none v count i (omega arith) less (ahead (count + i) (omega arith)) ∙ sym (get_or_append_left z (take count v) 0 i (omega arith) ∙ get_or-replicate (16 - count) i 0 0 l)
+      | inr g ↦
+          let j = i - (16 - count) in
+          let e : count + i - 16 ≡ j = omega arith in
+          one v count i j (omega arith) less (within (count + i) (omega arith) (omega arith) ∙ e) (omega arith)
+          ∙ sym (get_or-append_right z (take count v) (16 - count) i 0 of_z g ∙ get_or-take count v j 0 (omega arith))
     ])
 
 pub from_lane_is : (v : List ℕ) (count : ℕ) → length v ≡ 16 → count ≤ 16 → swz_l w8 16 v 0 (chunk (count + 16) 16 MOVES) ≡ drop count v ++ replicate count 0
@@ -86,13 +86,13 @@ from_lane_is v count long fits =
     ext_get_or 0 _ _ (of_js ∙ (omega (arith, length-append (drop count v) z))) (λ i h.
     let less : i < 16 = omega arith in
     elim (cases_lt i (16 - count)) [
-    | inl l ↦
-      let e : count + 16 + i - 16 ≡ count + i = omega arith in
-      one v (count + 16) i (count + i) (omega arith) less (within (count + 16 + i) (omega arith) (omega arith) ∙ e) (omega arith)
-      ∙ sym (get_or_append_left (drop count v) z 0 i (omega arith) ∙ get_or-drop count v i 0)
-    | inr g ↦
-      none v (count + 16) i (omega arith) less (behind (count + 16 + i) (omega arith) (omega arith))
-      ∙ sym (get_or-append_right (drop count v) z (16 - count) i 0 of_drop g ∙ get_or-replicate count (i - (16 - count)) 0 0 (omega arith))
+      | inl l ↦
+          let e : count + 16 + i - 16 ≡ count + i = omega arith in
+          one v (count + 16) i (count + i) (omega arith) less (within (count + 16 + i) (omega arith) (omega arith) ∙ e) (omega arith)
+          ∙ sym (get_or_append_left (drop count v) z 0 i (omega arith) ∙ get_or-drop count v i 0)
+      | inr g ↦
+          none v (count + 16) i (omega arith) less (behind (count + 16 + i) (omega arith) (omega arith))
+          ∙ sym (get_or-append_right (drop count v) z (16 - count) i 0 of_drop g ∙ get_or-replicate count (i - (16 - count)) 0 0 (omega arith))
     ])
 
 -- ---- the first rows

@@ -678,6 +678,17 @@ pub fn sixteen(state: u32, bytes: &[u8; 16]) -> u32
     eight(0, back, 0) ^ eight(state, front, 8)
 }
 
+// The state after four bytes.
+#[inline(always)]
+fn four(state: u32, bytes: &[u8; 4]) -> u32
+    ensures { result ≡ after_bytes state bytes.now }
+{
+    let rest = with_zeros(low(state >> 24) ^ bytes[3], 0);
+    let rest = with_zeros(low(state >> 16) ^ bytes[2], 1) ^ rest;
+    let rest = with_zeros(low(state >> 8) ^ bytes[1], 2) ^ rest;
+    with_zeros(low(state) ^ bytes[0], 3) ^ rest
+}
+
 /// The state after these bytes.
 pub fn by_tables(state: u32, bytes: &[u8]) -> u32
     ensures { result ≡ after_bytes state bytes.now }
@@ -690,6 +701,10 @@ pub fn by_tables(state: u32, bytes: &[u8]) -> u32
     }
     if let Some((chunk, after)) = rest.split_first_chunk::<8>() {
         state = eight(state, chunk, 0);
+        rest = after;
+    }
+    if let Some((chunk, after)) = rest.split_first_chunk::<4>() {
+        state = four(state, chunk);
         rest = after;
     }
     for byte in rest {
