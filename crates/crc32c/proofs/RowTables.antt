@@ -1,8 +1,8 @@
 -- The look-ups of a row's bytes.
-use Rattle.std.proofs.Common.{◌≡◌, ℕ, zero, suc, ◌+◌, ◌-◌, ◌*◌, ◌/◌, ◌%◌, ◌^◌, ◌<◌, ◌≤◌, List, [], ◌∷◌, map, length, get_or, replicate, bit_and, refl, sym, ap, ap₂, ◌∙◌, arith, w8, Fits}
+use Rattle.std.proofs.Common.{◌≡◌, ℕ, zero, suc, ◌+◌, ◌-◌, ◌*◌, ◌/◌, ◌%◌, ◌^◌, ◌<◌, ◌≤◌, List, [], ◌∷◌, map, length, get_or, take, drop, replicate, bit_and, refl, sym, ap, ap₂, ◌∙◌, arith, w8, Fits}
 use Rattle.std.specs.Int.Bits.{bit_xor, xor_shifted}
 use Rattle.std.specs.List.{range_with_len}
-use Rattle.std.proofs.lemmas.List.{get_or-map, length-map, ext_get_or}
+use Rattle.std.proofs.lemmas.List.{get_or-map, get_or-take, get_or-drop, length-map, ext_get_or}
 use Rattle.std.proofs.lemmas.List.FromFn.{get_or-map-range_with_len}
 use Rattle.std.proofs.lemmas.Nat.{and_le_r, and_mask, xor_comm, xor_shr, xor_mod}
 use Rattle.std.proofs.lemmas.Simd.{Each1-all, Each1-weaker, Each1-zip2, Each2-splat, below_from_Fits, length-zip2, swz_l, SwzOk, SwzOk-from_below, length-swz_l, get_or-swz_l_below, map-map, zip2-map, zip2_splat, Each1-get_or}
@@ -64,25 +64,24 @@ both low high v row =
 abbrev byte_of : ℕ → ℕ → ℕ
 byte_of index n = n / 256 ^ index % 256
 
-row_of : List ℕ → List ℕ → List (List ℕ)
-row_of low high =
-    map (byte_of 0) low ∷ map (byte_of 0) high ∷ map (byte_of 1) low ∷ map (byte_of 1) high
-    ∷ map (byte_of 2) low ∷ map (byte_of 2) high ∷ map (byte_of 3) low ∷ map (byte_of 3) high ∷ []
+row_of : List ℕ → List ℕ
+row_of states = map (λ j. byte_of (j / 32) (get_or states (j % 32) 0)) (range_with_len 0 128)
 
 -- those of the next row have the states after sixteen bytes more
-rows_of : ℕ → List ℕ → List ℕ → List (List (List ℕ))
-rows_of zero low high = []
-rows_of (suc n) low high = row_of low high ∷ rows_of n (map (after_bits 128) low) (map (after_bits 128) high)
+rows_of : ℕ → List ℕ → List (List ℕ)
+rows_of zero states = []
+rows_of (suc n) states = row_of states ∷ rows_of n (map (after_bits 128) states)
 
-lows : List ℕ
-lows = map (λ x. after_bits 104 x) (range_with_len 0 16)
+-- the low four bits, and the high ones
+bits_of : ℕ → ℕ
+bits_of j = j % 16 * 16 ^ (j / 16)
 
-highs : List ℕ
-highs = map (λ x. after_bits 104 (16 * x)) (range_with_len 0 16)
+states : List ℕ
+states = map (λ j. after_bits 104 (bits_of j)) (range_with_len 0 32)
 
 -- the code's tables are these
-are_rows : ROWS ≡ rows_of 40 lows highs
-unfolding rows_of row_of lows highs after_bits
+are_rows : ROWS ≡ rows_of 40 states
+unfolding rows_of row_of states bits_of after_bits
 are_rows = refl
 
 later : (k : ℕ) (l : List ℕ) → map (after_bits (128 * k)) (map (after_bits 128) l) ≡ map (after_bits (128 * suc k)) l
@@ -94,56 +93,45 @@ now : (l : List ℕ) → l ≡ map (after_bits (128 * 0)) l
 now [] = refl
 now (x ∷ l) = ap₂ (λ y ys. y ∷ ys) (sym (no_bits x)) (now l)
 
-row_at : (n k : ℕ) (low high : List ℕ) (d : List (List ℕ)) → k < n → get_or (rows_of n low high) k d ≡ row_of (map (after_bits (128 * k)) low) (map (after_bits (128 * k)) high)
+row_at : (n k : ℕ) (l d : List ℕ) → k < n → get_or (rows_of n l) k d ≡ row_of (map (after_bits (128 * k)) l)
 unfolding rows_of
-row_at zero k low high d less = absurd (omega arith)
-row_at (suc n) zero low high d less = ap₂ row_of (now low) (now high)
-row_at (suc n) (suc k) low high d less =
-    row_at n k (map (after_bits 128) low) (map (after_bits 128) high) d (omega arith) ∙ ap₂ row_of (later k low) (later k high)
+row_at zero k l d less = absurd (omega arith)
+row_at (suc n) zero l d less = ap row_of (now l)
+row_at (suc n) (suc k) l d less = row_at n k (map (after_bits 128) l) d (omega arith) ∙ ap row_of (later k l)
 
-low_at : (index : ℕ) (low high d : List ℕ) → index < 4 → get_or (row_of low high) (2 * index) d ≡ map (byte_of index) low
-unfolding row_of
-low_at zero low high d less = refl
-low_at (suc zero) low high d less = refl
-low_at (suc (suc zero)) low high d less = refl
-low_at (suc (suc (suc zero))) low high d less = refl
-low_at (suc (suc (suc (suc index)))) low high d less = absurd (omega arith)
-
-high_at : (index : ℕ) (low high d : List ℕ) → index < 4 → get_or (row_of low high) (2 * index + 1) d ≡ map (byte_of index) high
-unfolding row_of
-high_at zero low high d less = refl
-high_at (suc zero) low high d less = refl
-high_at (suc (suc zero)) low high d less = refl
-high_at (suc (suc (suc zero))) low high d less = refl
-high_at (suc (suc (suc (suc index)))) low high d less = absurd (omega arith)
-
--- an entry of a table of such states
-entry : (f : ℕ → ℕ) (k index i : ℕ) → i < 16
-    → get_or (map (byte_of index) (map (after_bits (128 * k)) (map (λ x. after_bits 104 (f x)) (range_with_len 0 16)))) i 0 ≡ state_byte (128 * k + 104) index (f i)
-entry f k index i less =
-    let g : ℕ → ℕ = λ x. byte_of index (after_bits (128 * k) (after_bits 104 (f x))) in
+-- an entry of a row's tables
+entry : (k index i : ℕ) (d : List ℕ) → k < 40 → index < 4 → i < 32 → get_or (get_or ROWS k d) (32 * index + i) 0 ≡ state_byte (128 * k + 104) index (bits_of i)
+unfolding states row_of
+entry k index i d few less small =
+    let high : (32 * index + i) / 32 ≡ index = omega arith in
+    let low : (32 * index + i) % 32 ≡ i = omega arith in
+    let g : ℕ → ℕ = λ j. after_bits (128 * k) (after_bits 104 (bits_of j)) in
+    let all : List ℕ = map (after_bits (128 * k)) states in
     let e : 104 + 128 * k ≡ 128 * k + 104 = omega arith in
-    ap (λ (l : List ℕ). get_or l i 0)
-    (ap (map (byte_of index)) (map-map (after_bits (128 * k)) (λ x. after_bits 104 (f x)) (range_with_len 0 16))
-    ∙ map-map (byte_of index) (λ x. after_bits (128 * k) (after_bits 104 (f x))) (range_with_len 0 16))
-    ∙ get_or-map-range_with_len g 0 16 i i 0 less (omega arith)
-    ∙ ap (byte_of index) (sym (bits_more 104 (128 * k) (f i)) ∙ ap (λ n. after_bits n (f i)) e)
+    let of_all : get_or all i 0 ≡ after_bits (128 * k + 104) (bits_of i) =
+    ap (λ (l : List ℕ). get_or l i 0) (map-map (after_bits (128 * k)) (λ j. after_bits 104 (bits_of j)) (range_with_len 0 32))
+    ∙ get_or-map-range_with_len g 0 32 i i 0 small (omega arith)
+    ∙ sym (bits_more 104 (128 * k) (bits_of i)) ∙ ap (λ n. after_bits n (bits_of i)) e in
+    ap (λ (l : List (List ℕ)). get_or (get_or l k d) (32 * index + i) 0) are_rows
+    ∙ ap (λ (l : List ℕ). get_or l (32 * index + i) 0) (row_at 40 k states d few)
+    ∙ get_or-map-range_with_len (λ j. byte_of (j / 32) (get_or all (j % 32) 0)) 0 128 (32 * index + i) (32 * index + i) 0 (omega arith) (omega arith)
+    ∙ ap₂ (λ a b. byte_of a (get_or all b 0)) high low ∙ ap (byte_of index) of_all
 
-in_low : (k index i : ℕ) (d : List (List ℕ)) (none : List ℕ) → k < 40 → index < 4 → i < 16 → get_or (get_or (get_or ROWS k d) (2 * index) none) i 0 ≡ state_byte (128 * k + 104) index i
-unfolding lows
-in_low k index i d none few less small =
-    ap (λ (l : List (List (List ℕ))). get_or (get_or (get_or l k d) (2 * index) none) i 0) are_rows
-    ∙ ap (λ (l : List (List ℕ)). get_or (get_or l (2 * index) none) i 0) (row_at 40 k lows highs d few)
-    ∙ ap (λ (l : List ℕ). get_or l i 0) (low_at index (map (after_bits (128 * k)) lows) (map (after_bits (128 * k)) highs) none less)
-    ∙ entry (λ x. x) k index i small
+in_low : (k index i : ℕ) (d : List ℕ) → k < 40 → index < 4 → i < 16 → get_or (get_or ROWS k d) (32 * index + i) 0 ≡ state_byte (128 * k + 104) index i
+unfolding bits_of
+in_low k index i d few less small =
+    let zeroth : i / 16 ≡ 0 = omega arith in
+    let same : i % 16 * 1 ≡ i = omega arith in
+    entry k index i d few less (omega arith) ∙ ap (state_byte (128 * k + 104) index) (ap (λ q. i % 16 * 16 ^ q) zeroth ∙ same)
 
-in_high : (k index i : ℕ) (d : List (List ℕ)) (none : List ℕ) → k < 40 → index < 4 → i < 16 → get_or (get_or (get_or ROWS k d) (2 * index + 1) none) i 0 ≡ state_byte (128 * k + 104) index (16 * i)
-unfolding highs
-in_high k index i d none few less small =
-    ap (λ (l : List (List (List ℕ))). get_or (get_or (get_or l k d) (2 * index + 1) none) i 0) are_rows
-    ∙ ap (λ (l : List (List ℕ)). get_or (get_or l (2 * index + 1) none) i 0) (row_at 40 k lows highs d few)
-    ∙ ap (λ (l : List ℕ). get_or l i 0) (high_at index (map (after_bits (128 * k)) lows) (map (after_bits (128 * k)) highs) none less)
-    ∙ entry (λ x. 16 * x) k index i small
+in_high : (k index i : ℕ) (d : List ℕ) → k < 40 → index < 4 → i < 16 → get_or (get_or ROWS k d) (32 * index + 16 + i) 0 ≡ state_byte (128 * k + 104) index (16 * i)
+unfolding bits_of
+in_high k index i d few less small =
+    let j = 16 + i in
+    let first : j / 16 ≡ 1 = omega arith in
+    let same : j % 16 * 16 ≡ 16 * i = omega arith in
+    let at : 32 * index + 16 + i ≡ 32 * index + j = omega arith in
+    ap (λ n. get_or (get_or ROWS k d) n 0) at ∙ entry k index j d few less (omega arith) ∙ ap (state_byte (128 * k + 104) index) (ap (λ q. j % 16 * 16 ^ q) first ∙ same)
 
 -- a byte of what two numbers leave
 byte_xor : (index a b : ℕ) → index < 4 → byte_of index (bit_xor a b) ≡ bit_xor (byte_of index a) (byte_of index b)
@@ -162,15 +150,24 @@ nibbles bits index x less =
     sym (byte_xor index (after_bits bits (x % 16)) (after_bits bits (16 * (x / 16))) less)
     ∙ ap (byte_of index) (sym (bits_xor bits (x % 16) (16 * (x / 16))) ∙ ap (after_bits bits) back)
 
-map_same : (f g : ℕ → ℕ) (v : List ℕ) → Each1 (λ x. x < 256) v → ((x : ℕ) → x < 256 → f x ≡ g x) → map f v ≡ map g v
+pub map_same : (f g : ℕ → ℕ) (v : List ℕ) → Each1 (λ x. x < 256) v → ((x : ℕ) → x < 256 → f x ≡ g x) → map f v ≡ map g v
 map_same f g [] all same = refl
 map_same f g (x ∷ v) all same = ap₂ (λ y ys. y ∷ ys) (same x all.0) (map_same f g v all.1 same)
 
+-- the look-ups in the first sixteen entries of two tables
+pub of_first : (low high v : List ℕ) → Each1 (λ x. x < 256) v
+    → map (λ x. bit_xor (get_or (take 16 low) (x % 16) 0) (get_or (take 16 high) (x / 16) 0)) v ≡ map (λ x. bit_xor (get_or low (x % 16) 0) (get_or high (x / 16) 0)) v
+of_first low high v all =
+    map_same _ _ v all (λ x small. ap₂ bit_xor (get_or-take 16 low (x % 16) 0 (omega arith)) (get_or-take 16 high (x / 16) 0 (omega arith)))
+
 -- the look-ups of a row in the tables of so many rows
-pub of_row : (k index : ℕ) (v : List ℕ) (d : List (List ℕ)) (none other : List ℕ) → Each1 (λ x. x < 256) v → k < 40 → index < 4
-    → map (λ x. bit_xor (get_or (get_or (get_or ROWS k d) (2 * index) none) (x % 16) 0) (get_or (get_or (get_or ROWS k d) (2 * index + 1) other) (x / 16) 0)) v
+pub of_row : (k index : ℕ) (v d : List ℕ) → Each1 (λ x. x < 256) v → k < 40 → index < 4
+    → map (λ x. bit_xor (get_or (take (128 - 32 * index) (drop (32 * index) (get_or ROWS k d))) (x % 16) 0) (get_or (take (128 - (32 * index + 16)) (drop (32 * index + 16) (get_or ROWS k d))) (x / 16) 0)) v
     ≡ map (state_byte (128 * k + 104) index) v
-of_row k index v d none other all few less =
+of_row k index v d all few less =
+    let row : List ℕ = get_or ROWS k d in
+    let part : (m i : ℕ) → m + i < 128 → get_or (take (128 - m) (drop m row)) i 0 ≡ get_or row (m + i) 0 =
+    (λ m i fits. get_or-take (128 - m) (drop m row) i 0 (omega arith) ∙ get_or-drop m row i 0) in
     map_same _ (state_byte (128 * k + 104) index) v all (λ x small.
-    ap₂ bit_xor (in_low k index (x % 16) d none few less (omega arith)) (in_high k index (x / 16) d other few less (omega arith))
+    ap₂ bit_xor (part (32 * index) (x % 16) (omega arith) ∙ in_low k index (x % 16) d few less (omega arith)) (part (32 * index + 16) (x / 16) (omega arith) ∙ in_high k index (x / 16) d few less (omega arith))
     ∙ nibbles (128 * k + 104) index x less)

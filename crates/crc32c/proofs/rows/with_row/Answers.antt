@@ -8,4 +8,4 @@ use Rattle.crc32c.proofs.rows.with_row.Goals as goal
 pub returns : goal.returns
 returns c =
     let a = c.args in
-    ap (zip2 bit_xor a.sums) (c.looked_up.ensures ∙ of_row a.rows a.index a.row _ _ _ (below_from_Fits w8 a.row c.fits-row.1) c.requires.tables c.requires.index)
+    ap (zip2 bit_xor a.sums) (c.looked_up.ensures ∙ of_row a.rows a.index a.row _ (below_from_Fits w8 a.row c.fits-row.1) c.requires.tables c.requires.index)
