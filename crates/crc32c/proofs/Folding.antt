@@ -13,7 +13,7 @@ use Rattle.std.specs.Int.{to_le_bytes}
 use mir.Syntax.{w32}
 use lib.Lanes.{zip2, Each1, chunk, put_chunk}
 use Rattle.crc32c.specs.Crc.{after_bits, after_byte, after_bytes, crc32c, small_bytes}
-use Rattle.crc32c.specs.Division.{xored, remaining, next_quotient, far, near}
+use Rattle.crc32c.specs.Division.{xored, remaining, next_quotient, far}
 use Rattle.crc32c.proofs.Steps.{byte_out, bits_more, zero_bits, no_bits, bytes_apart, bytes_more, first_apart, inverted}
 use Rattle.crc32c.proofs.Multiples.{IsMultiple, total, remaining_leaves, divides, joined, length-quotient, length-remaining}
 
@@ -56,18 +56,18 @@ pub remaining_all : (ss m : List ℕ) (d : ℕ) → remaining ss (replicate d 0)
 remaining_all [] m d = refl
 remaining_all (s ∷ ss) m d = ap₂ xored (remaining_all ss m d) (drop-replicate s d 0) ∙ xored_none m (d - s)
 
-xored_zeros : (xs ys : List ℕ) (k : ℕ) → xored xs (ys ++ replicate k 0) ≡ xored xs ys
+pub xored_zeros : (xs ys : List ℕ) (k : ℕ) → xored xs (ys ++ replicate k 0) ≡ xored xs ys
 xored_zeros [] ys k = refl
 xored_zeros (x ∷ xs) [] k = xored_none (x ∷ xs) k
 xored_zeros (x ∷ xs) (y ∷ ys) k = ap (λ l. bit_xor x y ∷ l) (xored_zeros xs ys k)
 
-take_xored : (n : ℕ) (xs ys : List ℕ) → n ≤ length xs → n ≤ length ys → take n (xored xs ys) ≡ zip2 bit_xor (take n xs) (take n ys)
+pub take_xored : (n : ℕ) (xs ys : List ℕ) → n ≤ length xs → n ≤ length ys → take n (xored xs ys) ≡ zip2 bit_xor (take n xs) (take n ys)
 take_xored zero xs ys one two = refl
 take_xored (suc n) [] ys one two = absurd (omega arith)
 take_xored (suc n) (x ∷ xs) [] one two = absurd (omega arith)
 take_xored (suc n) (x ∷ xs) (y ∷ ys) one two = ap (λ l. bit_xor x y ∷ l) (take_xored n xs ys (omega arith) (omega arith))
 
-chunk_xored : (i n : ℕ) (xs ys : List ℕ) → i + n ≤ length xs → i + n ≤ length ys → chunk i n (xored xs ys) ≡ zip2 bit_xor (chunk i n xs) (chunk i n ys)
+pub chunk_xored : (i n : ℕ) (xs ys : List ℕ) → i + n ≤ length xs → i + n ≤ length ys → chunk i n (xored xs ys) ≡ zip2 bit_xor (chunk i n xs) (chunk i n ys)
 chunk_xored zero n xs ys one two = take_xored n xs ys (omega arith) (omega arith)
 chunk_xored (suc i) n [] ys one two = absurd (omega arith)
 chunk_xored (suc i) n (x ∷ xs) [] one two = absurd (omega arith)
@@ -99,19 +99,27 @@ moves_to_front at d done room =
     ∙ ap (λ n. take n (paste done 0 (drop at done) d)) (sym two)
     ∙ take-paste done 0 (drop at done) d (omega arith) (omega (arith, length-drop at done))
 
+-- zeros are put behind the window
+pub zeros_put : (at : ℕ) (q rest : List ℕ) → at + 290 ≤ length q → chunk at 610 (take (at + 290) q ++ (replicate 320 0 ++ rest)) ≡ chunk at 290 q ++ replicate 320 0
+zeros_put at q rest room =
+    let z : List ℕ = replicate 320 0 in
+    let h : List ℕ = chunk at 290 q in
+    let of_h : length h ≡ 290 = length-chunk at 290 q room in
+    let both : length (h ++ z) ≡ 610 = omega (arith, length-append h z) in
+    ap (take 610) (drop-append-le at (take (at + 290) q) (z ++ rest) (omega (arith, length-take-le (at + 290) q room))
+    ∙ ap (λ (l : List ℕ). l ++ (z ++ rest)) (drop-take at 290 q) ∙ sym (append_assoc h z rest))
+    ∙ take_at (h ++ z) rest 610 both
+
 -- 32 bytes from each exponent on are within the window
 pub fits_far : Each1 (λ s. s + 32 ≤ 290) far
 fits_far = (lit≤ tt, (lit≤ tt, (lit≤ tt, (lit≤ tt, (lit≤ tt, tt)))))
-
-pub fits_near : Each1 (λ s. s + 32 ≤ 104) near
-fits_near = (lit≤ tt, (lit≤ tt, (lit≤ tt, (lit≤ tt, (lit≤ tt, (lit≤ tt, (lit≤ tt, tt)))))))
 
 within_each : (n d k : ℕ) (ss : List ℕ) → d ≤ k → Each1 (λ s. s + n ≤ d) ss → Each1 (λ s. s ≤ k) ss
 within_each n d k [] less all = tt
 within_each n d k (s ∷ ss) less all = let fits = all.0 in (omega arith, within_each n d k ss less all.1)
 
 -- a slice to the end
-to_end : (i n : ℕ) (xs : List ℕ) → length xs ≡ n → take (n - i) (drop i xs) ≡ drop i xs
+pub to_end : (i n : ℕ) (xs : List ℕ) → length xs ≡ n → take (n - i) (drop i xs) ≡ drop i xs
 to_end i n xs is = take_all (n - i) (drop i xs) (omega (arith, length-drop i xs))
 
 -- so the window slides over the next bytes of the quotient
@@ -139,7 +147,7 @@ step_keeps n d ss law all h after front back rest of_h within long is_front is_b
     ∙ ap (λ k. after_bytes 0 (remaining ss h k)) (take-append-drop n rest)
 
 -- more of the remainder
-pub end_step : (i n d k : ℕ) (ss : List ℕ) (left before taken bytes y : List ℕ) → Each1 (λ s. s + n ≤ d) ss → length left ≡ k → i + n ≤ k → length taken ≡ d → length bytes ≡ k
+pub end_step : (i n d k : ℕ) (ss : List ℕ) (left before taken bytes y : List ℕ) → Each1 (λ s. s + n ≤ d) ss → k ≤ length left → i + n ≤ k → length taken ≡ d → length bytes ≡ k
     → before ≡ taken ++ drop (length taken) (replicate (d + k) 0) → y ≡ next_quotient n ss (take (d + k - i) (drop i before)) (take n (take (length bytes - i) (drop i bytes)))
     → take i left ≡ take i (remaining ss taken bytes) → take (i + n) (put_chunk i left y) ≡ take (i + n) (remaining ss taken bytes)
 end_step i n d k ss left before taken bytes y all long within of_taken of_bytes of_before is_y so_far =
@@ -155,18 +163,18 @@ end_step i n d k ss left before taken bytes y all long within of_taken of_bytes 
     let of_y : length y ≡ n = ap length same ∙ length-chunk i n c (omega arith) in
     take_more_put_chunk i left y (i + n) (omega arith) (omega arith) ∙ ap₂ (λ k l. k ++ l) so_far same ∙ sym (take-add i n c)
 
-pub end_all : (i k : ℕ) (ss left taken bytes : List ℕ) → length left ≡ k → k ≤ i → length bytes ≡ k → take i left ≡ take i (remaining ss taken bytes) → left ≡ remaining ss taken bytes
-end_all i k ss left taken bytes long all of_bytes so_far =
-    sym (take_all i left (omega arith)) ∙ so_far ∙ take_all i (remaining ss taken bytes) (omega (arith, length-remaining ss taken bytes))
+pub end_all : (i k : ℕ) (ss left taken bytes : List ℕ) → i ≡ k → length bytes ≡ k → take i left ≡ take i (remaining ss taken bytes) → take k left ≡ remaining ss taken bytes
+end_all i k ss left taken bytes all of_bytes so_far =
+    ap (λ n. take n left) (sym all) ∙ so_far ∙ take_all i (remaining ss taken bytes) (omega (arith, length-remaining ss taken bytes))
 
 -- zeros leave the state 0 as it is
-zeros_leave : (k : ℕ) → after_bytes 0 (replicate k 0) ≡ 0
+pub zeros_leave : (k : ℕ) → after_bytes 0 (replicate k 0) ≡ 0
 unfolding after_byte after_bits
 zeros_leave zero = refl
 zeros_leave (suc k) = zeros_leave k
 
 -- the bytes of a state leave what it leaves
-four_leave : (state : ℕ) → state < 2 ^ 32 → after_bytes 0 (to_le_bytes w32 state) ≡ after_bits 32 state
+pub four_leave : (state : ℕ) → state < 2 ^ 32 → after_bytes 0 (to_le_bytes w32 state) ≡ after_bits 32 state
 four_leave state small =
     let a = state % 256 in
     let b = state / 256 % 256 in
@@ -239,7 +247,7 @@ started n d ss all fours state h q m small is long room is_h =
 pub fours_far : Each1 (λ s. 4 ≤ s) (32 ∷ 107 ∷ 113 ∷ 136 ∷ [])
 fours_far = (lit≤ tt, (lit≤ tt, (lit≤ tt, (lit≤ tt, tt))))
 
-pub far_window : (q : List ℕ) → length q ≡ 4 → chunk 0 290 (q ++ drop (length q) (replicate 2338 0)) ≡ q ++ replicate 286 0
+pub far_window : (q : List ℕ) → length q ≡ 4 → chunk 0 290 (q ++ drop (length q) (replicate 2658 0)) ≡ q ++ replicate 286 0
 far_window [] is = absurd (omega arith)
 far_window (a ∷ []) is = absurd (omega arith)
 far_window (a ∷ b ∷ []) is = absurd (omega arith)
@@ -268,8 +276,8 @@ goes_on bytes k check state is_check is =
     ∙ ap (after_bytes 4294967295) (take-append-drop k bytes))
 
 -- the state after bytes in two parts
-pub in_two : (state : ℕ) (bytes front back left : List ℕ) (one two n : ℕ) → front ≡ take n bytes → back ≡ drop n bytes → one ≡ after_bytes state front
-    → after_bytes 0 left ≡ after_bytes one back → two ≡ after_bytes 0 left → two ≡ after_bytes state bytes
-in_two state bytes front back left one two n is_front is_back is_one is_left is_two =
-    is_two ∙ is_left ∙ ap (λ s. after_bytes s back) is_one ∙ sym (bytes_more state front back)
+pub in_two : (state : ℕ) (bytes front back : List ℕ) (one two n : ℕ) → front ≡ take n bytes → back ≡ drop n bytes → one ≡ after_bytes state front
+    → two ≡ after_bytes one back → two ≡ after_bytes state bytes
+in_two state bytes front back one two n is_front is_back is_one is_two =
+    is_two ∙ ap (λ s. after_bytes s back) is_one ∙ sym (bytes_more state front back)
     ∙ ap (after_bytes state) (ap₂ (λ k l. k ++ l) is_front is_back ∙ take-append-drop n bytes)

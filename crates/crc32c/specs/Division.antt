@@ -8,11 +8,6 @@ use Rattle.std.specs.Simd.Lanes.{zip2, chunk}
 abbrev pub far : List ℕ
 far = 0 ∷ 32 ∷ 107 ∷ 113 ∷ 136 ∷ []
 
--- those, below its degree 104, of the near multiple:
--- x ^ 104 + x ^ 57 + x ^ 53 + x ^ 49 + x ^ 19 + x ^ 14 + x ^ 4 + 1
-abbrev pub near : List ℕ
-near = 0 ∷ 4 ∷ 14 ∷ 19 ∷ 49 ∷ 53 ∷ 57 ∷ []
-
 -- the next n bytes of the quotient: those of the message, and added to them n bytes of the window
 -- from each exponent on; the window has the quotient's bytes before, as many as the degree
 abbrev pub next_quotient : ℕ → List ℕ → List ℕ → List ℕ → List ℕ

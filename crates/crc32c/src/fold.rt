@@ -3,10 +3,10 @@
 // The eighth power of a sum of powers of x is the sum of their eighth powers: its exponents are
 // whole bytes. So the division goes by bytes, by exclusive ors alone, and 32 of them at a time,
 // since a byte of the quotient depends on none of the 32 before it.
-ghost use Rattle.std.specs.Prelude.{◌≡◌, ◌+◌, ◌%◌, ◌≤◌, ◌++◌, length, take, drop};
+ghost use Rattle.std.specs.Prelude.{◌≡◌, ◌+◌, ◌%◌, ◌≤◌, ◌++◌, length, take, drop, replicate};
 ghost use Rattle.std.specs.Simd.Lanes.{chunk, put_chunk};
 ghost use Rattle.crc32c.specs.Crc.{after_bytes};
-ghost use Rattle.crc32c.specs.Division.{far, near, next_quotient, remaining};
+ghost use Rattle.crc32c.specs.Division.{far, next_quotient, remaining};
 
 use std::simd::u8x32;
 
@@ -22,23 +22,6 @@ fn far_quotient(bytes: &[u8], window: &[u8]) -> u8x32
         ^ u8x32::from_slice(&window[113..])
         ^ u8x32::from_slice(&window[107..])
         ^ u8x32::from_slice(&window[32..])
-        ^ u8x32::from_slice(window)
-}
-
-// The next 32 bytes of the quotient by the near multiple. The window has the 104 before them.
-#[inline(always)]
-fn near_quotient(bytes: &[u8], window: &[u8]) -> u8x32
-    requires next { 32 ≤ length bytes.now }
-    requires window { 104 ≤ length window.now }
-    ensures { result ≡ next_quotient 32 near window.now (take 32 bytes.now) }
-{
-    u8x32::from_slice(bytes)
-        ^ u8x32::from_slice(&window[57..])
-        ^ u8x32::from_slice(&window[53..])
-        ^ u8x32::from_slice(&window[49..])
-        ^ u8x32::from_slice(&window[19..])
-        ^ u8x32::from_slice(&window[14..])
-        ^ u8x32::from_slice(&window[4..])
         ^ u8x32::from_slice(window)
 }
 
@@ -60,138 +43,97 @@ fn put_first(bytes: &mut [u8], first: &[u8])
     bytes[..first.len()].copy_from_slice(first);
 }
 
-// Divides 32 bytes by the far multiple. The window stands at `at`, and slides over their quotient.
+// Divides 32 bytes by the far multiple, and answers those behind them. The window stands at `at`,
+// and slides over the quotient.
 #[inline(always)]
-fn far_step(quotient: &mut [u8], at: usize, bytes: &[u8])
-    requires room { at + 322 ≤ length quotient.old }
-    requires next { 32 ≤ length bytes.now }
-    ensures len { length quotient.new ≡ length quotient.old }
-    ensures window { let window = chunk at 290 quotient.old in
-        chunk (at + 32) 290 quotient.new
-        ≡ drop 32 window ++ next_quotient 32 far window (take 32 bytes.now) }
+fn far_step<'a>(quotient: &mut [u8; 2658], at: usize, bytes: &'a [u8]) -> &'a [u8]
+    requires room { at + 322 ≤ 2658 }
+    requires long { 322 ≤ length bytes.now }
+    ensures len { length result.now + 32 ≡ length bytes.now }
+    ensures same { after_bytes 0 (remaining far (chunk (at + 32) 290 quotient.new) result.now)
+        ≡ after_bytes 0 (remaining far (chunk at 290 quotient.old) bytes.now) }
 {
     let lanes = far_quotient(bytes, &quotient[at..]);
     store(lanes, quotient, at + 290);
+    &bytes[32..]
 }
 
-// Divides 32 bytes by the near multiple.
+// Divides 128 bytes.
 #[inline(always)]
-fn near_step(quotient: &mut [u8], at: usize, bytes: &[u8])
-    requires room { at + 136 ≤ length quotient.old }
-    requires next { 32 ≤ length bytes.now }
-    ensures len { length quotient.new ≡ length quotient.old }
-    ensures window { let window = chunk at 104 quotient.old in
-        chunk (at + 32) 104 quotient.new
-        ≡ drop 32 window ++ next_quotient 32 near window (take 32 bytes.now) }
+fn four_steps<'a>(quotient: &mut [u8; 2658], at: usize, bytes: &'a [u8]) -> &'a [u8]
+    requires room { at + 418 ≤ 2658 }
+    requires long { 418 ≤ length bytes.now }
+    ensures len { length result.now + 128 ≡ length bytes.now }
+    ensures same { after_bytes 0 (remaining far (chunk (at + 128) 290 quotient.new) result.now)
+        ≡ after_bytes 0 (remaining far (chunk at 290 quotient.old) bytes.now) }
 {
-    let lanes = near_quotient(bytes, &quotient[at..]);
-    store(lanes, quotient, at + 104);
+    let rest = far_step(quotient, at, bytes);
+    let rest = far_step(quotient, at + 32, rest);
+    let rest = far_step(quotient, at + 64, rest);
+    far_step(quotient, at + 96, rest)
 }
 
-// Makes room for two steps: at the array's end the window moves to its front. It answers where the
-// window stands.
+// Makes room for four steps: at the array's end the window moves to its front. It answers where the
+// window stands. The last 320 bytes of the array are left for `zeros_behind`.
 #[inline(always)]
-fn make_room(quotient: &mut [u8; 2338], at: usize) -> usize
-    requires { at + 290 ≤ 2338 }
-    ensures room { result + 354 ≤ 2338 }
+fn make_room(quotient: &mut [u8; 2658], at: usize) -> usize
+    requires { at ≤ 2048 }
+    ensures room { result ≤ 1920 }
     ensures window { chunk result 290 quotient.new ≡ chunk at 290 quotient.old }
 {
-    if at + 354 <= 2338 {
+    if at <= 1920 {
         return at;
     }
     quotient.copy_within(at..at + 290, 0);
     0
 }
 
-// What is left of the last 320 bytes. They add nothing to the quotient, so zeros stand behind the
-// window.
+// Zeros stand behind the window: the last 320 bytes add nothing to the quotient.
 #[inline(always)]
-fn far_remainder(window: &[u8], bytes: &[u8], remainder: &mut [u8; 320])
-    requires window { length window.now ≡ 290 }
-    requires bytes { length bytes.now ≡ 320 }
-    ensures { remainder.new ≡ remaining far window.now bytes.now }
+fn zeros_behind(quotient: &mut [u8; 2658], at: usize)
+    requires { at ≤ 2048 }
+    ensures { chunk at 610 quotient.new ≡ chunk at 290 quotient.old ++ replicate 320 0 }
 {
-    let mut quotient = [0u8; 610];
-    put_first(&mut quotient, window);
+    quotient[at + 290..at + 610].copy_from_slice(&[0; 320]);
+}
+
+// What is left of the last 320 bytes.
+#[inline(always)]
+fn far_remainder(window: &[u8], bytes: &[u8], remainder: &mut [u8; 352])
+    requires window { length window.now ≡ 610 }
+    requires zeros { drop 290 window.now ≡ replicate 320 0 }
+    requires bytes { length bytes.now ≡ 320 }
+    ensures { take 320 remainder.new ≡ remaining far (take 290 window.now) bytes.now }
+{
     let mut i = 0;
     while i < 320 {
-        let lanes = far_quotient(&bytes[i..], &quotient[i..]);
+        let lanes = far_quotient(&bytes[i..], &window[i..]);
         store(lanes, remainder, i);
         i += 32;
     }
 }
 
-// What is left of the last 128 bytes.
-#[inline(always)]
-fn near_remainder(window: &[u8], bytes: &[u8], remainder: &mut [u8; 128])
-    requires window { length window.now ≡ 104 }
-    requires bytes { length bytes.now ≡ 128 }
-    ensures { remainder.new ≡ remaining near window.now bytes.now }
-{
-    let mut quotient = [0u8; 232];
-    put_first(&mut quotient, window);
-    let mut i = 0;
-    while i < 128 {
-        let lanes = near_quotient(&bytes[i..], &quotient[i..]);
-        store(lanes, remainder, i);
-        i += 32;
-    }
-}
-
-// Leaves 320 bytes that lead from the state 0 to where these lead from `state`.
-fn fold_far(state: u32, bytes: &[u8], remainder: &mut [u8; 320])
+/// Leaves in front 320 bytes that lead from the state 0 to where these lead from `state`.
+pub fn fold(state: u32, bytes: &[u8], remainder: &mut [u8; 352])
     requires lanes { length bytes.now % 32 ≡ 0 }
     requires long { 320 ≤ length bytes.now }
-    ensures { after_bytes 0 remainder.new ≡ after_bytes state bytes.now }
+    ensures { after_bytes 0 (take 320 remainder.new) ≡ after_bytes state bytes.now }
 {
-    let mut quotient = [0u8; 2338];
+    let mut quotient = [0u8; 2658];
     // 290 bytes ahead of the message, as quotient, the state is added to its first four bytes.
     put_first(&mut quotient, &state.to_le_bytes());
     let mut at = 0;
     let mut rest = bytes;
-    while rest.len() >= 384 {
+    while rest.len() >= 448 {
         at = make_room(&mut quotient, at);
-        let (next, after) = rest.split_at(32);
-        far_step(&mut quotient, at, next);
-        let (next, after) = after.split_at(32);
-        far_step(&mut quotient, at + 32, next);
-        at += 64;
-        rest = after;
-    }
-    if rest.len() == 320 {
-        far_remainder(&quotient[at..at + 290], rest, remainder);
-        return;
+        rest = four_steps(&mut quotient, at, rest);
+        at += 128;
     }
     at = make_room(&mut quotient, at);
-    let (next, after) = rest.split_at(32);
-    far_step(&mut quotient, at, next);
-    far_remainder(&quotient[at + 32..at + 322], after, remainder);
-}
-
-// Leaves 128 bytes that lead from the state 0 to where these lead from it.
-#[inline(always)]
-fn fold_near(bytes: &[u8; 320], remainder: &mut [u8; 128])
-    ensures { after_bytes 0 remainder.new ≡ after_bytes 0 bytes.now }
-{
-    let mut quotient = [0u8; 296];
-    let mut at = 0;
-    let mut rest: &[u8] = bytes;
-    while rest.len() > 128 {
-        let (next, after) = rest.split_at(32);
-        near_step(&mut quotient, at, next);
+    while rest.len() > 320 {
+        rest = far_step(&mut quotient, at, rest);
         at += 32;
-        rest = after;
     }
-    near_remainder(&quotient[at..at + 104], rest, remainder);
-}
-
-/// Leaves 128 bytes that lead from the state 0 to where these lead from `state`.
-pub fn fold(state: u32, bytes: &[u8], remainder: &mut [u8; 128])
-    requires lanes { length bytes.now % 32 ≡ 0 }
-    requires long { 320 ≤ length bytes.now }
-    ensures { after_bytes 0 remainder.new ≡ after_bytes state bytes.now }
-{
-    let mut between = [0u8; 320];
-    fold_far(state, bytes, &mut between);
-    fold_near(&between, remainder);
+    zeros_behind(&mut quotient, at);
+    far_remainder(&quotient[at..at + 610], rest, remainder);
 }

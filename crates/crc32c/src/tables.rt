@@ -632,8 +632,8 @@ const TABLES: [[u32; 256]; 16] = [
     ],
 ];
 
-// The state that a byte and so many zero bytes after it leave, from the state 0.
-fn with_zeros(byte: u8, zeros: usize) -> u32
+/// The state that a byte and so many zero bytes after it leave, from the state 0.
+pub fn with_zeros(byte: u8, zeros: usize) -> u32
     requires { zeros < 16 }
     ensures { result ≡ after_bits (8 * (zeros + 1)) byte }
 {
@@ -669,13 +669,24 @@ fn eight(state: u32, bytes: &[u8], zeros: usize) -> u32
     with_zeros(low(state) ^ bytes[0], zeros + 7) ^ rest
 }
 
-// The state after sixteen bytes.
-fn sixteen(state: u32, bytes: &[u8; 16]) -> u32
+/// The state after sixteen bytes.
+pub fn sixteen(state: u32, bytes: &[u8; 16]) -> u32
     ensures { result ≡ after_bytes state bytes.now }
 {
     // The front needs the state, so it is added last: the rest is summed before the state is known.
     let (front, back) = bytes.split_at(8);
     eight(0, back, 0) ^ eight(state, front, 8)
+}
+
+// The state after four bytes.
+#[inline(always)]
+fn four(state: u32, bytes: &[u8; 4]) -> u32
+    ensures { result ≡ after_bytes state bytes.now }
+{
+    let rest = with_zeros(low(state >> 24) ^ bytes[3], 0);
+    let rest = with_zeros(low(state >> 16) ^ bytes[2], 1) ^ rest;
+    let rest = with_zeros(low(state >> 8) ^ bytes[1], 2) ^ rest;
+    with_zeros(low(state) ^ bytes[0], 3) ^ rest
 }
 
 /// The state after these bytes.
@@ -690,6 +701,10 @@ pub fn by_tables(state: u32, bytes: &[u8]) -> u32
     }
     if let Some((chunk, after)) = rest.split_first_chunk::<8>() {
         state = eight(state, chunk, 0);
+        rest = after;
+    }
+    if let Some((chunk, after)) = rest.split_first_chunk::<4>() {
+        state = four(state, chunk);
         rest = after;
     }
     for byte in rest {

@@ -41,7 +41,8 @@ fn checks(rt: HostRuntime) {
         random = random.wrapping_mul(1664525).wrapping_add(1013904223);
         *byte = (random >> 24) as u8;
     }
-    // From 576 bytes on the message is folded, and from 2,400 on its window moves.
+    // From 64 bytes on the message goes by rows, from 640 on it is folded, and from 2,368 on the
+    // window moves.
     for len in 0..=700 {
         let bytes = &message[..len];
         let check = bit_by_bit(bytes);
@@ -54,7 +55,7 @@ fn checks(rt: HostRuntime) {
             "from {known} to {len}"
         );
     }
-    for len in [2399, 2400, 2431, 2432, 4084, 5000] {
+    for len in [1101, 2367, 2368, 2495, 2496, 2527, 4084, 4447, 5000] {
         let bytes = &message[..len];
         let check = bit_by_bit(bytes);
         assert_eq!(rt; Crc32c::sum(bytes), check, "at {len}");
