@@ -249,19 +249,6 @@ pub commit_gives : (sum own : List ℕ → ℕ) (w : WriterState) (after : Cache
 commit_gives sum own w after old new (Ok now) is = is.journal
 commit_gives sum own w after old new (Err e) is = tt
 
--- a read within the content is refused only where the device failed, or memory was refused
-pub read_refused : {A : Type 0} (sum : List ℕ → ℕ) (t : Tail) (cache : CacheState) (offset len : ℕ) (bytes : A → List ℕ) (old new : Life) (e : Error) → offset + len ≤ t.full_pages * t.page_size + length t.bytes → offset + len < 2 ^ 64
-    → Reads sum t cache (offset, len) bytes old new (Err e) → (e ≡ InvalidChecksum → ⊥) → ReadRefused old new e
-read_refused sum t cache offset len bytes old new ReadFailed within fits reads never = reads
-read_refused sum t cache offset len bytes old new OutOfMemory within fits reads never = tt
-read_refused sum t cache offset len bytes old new InvalidChecksum within fits reads never = never refl
-read_refused sum t cache offset len bytes old new OffsetOverflow within fits reads never = omega (arith, fits, reads.1)
-read_refused sum t cache offset len bytes old new BlobInsufficientLength within fits reads never = omega (arith, within, reads.2)
-read_refused sum t cache offset len bytes old new WriteFailed within fits reads never = reads
-read_refused sum t cache offset len bytes old new ResizeFailed within fits reads never = reads
-read_refused sum t cache offset len bytes old new SyncFailed within fits reads never = reads
-read_refused sum t cache offset len bytes old new IdsExhausted within fits reads never = reads
-
 -- what failed in a later part of a log failed in all of it
 some_after : (e : Error) (xs ys : List Entry) → SomeFailed e ys → SomeFailed e (xs ++ ys)
 some_after e [] ys some = some
@@ -283,16 +270,19 @@ refused_later old mid new ResizeFailed looked refused = refused
 refused_later old mid new SyncFailed looked refused = refused
 refused_later old mid new IdsExhausted looked refused = refused
 
--- a frame is read in two reads: how long it is, and all of it
-pub frame_read : (held again : List ℕ) (offset rest len : ℕ) (head : List ℕ) (old mid new : Life) (result : Result (List ℕ) Error) → Looked old mid → again ≡ held
-    → length (drop offset held) ≡ rest → ReadsBytes held offset (min rest 2) old mid (Ok head) → len ≡ min rest (record_len head + 7) → ReadsBytes again offset len mid new result
-    → ReadsFrame held offset rest old new result
-frame_read held again offset rest len head old mid new (Ok bytes) looked same long first is second =
+-- its first bytes say how long a frame is
+pub frame_measured : (held : List ℕ) (offset rest len : ℕ) (head : List ℕ) → length (drop offset held) ≡ rest → head ≡ take (min rest 2) (drop offset held) → len ≡ min rest (record_len head + 7)
+    → len ≡ min (frame_len (drop offset held)) rest
+frame_measured held offset rest len head long first is =
     let after = drop offset held in
     let said : record_len head ≡ record_len after = ap record_len first ∙ record_len-front (min rest 2) after (omega (arith, long)) in
-    let n : len ≡ min (frame_len after) rest = omega arith in
-    second ∙ ap₂ (λ k (l : List ℕ). take k (drop offset l)) n same
-frame_read held again offset rest len head old mid new (Err e) looked same long first is second = refused_later old mid new e looked second
+    omega arith
+
+-- a frame is read in two reads: how long it is, and all of it
+pub frame_read : (held again : List ℕ) (offset rest len : ℕ) (old mid new : Life) (result : Result (List ℕ) Error) → Looked old mid → again ≡ held
+    → len ≡ min (frame_len (drop offset held)) rest → ReadsBytes again offset len mid new result → ReadsFrame held offset rest old new result
+frame_read held again offset rest len old mid new (Ok bytes) looked same is second = second ∙ ap₂ (λ k (l : List ℕ). take k (drop offset l)) is same
+frame_read held again offset rest len old mid new (Err e) looked same is second = refused_later old mid new e looked second
 
 -- the frame at an offset
 pub found : (own : List ℕ → ℕ) (content : List ℕ) (offset rest : ℕ) (framed : List ℕ) (bytes : Option (List ℕ)) (end : ℕ) → offset + rest ≡ length content → 0 < rest
