@@ -1,6 +1,6 @@
 -- What a journal's calls do, from what the writer's do.
 use Rattle.std.proofs.Common.{◌≡◌, inl, inr, ℕ, ◌+◌, ◌-◌, ◌*◌, ◌^◌, ◌<◌, ◌≤◌, List, [], ◌∷◌, ◌++◌, length, take, drop, refl, sym, ap, ap₂, ◌∙◌, subst, arith, append-nil, length-append, length-take, length-drop, min, Ok, Err, Result}
-use Rattle.std.specs.Prelude.{Option, IfOk, OnOk, Vec}
+use Rattle.std.specs.Prelude.{Option, Some, None, IfOk, OnOk, Vec}
 use Rattle.std.specs.Result.{IsErrAnd}
 use Rattle.std.specs.declared.alloc.Global.{Global}
 use Rattle.std.proofs.lemmas.List.{append_assoc, take-append-le, take-take, take_all, drop_at}
@@ -23,8 +23,8 @@ use Rattle.crash.specs.Moments.{through_start, through_then, through_joins, thro
 use Rattle.paged_read.specs.Snapshots.{LeavesOthers, LeavesReads, LeavesTails}
 use Rattle.paged_read.specs.Tail.{Tail, CanRead}
 use Rattle.paged_read.specs.Ranges.{Reads, LeavesAll}
-use Rattle.paged.specs.Caches.{tail_of}
-use Rattle.paged.specs.Calls.{GoesOn, Appends, Syncs}
+use Rattle.paged.specs.Caches.{tail_of, KeepsReads}
+use Rattle.paged.specs.Calls.{GoesOn, Appends, BuffersOver, Syncs, TryAppends}
 use Rattle.paged.specs.Reads.{size_of}
 use Rattle.paged.specs.Recovers.{Recovers}
 use Rattle.paged.specs.Truncate.{Truncates, KeepsFloorsWithin}
@@ -185,6 +185,37 @@ not_appended sum own w bytes after old new InvalidChecksum refused = refused.cau
 not_appended sum own w bytes after old new BlobInsufficientLength refused = refused.cause
 not_appended sum own w bytes after old new OutOfMemory refused = refused.cause
 not_appended sum own w bytes after old new IdsExhausted refused = refused.cause
+
+-- a frame that the buffer refused, before anything was asked
+not_buffered : (sum own : List ℕ → ℕ) (w now : WriterState) (bytes : List ℕ) (after : CacheState) (life : Life) (e : Error) → TryAppends w (frame own bytes) now (Err e) → AppendsRecord sum own w bytes after life life (Err e)
+not_buffered sum own w now bytes after life OffsetOverflow (passes, same) =
+    (refl, subst (λ (n : ℕ). 2 ^ 64 ≤ physical_blob_size w.page_size w.full_pages (length w.tip + n)) (length-frame own bytes) passes)
+not_buffered sum own w now bytes after life OutOfMemory tries = tt
+not_buffered sum own w now bytes after life ReadFailed tries = absurd tries
+not_buffered sum own w now bytes after life WriteFailed tries = absurd tries
+not_buffered sum own w now bytes after life ResizeFailed tries = absurd tries
+not_buffered sum own w now bytes after life SyncFailed tries = absurd tries
+not_buffered sum own w now bytes after life InvalidChecksum tries = absurd tries
+not_buffered sum own w now bytes after life BlobInsufficientLength tries = absurd tries
+not_buffered sum own w now bytes after life IdsExhausted tries = absurd tries
+
+pub buffer_refused : (sum own : List ℕ → ℕ) (w now : WriterState) (bytes : List ℕ) (after : CacheState) (life : Life) (e : Error) (result : Result (WriterState × ℕ) Error) → IsErrAnd result (λ x. x ≡ e)
+    → TryAppends w (frame own bytes) now (Err e) → AppendsRecord sum own w bytes after life life result
+buffer_refused sum own w now bytes after life e (Ok r) is tries = absurd is
+buffer_refused sum own w now bytes after life e (Err x) is tries =
+    subst (λ (y : Error). AppendsRecord sum own w bytes after life life (Err y)) (sym is) (not_buffered sum own w now bytes after life e tries)
+
+-- one that it took
+pub buffered : (sum own : List ℕ → ℕ) (w now : WriterState) (bytes : List ℕ) (cache : CacheState) (life : Life) (at : ℕ) (fits : Option ℕ) → length bytes ≤ 65535 → own bytes < 2 ^ 32 → IsJournal sum w cache life
+    → fits ≡ Some at → BuffersOver sum w (frame own bytes) now (Ok fits) → KeepsReads w now → IsAppended sum own w bytes cache life life now at
+buffered sum own w now bytes cache life at fits short small journal is buffers keeps =
+    let ready = ready_of sum w cache life journal in
+    let over : BuffersOver sum w (frame own bytes) now (Ok (Some at)) = subst (λ (o : Option ℕ). BuffersOver sum w (frame own bytes) now (Ok o)) is buffers in
+    appended sum own w bytes cache life life now at short small (whole_of sum w cache life journal) (keeps cache life.present ready.can) ready.fresh (over life ready.sound)
+
+-- one for which it has no room: nothing has changed
+pub not_fitting : (w now : WriterState) (framed : List ℕ) (fits : Option ℕ) → fits ≡ None → TryAppends w framed now (Ok fits) → now ≡ w
+not_fitting w now framed fits is tries = (subst (λ (o : Option ℕ). TryAppends w framed now (Ok o)) is tries).2
 
 -- the records before an append are the first of those after it, and those after it are all
 pub before_append : (own : List ℕ → ℕ) (before bytes : List ℕ) → IsPrefix (records own before) (records own before ++ bytes ∷ [])

@@ -3,9 +3,11 @@ ghost use Rattle.std.specs.Prelude.{◌≡◌, true, slice_index, ◌+◌, ◌<�
 ghost use Rattle.std.specs.Prelude.{drop, IfOk, IsOkUnless};
 ghost use Rattle.journal.specs.Frame.{frame, record_len, is_record, record_of};
 
+use bytes::BufMut;
 use disk::{Error, IoBuf};
-use page::Sum;
-use std::alloc::Global;
+use page::{EncodeSize, Sum, Write};
+use std::alloc::{AllocError, Global};
+use std::marker::PhantomData;
 
 /// The most bytes that a record may have.
 pub const MOST_BYTES: usize = 65_535;
@@ -25,18 +27,53 @@ pub struct Found {
     pub end: u64,
 }
 
+/// The frame of a record, whose bytes it borrows, for a buffer in which it is written at once.
+#[derive(Drop)]
+pub struct Framed<'a, R> {
+    bytes: &'a [u8],
+    of: PhantomData<R>,
+    ghost short: { length bytes.now ≤ 65535 },
+}
+
+impl<'a, R> Framed<'a, R> {
+    /// That of a record of these bytes.
+    pub fn new(bytes: &'a [u8]) -> Self
+        requires { length bytes.now ≤ 65535 }
+        ensures { result.bytes.now ≡ bytes.now }
+    {
+        Framed {
+            bytes,
+            of: PhantomData,
+        }
+    }
+}
+
+impl<R: Sum> EncodeSize for Framed<'_, R> {
+    ghost encoded = { λ framed. frame R.sum_of framed.bytes.now };
+
+    fn encode_size(&self) -> usize {
+        IN_FRONT + self.bytes.len() + AFTER
+    }
+}
+
+impl<R: Sum> Write for Framed<'_, R> {
+    #[tactic(auto, unfolding(crate::specs::Frame::frame))]
+    fn write<O: BufMut>(&self, out: &mut O) -> Result<(), AllocError> {
+        out.put_slice(&(self.bytes.len() as u16).to_be_bytes())?;
+        out.put_slice(self.bytes)?;
+        out.put_slice(&R::sum(self.bytes).to_be_bytes())?;
+        out.put_u8(1)
+    }
+}
+
 /// The frame of a record of these bytes. It answers `OutOfMemory` alone.
-#[tactic(auto, unfolding(crate::specs::Frame::frame))]
 pub fn frame_of<R: Sum>(alloc: Global, bytes: &[u8]) -> Result<Vec<u8>, Error>
     requires { length bytes.now ≤ 65535 }
     ensures framed { IfOk result (λ framed. framed.items ≡ frame R.sum_of bytes.now) }
     ensures err { IsOkUnless result Error.OutOfMemory }
 {
     let mut framed = Vec::with_capacity(alloc, IN_FRONT + bytes.len() + AFTER)?;
-    framed.extend_from_slice(&(bytes.len() as u16).to_be_bytes())?;
-    framed.extend_from_slice(bytes)?;
-    framed.extend_from_slice(&R::sum(bytes).to_be_bytes())?;
-    framed.push(1)?;
+    Framed::<R>::new(bytes).write(&mut framed)?;
     Ok(framed)
 }
 

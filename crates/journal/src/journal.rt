@@ -6,11 +6,11 @@ ghost use Rattle.crash.specs.Looks.{Looked};
 ghost use Rattle.writer_state.specs.Sound.{IsSound, content};
 ghost use Rattle.crash.specs.Stays.{KeepsAll, KeepsAllFloors, LeavesOnly};
 ghost use Rattle.page.specs.Page.{text};
-ghost use Rattle.paged.specs.Calls.{Appends, IsSettled, Syncs};
+ghost use Rattle.paged.specs.Calls.{Appends, BuffersOver, IsSettled, Syncs, TryAppends};
 ghost use Rattle.paged.specs.Reads.{size_of};
 ghost use Rattle.paged.specs.Truncate.{KeepsFloorsWithin};
-ghost use Rattle.journal.specs.Frame.{whole_frames};
-ghost use Rattle.paged.specs.Caches.{tail_of};
+ghost use Rattle.journal.specs.Frame.{frame, whole_frames};
+ghost use Rattle.paged.specs.Caches.{tail_of, KeepsReads};
 ghost use Rattle.paged.specs.Snapshots.{MakesSnapshot};
 ghost use Rattle.paged_read.specs.Snapshots.{LeavesOthers, LeavesTails, StandsOn};
 ghost use Rattle.paged_read.specs.Tail.{CanRead};
@@ -23,7 +23,7 @@ ghost use Rattle.journal.specs.Journal.{LeavesAllRecords, BringsBack};
 ghost use Rattle.journal.specs.Reader.{EachReaderStays, IsNewToReaders, IsReader, MakesReader};
 ghost use Rattle.journal.specs.Reader.{OtherReadersStay, ReadersStay};
 
-use crate::frame::{Found, IN_FRONT, frame_of, record_at, record_len_of};
+use crate::frame::{Found, Framed, IN_FRONT, frame_of, record_at, record_len_of};
 use crate::reader::Reader;
 use crate::replay::records_of;
 use bytes::Bytes;
@@ -232,8 +232,24 @@ impl<B: Blob, H: Sum, R: Sum> Journal<B, H, R> {
         ensures only { let old = B.life blob.old in let new = B.life blob.new in
             LeavesOneMore H.sum_of R.sum_of self bytes.now old new }
     {
-        let framed = frame_of::<R>(self.alloc, bytes)?;
-        self.append(blob, cache, &framed)
+        let mut journal = self;
+        if let Some(offset) = journal.try_append(bytes)? {
+            return Ok((journal, offset));
+        }
+        let framed = frame_of::<R>(journal.alloc, bytes)?;
+        journal.append(blob, cache, &framed)
+    }
+
+    // Writes a record's frame to the buffer, where it fits, and answers its offset. It takes no
+    // memory but the buffer's, and asks no device.
+    fn try_append(&mut self, bytes: &[u8]) -> Result<Option<u64>, Error>
+        requires short { length bytes.now ≤ 65535 }
+        ensures tries { TryAppends self.old (frame R.sum_of bytes.now) self.new result }
+        ensures appends { let framed = frame R.sum_of bytes.now in
+            BuffersOver H.sum_of self.old framed self.new result }
+        ensures can_read { KeepsReads self.old self.new }
+    {
+        self.writer.try_append_value(&Framed::<R>::new(bytes))
     }
 
     // Appends bytes to the content.
