@@ -1,5 +1,5 @@
 // Frames: records as bytes, and back.
-ghost use Rattle.std.specs.Prelude.{◌≡◌, true, slice_index, ◌+◌, ◌<◌, ◌≤◌, ◌^◌, ℕ, List, length};
+ghost use Rattle.std.specs.Prelude.{◌≡◌, slice_index, ◌+◌, ◌++◌, ◌<◌, ◌≤◌, ◌^◌, ℕ, List, length};
 ghost use Rattle.std.specs.Prelude.{drop, IfOk, IsOkUnless};
 ghost use Rattle.journal.specs.Frame.{frame, record_len, is_record, record_of};
 
@@ -98,54 +98,47 @@ pub fn record_len_of(bytes: &[u8]) -> usize
     usize::from(u16::from_be_bytes([byte_at(bytes, 0), byte_at(bytes, 1)]))
 }
 
-// Whether a frame is a record. So many bytes are to be its record's, and these stand after its
-// length.
-fn is_record_of<R: Sum>(len: usize, bytes: &[u8]) -> bool
-    requires { len < 2 ^ 16 }
-    ensures is { (frame : List ℕ) → record_len frame ≡ len → drop 2 frame ≡ bytes.now
-        → result ≡ is_record R.sum_of frame }
-    ensures whole { result ≡ true → len + 5 ≤ length bytes.now }
+// Whether a frame is a record, by the bytes that are to be its record's, and by the five that stand
+// after them.
+fn is_record_of<R: Sum>(bytes: &[u8], after: &[u8]) -> bool
+    requires { length after.now ≡ 5 }
+    ensures { (frame : List ℕ) → record_len frame ≡ length bytes.now
+        → drop 2 frame ≡ bytes.now ++ after.now → result ≡ is_record R.sum_of frame }
 {
-    if byte_at(bytes, len + 4) != 1 {
+    if after[4] != 1 {
         return false;
     }
-    let sum = u32::from_be_bytes([
-        byte_at(bytes, len),
-        byte_at(bytes, len + 1),
-        byte_at(bytes, len + 2),
-        byte_at(bytes, len + 3),
-    ]);
-    sum == R::sum(&bytes[..len])
+    let sum = u32::from_be_bytes([after[0], after[1], after[2], after[3]]);
+    sum == R::sum(bytes)
 }
 
-/// The record of a frame, if it is one. So many bytes are to be the record's, and what stands
-/// after the frame's length begins at an offset of these. It answers `OutOfMemory` alone.
-pub fn record_after<R: Sum>(
-    len: usize,
-    bytes: &IoBuf,
-    offset: usize,
-) -> Result<Option<IoBuf>, Error>
-    requires small { len < 2 ^ 16 }
-    requires within { offset ≤ length bytes.now }
-    ensures found { (frame : List ℕ) → record_len frame ≡ len
-        → drop 2 frame ≡ drop offset bytes.now
-        → IfOk result (λ found. found ≡ record_of R.sum_of frame) }
-    ensures err { IsOkUnless result Error.OutOfMemory }
+/// The record with these bytes, if the five that stand after them in their frame say that it is
+/// one.
+pub fn record_before<R: Sum>(bytes: IoBuf, after: &[u8]) -> Option<IoBuf>
+    requires { length after.now ≡ 5 }
+    ensures { (frame : List ℕ) → record_len frame ≡ length bytes
+        → drop 2 frame ≡ bytes ++ after.now → result ≡ record_of R.sum_of frame }
 {
-    if !is_record_of::<R>(len, &bytes.as_ref()[offset..]) {
-        return Ok(None);
+    if is_record_of::<R>(bytes.as_ref(), after) {
+        Some(bytes)
+    } else {
+        None
     }
-    Ok(Some(bytes.slice(offset, offset + len)?))
 }
 
 /// The record of the frame at the front of some bytes, if it is one. It answers `OutOfMemory`
 /// alone.
-pub fn record_at<R: Sum>(bytes: &IoBuf) -> Result<Option<IoBuf>, Error>
-    ensures found { IfOk result (λ found. found ≡ record_of R.sum_of bytes.now) }
+pub fn record_at<R: Sum>(framed: &IoBuf) -> Result<Option<IoBuf>, Error>
+    ensures found { IfOk result (λ found. found ≡ record_of R.sum_of framed.now) }
     ensures err { IsOkUnless result Error.OutOfMemory }
 {
-    if bytes.len() < IN_FRONT {
+    let bytes = framed.as_ref();
+    let end = IN_FRONT + record_len_of(bytes);
+    if bytes.len() < end + AFTER {
         return Ok(None);
     }
-    record_after::<R>(record_len_of(bytes.as_ref()), bytes, IN_FRONT)
+    if !is_record_of::<R>(&bytes[IN_FRONT..end], &bytes[end..end + AFTER]) {
+        return Ok(None);
+    }
+    Ok(Some(framed.slice(IN_FRONT, end)?))
 }
