@@ -3,9 +3,10 @@ use Rattle.std.proofs.Common.{◌≡◌, inl, inr, ◌&&◌, ◌==◌, ℕ, zero
 use Rattle.std.specs.Prelude.{Some, None, Option, if◌then◌else◌, slice_range}
 use Rattle.std.specs.List.{flat_map}
 use Rattle.std.specs.Int.{w16, w32, to_be_bytes, from_be_bytes}
-use Rattle.std.proofs.lemmas.List.{append_assoc, take-take, get_or-take, get_or-drop, get_or_past, get_or_append_left, take_all, take_at, drop_all, drop-drop, drop-take, drop-append-le, drop_at, take-append-le, take-append-drop}
+use Rattle.std.proofs.lemmas.List.{append_assoc, take-take, get_or-append-add, get_or-take, get_or-drop, get_or_past, get_or_append_left, take_all, take_at, drop_all, drop-drop, drop-take, drop-append-le, drop_at, take-append-le, take-append-drop}
 use Rattle.std.proofs.lemmas.Nat.{from_be_bytes-to_be_bytes_2, from_be_bytes-to_be_bytes_4}
 use Rattle.std.proofs.Math.Nat.{add_comm}
+use Rattle.std.proofs.Math.Seq.{take-add}
 use Rattle.std.proofs.lemmas.Bool.{cases_lt, lt-ltb, le-ltb, ne_eqb}
 use Rattle.journal.specs.Frame.{frame, record_len, frame_len, is_record, record_of, frames_in, frames, listed, records, if_whole, whole_frames, IsWhole, IsPrefix}
 
@@ -86,12 +87,12 @@ after_at : (frame bytes : List ℕ) (i j : ℕ) → drop 2 frame ≡ bytes → j
 after_at frame bytes i j is e = ap (λ (l : List ℕ). get_or l i 0) (sym is) ∙ get_or-drop 2 frame i 0 ∙ ap (λ k. get_or frame k 0) (sym e)
 
 -- it has another mark
-pub unmarked_after : (sum : List ℕ → ℕ) (frame bytes : List ℕ) (n : ℕ) → record_len frame ≡ n → drop 2 frame ≡ bytes → (get_or bytes (n + 4) 0 ≡ 1 → ⊥) → false ≡ is_record sum frame
+unmarked_after : (sum : List ℕ → ℕ) (frame bytes : List ℕ) (n : ℕ) → record_len frame ≡ n → drop 2 frame ≡ bytes → (get_or bytes (n + 4) 0 ≡ 1 → ⊥) → false ≡ is_record sum frame
 unmarked_after sum frame bytes n len is other =
     sym (is_record-other sum frame (λ one. other (after_at frame bytes (n + 4) (record_len frame + 6) is (omega (arith, len)) ∙ one)))
 
 -- it has the mark
-pub marked_after : (sum : List ℕ → ℕ) (frame bytes : List ℕ) (n crc : ℕ) → record_len frame ≡ n → drop 2 frame ≡ bytes → get_or bytes (n + 4) 0 ≡ 1
+marked_after : (sum : List ℕ → ℕ) (frame bytes : List ℕ) (n crc : ℕ) → record_len frame ≡ n → drop 2 frame ≡ bytes → get_or bytes (n + 4) 0 ≡ 1
     → crc ≡ from_be_bytes w32 (get_or bytes n 0 ∷ get_or bytes (n + 1) 0 ∷ get_or bytes (n + 2) 0 ∷ get_or bytes (n + 3) 0 ∷ [])
     → (crc == sum (take n bytes)) ≡ is_record sum frame
 marked_after sum frame bytes n crc len is mark same =
@@ -114,6 +115,46 @@ record_of-after sum frame bytes offset n is len after =
     ap (λ m. Some (take m (drop offset bytes))) k
     ∙ ap (λ (l : List ℕ). Some (take n l)) (sym after)
     ∙ ap₂ (λ b m. if b then Some (take m (drop 2 frame)) else None) (sym is) (sym len)
+
+-- ---- what stands after a record's bytes: its checksum and the mark
+
+past_bytes : (bytes after : List ℕ) (i j : ℕ) → i ≡ length bytes + j → get_or (bytes ++ after) i 0 ≡ get_or after j 0
+past_bytes bytes after i j e = ap (λ k. get_or (bytes ++ after) k 0) e ∙ get_or-append-add bytes after j 0
+
+-- another mark
+pub unmarked_before : (sum : List ℕ → ℕ) (frame bytes after : List ℕ) → record_len frame ≡ length bytes → drop 2 frame ≡ bytes ++ after → (get_or after 4 0 ≡ 1 → ⊥) → false ≡ is_record sum frame
+unmarked_before sum frame bytes after len is other =
+    unmarked_after sum frame (bytes ++ after) (length bytes) len is (λ one. other (sym (past_bytes bytes after (length bytes + 4) 4 refl) ∙ one))
+
+-- the mark
+pub marked_before : (sum : List ℕ → ℕ) (frame bytes after : List ℕ) (crc : ℕ) → record_len frame ≡ length bytes → drop 2 frame ≡ bytes ++ after → get_or after 4 0 ≡ 1
+    → crc ≡ from_be_bytes w32 (get_or after 0 0 ∷ get_or after 1 0 ∷ get_or after 2 0 ∷ get_or after 3 0 ∷ []) → (crc == sum bytes) ≡ is_record sum frame
+marked_before sum frame bytes after crc len is mark same =
+    let n = length bytes in
+    let all = bytes ++ after in
+    let read : crc ≡ from_be_bytes w32 (get_or all n 0 ∷ get_or all (n + 1) 0 ∷ get_or all (n + 2) 0 ∷ get_or all (n + 3) 0 ∷ []) =
+    same
+    ∙ ap₂ (λ a b. from_be_bytes w32 (a ∷ b ∷ get_or after 2 0 ∷ get_or after 3 0 ∷ [])) (sym (past_bytes bytes after n 0 (omega arith))) (sym (past_bytes bytes after (n + 1) 1 refl))
+    ∙ ap₂ (λ a b. from_be_bytes w32 (get_or all n 0 ∷ get_or all (n + 1) 0 ∷ a ∷ b ∷ [])) (sym (past_bytes bytes after (n + 2) 2 refl)) (sym (past_bytes bytes after (n + 3) 3 refl)) in
+    ap (λ (l : List ℕ). crc == sum l) (sym (take_at bytes after n refl)) ∙ marked_after sum frame all n crc len is (past_bytes bytes after (n + 4) 4 refl ∙ mark) read
+
+pub record_of-before : (sum : List ℕ → ℕ) (frame bytes after : List ℕ) → is_record sum frame ≡ true → record_len frame ≡ length bytes → drop 2 frame ≡ bytes ++ after → Some bytes ≡ record_of sum frame
+unfolding record_of
+record_of-before sum frame bytes after is len rest =
+    ap Some (sym (take_at bytes after (length bytes) refl) ∙ ap (λ (l : List ℕ). take (length bytes) l) (sym rest))
+    ∙ ap₂ (λ b m. if b then Some (take m (drop 2 frame)) else None) (sym is) (sym len)
+
+-- whether the whole frame at the front of some bytes is a record is said by its record's bytes and
+-- those after them
+pub front_is : (sum : List ℕ → ℕ) (xs : List ℕ) (n : ℕ) (is : Bool) → n ≡ record_len xs → n + 7 ≤ length xs
+    → ((frame : List ℕ) → record_len frame ≡ length (take n (drop 2 xs)) → drop 2 frame ≡ take n (drop 2 xs) ++ take 5 (drop (2 + n) xs) → is ≡ is_record sum frame) → is ≡ is_record sum xs
+front_is sum xs n is says whole judged =
+    let e : n + 7 ≡ 2 + (n + 5) = omega arith in
+    let len : record_len (take (n + 7) xs) ≡ length (take n (drop 2 xs)) =
+    record_len-take (n + 7) xs (omega arith) ∙ sym says ∙ sym (length-take n (drop 2 xs) ∙ (let d = length-drop 2 xs in omega (arith, d, whole))) in
+    let rest : drop 2 (take (n + 7) xs) ≡ take n (drop 2 xs) ++ take 5 (drop (2 + n) xs) =
+    ap (λ m. drop 2 (take m xs)) e ∙ drop-take 2 (n + 5) xs ∙ take-add n 5 (drop 2 xs) ∙ ap (λ (l : List ℕ). take n (drop 2 xs) ++ take 5 l) (drop-drop n 2 xs) in
+    judged (take (n + 7) xs) len rest ∙ is_record-take sum (n + 7) xs (omega (arith, says))
 
 -- what a beginning holds that has the whole frame
 pub record_of-take : (sum : List ℕ → ℕ) (k : ℕ) (xs : List ℕ) → frame_len xs ≤ k → record_of sum (take k xs) ≡ record_of sum xs

@@ -1,6 +1,6 @@
 -- What a journal's calls do, from what the writer's do.
 use Rattle.std.proofs.Common.{◌≡◌, inl, inr, ℕ, ◌+◌, ◌-◌, ◌*◌, ◌^◌, ◌<◌, ◌≤◌, List, [], ◌∷◌, ◌++◌, length, take, drop, refl, sym, ap, ap₂, ◌∙◌, subst, arith, append-nil, length-append, length-take, length-drop, min, Ok, Err, Result}
-use Rattle.std.specs.Prelude.{Option, IfOk, OnOk, Vec}
+use Rattle.std.specs.Prelude.{Option, Some, None, IfOk, OnOk, Vec}
 use Rattle.std.specs.Result.{IsErrAnd}
 use Rattle.std.specs.declared.alloc.Global.{Global}
 use Rattle.std.proofs.lemmas.List.{append_assoc, take-append-le, take-take, take_all, drop_at}
@@ -23,8 +23,8 @@ use Rattle.crash.specs.Moments.{through_start, through_then, through_joins, thro
 use Rattle.paged_read.specs.Snapshots.{LeavesOthers, LeavesReads, LeavesTails}
 use Rattle.paged_read.specs.Tail.{Tail, CanRead}
 use Rattle.paged_read.specs.Ranges.{Reads, LeavesAll}
-use Rattle.paged.specs.Caches.{tail_of}
-use Rattle.paged.specs.Calls.{GoesOn, Appends, Syncs}
+use Rattle.paged.specs.Caches.{tail_of, KeepsReads}
+use Rattle.paged.specs.Calls.{GoesOn, Appends, BuffersOver, Syncs, TryAppends}
 use Rattle.paged.specs.Reads.{size_of}
 use Rattle.paged.specs.Recovers.{Recovers}
 use Rattle.paged.specs.Truncate.{Truncates, KeepsFloorsWithin}
@@ -186,6 +186,37 @@ not_appended sum own w bytes after old new BlobInsufficientLength refused = refu
 not_appended sum own w bytes after old new OutOfMemory refused = refused.cause
 not_appended sum own w bytes after old new IdsExhausted refused = refused.cause
 
+-- a frame that the buffer refused, before anything was asked
+not_buffered : (sum own : List ℕ → ℕ) (w now : WriterState) (bytes : List ℕ) (after : CacheState) (life : Life) (e : Error) → TryAppends w (frame own bytes) now (Err e) → AppendsRecord sum own w bytes after life life (Err e)
+not_buffered sum own w now bytes after life OffsetOverflow (passes, same) =
+    (refl, subst (λ (n : ℕ). 2 ^ 64 ≤ physical_blob_size w.page_size w.full_pages (length w.tip + n)) (length-frame own bytes) passes)
+not_buffered sum own w now bytes after life OutOfMemory tries = tt
+not_buffered sum own w now bytes after life ReadFailed tries = absurd tries
+not_buffered sum own w now bytes after life WriteFailed tries = absurd tries
+not_buffered sum own w now bytes after life ResizeFailed tries = absurd tries
+not_buffered sum own w now bytes after life SyncFailed tries = absurd tries
+not_buffered sum own w now bytes after life InvalidChecksum tries = absurd tries
+not_buffered sum own w now bytes after life BlobInsufficientLength tries = absurd tries
+not_buffered sum own w now bytes after life IdsExhausted tries = absurd tries
+
+pub buffer_refused : (sum own : List ℕ → ℕ) (w now : WriterState) (bytes : List ℕ) (after : CacheState) (life : Life) (e : Error) (result : Result (WriterState × ℕ) Error) → IsErrAnd result (λ x. x ≡ e)
+    → TryAppends w (frame own bytes) now (Err e) → AppendsRecord sum own w bytes after life life result
+buffer_refused sum own w now bytes after life e (Ok r) is tries = absurd is
+buffer_refused sum own w now bytes after life e (Err x) is tries =
+    subst (λ (y : Error). AppendsRecord sum own w bytes after life life (Err y)) (sym is) (not_buffered sum own w now bytes after life e tries)
+
+-- one that it took
+pub buffered : (sum own : List ℕ → ℕ) (w now : WriterState) (bytes : List ℕ) (cache : CacheState) (life : Life) (at : ℕ) (fits : Option ℕ) → length bytes ≤ 65535 → own bytes < 2 ^ 32 → IsJournal sum w cache life
+    → fits ≡ Some at → BuffersOver sum w (frame own bytes) now (Ok fits) → KeepsReads w now → IsAppended sum own w bytes cache life life now at
+buffered sum own w now bytes cache life at fits short small journal is buffers keeps =
+    let ready = ready_of sum w cache life journal in
+    let over : BuffersOver sum w (frame own bytes) now (Ok (Some at)) = subst (λ (o : Option ℕ). BuffersOver sum w (frame own bytes) now (Ok o)) is buffers in
+    appended sum own w bytes cache life life now at short small (whole_of sum w cache life journal) (keeps cache life.present ready.can) ready.fresh (over life ready.sound)
+
+-- one for which it has no room: nothing has changed
+pub not_fitting : (w now : WriterState) (framed : List ℕ) (fits : Option ℕ) → fits ≡ None → TryAppends w framed now (Ok fits) → now ≡ w
+not_fitting w now framed fits is tries = (subst (λ (o : Option ℕ). TryAppends w framed now (Ok o)) is tries).2
+
 -- the records before an append are the first of those after it, and those after it are all
 pub before_append : (own : List ℕ → ℕ) (before bytes : List ℕ) → IsPrefix (records own before) (records own before ++ bytes ∷ [])
 before_append own before bytes = (bytes ∷ [], refl)
@@ -249,19 +280,6 @@ pub commit_gives : (sum own : List ℕ → ℕ) (w : WriterState) (after : Cache
 commit_gives sum own w after old new (Ok now) is = is.journal
 commit_gives sum own w after old new (Err e) is = tt
 
--- a read within the content is refused only where the device failed, or memory was refused
-pub read_refused : {A : Type 0} (sum : List ℕ → ℕ) (t : Tail) (cache : CacheState) (offset len : ℕ) (bytes : A → List ℕ) (old new : Life) (e : Error) → offset + len ≤ t.full_pages * t.page_size + length t.bytes → offset + len < 2 ^ 64
-    → Reads sum t cache (offset, len) bytes old new (Err e) → (e ≡ InvalidChecksum → ⊥) → ReadRefused old new e
-read_refused sum t cache offset len bytes old new ReadFailed within fits reads never = reads
-read_refused sum t cache offset len bytes old new OutOfMemory within fits reads never = tt
-read_refused sum t cache offset len bytes old new InvalidChecksum within fits reads never = never refl
-read_refused sum t cache offset len bytes old new OffsetOverflow within fits reads never = omega (arith, fits, reads.1)
-read_refused sum t cache offset len bytes old new BlobInsufficientLength within fits reads never = omega (arith, within, reads.2)
-read_refused sum t cache offset len bytes old new WriteFailed within fits reads never = reads
-read_refused sum t cache offset len bytes old new ResizeFailed within fits reads never = reads
-read_refused sum t cache offset len bytes old new SyncFailed within fits reads never = reads
-read_refused sum t cache offset len bytes old new IdsExhausted within fits reads never = reads
-
 -- what failed in a later part of a log failed in all of it
 some_after : (e : Error) (xs ys : List Entry) → SomeFailed e ys → SomeFailed e (xs ++ ys)
 some_after e [] ys some = some
@@ -283,16 +301,19 @@ refused_later old mid new ResizeFailed looked refused = refused
 refused_later old mid new SyncFailed looked refused = refused
 refused_later old mid new IdsExhausted looked refused = refused
 
--- a frame is read in two reads: how long it is, and all of it
-pub frame_read : (held again : List ℕ) (offset rest len : ℕ) (head : List ℕ) (old mid new : Life) (result : Result (List ℕ) Error) → Looked old mid → again ≡ held
-    → length (drop offset held) ≡ rest → ReadsBytes held offset (min rest 2) old mid (Ok head) → len ≡ min rest (record_len head + 7) → ReadsBytes again offset len mid new result
-    → ReadsFrame held offset rest old new result
-frame_read held again offset rest len head old mid new (Ok bytes) looked same long first is second =
+-- its first bytes say how long a frame is
+pub frame_measured : (held : List ℕ) (offset rest len : ℕ) (head : List ℕ) → length (drop offset held) ≡ rest → head ≡ take (min rest 2) (drop offset held) → len ≡ min rest (record_len head + 7)
+    → len ≡ min (frame_len (drop offset held)) rest
+frame_measured held offset rest len head long first is =
     let after = drop offset held in
     let said : record_len head ≡ record_len after = ap record_len first ∙ record_len-front (min rest 2) after (omega (arith, long)) in
-    let n : len ≡ min (frame_len after) rest = omega arith in
-    second ∙ ap₂ (λ k (l : List ℕ). take k (drop offset l)) n same
-frame_read held again offset rest len head old mid new (Err e) looked same long first is second = refused_later old mid new e looked second
+    omega arith
+
+-- a frame is read in two reads: how long it is, and all of it
+pub frame_read : (held again : List ℕ) (offset rest len : ℕ) (old mid new : Life) (result : Result (List ℕ) Error) → Looked old mid → again ≡ held
+    → len ≡ min (frame_len (drop offset held)) rest → ReadsBytes again offset len mid new result → ReadsFrame held offset rest old new result
+frame_read held again offset rest len old mid new (Ok bytes) looked same is second = second ∙ ap₂ (λ k (l : List ℕ). take k (drop offset l)) is same
+frame_read held again offset rest len old mid new (Err e) looked same is second = refused_later old mid new e looked second
 
 -- the frame at an offset
 pub found : (own : List ℕ → ℕ) (content : List ℕ) (offset rest : ℕ) (framed : List ℕ) (bytes : Option (List ℕ)) (end : ℕ) → offset + rest ≡ length content → 0 < rest

@@ -1,11 +1,12 @@
 -- What the calls of a replay give a journal that is opened.
-use Rattle.std.proofs.Common.{◌≡◌, ℕ, ◌+◌, ◌*◌, ◌≤◌, List, length, take, drop, refl, sym, ap, ap₂, ◌∙◌, subst, arith, min, Ok, Err, Result, true, false, Bool, not, ◌&&◌, ◌||◌, ◌==◌, ◌%◌, eq-eqb}
+use Rattle.std.proofs.Common.{◌≡◌, ℕ, ◌+◌, ◌*◌, ◌≤◌, ◌++◌, List, length, take, drop, refl, sym, ap, ap₂, ◌∙◌, subst, arith, min, Ok, Err, Result, true, false, Bool, not, ◌&&◌, ◌||◌, ◌==◌, ◌%◌, eq-eqb}
 use Rattle.std.specs.Prelude.{Option, Vec}
 use Rattle.std.specs.Result.{IsErrAnd}
 use Rattle.std.specs.declared.alloc.Global.{Global}
 use Rattle.std.proofs.lemmas.List.{drop-take, drop-drop}
 use Rattle.std.proofs.lemmas.Bool.{lt-leb}
 use Rattle.std.proofs.Math.Nat.{mod-eq_of_lt}
+use Rattle.std.proofs.Math.Seq.{take-add}
 use Rattle.disk.specs.Disk.{Disk, Life}
 use Rattle.disk.specs.declared.error.Error.{Error}
 use Rattle.disk.specs.declared.error.Error.TheVariants.{ReadFailed, WriteFailed, ResizeFailed, SyncFailed, InvalidChecksum, BlobInsufficientLength, OffsetOverflow, OutOfMemory, IdsExhausted}
@@ -146,7 +147,7 @@ offset_taken r now count is enough =
 -- the frame at an offset, by its length and what stands after that
 pub record After (own : List ℕ → ℕ) (content : List ℕ) (offset len : ℕ) (rest : List ℕ) (frame : List ℕ) : Type 0 where
   pub says : record_len frame ≡ len
-  pub is : drop 2 frame ≡ drop 0 rest
+  pub is : drop 2 frame ≡ rest
   pub held : record_of own frame ≡ record_of own (drop offset content)
   pub long : frame_len (drop offset content) ≡ len + 7
 
@@ -165,6 +166,11 @@ after own content offset len rest says is =
       held = record_of-take own (len + 7) from (omega (arith, long));
       long = long;
     }
+
+-- a record's bytes, and those after them
+pub parted : (content : List ℕ) (offset n : ℕ) (bytes more : List ℕ) → bytes ≡ take n (drop offset content) → more ≡ take 5 (drop (offset + n) content) → bytes ++ more ≡ take (n + 5) (drop offset content)
+parted content offset n bytes more first second =
+    ap₂ (λ (a b : List ℕ). a ++ b) first second ∙ ap (λ (l : List ℕ). take n (drop offset content) ++ take 5 l) (sym (drop-drop n offset content)) ∙ sym (take-add n 5 (drop offset content))
 
 -- the next frame wasn't read
 pub frame_refused : (sum own : List ℕ → ℕ) (now : ReplayState) (content : List ℕ) (offset : ℕ) (old new : Life) (e : Error) (result : Result (Option Found) Error) → IsErrAnd result (λ x. x ≡ e) → ReadRefused old new e

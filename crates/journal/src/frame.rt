@@ -1,11 +1,13 @@
 // Frames: records as bytes, and back.
-ghost use Rattle.std.specs.Prelude.{◌≡◌, true, slice_index, ◌+◌, ◌<◌, ◌≤◌, ◌^◌, ℕ, List, length};
+ghost use Rattle.std.specs.Prelude.{◌≡◌, slice_index, ◌+◌, ◌++◌, ◌<◌, ◌≤◌, ◌^◌, ℕ, List, length};
 ghost use Rattle.std.specs.Prelude.{drop, IfOk, IsOkUnless};
 ghost use Rattle.journal.specs.Frame.{frame, record_len, is_record, record_of};
 
+use bytes::BufMut;
 use disk::{Error, IoBuf};
-use page::Sum;
-use std::alloc::Global;
+use page::{EncodeSize, Sum, Write};
+use std::alloc::{AllocError, Global};
+use std::marker::PhantomData;
 
 /// The most bytes that a record may have.
 pub const MOST_BYTES: usize = 65_535;
@@ -25,18 +27,53 @@ pub struct Found {
     pub end: u64,
 }
 
+/// The frame of a record, whose bytes it borrows, for a buffer in which it is written at once.
+#[derive(Drop)]
+pub struct Framed<'a, R> {
+    bytes: &'a [u8],
+    of: PhantomData<R>,
+    ghost short: { length bytes.now ≤ 65535 },
+}
+
+impl<'a, R> Framed<'a, R> {
+    /// That of a record of these bytes.
+    pub fn new(bytes: &'a [u8]) -> Self
+        requires { length bytes.now ≤ 65535 }
+        ensures { result.bytes.now ≡ bytes.now }
+    {
+        Framed {
+            bytes,
+            of: PhantomData,
+        }
+    }
+}
+
+impl<R: Sum> EncodeSize for Framed<'_, R> {
+    ghost encoded = { λ framed. frame R.sum_of framed.bytes.now };
+
+    fn encode_size(&self) -> usize {
+        IN_FRONT + self.bytes.len() + AFTER
+    }
+}
+
+impl<R: Sum> Write for Framed<'_, R> {
+    #[tactic(auto, unfolding(crate::specs::Frame::frame))]
+    fn write<O: BufMut>(&self, out: &mut O) -> Result<(), AllocError> {
+        out.put_slice(&(self.bytes.len() as u16).to_be_bytes())?;
+        out.put_slice(self.bytes)?;
+        out.put_slice(&R::sum(self.bytes).to_be_bytes())?;
+        out.put_u8(1)
+    }
+}
+
 /// The frame of a record of these bytes. It answers `OutOfMemory` alone.
-#[tactic(auto, unfolding(crate::specs::Frame::frame))]
 pub fn frame_of<R: Sum>(alloc: Global, bytes: &[u8]) -> Result<Vec<u8>, Error>
     requires { length bytes.now ≤ 65535 }
     ensures framed { IfOk result (λ framed. framed.items ≡ frame R.sum_of bytes.now) }
     ensures err { IsOkUnless result Error.OutOfMemory }
 {
     let mut framed = Vec::with_capacity(alloc, IN_FRONT + bytes.len() + AFTER)?;
-    framed.extend_from_slice(&(bytes.len() as u16).to_be_bytes())?;
-    framed.extend_from_slice(bytes)?;
-    framed.extend_from_slice(&R::sum(bytes).to_be_bytes())?;
-    framed.push(1)?;
+    Framed::<R>::new(bytes).write(&mut framed)?;
     Ok(framed)
 }
 
@@ -61,54 +98,47 @@ pub fn record_len_of(bytes: &[u8]) -> usize
     usize::from(u16::from_be_bytes([byte_at(bytes, 0), byte_at(bytes, 1)]))
 }
 
-// Whether a frame is a record. So many bytes are to be its record's, and these stand after its
-// length.
-fn is_record_of<R: Sum>(len: usize, bytes: &[u8]) -> bool
-    requires { len < 2 ^ 16 }
-    ensures is { (frame : List ℕ) → record_len frame ≡ len → drop 2 frame ≡ bytes.now
-        → result ≡ is_record R.sum_of frame }
-    ensures whole { result ≡ true → len + 5 ≤ length bytes.now }
+// Whether a frame is a record, by the bytes that are to be its record's, and by the five that stand
+// after them.
+fn is_record_of<R: Sum>(bytes: &[u8], after: &[u8]) -> bool
+    requires { length after.now ≡ 5 }
+    ensures { (frame : List ℕ) → record_len frame ≡ length bytes.now
+        → drop 2 frame ≡ bytes.now ++ after.now → result ≡ is_record R.sum_of frame }
 {
-    if byte_at(bytes, len + 4) != 1 {
+    if after[4] != 1 {
         return false;
     }
-    let sum = u32::from_be_bytes([
-        byte_at(bytes, len),
-        byte_at(bytes, len + 1),
-        byte_at(bytes, len + 2),
-        byte_at(bytes, len + 3),
-    ]);
-    sum == R::sum(&bytes[..len])
+    let sum = u32::from_be_bytes([after[0], after[1], after[2], after[3]]);
+    sum == R::sum(bytes)
 }
 
-/// The record of a frame, if it is one. So many bytes are to be the record's, and what stands
-/// after the frame's length begins at an offset of these. It answers `OutOfMemory` alone.
-pub fn record_after<R: Sum>(
-    len: usize,
-    bytes: &IoBuf,
-    offset: usize,
-) -> Result<Option<IoBuf>, Error>
-    requires small { len < 2 ^ 16 }
-    requires within { offset ≤ length bytes.now }
-    ensures found { (frame : List ℕ) → record_len frame ≡ len
-        → drop 2 frame ≡ drop offset bytes.now
-        → IfOk result (λ found. found ≡ record_of R.sum_of frame) }
-    ensures err { IsOkUnless result Error.OutOfMemory }
+/// The record with these bytes, if the five that stand after them in their frame say that it is
+/// one.
+pub fn record_before<R: Sum>(bytes: IoBuf, after: &[u8]) -> Option<IoBuf>
+    requires { length after.now ≡ 5 }
+    ensures { (frame : List ℕ) → record_len frame ≡ length bytes
+        → drop 2 frame ≡ bytes ++ after.now → result ≡ record_of R.sum_of frame }
 {
-    if !is_record_of::<R>(len, &bytes.as_ref()[offset..]) {
-        return Ok(None);
+    if is_record_of::<R>(bytes.as_ref(), after) {
+        Some(bytes)
+    } else {
+        None
     }
-    Ok(Some(bytes.slice(offset, offset + len)?))
 }
 
 /// The record of the frame at the front of some bytes, if it is one. It answers `OutOfMemory`
 /// alone.
-pub fn record_at<R: Sum>(bytes: &IoBuf) -> Result<Option<IoBuf>, Error>
-    ensures found { IfOk result (λ found. found ≡ record_of R.sum_of bytes.now) }
+pub fn record_at<R: Sum>(framed: &IoBuf) -> Result<Option<IoBuf>, Error>
+    ensures found { IfOk result (λ found. found ≡ record_of R.sum_of framed.now) }
     ensures err { IsOkUnless result Error.OutOfMemory }
 {
-    if bytes.len() < IN_FRONT {
+    let bytes = framed.as_ref();
+    let end = IN_FRONT + record_len_of(bytes);
+    if bytes.len() < end + AFTER {
         return Ok(None);
     }
-    record_after::<R>(record_len_of(bytes.as_ref()), bytes, IN_FRONT)
+    if !is_record_of::<R>(&bytes[IN_FRONT..end], &bytes[end..end + AFTER]) {
+        return Ok(None);
+    }
+    Ok(Some(framed.slice(IN_FRONT, end)?))
 }

@@ -6,26 +6,27 @@ ghost use Rattle.crash.specs.Looks.{Looked};
 ghost use Rattle.writer_state.specs.Sound.{IsSound, content};
 ghost use Rattle.crash.specs.Stays.{KeepsAll, KeepsAllFloors, LeavesOnly};
 ghost use Rattle.page.specs.Page.{text};
-ghost use Rattle.paged.specs.Calls.{Appends, IsSettled, Syncs};
+ghost use Rattle.paged.specs.Calls.{Appends, BuffersOver, IsSettled, Syncs, TryAppends};
 ghost use Rattle.paged.specs.Reads.{size_of};
 ghost use Rattle.paged.specs.Truncate.{KeepsFloorsWithin};
-ghost use Rattle.journal.specs.Frame.{whole_frames};
-ghost use Rattle.paged.specs.Caches.{tail_of};
+ghost use Rattle.journal.specs.Frame.{frame, whole_frames};
+ghost use Rattle.paged.specs.Caches.{tail_of, KeepsReads};
 ghost use Rattle.paged.specs.Snapshots.{MakesSnapshot};
 ghost use Rattle.paged_read.specs.Snapshots.{LeavesOthers, LeavesTails, StandsOn};
 ghost use Rattle.paged_read.specs.Tail.{CanRead};
 ghost use Rattle.journal.specs.Journal.{IsJournal, IsNewId, OthersStay, AllStay};
 ghost use Rattle.journal.specs.Journal.{AppendsRecord, CommitGoes, ReadsBytes};
-ghost use Rattle.journal.specs.Journal.{ReadsFrame, ReadsRecord, ReadsAll, Trims};
+ghost use Rattle.journal.specs.Journal.{MeasuresFrame, ReadsFrame, ReadsRecord, ReadsAll, Trims};
 ghost use Rattle.journal.specs.Journal.{RecoversJournal, IsReady, OnlyReads, KeepsCommitted};
 ghost use Rattle.journal.specs.Journal.{LeavesItsRecords, LeavesOneMore, KeepsAllRecords};
 ghost use Rattle.journal.specs.Journal.{LeavesAllRecords, BringsBack};
 ghost use Rattle.journal.specs.Reader.{EachReaderStays, IsNewToReaders, IsReader, MakesReader};
 ghost use Rattle.journal.specs.Reader.{OtherReadersStay, ReadersStay};
 
-use crate::frame::{Found, frame_of, record_at, record_len_of};
+use crate::frame::{Found, Framed, IN_FRONT, frame_of, record_at, record_len_of};
 use crate::reader::Reader;
 use crate::replay::records_of;
+use bytes::Bytes;
 use cache::CacheRef;
 use disk::{Blob, Error, IoBuf, ReadOptions};
 use page::Sum;
@@ -58,6 +59,7 @@ impl<B, H, R> Model for Journal<B, H, R> {
 
 // Reads bytes of a writer's content, in one buffer.
 fn read_bytes<B: Blob, H: Sum, Phase>(
+    alloc: Global,
     writer: &Writer<B, H, Phase>,
     blob: &mut B,
     cache: &mut CacheRef,
@@ -72,10 +74,58 @@ fn read_bytes<B: Blob, H: Sum, Phase>(
     ensures leaves { let old = B.life blob.old in let new = B.life blob.new in
         OnlyReads H.sum_of writer.now cache.old cache.new old new }
 {
-    match writer.read_at(blob, cache, offset, len) {
-        Ok(bufs) => bufs.coalesce(),
+    let mut bytes = Vec::new(alloc);
+    bytes.resize(len, 0)?;
+    match writer.read_into(blob, cache, &mut bytes, offset) {
+        Ok(()) => Ok(IoBuf::from(Bytes::from_vec(bytes)?)),
         Err(error) => Err(error),
     }
+}
+
+// How many bytes the frame that begins at an offset has of those that stand there: what it says of
+// itself is read without memory.
+fn frame_len_at<B: Blob, H: Sum, Phase>(
+    writer: &Writer<B, H, Phase>,
+    blob: &mut B,
+    cache: &mut CacheRef,
+    offset: u64,
+    rest: u64,
+) -> Result<u64, Error>
+    requires ready { IsReady H.sum_of writer.now cache.old (B.life blob.old) }
+    requires within { offset + rest ≡ size_of writer.now }
+    requires fits { offset + rest < 2 ^ 64 }
+    ensures measures { let old = B.life blob.old in let new = B.life blob.new in
+        MeasuresFrame (content writer.now old.present.readable) offset rest old new result }
+    ensures leaves { let old = B.life blob.old in let new = B.life blob.new in
+        OnlyReads H.sum_of writer.now cache.old cache.new old new }
+{
+    let mut head = [0; IN_FRONT];
+    let front = &mut head[..rest.min(2) as usize];
+    match writer.read_into(blob, cache, front, offset) {
+        Ok(()) => Ok(rest.min(record_len_of(front) as u64 + 7)),
+        Err(error) => Err(error),
+    }
+}
+
+// The bytes of the frame that begins at an offset, after which so many stand in the content.
+fn read_frame<B: Blob, H: Sum, Phase>(
+    alloc: Global,
+    writer: &Writer<B, H, Phase>,
+    blob: &mut B,
+    cache: &mut CacheRef,
+    offset: u64,
+    rest: u64,
+) -> Result<IoBuf, Error>
+    requires ready { IsReady H.sum_of writer.now cache.old (B.life blob.old) }
+    requires within { offset + rest ≡ size_of writer.now }
+    requires fits { offset + rest < 2 ^ 64 }
+    ensures reads { let old = B.life blob.old in let new = B.life blob.new in
+        ReadsFrame (content writer.now old.present.readable) offset rest old new result }
+    ensures leaves { let old = B.life blob.old in let new = B.life blob.new in
+        OnlyReads H.sum_of writer.now cache.old cache.new old new }
+{
+    let len = frame_len_at(writer, blob, cache, offset, rest)?;
+    read_bytes(alloc, writer, blob, cache, offset, len as usize)
 }
 
 // Goes through the frames of a recovered content by a replay, which reads ahead, and answers their
@@ -182,8 +232,24 @@ impl<B: Blob, H: Sum, R: Sum> Journal<B, H, R> {
         ensures only { let old = B.life blob.old in let new = B.life blob.new in
             LeavesOneMore H.sum_of R.sum_of self bytes.now old new }
     {
-        let framed = frame_of::<R>(self.alloc, bytes)?;
-        self.append(blob, cache, &framed)
+        let mut journal = self;
+        if let Some(offset) = journal.try_append(bytes)? {
+            return Ok((journal, offset));
+        }
+        let framed = frame_of::<R>(journal.alloc, bytes)?;
+        journal.append(blob, cache, &framed)
+    }
+
+    // Writes a record's frame to the buffer, where it fits, and answers its offset. It takes no
+    // memory but the buffer's, and asks no device.
+    fn try_append(&mut self, bytes: &[u8]) -> Result<Option<u64>, Error>
+        requires short { length bytes.now ≤ 65535 }
+        ensures tries { TryAppends self.old (frame R.sum_of bytes.now) self.new result }
+        ensures appends { let framed = frame R.sum_of bytes.now in
+            BuffersOver H.sum_of self.old framed self.new result }
+        ensures can_read { KeepsReads self.old self.new }
+    {
+        self.writer.try_append_value(&Framed::<R>::new(bytes))
     }
 
     // Appends bytes to the content.
@@ -285,7 +351,8 @@ impl<B: Blob, H: Sum, R: Sum> Journal<B, H, R> {
         ensures only { LeavesItsRecords H.sum_of R.sum_of self (B.life blob.old) (B.life blob.new) }
     {
         let (journal, snapshot) = self.snapshot(blob, cache)?;
-        Ok((journal, Reader::new(snapshot)))
+        let alloc = journal.alloc;
+        Ok((journal, Reader::new(alloc, snapshot)))
     }
 
     // A snapshot of the content.
@@ -310,25 +377,6 @@ impl<B: Blob, H: Sum, R: Sum> Journal<B, H, R> {
             Ok((writer, snapshot)) => Ok((Journal::new(alloc, writer), snapshot)),
             Err(error) => Err(error),
         }
-    }
-
-    // Reads bytes of the content, in one buffer.
-    fn read(
-        &self,
-        blob: &mut B,
-        cache: &mut CacheRef,
-        offset: u64,
-        len: usize,
-    ) -> Result<IoBuf, Error>
-        requires ready { IsReady H.sum_of self.now cache.old (B.life blob.old) }
-        requires within { offset + len ≤ size_of self.now }
-        requires fits { offset + len < 2 ^ 64 }
-        ensures reads { let old = B.life blob.old in let new = B.life blob.new in
-            ReadsBytes (content self.now old.present.readable) offset len old new result }
-        ensures leaves { let old = B.life blob.old in let new = B.life blob.new in
-            OnlyReads H.sum_of self.now cache.old cache.new old new }
-    {
-        read_bytes(&self.writer, blob, cache, offset, len)
     }
 
     /// Recovers the journal of a blob of `size` physical bytes, whatever they are, and answers its
@@ -395,9 +443,7 @@ impl<B: Blob, H: Sum, R: Sum> Journal<B, H, R> {
         ensures leaves { let old = B.life blob.old in let new = B.life blob.new in
             OnlyReads H.sum_of self.now cache.old cache.new old new }
     {
-        let head = self.read(blob, cache, offset, rest.min(2) as usize)?;
-        let len = rest.min(record_len_of(head.as_ref()) as u64 + 7);
-        self.read(blob, cache, offset, len as usize)
+        read_frame(self.alloc, &self.writer, blob, cache, offset, rest)
     }
 
     // The frame that begins at an offset, or none.

@@ -3,16 +3,18 @@ ghost use Rattle.std.specs.Prelude.{◌≡◌, ◌+◌, ◌^◌, ◌<◌, ◌≤
 ghost use Rattle.cache.specs.Pages.{IsFresh};
 ghost use Rattle.crash.specs.Looks.{Looked};
 ghost use Rattle.paged_read.specs.Tail.{size_of, told};
-ghost use Rattle.journal.specs.Journal.{KeepsCommitted, OthersStay, ReadsBytes, ReadsFrame};
-ghost use Rattle.journal.specs.Journal.{ReadsRecord};
+ghost use Rattle.journal.specs.Journal.{KeepsCommitted, OthersStay, MeasuresFrame, ReadsBytes};
+ghost use Rattle.journal.specs.Journal.{ReadsFrame, ReadsRecord};
 ghost use Rattle.journal.specs.Reader.{AllReadersStay, FindsNext, IsOpen, IsReader, JournalsStay};
 ghost use Rattle.journal.specs.Reader.{LeavesTheirRecords, OnlyLooks, OtherReadersStay, ReadsNext};
 
-use crate::frame::{Found, record_at, record_len_of};
+use crate::frame::{Found, IN_FRONT, record_at, record_len_of};
+use bytes::Bytes;
 use cache::CacheRef;
 use disk::{Blob, Error, IoBuf};
 use page::Sum;
 use paged_read::Sealed;
+use std::alloc::Global;
 use std::marker::{Model, PhantomData};
 
 /// A reader of the records that a journal had when the reader was made, by
@@ -25,6 +27,7 @@ use std::marker::{Model, PhantomData};
 /// each call, always those of the journal.
 #[derive(Drop)]
 pub struct Reader<B, H, R> {
+    alloc: Global,
     snapshot: Sealed<B, H>,
     /// Where the next frame begins.
     offset: u64,
@@ -41,6 +44,7 @@ impl<B, H, R> Model for Reader<B, H, R> {
 
 // Reads bytes of a snapshot's content, in one buffer.
 fn read_bytes<B: Blob, H: Sum>(
+    alloc: Global,
     snapshot: &Sealed<B, H>,
     blob: &mut B,
     cache: &mut CacheRef,
@@ -55,14 +59,42 @@ fn read_bytes<B: Blob, H: Sum>(
     ensures leaves { let old = B.life blob.old in let new = B.life blob.new in
         OnlyLooks H.sum_of snapshot.now cache.old cache.new old new }
 {
-    match snapshot.read_at(blob, cache, offset, len) {
-        Ok(bufs) => bufs.coalesce(),
+    let mut bytes = Vec::new(alloc);
+    bytes.resize(len, 0)?;
+    match snapshot.read_into(blob, cache, &mut bytes, offset) {
+        Ok(()) => Ok(IoBuf::from(Bytes::from_vec(bytes)?)),
+        Err(error) => Err(error),
+    }
+}
+
+// How many bytes the frame that begins at an offset has of those that stand there: what it says of
+// itself is read without memory.
+fn frame_len_at<B: Blob, H: Sum>(
+    snapshot: &Sealed<B, H>,
+    blob: &mut B,
+    cache: &mut CacheRef,
+    offset: u64,
+    rest: u64,
+) -> Result<u64, Error>
+    requires opened { IsOpen H.sum_of snapshot.now cache.old (B.life blob.old) }
+    requires within { offset + rest ≡ size_of snapshot.now }
+    requires fits { offset + rest < 2 ^ 64 }
+    ensures measures { let old = B.life blob.old in let new = B.life blob.new in
+        MeasuresFrame (told snapshot.now old.present.readable) offset rest old new result }
+    ensures leaves { let old = B.life blob.old in let new = B.life blob.new in
+        OnlyLooks H.sum_of snapshot.now cache.old cache.new old new }
+{
+    let mut head = [0; IN_FRONT];
+    let front = &mut head[..rest.min(2) as usize];
+    match snapshot.read_into(blob, cache, front, offset) {
+        Ok(()) => Ok(rest.min(record_len_of(front) as u64 + 7)),
         Err(error) => Err(error),
     }
 }
 
 // The bytes of the frame that begins at an offset, after which so many stand in the snapshot.
 fn read_frame<B: Blob, H: Sum>(
+    alloc: Global,
     snapshot: &Sealed<B, H>,
     blob: &mut B,
     cache: &mut CacheRef,
@@ -77,13 +109,13 @@ fn read_frame<B: Blob, H: Sum>(
     ensures leaves { let old = B.life blob.old in let new = B.life blob.new in
         OnlyLooks H.sum_of snapshot.now cache.old cache.new old new }
 {
-    let head = read_bytes(snapshot, blob, cache, offset, rest.min(2) as usize)?;
-    let len = rest.min(record_len_of(head.as_ref()) as u64 + 7);
-    read_bytes(snapshot, blob, cache, offset, len as usize)
+    let len = frame_len_at(snapshot, blob, cache, offset, rest)?;
+    read_bytes(alloc, snapshot, blob, cache, offset, len as usize)
 }
 
 // The frame that begins at an offset, or none at the end.
 fn find<B: Blob, H: Sum, R: Sum>(
+    alloc: Global,
     snapshot: &Sealed<B, H>,
     blob: &mut B,
     cache: &mut CacheRef,
@@ -99,7 +131,7 @@ fn find<B: Blob, H: Sum, R: Sum>(
     if size <= offset {
         return Ok(None);
     }
-    let framed = read_frame(snapshot, blob, cache, offset, size - offset)?;
+    let framed = read_frame(alloc, snapshot, blob, cache, offset, size - offset)?;
     let bytes = record_at::<R>(&framed)?;
     Ok(Some(Found {
         bytes,
@@ -109,6 +141,7 @@ fn find<B: Blob, H: Sum, R: Sum>(
 
 // The first frame from an offset on that is a record; at the end one with no record.
 fn find_record<B: Blob, H: Sum, R: Sum>(
+    alloc: Global,
     snapshot: &Sealed<B, H>,
     blob: &mut B,
     cache: &mut CacheRef,
@@ -122,7 +155,7 @@ fn find_record<B: Blob, H: Sum, R: Sum>(
 {
     let mut offset = from;
     'frames: loop {
-        let Some(found) = find::<B, H, R>(snapshot, blob, cache, offset)? else {
+        let Some(found) = find::<B, H, R>(alloc, snapshot, blob, cache, offset)? else {
             return Ok(Found {
                 bytes: None,
                 end: offset,
@@ -137,10 +170,11 @@ fn find_record<B: Blob, H: Sum, R: Sum>(
 
 impl<B, H, R> Reader<B, H, R> {
     /// A reader that begins at the first record of a snapshot.
-    pub(crate) fn new(snapshot: Sealed<B, H>) -> Self
+    pub(crate) fn new(alloc: Global, snapshot: Sealed<B, H>) -> Self
         ensures { result ≡ record { tail = snapshot; offset = 0 } }
     {
         Reader {
+            alloc,
             snapshot,
             offset: 0,
             of: PhantomData,
@@ -176,7 +210,7 @@ impl<B: Blob, H: Sum, R: Sum> Reader<B, H, R> {
         ensures only { let old = B.life blob.old in let new = B.life blob.new in
             LeavesTheirRecords H.sum_of R.sum_of cache.old old new }
     {
-        let found = find_record::<B, H, R>(&self.snapshot, blob, cache, self.offset)?;
+        let found = find_record::<B, H, R>(self.alloc, &self.snapshot, blob, cache, self.offset)?;
         self.offset = found.end;
         Ok(found.bytes)
     }

@@ -1,15 +1,29 @@
 // What a replay of a journal's blob gives: frames, one after another.
-ghost use Rattle.std.specs.Prelude.{◌≡◌, ◌<◌, ◌≤◌, ◌^◌, ◌++◌, ℕ, List, OnOk, IsOkUnless};
-ghost use Rattle.paged_read.specs.Replay.{CanReplay};
+ghost use Rattle.std.specs.Prelude.{◌≡◌, ◌<◌, ◌≤◌, ◌^◌, ◌++◌, ℕ, List, length, OnOk, IsOkUnless};
+ghost use Rattle.paged_read.specs.Replay.{advanced, CanReplay, Gives, ReplaysOn};
 ghost use Rattle.paged_read.specs.Tail.{size_of, told};
 ghost use Rattle.journal.specs.Frame.{listed};
 ghost use Rattle.journal.specs.Replay.{LeavesReady, Plays, PlaysAll, PlaysFrame};
 
-use crate::frame::{AFTER, Found, IN_FRONT, record_after, record_len_of};
+use crate::frame::{AFTER, Found, IN_FRONT, record_before, record_len_of};
 use disk::{Blob, Error, IoBuf};
 use page::Sum;
 use paged_read::Replay;
 use std::alloc::Global;
+
+// Takes as many of the bytes at hand as the slice has room for, which are there, without memory.
+fn take_into<B: Blob, H: Sum>(replay: &mut Replay<B, H>, out: &mut [u8])
+    requires { length out.old ≤ length replay.old.hand }
+    ensures taken { replay.new ≡ advanced (length out.old) replay.old }
+    ensures len { length out.new ≡ length out.old }
+    ensures gives { Gives replay.old out.new }
+    ensures replays { ReplaysOn replay.old replay.new }
+{
+    match replay.try_copy_to_slice(out) {
+        Ok(()) => (),
+        Err(_) => unreachable!(),
+    }
+}
 
 // The frame that begins at an offset, where the replay stands; it goes after it. None where there
 // is no whole one: so a length that passes what is left asks for no memory.
@@ -29,14 +43,17 @@ fn next_frame<B: Blob, H: Sum, R: Sum>(
     if !replay.ensure(blob, IN_FRONT)? {
         return Ok(None);
     }
-    let len = record_len_of(replay.copy_to_bytes(IN_FRONT)?.as_ref());
+    let mut head = [0; IN_FRONT];
+    take_into(replay, &mut head);
+    let len = record_len_of(&head);
     if !replay.ensure(blob, len + AFTER)? {
         return Ok(None);
     }
-    let rest = replay.copy_to_bytes(len + AFTER)?;
-    let bytes = record_after::<R>(len, &rest, 0)?;
+    let bytes = replay.copy_to_bytes(len)?;
+    let mut after = [0; AFTER];
+    take_into(replay, &mut after);
     Ok(Some(Found {
-        bytes,
+        bytes: record_before::<R>(bytes, &after),
         end: offset + (IN_FRONT + len + AFTER) as u64,
     }))
 }

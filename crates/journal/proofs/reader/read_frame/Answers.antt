@@ -1,6 +1,4 @@
-use Rattle.std.proofs.Common.{◌≡◌, ◌+◌, ◌∙◌, ap, length, take, drop, length-drop, arith, min}
 use Rattle.paged_read.specs.Tail.{told}
-use Rattle.journal.specs.Frame.{record_len}
 use Rattle.journal.proofs.Journals.{frame_read}
 use Rattle.journal.proofs.Readers.{looks_join}
 use Rattle.journal.proofs.reader.read_frame.Goals as goal
@@ -9,17 +7,12 @@ pub returns-clause-reads : goal.returns-clause-reads
 returns-clause-reads g c =
     let t = c.args.snapshot.now in
     let old = g.B.Blob.life c.args.blob.now in
-    let held = told t old.present.readable in
-    let long : length (drop c.args.offset held) ≡ c.args.rest =
-    omega (arith, c.requires.within, c.requires.opened.size, length-drop c.args.offset held) in
-    let head = c.in_ok-head.ensures.reads in
-    let said : c.min-len.result ≡ min c.args.rest (record_len c.in_ok-head.head + 7) =
-    c.min-len.ensures ∙ ap (λ n. min c.args.rest (n + 7)) (c.record_len_of.ensures.len ∙ ap record_len c.as_ref.ensures) in
-    let left = c.read_bytes.ensures.leaves in
-    frame_read held (told t (g.B.Blob.life c.read_bytes.new.blob).present.readable) c.args.offset c.args.rest c.min-len.result c.in_ok-head.head old (g.B.Blob.life c.read_bytes.new.blob) (g.B.Blob.life c.read_bytes-2.new.blob) c.read_bytes-2.result
-    left.looked left.holds long (head ∙ ap (λ n. take n (drop c.args.offset held)) c.min.ensures) said c.read_bytes-2.ensures.reads
+    let mid = g.B.Blob.life c.frame_len_at.new.blob in
+    let left = c.frame_len_at.ensures.leaves in
+    frame_read (told t old.present.readable) (told t mid.present.readable) c.args.offset c.args.rest c.in_ok-len.len old mid (g.B.Blob.life c.read_bytes.new.blob) c.read_bytes.result
+    left.looked left.holds c.in_ok-len.ensures.measures c.read_bytes.ensures.reads
 
 pub returns-clause-leaves : goal.returns-clause-leaves
 returns-clause-leaves g c =
-    looks_join g.H.Sum.sum_of c.args.snapshot.now c.args.cache.now c.read_bytes.new.cache c.read_bytes-2.new.cache (g.B.Blob.life c.args.blob.now) (g.B.Blob.life c.read_bytes.new.blob) (g.B.Blob.life c.read_bytes-2.new.blob)
-    c.read_bytes.ensures.leaves c.read_bytes-2.ensures.leaves
+    looks_join g.H.Sum.sum_of c.args.snapshot.now c.args.cache.now c.frame_len_at.new.cache c.read_bytes.new.cache (g.B.Blob.life c.args.blob.now) (g.B.Blob.life c.frame_len_at.new.blob) (g.B.Blob.life c.read_bytes.new.blob)
+    c.frame_len_at.ensures.leaves c.read_bytes.ensures.leaves

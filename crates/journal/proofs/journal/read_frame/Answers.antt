@@ -1,0 +1,17 @@
+use Rattle.writer_state.specs.Sound.{content}
+use Rattle.journal.proofs.Journals.{frame_read, reads_join}
+use Rattle.journal.proofs.journal.read_frame.Goals as goal
+
+pub returns-clause-reads : goal.returns-clause-reads
+returns-clause-reads g c =
+    let w = c.args.writer.now in
+    let old = g.B.Blob.life c.args.blob.now in
+    let mid = g.B.Blob.life c.frame_len_at.new.blob in
+    let left = c.frame_len_at.ensures.leaves in
+    frame_read (content w old.present.readable) (content w mid.present.readable) c.args.offset c.args.rest c.in_ok-len.len old mid (g.B.Blob.life c.read_bytes.new.blob) c.read_bytes.result
+    left.looked left.holds c.in_ok-len.ensures.measures c.read_bytes.ensures.reads
+
+pub returns-clause-leaves : goal.returns-clause-leaves
+returns-clause-leaves g c =
+    reads_join g.H.Sum.sum_of c.args.writer.now c.args.cache.now c.frame_len_at.new.cache c.read_bytes.new.cache (g.B.Blob.life c.args.blob.now) (g.B.Blob.life c.frame_len_at.new.blob) (g.B.Blob.life c.read_bytes.new.blob)
+    c.frame_len_at.ensures.leaves c.read_bytes.ensures.leaves
