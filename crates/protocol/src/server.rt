@@ -9,7 +9,7 @@ ghost use Rattle.protocol.specs.Serve.{Greets, IsNotBegun, MayRecover, ReadsNext
 ghost use Rattle.protocol.specs.Serve.{Recovers, Serves, ServesFile, TakesRequest, changes};
 
 use crate::answer::{write_answer, write_refusal};
-use crate::input::read_some;
+use crate::input::read_front;
 use crate::request::{Request, read_request};
 use crate::stop::Stop;
 use crate::{Cause, Setting};
@@ -47,7 +47,7 @@ pub fn serve_file<B: Blob + Cause, H: Sum, R: Read, W: Write + Drop>(
         ServesFile H.sum_of setting.now old new input_old input_new out_old out_new result }
 {
     let (mut session, mut cache) = greet::<B, H, W>(alloc, blob, setting, out)?;
-    if !read_version(alloc, input, out)? {
+    if !read_version(input, out)? {
         return Ok(());
     }
     serve(alloc, &mut session, blob, &mut cache, setting, input, out)
@@ -129,19 +129,16 @@ fn look_first<B: Blob, H: Sum>(alloc: Global, blob: &mut B, setting: &Setting) -
 
 // Reads the version with which a client begins; false where its input has no byte. What was written
 // is out.
-fn read_version<R: Read, W: Write + Drop>(
-    alloc: Global,
-    input: &mut R,
-    _out: &BufWriter<W>,
-) -> Result<bool, Stop>
+fn read_version<R: Read, W: Write + Drop>(input: &mut R, _out: &BufWriter<W>) -> Result<bool, Stop>
     requires sent { writer_buffer _out.now ≡ [] }
     ensures { ReadsVersion (R.remaining input.old) (R.remaining input.new) result }
 {
-    let first = match read_some(alloc, input, 1) {
-        Ok(first) => first,
+    let mut first = [0; 1];
+    let count = match read_front(input, &mut first) {
+        Ok(count) => count,
         Err(error) => return Err(Stop::at(0, error)),
     };
-    match first.as_slice() {
+    match &first[..count] {
         [] => Ok(false),
         [VERSION] => Ok(true),
         [other, ..] => Err(Stop::Version(*other)),
