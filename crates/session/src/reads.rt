@@ -1,6 +1,6 @@
 // Steps that read.
-ghost use Rattle.std.specs.Prelude.{◌≡◌, ◌≤◌, ◌+◌, IfSome, IfOk, IfErr, IsOkUnless, length, IsTrue, ◌↔◌};
-ghost use Rattle.std.specs.Prelude.{is_some, sum_by};
+ghost use Rattle.std.specs.Prelude.{◌≡◌, ◌≤◌, ◌+◌, IfSome, IfOk, IsOkUnless, length, IsTrue, ◌↔◌};
+ghost use Rattle.std.specs.Prelude.{IfErr, is_some, sum_by};
 ghost use Rattle.std.specs.List.{range_with_len};
 ghost use Rattle.page.specs.Geometry.{AreInOrder};
 ghost use Rattle.cache.specs.Pages.{IsFresh};
