@@ -1,6 +1,7 @@
 -- What was read, from what was read before it and after it.
-use Rattle.std.proofs.Common.{◌≡◌, ◌≢◌, inl, inr, refl, ℕ, ◌+◌, ◌*◌, ◌<◌, ◌≤◌, ◌^◌, List, [], ◌∷◌, ◌++◌, length, sym, ap, ◌∙◌, subst, get_or, append_assoc, append-nil, length-append, arith}
+use Rattle.std.proofs.Common.{◌≡◌, ◌≢◌, inl, inr, refl, ℕ, ◌+◌, ◌*◌, ◌<◌, ◌^◌, List, [], ◌∷◌, ◌++◌, length, take, sym, ap, ◌∙◌, subst, get_or, append_assoc, append-nil, length-append, arith}
 use Rattle.std.specs.Prelude.{Option, Some, None, Result, Ok, Err, IfSome, IsErrAnd}
+use Rattle.std.proofs.lemmas.List.{take_all}
 use Rattle.std.specs.Io.KnownBytes.{Consumes, IsAtEnd}
 use Rattle.std.proofs.KnownBytes.{Consumes-trans}
 use Rattle.protocol.specs.declared.request.Request.{Request}
@@ -27,11 +28,11 @@ came_first None new bytes P takes holds = tt
 came_first (Some xs) None bytes P takes holds = absurd takes
 came_first (Some xs) (Some ys) bytes P takes holds = subst P (sym takes) (holds ys)
 
--- at most one byte, and not none
-pub one_byte : (bytes : List ℕ) (byte : ℕ) → length bytes ≤ 1 → length bytes ≢ 0 → byte ≡ get_or bytes 0 byte → bytes ≡ byte ∷ []
-one_byte [] byte most some is = absurd (omega arith)
-one_byte (b ∷ []) byte most some is = ap (λ (x : ℕ). x ∷ []) (sym is)
-one_byte (b ∷ c ∷ bytes) byte most some is = absurd (omega arith)
+-- the bytes that came to where there was room for one, where they are not none
+pub one_byte : (room : List ℕ) (count d : ℕ) → length room ≡ 1 → count ≢ 0 → take count room ≡ get_or room 0 d ∷ []
+one_byte [] count d one some = absurd (omega (arith, one))
+one_byte (b ∷ []) count d one some = take_all count (b ∷ []) (omega (arith, some))
+one_byte (b ∷ c ∷ room) count d one some = absurd (omega (arith, one))
 
 -- ---- a request after a length
 
@@ -91,7 +92,7 @@ after_wrong n kind count (Some xs) small some other known wrong =
     flawed_after Length n kind xs (no_such_length n kind count xs small other known wrong, (n, kind, xs, count, (small, refl), some, other, known, wrong))
 
 -- where fewer bytes are left than its fields have
-after_few : (len kind : ℕ) (old : Option (List ℕ)) → len + 1 < 2 ^ 32 → TakesLength kind (len + 1) → IfSome old (λ xs. length xs < len) → HasNoRequest Cut (length_bytes (len + 1) ++ kind ∷ []) old
+pub after_few : (len kind : ℕ) (old : Option (List ℕ)) → len + 1 < 2 ^ 32 → TakesLength kind (len + 1) → IfSome old (λ xs. length xs < len) → HasNoRequest Cut (length_bytes (len + 1) ++ kind ∷ []) old
 after_few len kind None small right short = tt
 after_few len kind (Some xs) small right short =
     let few : length xs + 1 < len + 1 = omega (arith, short) in

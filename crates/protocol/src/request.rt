@@ -5,7 +5,7 @@ ghost use Rattle.protocol.specs.Input.{AreBytes};
 ghost use Rattle.protocol.specs.Request.{Builds, HasFields, field_count, length_bytes};
 ghost use Rattle.protocol.specs.Request.{FitsAnswer, number_bytes, ReadsAfter, ReadsFields, ReadsRequest};
 
-use crate::input::read_some;
+use crate::input::{read_front, read_some};
 use crate::stop::{Flaw, ReadError};
 use session::Step;
 use std::alloc::Global;
@@ -14,6 +14,10 @@ use std::num::NonZeroUsize;
 
 /// The most bytes that one answer may hold after its status.
 pub const MOST_BYTES: u64 = 0xFFFF_FFFE;
+
+/// The most bytes that stand after the kind of a request, but for an append: those of three
+/// numbers.
+const MOST_FIELDS: usize = 24;
 
 /// What a client asks for.
 #[derive(Drop)]
@@ -28,11 +32,12 @@ pub enum Request {
 pub fn read_request<R: Read>(alloc: Global, input: &mut R) -> Result<Option<Request>, ReadError>
     ensures reads { ReadsRequest (R.remaining input.old) (R.remaining input.new) result }
 {
-    let head = read_some(alloc, input, 4)?;
-    if head.is_empty() {
+    let mut head = [0; 4];
+    let count = read_front(input, &mut head)?;
+    if count == 0 {
         return Ok(None);
     }
-    if head.len() < 4 {
+    if count < 4 {
         return Err(ReadError::Malformed(Flaw::Cut));
     }
     let length = length_of(&head);
@@ -41,15 +46,11 @@ pub fn read_request<R: Read>(alloc: Global, input: &mut R) -> Result<Option<Requ
 }
 
 // The length that four bytes tell.
-fn length_of(bytes: &[u8]) -> u32
-    requires { length bytes.now ≡ 4 }
+fn length_of(bytes: &[u8; 4]) -> u32
     ensures small { result < 2 ^ 32 }
     ensures told { length_bytes result ≡ bytes.now }
 {
-    match bytes.first_chunk::<4>() {
-        Some(four) => u32::from_le_bytes(*four),
-        None => unreachable!(),
-    }
+    u32::from_le_bytes(*bytes)
 }
 
 // Reads the rest of a request whose frame has so many bytes after their number.
@@ -61,8 +62,8 @@ fn read_frame<R: Read>(alloc: Global, input: &mut R, length: u32) -> Result<Requ
     if length == 0 {
         return Err(ReadError::Malformed(Flaw::Empty));
     }
-    let kind = read_some(alloc, input, 1)?;
-    if kind.is_empty() {
+    let mut kind = [0; 1];
+    if read_front(input, &mut kind)? == 0 {
         return Err(ReadError::Malformed(Flaw::Cut));
     }
     read_body(alloc, input, kind[0], length as usize - 1)
@@ -81,7 +82,7 @@ fn read_body<R: Read>(
         ReadsAfter (length_bytes (len + 1) ++ kind ∷ []) old new result }
 {
     if kind == 1 {
-        let bytes = read_whole(alloc, input, len)?;
+        let bytes = read_bytes(alloc, input, len)?;
         return Ok(Request::Step(Step::Append(bytes)));
     }
     let Some(count) = fields_of_kind(kind) else {
@@ -90,15 +91,19 @@ fn read_body<R: Read>(
     if len != 8 * count {
         return Err(ReadError::Malformed(Flaw::Length));
     }
-    let fields = read_whole(alloc, input, len)?;
-    match build(kind, &fields) {
+    let mut room = [0; MOST_FIELDS];
+    let fields = &mut room[..len];
+    if read_front(input, fields)? < len {
+        return Err(ReadError::Malformed(Flaw::Cut));
+    }
+    match build(kind, fields) {
         Ok(request) => Ok(request),
         Err(flaw) => Err(ReadError::Malformed(flaw)),
     }
 }
 
-// Reads so many bytes, and not fewer.
-fn read_whole<R: Read>(alloc: Global, input: &mut R, len: usize) -> Result<Vec<u8>, ReadError>
+// Reads the bytes of an append: so many, and not fewer.
+fn read_bytes<R: Read>(alloc: Global, input: &mut R, len: usize) -> Result<Vec<u8>, ReadError>
     ensures reads { ReadsFields len (R.remaining input.old) (R.remaining input.new) result }
     ensures bytes { IfOk result (λ bytes. AreBytes bytes.items) }
 {

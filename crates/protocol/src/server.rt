@@ -9,7 +9,7 @@ ghost use Rattle.protocol.specs.Serve.{Greets, IsNotBegun, MayRecover, ReadsNext
 ghost use Rattle.protocol.specs.Serve.{Recovers, Serves, ServesFile, TakesRequest, changes};
 
 use crate::answer::{write_answer, write_refusal};
-use crate::input::read_some;
+use crate::input::read_front;
 use crate::request::{Request, read_request};
 use crate::stop::Stop;
 use crate::{Cause, Setting};
@@ -47,7 +47,7 @@ pub fn serve_file<B: Blob + Cause, H: Sum, R: Read, W: Write + Drop>(
         ServesFile H.sum_of setting.now old new input_old input_new out_old out_new result }
 {
     let (mut session, mut cache) = greet::<B, H, W>(alloc, blob, setting, out)?;
-    if !read_version(alloc, input, out)? {
+    if !read_version(input, out)? {
         return Ok(());
     }
     serve(alloc, &mut session, blob, &mut cache, setting, input, out)
@@ -79,8 +79,9 @@ fn greet<B: Blob, H: Sum, W: Write + Drop>(
         Err(stop) => return Err(stop),
     };
     out.write_all(&[VERSION])?;
+    let mut replies = Vec::new(alloc);
     take_step(
-        alloc,
+        &mut replies,
         &mut session,
         blob,
         &mut cache,
@@ -129,19 +130,16 @@ fn look_first<B: Blob, H: Sum>(alloc: Global, blob: &mut B, setting: &Setting) -
 
 // Reads the version with which a client begins; false where its input has no byte. What was written
 // is out.
-fn read_version<R: Read, W: Write + Drop>(
-    alloc: Global,
-    input: &mut R,
-    _out: &BufWriter<W>,
-) -> Result<bool, Stop>
+fn read_version<R: Read, W: Write + Drop>(input: &mut R, _out: &BufWriter<W>) -> Result<bool, Stop>
     requires sent { writer_buffer _out.now ≡ [] }
     ensures { ReadsVersion (R.remaining input.old) (R.remaining input.new) result }
 {
-    let first = match read_some(alloc, input, 1) {
-        Ok(first) => first,
+    let mut first = [0; 1];
+    let count = match read_front(input, &mut first) {
+        Ok(count) => count,
         Err(error) => return Err(Stop::at(0, error)),
     };
-    match first.as_slice() {
+    match &first[..count] {
         [] => Ok(false),
         [VERSION] => Ok(true),
         [other, ..] => Err(Stop::Version(*other)),
@@ -173,12 +171,14 @@ pub fn serve<B: Blob, H: Sum, R: Read, W: Write + Drop>(
         Serves H.sum_of setting.now session.old session.new old new input_old input_new out_old
         out_new result }
 {
+    let mut replies = Vec::new(alloc);
     for number in 1..u64::MAX {
         match next_request(alloc, number, input, out)? {
             Some(Request::Step(step)) => {
-                take_step(alloc, session, blob, cache, setting, step, out)?;
+                take_step(&mut replies, session, blob, cache, setting, step, out)?;
             }
-            Some(Request::Close) | None => return Ok(()),
+            Some(Request::Close) => return Ok(()),
+            None => return Ok(()),
         }
     }
     Err(Stop::Failed)
@@ -233,9 +233,10 @@ fn read_sent<R: Read, W: Write + Drop>(
     }
 }
 
-// Takes one step, unless it is refused, and writes its answer after it.
+// Takes one step, unless it is refused, and writes its answer after it. The room for its reply is
+// kept from step to step, and the reply is not.
 fn take_step<B: Blob, H: Sum, W: Write>(
-    alloc: Global,
+    replies: &mut Vec<Reply>,
     session: &mut Session<B, H>,
     blob: &mut B,
     cache: &mut CacheRef,
@@ -243,8 +244,10 @@ fn take_step<B: Blob, H: Sum, W: Write>(
     step: Step,
     out: &mut W,
 ) -> Result<(), Stop>
+    requires none { replies.old.items ≡ [] }
     requires ready { IsReady H.sum_of session.old (B.life blob.old).present }
     requires cached { CacheFits session.old cache.old (B.life blob.old).present }
+    ensures none { OnOk result (replies.new.items ≡ []) }
     ensures ready { IsReady H.sum_of session.new (B.life blob.new).present }
     ensures cached { CacheFits session.new cache.new (B.life blob.new).present }
     ensures takes { let old = B.life blob.old in let new = B.life blob.new in
@@ -254,14 +257,15 @@ fn take_step<B: Blob, H: Sum, W: Write>(
     if setting.read_only && is_change(&step) {
         return write_refusal(out);
     }
-    let mut replies = Vec::new(alloc);
-    if run(session, blob, cache, &[step], &mut replies).is_err() {
+    if run(session, blob, cache, &[step], replies).is_err() {
         return Err(Stop::OutOfMemory);
     }
-    match replies.as_slice() {
+    let written = match replies.as_slice() {
         [reply] => write_answer(out, reply),
         _ => unreachable!(),
-    }
+    };
+    replies.clear();
+    written
 }
 
 // Whether a client that may only read is refused this step.

@@ -1,6 +1,7 @@
 -- What the steps do that read, or tell a size.
-use Rattle.std.proofs.Common.{◌≡◌, ℕ, ◌+◌, ◌<◌, ◌≤◌, List, length, take, drop, refl, sym, ap, ◌∙◌, subst, arith, Ok, Err, Result, ◌^◌, lit<}
-use Rattle.std.specs.Prelude.{Some, None}
+use Rattle.std.proofs.Common.{◌≡◌, ℕ, ◌+◌, ◌<◌, ◌≤◌, List, [], ◌∷◌, append-nil, length, take, drop, refl, sym, ap, ◌∙◌, subst, arith, Ok, Err, Result, ◌^◌, lit<}
+use Rattle.std.specs.Prelude.{Some, None, Vec}
+use Rattle.std.specs.declared.alloc.Global.{Global}
 use Rattle.std.specs.List.{Contains, concat}
 use Rattle.disk.specs.Disk.{Disk, Life, coverings}
 use Rattle.disk.specs.declared.error.Error.{Error}
@@ -10,7 +11,7 @@ use Rattle.crash.specs.Started.{CoversStay, CoversThrough, StartsStand}
 use Rattle.writer_state.specs.WriterState.{WriterState}
 use Rattle.writer_state.specs.Sound.{IsSound, content as content_of}
 use Rattle.crash.specs.Stays.{Stays, StaysThrough}
-use Rattle.crash.specs.Looks.{SameButLog, Looked}
+use Rattle.crash.specs.Looks.{SameButLog, Looked, looked_start}
 use Rattle.crash.specs.Moments.{each_then}
 use Rattle.crash.proofs.Moments.{stays_itself, stays_alike}
 use Rattle.writer_state.proofs.StartedLaws.{alike_would}
@@ -25,7 +26,7 @@ use Rattle.session.specs.declared.steps.Step.TheVariants.{Size, Read}
 use Rattle.session.specs.declared.steps.Reply.{Reply}
 use Rattle.session.specs.declared.steps.Reply.TheVariants.{At, Nothing, Done, Started, Answer, Length, Bytes, Fault, Closed, NotRecovering, NoSuch, Served, Missed, BadRanges, Taken, Sealed, NotAppending, Replaying}
 use Rattle.session.specs.Run.{Standing, SessionState, begun, turned_away, faults, HasCause, content_after, Takes, Foretells, touch, Touches, AllCover}
-use Rattle.session.specs.Calls.{IsBytes, ReadsBytes, ReadSays}
+use Rattle.session.specs.Calls.{ReadsBytes, ReadSays, RefusesRoom}
 use Rattle.session.proofs.Apart.{AlwaysApart, StandsApart, SteppedApart}
 use Rattle.session.proofs.StepLaws.{held, turned_here, each_end, stepped, unasked, stands_now, Halves}
 use Rattle.session.proofs.SyncLaws.{same_halves}
@@ -95,50 +96,66 @@ read_cause sum P w cache offset len before old new OffsetOverflow size full goes
 read_cause sum P w cache offset len before old new OutOfMemory size full goes = ((3, lit< tt, refl), tt)
 read_cause sum P w cache offset len before old new IdsExhausted size full goes = absurd goes
 
--- what was read is told, or that there was no memory for it
-pub read_says : (sum : List ℕ → ℕ) (t : Tail) (cache : CacheState) (offset len : ℕ) (old new : Life) (bufs : List (List ℕ)) (reply : Reply) → Reads sum t cache (offset, len) concat old new (Ok bufs)
-    → (2 ^ 64 ≤ offset + len → Ok bufs ≡ Err OffsetOverflow) → (offset + len < 2 ^ 64 → size_of_tail t < offset + len → Ok bufs ≡ Err BlobInsufficientLength) → Looked old new → IsBytes (concat bufs) reply → ReadSays sum t cache offset len old new reply
-read_says sum t cache offset len old new bufs (Bytes bytes) reads overflow end looked is = record {
-  reads = (bufs, is, reads);
+-- no room was made for what is to be read
+pub room_refused : (sum : List ℕ → ℕ) (t : Tail) (cache : CacheState) (offset len size : ℕ) (life : Life) (e : Error) → size ≡ size_of_tail t → size < 2 ^ 64 → RefusesRoom size offset len e → ReadSays sum t cache offset len life life (Fault e)
+room_refused sum t cache offset len size life OffsetOverflow is small passes = record {
+  reads = (refl, passes);
   full = λ other. cc other;
-  overflow = λ passes. absurd (cc (overflow passes));
-  end = λ within passes. absurd (cc (end within passes));
+  overflow = λ over. refl;
+  end = λ within over. absurd (omega (arith, within, passes));
+  looked = looked_start life;
+}
+room_refused sum t cache offset len size life BlobInsufficientLength is small (within, passes) = record {
+  reads = (refl, within, omega (arith, is, passes));
+  full = λ other. cc other;
+  overflow = λ over. absurd (omega (arith, over, within));
+  end = λ below over. refl;
+  looked = looked_start life;
+}
+room_refused sum t cache offset len size life OutOfMemory is small within = record {
+  reads = tt;
+  full = λ other. cc other;
+  overflow = λ over. absurd (omega (arith, over, within, small));
+  end = λ below over. absurd (omega (arith, over, within, is));
+  looked = looked_start life;
+}
+room_refused sum t cache offset len size life ReadFailed is small none = absurd none
+room_refused sum t cache offset len size life WriteFailed is small none = absurd none
+room_refused sum t cache offset len size life ResizeFailed is small none = absurd none
+room_refused sum t cache offset len size life SyncFailed is small none = absurd none
+room_refused sum t cache offset len size life InvalidChecksum is small none = absurd none
+room_refused sum t cache offset len size life IdsExhausted is small none = absurd none
+
+-- what was read to where there was room for it is told
+pub read_says : (sum : List ℕ → ℕ) (t : Tail) (cache : CacheState) (offset len size : ℕ) (old new : Life) (buf : List ℕ) (bytes : Vec ℕ Global) → size ≡ size_of_tail t → size < 2 ^ 64 → bytes.items ≡ buf
+    → Reads {A = Unit {0}} sum t cache (offset, len) (λ u. buf) old new (Ok tt) → Looked old new → ReadSays sum t cache offset len old new (Bytes bytes)
+read_says sum t cache offset len size old new buf bytes is small same reads looked = record {
+  reads = (bytes.items ∷ [], sym (append-nil bytes.items), (reads.0, append-nil bytes.items ∙ same ∙ reads.1, reads.2));
+  full = λ other. cc other;
+  overflow = λ passes. absurd (omega (arith, passes, reads.0, is, small));
+  end = λ within passes. absurd (omega (arith, passes, reads.0));
   looked = looked;
 }
-read_says sum t cache offset len old new bufs (Fault e) reads overflow end looked is =
-    subst (λ (x : Error). ReadSays sum t cache offset len old new (Fault x)) (sym is)
-    (record {
-      reads = tt;
-      full = λ other. cc other;
-      overflow = λ passes. absurd (cc (overflow passes));
-      end = λ within passes. absurd (cc (end within passes));
-      looked = looked;
-    })
-read_says sum t cache offset len old new bufs (At n) reads overflow end looked is = absurd is
-read_says sum t cache offset len old new bufs Nothing reads overflow end looked is = absurd is
-read_says sum t cache offset len old new bufs Done reads overflow end looked is = absurd is
-read_says sum t cache offset len old new bufs (Started sync) reads overflow end looked is = absurd is
-read_says sum t cache offset len old new bufs (Answer answer) reads overflow end looked is = absurd is
-read_says sum t cache offset len old new bufs (Length n) reads overflow end looked is = absurd is
-read_says sum t cache offset len old new bufs Closed reads overflow end looked is = absurd is
-read_says sum t cache offset len old new bufs NoSuch reads overflow end looked is = absurd is
-read_says sum t cache offset len old new bufs NotRecovering reads overflow end looked is = absurd is
-read_says sum t cache offset len old new bufs (Served count read) reads overflow end looked is = absurd is
-read_says sum t cache offset len old new bufs (Missed numbers) reads overflow end looked is = absurd is
-read_says sum t cache offset len old new bufs BadRanges reads overflow end looked is = absurd is
-read_says sum t cache offset len old new bufs (Taken index) reads overflow end looked is = absurd is
-read_says sum t cache offset len old new bufs (Sealed index sync) reads overflow end looked is = absurd is
-read_says sum t cache offset len old new bufs NotAppending reads overflow end looked is = absurd is
-read_says sum t cache offset len old new bufs (Replaying number) reads overflow end looked is = absurd is
 
--- so is why none was
-abbrev pub no_bufs : Error → Result (List (List ℕ)) Error
-no_bufs e = Err e
+-- why nothing was read says nothing of the room
+abbrev pub nothing : Error → Result (Unit {0}) Error
+nothing e = Err e
 
-pub read_fails : (sum : List ℕ → ℕ) (t : Tail) (cache : CacheState) (offset len : ℕ) (old new : Life) (e : Error) → Reads sum t cache (offset, len) concat old new (no_bufs e) → (2 ^ 64 ≤ offset + len → no_bufs e ≡ no_bufs OffsetOverflow)
-    → (offset + len < 2 ^ 64 → size_of_tail t < offset + len → no_bufs e ≡ no_bufs BlobInsufficientLength) → (e ≡ InvalidChecksum → ⊥) → Looked old new → ReadSays sum t cache offset len old new (Fault e)
-read_fails sum t cache offset len old new e reads overflow end never looked = record {
-  reads = reads;
+no_bufs : (sum : List ℕ → ℕ) (t : Tail) (cache : CacheState) (range : ℕ × ℕ) (buf : List ℕ) (old new : Life) (e : Error) → Reads {A = Unit {0}} sum t cache range (λ u. buf) old new (Err e) → Reads {A = List (List ℕ)} sum t cache range concat old new (Err e)
+no_bufs sum t cache range buf old new ReadFailed reads = reads
+no_bufs sum t cache range buf old new WriteFailed reads = reads
+no_bufs sum t cache range buf old new ResizeFailed reads = reads
+no_bufs sum t cache range buf old new SyncFailed reads = reads
+no_bufs sum t cache range buf old new InvalidChecksum reads = reads
+no_bufs sum t cache range buf old new BlobInsufficientLength reads = reads
+no_bufs sum t cache range buf old new OffsetOverflow reads = reads
+no_bufs sum t cache range buf old new OutOfMemory reads = reads
+no_bufs sum t cache range buf old new IdsExhausted reads = reads
+
+pub read_fails : (sum : List ℕ → ℕ) (t : Tail) (cache : CacheState) (offset len : ℕ) (old new : Life) (buf : List ℕ) (e : Error) → Reads {A = Unit {0}} sum t cache (offset, len) (λ u. buf) old new (nothing e) → (2 ^ 64 ≤ offset + len → nothing e ≡ nothing OffsetOverflow)
+    → (offset + len < 2 ^ 64 → size_of_tail t < offset + len → nothing e ≡ nothing BlobInsufficientLength) → (e ≡ InvalidChecksum → ⊥) → Looked old new → ReadSays sum t cache offset len old new (Fault e)
+read_fails sum t cache offset len old new buf e reads overflow end never looked = record {
+  reads = no_bufs sum t cache (offset, len) buf old new e reads;
   full = λ same. never (cc same);
   overflow = λ passes. cc (overflow passes);
   end = λ within passes. cc (end within passes);

@@ -375,11 +375,13 @@ abbrev pub DidScan : (List ℕ → ℕ) → Option WriterState → (most : ℕ) 
 DidScan sum None most old new reply = (reply ≡ Closed) × (new ≡ old)
 DidScan sum (Some w) most old new reply = ScanSays sum w most old new reply
 
--- the reply of these bytes, or that there is no memory for them
-abbrev pub IsBytes : List ℕ → Reply → Type 0
-IsBytes all (Bytes bytes) = bytes.items ≡ all
-IsBytes all (Fault e) = e ≡ OutOfMemory
-IsBytes all _ = ⊥
+-- why no room is made for the bytes of a range: overflow comes before the end, and both before
+-- memory
+abbrev pub RefusesRoom : (size offset len : ℕ) → Error → Type 0
+RefusesRoom size offset len OffsetOverflow = 2 ^ 64 ≤ offset + len
+RefusesRoom size offset len BlobInsufficientLength = (offset + len < 2 ^ 64) × (size < offset + len)
+RefusesRoom size offset len OutOfMemory = offset + len ≤ size
+RefusesRoom size offset len _ = ⊥
 
 -- ---- steps of snapshots
 

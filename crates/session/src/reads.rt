@@ -1,7 +1,7 @@
 // Steps that read.
 ghost use Rattle.std.specs.Prelude.{◌≡◌, ◌≤◌, ◌+◌, IfSome, IfOk, IsOkUnless, length, IsTrue, ◌↔◌};
-ghost use Rattle.std.specs.Prelude.{is_some, sum_by};
-ghost use Rattle.std.specs.List.{concat, range_with_len};
+ghost use Rattle.std.specs.Prelude.{IfErr, is_some, sum_by};
+ghost use Rattle.std.specs.List.{range_with_len};
 ghost use Rattle.page.specs.Geometry.{AreInOrder};
 ghost use Rattle.cache.specs.Pages.{IsFresh};
 ghost use Rattle.writer_state.specs.Sound.{IsSound};
@@ -13,13 +13,13 @@ ghost use Rattle.paged_read.specs.Replay.{LeavesAllReplays};
 ghost use Rattle.paged_read.specs.Snapshots.{LeavesTails};
 ghost use Rattle.session.specs.Calls.{LeavesTaken};
 ghost use Rattle.cache.specs.CacheState.{CacheState};
-ghost use Rattle.session.specs.Calls.{DidRead, DidReadUpTo, DidScan, DidTryRead, IsBytes};
+ghost use Rattle.session.specs.Calls.{DidRead, DidReadUpTo, DidScan, DidTryRead, RefusesRoom};
 ghost use Rattle.session.specs.Calls.{ReadRangesSays, DidReadRanges, DidTryReadRanges};
 
 use crate::held::Held;
 use crate::steps::Reply;
 use cache::CacheRef;
-use disk::{Blob, Error, IoBufs, ReadOptions};
+use disk::{Blob, Error, ReadOptions};
 use page::{Sum, validate_read_ranges};
 use paged::Writer;
 use std::alloc::Global;
@@ -39,8 +39,12 @@ impl<B: Blob, H: Sum, Phase> Held<B, H, Phase> {
         let Some(writer) = &self.writer else {
             return Reply::Closed;
         };
-        match writer.read_at(blob, cache, offset, len) {
-            Ok(bufs) => bytes_of(self.alloc, &bufs),
+        let mut bytes = match room_within(self.alloc, writer.size(), offset, len) {
+            Ok(bytes) => bytes,
+            Err(error) => return Reply::Fault(error),
+        };
+        match writer.read_into(blob, cache, &mut bytes, offset) {
+            Ok(()) => Reply::Bytes(bytes),
             Err(error) => Reply::Fault(error),
         }
     }
@@ -106,7 +110,7 @@ impl<B: Blob, H: Sum, Phase> Held<B, H, Phase> {
         if !ends_within(writer.size(), offset, len) {
             return Reply::Nothing;
         }
-        let mut bytes = match self.room_for(len) {
+        let mut bytes = match room_for(self.alloc, len) {
             Ok(bytes) => bytes,
             Err(error) => return Reply::Fault(error),
         };
@@ -164,7 +168,7 @@ impl<B: Blob, H: Sum, Phase> Held<B, H, Phase> {
         if let Err(error) = validate_read_ranges(len, ranges, writer.size()) {
             return Reply::Fault(error);
         }
-        let mut bytes = match self.room_for(len) {
+        let mut bytes = match room_for(self.alloc, len) {
             Ok(bytes) => bytes,
             Err(error) => return Reply::Fault(error),
         };
@@ -209,36 +213,37 @@ impl<B: Blob, H: Sum, Phase> Held<B, H, Phase> {
         if validate_read_ranges(len, ranges, writer.size()).is_err() {
             return all_below(self.alloc, ranges.len());
         }
-        let mut bytes = self.room_for(len)?;
+        let mut bytes = room_for(self.alloc, len)?;
         writer.try_read_ranges_sync_into(cache, &mut bytes, ranges)
     }
-
-    fn room_for(&self, len: usize) -> Result<Vec<u8>, Error>
-        ensures len { IfOk result (λ bytes. length bytes.items ≡ len) }
-        ensures err { IsOkUnless result Error.OutOfMemory }
-    {
-        let mut bytes = Vec::new(self.alloc);
-        bytes.resize(len, 0)?;
-        Ok(bytes)
-    }
 }
 
-/// The reply of these bytes.
-pub(crate) fn bytes_of(alloc: Global, bufs: &IoBufs) -> Reply
-    ensures { IsBytes (concat bufs.now) result }
-{
-    match joined(alloc, bufs) {
-        Ok(bytes) => Reply::Bytes(bytes),
-        Err(error) => Reply::Fault(error),
-    }
-}
-
-fn joined(alloc: Global, bufs: &IoBufs) -> Result<Vec<u8>, Error>
-    ensures ok { IfOk result (λ bytes. bytes.items ≡ concat bufs.now) }
+fn room_for(alloc: Global, len: usize) -> Result<Vec<u8>, Error>
+    ensures len { IfOk result (λ bytes. length bytes.items ≡ len) }
     ensures err { IsOkUnless result Error.OutOfMemory }
 {
-    let all = bufs.coalesce()?;
-    Ok(Vec::from_slice(alloc, all.as_ref())?)
+    let mut bytes = Vec::new(alloc);
+    bytes.resize(len, 0)?;
+    Ok(bytes)
+}
+
+/// Room for the bytes of a range, made only where they are within the size.
+pub(crate) fn room_within(
+    alloc: Global,
+    size: u64,
+    offset: u64,
+    len: usize,
+) -> Result<Vec<u8>, Error>
+    ensures len { IfOk result (λ bytes. length bytes.items ≡ len) }
+    ensures err { IfErr result (RefusesRoom size offset len) }
+{
+    let Some(end) = offset.checked_add(len as u64) else {
+        return Err(Error::OffsetOverflow);
+    };
+    if end > size {
+        return Err(Error::BlobInsufficientLength);
+    }
+    room_for(alloc, len)
 }
 
 // Whether a range ends within so many bytes.

@@ -170,7 +170,7 @@ impl<B: Blob, H: Sum> Session<B, H> {
             → LeavesAllTails H.sum_of cache cache (B.life blob.old) (B.life blob.new) }
         ensures replays { LeavesAllReplays (B.life blob.old) (B.life blob.new) }
     {
-        if !self.names.contains(&name) {
+        if !is_among(&self.names, name) {
             return Reply::NoSuch;
         }
         match wait_sync::<B, H>(blob, StartedSync::Named(name)) {
@@ -243,6 +243,25 @@ impl<B: Blob, H: Sum> Session<B, H> {
             Err(error) => Reply::Fault(error),
         }
     }
+}
+
+// Whether this name is one of these. It is sought from both ends, by runs that double: most are
+// waited for soon after they were given.
+fn is_among(names: &[u64], name: u64) -> bool
+    ensures { result ≡ is_given names.now name }
+{
+    let mut left = names;
+    let mut count = 1;
+    while count < left.len() / 2 {
+        let (first, rest) = left.split_at(count);
+        let (between, last) = rest.split_at(rest.len() - count);
+        if last.contains(&name) || first.contains(&name) {
+            return true;
+        }
+        left = between;
+        count *= 2;
+    }
+    left.contains(&name)
 }
 
 /// Takes the steps in order over the session's blob, and adds one reply a step to `replies`. The

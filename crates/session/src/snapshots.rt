@@ -9,7 +9,7 @@ ghost use Rattle.session.specs.Calls.{LeavesTaken, RefusesAppending};
 ghost use Rattle.session.specs.Run.{FitsWriter, HasSoundWriter, numbered};
 
 use crate::Session;
-use crate::reads::bytes_of;
+use crate::reads::room_within;
 use crate::steps::Reply;
 use cache::CacheRef;
 use disk::{Blob, Error, StartedSync};
@@ -145,8 +145,12 @@ impl<B: Blob, H: Sum> Session<B, H> {
         let Some(Some(snapshot)) = self.snapshots.get(index) else {
             return Reply::NoSuch;
         };
-        match snapshot.read_at(blob, cache, offset, len) {
-            Ok(bufs) => bytes_of(self.alloc, &bufs),
+        let mut bytes = match room_within(self.alloc, snapshot.size(), offset, len) {
+            Ok(bytes) => bytes,
+            Err(error) => return Reply::Fault(error),
+        };
+        match snapshot.read_into(blob, cache, &mut bytes, offset) {
+            Ok(()) => Reply::Bytes(bytes),
             Err(error) => Reply::Fault(error),
         }
     }

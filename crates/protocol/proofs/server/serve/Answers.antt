@@ -6,6 +6,7 @@ use Rattle.protocol.proofs.server.serve.Goals as goal
 
 pub loop-number-init : goal.loop-number-init
 loop-number-init g c = record {
+  none = c.new-replies.ensures.items;
   ready = c.requires.ready;
   cached = c.requires.cached;
   serving = serving_begins g.H.Sum.sum_of c.args.setting.now c.args.session.now (g.B.Blob.life c.args.blob.now) (reader_remaining g.R.Read.remaining c.args.input.now) (writer_contents g.W.Write.contents c.args.out.now);
@@ -28,6 +29,7 @@ returns-in_err-take_step-in-Some-Step-clause-serves g c =
 
 pub loop-number-preserved : goal.loop-number-preserved
 loop-number-preserved g c = record {
+  none = c.in_ok-take_step-in-Some-Step.ensures.none;
   ready = c.take_step.ensures.ready;
   cached = c.take_step.ensures.cached;
   serving = serving_more g.H.Sum.sum_of c.args.setting.now (Step c.in-Some-Step.step) c.args.session.now c.loop-number.session c.take_step.new.session (g.B.Blob.life c.args.blob.now) (g.B.Blob.life c.loop-number.blob) (g.B.Blob.life c.take_step.new.blob)

@@ -1,3 +1,4 @@
+use Rattle.std.proofs.Common.{◌≡◌, []}
 use Rattle.session.specs.Run.{IsReady, CacheFits}
 use Rattle.std.specs.Io.Buffered.{reader_remaining, writer_contents}
 use Rattle.protocol.proofs.Serving.{Serving}
@@ -5,6 +6,7 @@ use Rattle.protocol.proofs.server.serve.Given as goal
 
 abbrev pub invariant-loop-number : goal.invariant-loop-number
 invariant-loop-number g l = record {
+  none : l.replies.items ≡ [];
   ready : IsReady g.H.Sum.sum_of l.session (g.B.Blob.life l.blob).present;
   cached : CacheFits l.session l.cache (g.B.Blob.life l.blob).present;
   serving : Serving g.H.Sum.sum_of l.setting l.fn.session l.session (g.B.Blob.life l.fn.blob) (g.B.Blob.life l.blob) (reader_remaining g.R.Read.remaining l.fn.input) (reader_remaining g.R.Read.remaining l.input)

@@ -1,38 +1,62 @@
-use Rattle.std.proofs.Common.{ap, sym, ◌∙◌, subst, Err, Some}
+use Rattle.std.proofs.Common.{◌≡◌, ◌∙◌, ℕ, length, ap, sym, subst, arith, Ok, Err, Some}
 use Rattle.std.specs.Prelude.{IfSome, Option}
+use Rattle.std.specs.Vec.{with_items}
+use Rattle.std.proofs.lemmas.List.{with_items_is}
 use Rattle.paged_read.specs.Tail.{Tail, HasFullPages}
+use Rattle.paged_read.specs.Ranges.{Reads}
 use Rattle.session.specs.Run.{SessionState}
 use Rattle.session.specs.Calls.{DidSnap}
 use Rattle.crash.specs.Looks.{looked_start}
 use Rattle.paged_read.proofs.Outliving.{look_leaves_writers}
-use Rattle.session.specs.declared.steps.Reply.TheVariants.{Fault}
+use Rattle.session.specs.declared.steps.Reply.TheVariants.{Bytes, Fault}
 use Rattle.session.proofs.Below.{at_offset, of_each}
 use Rattle.session.proofs.Numbered.{stands_at}
-use Rattle.session.proofs.SizeLaws.{read_says, read_fails}
+use Rattle.session.proofs.SizeLaws.{read_says, read_fails, room_refused}
 use Rattle.session.proofs.sessions.Session.snap.Goals as goal
 
 pub returns-in_default-clause-writers : goal.returns-in_default-clause-writers
 returns-in_default-clause-writers g c = let life = g.B.Blob.life c.args.blob.now in look_leaves_writers g.H.Sum.sum_of life life (looked_start life)
 
-pub returns-in-Ok-clause-goes : goal.returns-in-Ok-clause-goes
-returns-in-Ok-clause-goes g c =
-    let sum = g.H.Sum.sum_of in
-    let old = g.B.Blob.life c.args.blob.now in
-    let new = g.B.Blob.life c.read_at.new.blob in
-    let at = at_offset c.deref.result.now c.args.self.now.snapshots c.args.index c.in-Some-Some.field-0.now (c.deref.ensures.value ∙ ap (λ (s : SessionState). s.snapshots) c.self.view_is) c.in-Some-Some.ensures.lookup.0 c.in-Some-Some.ensures.lookup.1
-    ∙ ap Some c.in-Some-Some.field-0-is in
-    let is = c.in-Ok.ensures in
-    subst (λ (o : Option Tail). DidSnap sum o c.args.cache.now c.args.offset c.args.len old new c.bytes_of.result) (sym (stands_at c.args.self.now.snapshots c.args.index c.in-Some-Some.snapshot at))
-    (read_says sum c.in-Some-Some.snapshot c.args.cache.now c.args.offset c.args.len old new c.in-Ok.bufs c.bytes_of.result is.reads is.overflow is.end is.looked c.bytes_of.ensures)
+pub returns-in-Err-clause-writers : goal.returns-in-Err-clause-writers
+returns-in-Err-clause-writers g c = let life = g.B.Blob.life c.args.blob.now in look_leaves_writers g.H.Sum.sum_of life life (looked_start life)
 
 pub returns-in-Err-clause-goes : goal.returns-in-Err-clause-goes
 returns-in-Err-clause-goes g c =
     let sum = g.H.Sum.sum_of in
-    let old = g.B.Blob.life c.args.blob.now in
-    let new = g.B.Blob.life c.read_at.new.blob in
+    let life = g.B.Blob.life c.args.blob.now in
     let at = at_offset c.deref.result.now c.args.self.now.snapshots c.args.index c.in-Some-Some.field-0.now (c.deref.ensures.value ∙ ap (λ (s : SessionState). s.snapshots) c.self.view_is) c.in-Some-Some.ensures.lookup.0 c.in-Some-Some.ensures.lookup.1
     ∙ ap Some c.in-Some-Some.field-0-is in
-    let full = of_each (λ o. IfSome o (λ t. HasFullPages sum t old.present)) c.args.self.now.snapshots c.args.index (Some c.in-Some-Some.snapshot) at c.requires.full in
-    let is = c.in-Err.ensures in
-    subst (λ (o : Option Tail). DidSnap sum o c.args.cache.now c.args.offset c.args.len old new (Fault c.in-Err.error)) (sym (stands_at c.args.self.now.snapshots c.args.index c.in-Some-Some.snapshot at))
-    (read_fails sum c.in-Some-Some.snapshot c.args.cache.now c.args.offset c.args.len old new c.in-Err.error is.reads is.overflow is.end (λ same. is.never full (ap Err same)) is.looked)
+    subst (λ (o : Option Tail). DidSnap sum o c.args.cache.now c.args.offset c.args.len life life (Fault c.in-Err.error)) (sym (stands_at c.args.self.now.snapshots c.args.index c.in-Some-Some.snapshot at))
+    (room_refused sum c.in-Some-Some.snapshot c.args.cache.now c.args.offset c.args.len c.size.result life c.in-Err.error c.size.ensures c.size.type_inv c.in-Err.ensures.err)
+
+pub returns-in-Ok-read_into-clause-goes : goal.returns-in-Ok-read_into-clause-goes
+returns-in-Ok-read_into-clause-goes g c =
+    let sum = g.H.Sum.sum_of in
+    let old = g.B.Blob.life c.args.blob.now in
+    let new = g.B.Blob.life c.read_into.new.blob in
+    let at = at_offset c.deref.result.now c.args.self.now.snapshots c.args.index c.in-Some-Some.field-0.now (c.deref.ensures.value ∙ ap (λ (s : SessionState). s.snapshots) c.self.view_is) c.in-Some-Some.ensures.lookup.0 c.in-Some-Some.ensures.lookup.1
+    ∙ ap Some c.in-Some-Some.field-0-is in
+    let t = c.in-Some-Some.snapshot in
+    let is = c.in-Ok-read_into.ensures in
+    let buf = c.read_into.new.buf in
+    let bytes = with_items c.in-Ok.bytes buf in
+    let room : length c.deref_mut.result.now ≡ c.args.len = omega (arith, ap length c.deref_mut.ensures.value, c.in-Ok.ensures.len) in
+    let long : length buf ≡ c.in-Ok.bytes.len = omega (arith, is.size, ap length c.deref_mut.ensures.value, c.in-Ok.bytes.ok.0) in
+    let reads = subst (λ (n : ℕ). Reads {A = Unit {0}} sum t c.args.cache.now (c.args.offset, n) (λ u. buf) old new (Ok tt)) room is.reads in
+    subst (λ (o : Option Tail). DidSnap sum o c.args.cache.now c.args.offset c.args.len old new (Bytes bytes)) (sym (stands_at c.args.self.now.snapshots c.args.index t at))
+    (read_says sum t c.args.cache.now c.args.offset c.args.len c.size.result old new buf bytes c.size.ensures c.size.type_inv (with_items_is c.in-Ok.bytes buf long) reads is.looked)
+
+pub returns-in-Err-read_into-clause-goes : goal.returns-in-Err-read_into-clause-goes
+returns-in-Err-read_into-clause-goes g c =
+    let sum = g.H.Sum.sum_of in
+    let old = g.B.Blob.life c.args.blob.now in
+    let new = g.B.Blob.life c.read_into.new.blob in
+    let at = at_offset c.deref.result.now c.args.self.now.snapshots c.args.index c.in-Some-Some.field-0.now (c.deref.ensures.value ∙ ap (λ (s : SessionState). s.snapshots) c.self.view_is) c.in-Some-Some.ensures.lookup.0 c.in-Some-Some.ensures.lookup.1
+    ∙ ap Some c.in-Some-Some.field-0-is in
+    let t = c.in-Some-Some.snapshot in
+    let full = of_each (λ o. IfSome o (λ t. HasFullPages sum t old.present)) c.args.self.now.snapshots c.args.index (Some t) at c.requires.full in
+    let is = c.in-Err-read_into.ensures in
+    let room : length c.deref_mut.result.now ≡ c.args.len = omega (arith, ap length c.deref_mut.ensures.value, c.in-Ok.ensures.len) in
+    subst (λ (o : Option Tail). DidSnap sum o c.args.cache.now c.args.offset c.args.len old new (Fault c.in-Err-read_into.error)) (sym (stands_at c.args.self.now.snapshots c.args.index t at))
+    (subst (λ (n : ℕ). DidSnap sum (Some t) c.args.cache.now c.args.offset n old new (Fault c.in-Err-read_into.error)) room
+    (read_fails sum t c.args.cache.now c.args.offset (length c.deref_mut.result.now) old new c.read_into.new.buf c.in-Err-read_into.error is.reads is.overflow is.end (λ same. is.never full (ap Err same)) is.looked))
