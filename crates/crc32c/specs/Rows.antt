@@ -7,8 +7,8 @@ use Rattle.crc32c.specs.Crc.{after_bits, after_bytes}
 abbrev pub state_byte : ℕ → ℕ → ℕ → ℕ
 state_byte bits index n = after_bits bits n / 256 ^ index % 256
 
--- what four messages leave, each a byte behind the one before; they are the first bytes of some states, the second, third
--- and fourth ones
+-- what four messages leave, each a byte behind the one before; they are the first bytes of some
+-- states, the second, third and fourth ones
 abbrev pub leaves : List ℕ → List ℕ → List ℕ → List ℕ → ℕ
 leaves a b c d =
     let two = bit_xor (after_bits 8 (after_bytes 0 a)) (after_bytes 0 b) in

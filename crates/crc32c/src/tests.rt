@@ -16,6 +16,12 @@ fn bit_by_bit(bytes: &[u8]) -> u32 {
 }
 
 // The vectors are those of RFC 3720, B.4, and the check of the nine digits.
+// The checksum that goes on from that of the first bytes.
+fn in_two(bytes: &[u8], known: usize) -> u32 {
+    let known = known.min(bytes.len());
+    Crc32c::sum_from(bytes, known, Crc32c::sum(&bytes[..known]))
+}
+
 #[test]
 fn checks(rt: HostRuntime) {
     let mut command = [0u8; 48];
@@ -47,24 +53,16 @@ fn checks(rt: HostRuntime) {
         let bytes = &message[..len];
         let check = bit_by_bit(bytes);
         assert_eq!(rt; Crc32c::sum(bytes), check, "at {len}");
-        let known = len / 3;
-        let first = Crc32c::sum(&bytes[..known]);
-        assert_eq!(rt;
-            Crc32c::sum_from(bytes, known, first),
-            check,
-            "from {known} to {len}"
-        );
+        assert_eq!(rt; in_two(bytes, len / 3), check, "in two at {len}");
     }
-    for len in [1101, 2367, 2368, 2495, 2496, 2527, 4084, 4447, 5000] {
+    for len in [
+        1101, 2367, 2368, 2399, 2400, 2431, 2432, 2495, 2496, 2527, 4084, 4447, 5000,
+    ] {
         let bytes = &message[..len];
         let check = bit_by_bit(bytes);
         assert_eq!(rt; Crc32c::sum(bytes), check, "at {len}");
-        let known = len / 7;
-        let first = Crc32c::sum(&bytes[..known]);
-        assert_eq!(rt;
-            Crc32c::sum_from(bytes, known, first),
-            check,
-            "from {known} to {len}"
-        );
+        for known in [0, len / 7, len - 641, len - 640, len - 639, len] {
+            assert_eq!(rt; in_two(bytes, known), check, "from {known} to {len}");
+        }
     }
 }

@@ -176,8 +176,8 @@ abbrev pub ReadsBytes : List ℕ → (offset len : ℕ) → Life → Life → Re
 ReadsBytes content offset len old new (Ok bytes) = bytes ≡ take len (drop offset content)
 ReadsBytes content offset len old new (Err e) = ReadRefused old new e
 
--- a look at how long the frame at an offset is, after which so many bytes stand, where it may be cut
--- short
+-- a look at how long the frame at an offset is, after which so many bytes stand, where it may be
+-- cut short
 abbrev pub MeasuresFrame : List ℕ → (offset rest : ℕ) → Life → Life → Result ℕ Error → Type 0
 MeasuresFrame content offset rest old new (Ok len) =
     len ≡ min (frame_len (drop offset content)) rest

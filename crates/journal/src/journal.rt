@@ -240,8 +240,8 @@ impl<B: Blob, H: Sum, R: Sum> Journal<B, H, R> {
         journal.append(blob, cache, &framed)
     }
 
-    // Writes a record's frame to the buffer, where it fits, and answers its offset. It takes no
-    // memory but the buffer's, and asks no device.
+    // Writes a record's frame to the buffer, where it fits, and answers its offset. It asks no
+    // device, and takes memory only where the frame doesn't fit the last chunk of the buffer.
     fn try_append(&mut self, bytes: &[u8]) -> Result<Option<u64>, Error>
         requires short { length bytes.now ≤ 65535 }
         ensures tries { TryAppends self.old (frame R.sum_of bytes.now) self.new result }
