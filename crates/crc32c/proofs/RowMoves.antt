@@ -1,5 +1,5 @@
 -- Lanes that move, and the first rows of a message.
-use Rattle.std.proofs.Common.{◌≡◌, ℕ, zero, suc, ◌+◌, ◌-◌, ◌*◌, ◌/◌, ◌%◌, ◌^◌, ◌<◌, ◌≤◌, List, [], ◌∷◌, ◌++◌, T, ◌||◌, ltb, cond, length, get_or, take, drop, replicate, refl, sym, ap, ap₂, ◌∙◌, inl, inr, arith, w8, length-append, length-drop, length-take-le, take-append-drop, drop-drop, append_assoc, take_at, take_all, take-take}
+use Rattle.std.proofs.Common.{◌≡◌, ℕ, zero, suc, ◌+◌, ◌-◌, ◌*◌, ◌/◌, ◌^◌, ◌<◌, ◌≤◌, List, [], ◌∷◌, ◌++◌, T, ◌||◌, ltb, cond, length, get_or, take, drop, replicate, refl, sym, ap, ap₂, ◌∙◌, inl, inr, arith, w8, length-append, length-drop, length-take-le, take-append-drop, drop-drop, append_assoc, take_at, take-take}
 use Rattle.std.specs.Int.Bits.{bit_xor}
 use Rattle.std.specs.Int.{w32, to_le_bytes}
 use Rattle.std.specs.List.{range_with_len}
@@ -14,7 +14,7 @@ use Rattle.crc32c.specs.declared.rows.TheConstants.{MOVES}
 use Rattle.crc32c.specs.Crc.{after_bits, after_bytes}
 use Rattle.crc32c.specs.Division.{xored}
 use Rattle.crc32c.proofs.Steps.{bits_more, bytes_apart, bytes_more}
-use Rattle.crc32c.proofs.Multiples.{apart_zero, length-xored}
+use Rattle.crc32c.proofs.Multiples.{apart_zero}
 use Rattle.crc32c.proofs.Folding.{four_leave, xored_zeros, zeros_leave, take_xored, chunk_xored}
 
 are_moves : MOVES ≡ replicate 16 128 ++ (range_with_len 0 16 ++ replicate 16 128)

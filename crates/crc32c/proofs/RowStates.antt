@@ -1,11 +1,10 @@
 -- What the states leave that were looked up for the bytes of some rows.
-use Rattle.std.proofs.Common.{◌≡◌, ◌<◌, ◌/◌, ◌%◌, ◌+◌, ◌*◌, ◌^◌, ℕ, List, [], ◌∷◌, ◌++◌, length, get_or, map, take, drop, replicate, ◌≤◌, ◌-◌, zero, suc, refl, sym, ap, ap₂, ◌∙◌, arith, subst, take-append-drop, append_assoc, take_at, drop_at, take_all, length-take-le, length-append, length-drop}
+use Rattle.std.proofs.Common.{◌≡◌, ◌<◌, ◌/◌, ◌%◌, ◌+◌, ◌*◌, ◌^◌, ℕ, List, [], ◌∷◌, ◌++◌, length, get_or, map, take, drop, replicate, ◌-◌, refl, sym, ap, ap₂, ◌∙◌, arith, subst, take-append-drop, append_assoc, take_at, drop_at, take_all, length-take-le, length-append}
 use Rattle.std.specs.Int.Bits.{bit_xor, xor_assoc, xor_zero_l, xor_zero_r}
-use Rattle.std.proofs.lemmas.Nat.{xor_comm}
 use Rattle.std.proofs.lemmas.List.{length-map}
 use Rattle.std.proofs.lemmas.Simd.{length-zip2, length-chunk, length-replicate}
 use lib.Lanes.{zip2, Each1, chunk}
-use Rattle.crc32c.specs.Crc.{after_bits, after_byte, after_bytes, small_bytes}
+use Rattle.crc32c.specs.Crc.{after_bits, after_bytes, small_bytes}
 use Rattle.crc32c.specs.Rows.{state_byte, leaves}
 use Rattle.crc32c.proofs.Steps.{bits_xor, bits_more, zero_bits, no_bits, byte_out, bytes_apart, bytes_more, first_apart, xor_swap}
 use Rattle.crc32c.proofs.Multiples.{joined, apart_zero, zip_xored}

@@ -1,5 +1,4 @@
 use Rattle.std.proofs.Common.{◌≡◌, ◌∙◌, ◌++◌, ap, sym, take, drop, replicate, arith, ◌+◌, ◌-◌, length, take-append-drop, length-take-le}
-use Rattle.std.proofs.lemmas.List.{drop-replicate}
 use Rattle.std.proofs.lemmas.Simd.{length-put_chunk}
 use Rattle.crc32c.specs.Division.{far, next_quotient}
 use Rattle.crc32c.proofs.Folding.{end_step, end_all, fits_far}

@@ -1,4 +1,4 @@
-use Rattle.std.proofs.Common.{◌∙◌, ◌++◌, ◌/◌, ◌%◌, ◌+◌, ap, length, arith, w8}
+use Rattle.std.proofs.Common.{◌∙◌, ◌++◌, ◌/◌, ap, length, arith, w8}
 use Rattle.std.proofs.lemmas.Simd.{below_from_Fits}
 use Rattle.crc32c.specs.Crc.{after_bytes}
 use Rattle.crc32c.proofs.RowStates.{row_begins, row_keeps, last_row}

@@ -1,4 +1,4 @@
-use Rattle.std.proofs.Common.{◌≡◌, ◌∙◌, ◌++◌, ◌%◌, ◌-◌, ℕ, ap, sym, take, drop, length, replicate, length-append, length-drop, arith}
+use Rattle.std.proofs.Common.{◌≡◌, ◌∙◌, ◌++◌, ◌-◌, ℕ, ap, sym, take, drop, length, replicate, length-append, length-drop, arith}
 use Rattle.std.specs.Int.Bits.{bit_xor}
 use Rattle.std.proofs.lemmas.Simd.{length-chunk, length-zip2, length-replicate}
 use lib.Lanes.{zip2, chunk}

@@ -1,4 +1,4 @@
-use Rattle.std.proofs.Common.{◌∙◌, ◌+◌, ◌-◌, ap, sym, subst, drop, take-take, arith, w8}
+use Rattle.std.proofs.Common.{◌∙◌, ◌-◌, ap, sym, subst, drop, take-take, arith, w8}
 use Rattle.std.proofs.lemmas.Simd.{swz_l, SwzOk}
 use Rattle.crc32c.specs.declared.rows.TheConstants.{MOVES}
 use Rattle.crc32c.proofs.RowMoves.{moves_ok, to_end_is}

@@ -1,4 +1,4 @@
-use Rattle.std.proofs.Common.{◌∙◌, ap, ap₂, get_or, ◌+◌, ◌*◌}
+use Rattle.std.proofs.Common.{◌∙◌, ap, ap₂, get_or}
 use Rattle.std.specs.Int.Bits.{bit_xor}
 use Rattle.crc32c.specs.Crc.{after_bits}
 use Rattle.crc32c.proofs.Steps.{four_of_list}
