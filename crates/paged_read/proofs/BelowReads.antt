@@ -1,6 +1,6 @@
 -- Reads of the bytes below a tail.
-use Rattle.std.proofs.Common.{◌≡◌, inl, inr, ℕ, ◌+◌, ◌*◌, ◌-◌, ◌<◌, ◌≤◌, List, [], ◌∷◌, ◌++◌, length, take, drop, refl, sym, ap, ◌∙◌, subst, arith, Ok, Err, Result, length-drop, append-nil, ◌≢◌, ◌^◌, true, false}
-use Rattle.std.specs.Prelude.{All, nat_eq}
+use Rattle.std.proofs.Common.{◌≡◌, inl, inr, ℕ, ◌+◌, ◌*◌, ◌-◌, ◌/◌, ◌<◌, ◌≤◌, List, [], ◌∷◌, ◌++◌, length, take, drop, refl, sym, ap, ◌∙◌, subst, arith, Ok, Err, Result, length-drop, append-nil, ◌≢◌, ◌^◌, true, false}
+use Rattle.std.specs.Prelude.{All, nat_eq, Option, None, cond, is_some, not}
 use Rattle.std.proofs.Math.Nat.{mul-le-mul_left}
 use Rattle.std.proofs.lemmas.Bool.{cases_lt}
 use Rattle.std.proofs.lemmas.Bool.Decides.{nat_tests}
@@ -8,7 +8,7 @@ use Rattle.std.proofs.lemmas.List.{length-map, length-take-le, take-append-drop,
 use borrow.Rule.Slice.PartMut.{post_of, Post-is}
 use Rattle.disk.specs.Disk.{Disk, Life}
 use Rattle.disk.specs.declared.error.Error.{Error}
-use Rattle.cache.specs.CacheState.{CacheState, IsPiece, ReadsCached, pieces_left, with_pieces}
+use Rattle.cache.specs.CacheState.{CacheState, held, IsMissing, IsPiece, ReadsCached, pieces_left, with_piece, with_pieces}
 use Rattle.cache.specs.declared.piece.Piece.{Piece}
 use Rattle.paged_read.specs.Tail.{Tail, told, CanRead}
 use Rattle.paged_read.specs.Ranges.{missing, slice, AsksForMissing}
@@ -66,6 +66,30 @@ module _ (t : Tail) (cache : CacheState) (offset len : ℕ) (some : 0 < t.page_s
   missing_read sum old new left pieces buf mid after (Err e) can size all is copied reads =
       let those : left ≡ pieces_left cache t.id (pieces_of t.page_size (offset, len) 0) = is ∙ ap (λ (l : List Piece). pieces_left cache t.id l) all in
       faults_missing sum cache t ((offset, len) ∷ []) (pages_of left) old new e (missing_pages cache t offset len 0 some below ∙ ap pages_of (sym those)) reads
+
+  -- where it lies in one page, which the cache lacks, that page is left, and nothing is copied
+  pub page_lacks : (page : ℕ) → page ≡ offset / t.page_size → 0 < len → offset + len < 2 ^ 64 → cache.page_size ≡ t.page_size → IsMissing cache t.id offset → held cache (t.id, page) ≡ None
+  page_lacks page here more fits size none = elim none [
+    | inl past ↦ absurd (omega (arith, past, more, fits))
+    | inr lacks ↦ ap (λ n. held cache (t.id, n)) here ∙ ap (λ P. held cache (t.id, offset / P)) (sym size) ∙ lacks
+  ]
+
+  pub only_left : (piece : Piece) → held cache (t.id, piece.page) ≡ None → pieces_left cache t.id (piece ∷ []) ≡ piece ∷ []
+  only_left piece lacks = ap (λ (o : Option (List ℕ)). cond (not (is_some o)) (piece ∷ []) []) lacks
+
+  pub only_is : (room : ℕ) (piece : Piece) → len ≤ room → pieces_of t.page_size (offset, len) 0 ≡ piece ∷ [] → IsPieceOf t room piece
+  only_is room piece fits is = subst (λ (l : List Piece). All (IsPieceOf t room) l) is (pieces_below t.page_size offset len some t room refl below fits) 0 piece (omega arith)
+
+  -- so one page is missing
+  pub only_many : (piece : Piece) → held cache (t.id, piece.page) ≡ None → pieces_of t.page_size (offset, len) 0 ≡ piece ∷ [] → length (missing cache t ((offset, len) ∷ [])) ≡ 1
+  only_many piece lacks is = sym left_many ∙ ap (λ (l : List Piece). length (pieces_left cache t.id l)) is ∙ ap length (only_left piece lacks)
+
+  -- and where it is read, the range is
+  pub only_read : (sum : List ℕ → ℕ) (old new : Life) (piece : Piece) (buf after : List ℕ) (result : Result (Unit {0}) Error) → CanRead t cache old.present → length buf ≡ len
+      → held cache (t.id, piece.page) ≡ None → pieces_of t.page_size (offset, len) 0 ≡ piece ∷ []
+      → ReadsPieces sum t (piece ∷ []) buf after old new result → ReadsBelow sum t cache (offset, len) after old new result
+  only_read sum old new piece buf after result can size lacks is reads =
+      missing_read sum old new (piece ∷ []) (piece ∷ []) buf buf after result can size (sym is) (sym (only_left piece lacks)) (ap (λ (o : Option (List ℕ)). with_piece o piece buf) (sym lacks)) reads
 
 -- ---- a part that the cache had, and the rest
 

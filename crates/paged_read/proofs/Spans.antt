@@ -1,5 +1,5 @@
 -- The pages that a range has bytes of.
-use Rattle.std.proofs.Common.{◌≡◌, inl, inr, ℕ, ◌+◌, ◌*◌, ◌/◌, ◌%◌, ◌<◌, ◌≤◌, arith}
+use Rattle.std.proofs.Common.{◌≡◌, inl, inr, ℕ, zero, suc, refl, ◌+◌, ◌*◌, ◌/◌, ◌%◌, ◌<◌, ◌≤◌, arith}
 use Rattle.std.proofs.Math.Nat.{div-add-mod', mod-lt, suc-mul, mul-le-mul_right, mul-le-mul_left, add-mul}
 use Rattle.std.proofs.lemmas.Bool.{cases_lt}
 use Rattle.std.proofs.lemmas.Bool.Decides.{nat_tests}
@@ -28,6 +28,15 @@ spans_of P offset len some =
       ends = omega (arith, whole, joined, reach.0);
       last = omega (arith, whole, joined, reach.1);
     }
+
+-- a range that ends in the page in which it begins lies in one
+pub one_span : (x P : ℕ) → 0 < x → x ≤ P → div_ceil x P ≡ 1
+one_span x P more fits = let reach = div_ceil_times x P (omega (arith, more, fits)) in by_count (div_ceil x P) reach.0 reach.1
+  where
+    by_count : (n : ℕ) → x ≤ n * P → n * P < x + P → n ≡ 1
+    by_count zero above below = absurd (omega (arith, more, above))
+    by_count (suc zero) above below = refl
+    by_count (suc (suc n)) above below = absurd (let h : 2 * P ≤ suc (suc n) * P = mul-le-mul_right P (omega arith) in omega (arith, h, below, fits))
 
 -- a page among them begins before the end of the range, and ends after its beginning
 pub spans_begin : (P offset len first count page : ℕ) → Spans P offset len first count → page < first + count → page * P < offset + len

@@ -1,13 +1,14 @@
 // Reads of the bytes below a tail, page by page.
 ghost use Rattle.std.specs.Prelude.{◌≡◌, ◌+◌, ◌*◌, ◌<◌, ◌≤◌, [], ◌∷◌, length, All};
 ghost use Rattle.std.specs.Int.NonZero.{non_zero_u16_get};
+ghost use Rattle.cache.specs.CacheState.{IsMissing};
 ghost use Rattle.paged_read.specs.Tail.{tail_at, IsView, CanRead};
 ghost use Rattle.paged_read.specs.Ranges.{LeavesAll, AsksForMissing, missing};
 ghost use Rattle.paged_read.specs.Parts.{IsPieceOf, ReadsPieces, ReadsBelow};
 
 use crate::View;
 use crate::full::read_page;
-use crate::pieces::push_pieces;
+use crate::pieces::{only_piece, push_pieces};
 use cache::{CacheRef, Piece};
 use disk::{Blob, Error};
 use page::Sum;
@@ -72,8 +73,9 @@ impl<B: Blob, H: Sum> View<'_, B, H> {
         Ok(())
     }
 
-    /// The bytes from `offset` on, all below the tip: those of pages that the cache holds are
-    /// copied first, since each page that is put then may take the place of one that is held.
+    /// The bytes from `offset` on, all below the tip, the first of which the cache doesn't hold.
+    /// Where they go on after its page, those of pages that the cache holds are copied first, since
+    /// each page that is put then may take the place of one that is held.
     fn read_missing(
         self,
         blob: &mut B,
@@ -86,6 +88,8 @@ impl<B: Blob, H: Sum> View<'_, B, H> {
             CanRead t cache.old (B.life blob.old).present }
         requires below { let t = tail_at self.page_size self.id self.tip.now in
             offset + length buf.old ≤ t.full_pages * t.page_size }
+        requires some { 0 < length buf.old }
+        requires lacks { IsMissing cache.old self.id offset }
         ensures reads { let t = tail_at self.entry.page_size self.entry.id self.entry.tip.now in
             let old = B.life blob.old in let new = B.life blob.new in
             ReadsBelow H.sum_of t cache.old (offset, length buf.old) buf.new old new result }
@@ -97,6 +101,9 @@ impl<B: Blob, H: Sum> View<'_, B, H> {
             LeavesAll t cache.old cache.new (B.life blob.old) (B.life blob.new) }
         ensures size { length buf.new ≡ length buf.old }
     {
+        if let Some(piece) = only_piece(self.page_size, offset, buf.len()) {
+            return self.read_piece(blob, cache, buf, piece);
+        }
         let mut pieces = Vec::new(self.alloc);
         push_pieces(&mut pieces, self.page_size, offset, buf.len(), 0)?;
         let left = cache.read_cached_many(self.id, buf, &pieces)?;

@@ -1,5 +1,6 @@
 // The pages of a range.
-ghost use Rattle.std.specs.Prelude.{◌≡◌, ◌+◌, ◌*◌, ◌<◌, ◌≤◌, ◌^◌, ◌++◌, OnOk, IsOkUnless};
+ghost use Rattle.std.specs.Prelude.{◌≡◌, ◌+◌, ◌*◌, ◌/◌, ◌<◌, ◌≤◌, ◌^◌, ◌++◌, ◌∷◌, []};
+ghost use Rattle.std.specs.Prelude.{IfSome, OnOk, IsOkUnless};
 ghost use Rattle.std.specs.Int.NonZero.{non_zero_u16_get};
 ghost use Rattle.paged_read.specs.Pieces.{piece_of, pieces_of};
 
@@ -26,6 +27,22 @@ fn piece_at(page_size: NonZeroU16, offset: u64, len: usize, buf_offset: usize, p
         buf_offset: buf_offset + (from - offset) as usize,
         len: (end - from) as usize,
     }
+}
+
+/// The bytes of a range that lies in one page, for a buffer in which it begins at 0: none where it
+/// goes on after the page in which it begins.
+pub(crate) fn only_piece(page_size: NonZeroU16, offset: u64, len: usize) -> Option<Piece>
+    requires addressable { offset + len < 2 ^ 64 }
+    requires some { 0 < len }
+    ensures { let P = non_zero_u16_get page_size in
+        IfSome result (λ piece. (piece.page ≡ offset / P)
+        × (pieces_of P (offset, len) 0 ≡ piece ∷ [])) }
+{
+    let size = u64::from(page_size.get());
+    if offset % size + len as u64 > size {
+        return None;
+    }
+    Some(piece_at(page_size, offset, len, 0, offset / size))
 }
 
 /// Adds the bytes of a range page by page, for a buffer in which it begins at `buf_offset`.

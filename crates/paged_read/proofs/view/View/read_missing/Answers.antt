@@ -1,4 +1,4 @@
-use Rattle.std.proofs.Common.{◌≡◌, ◌<◌, ◌∙◌, List, ◌++◌, length, sym, ap, subst, arith, refl}
+use Rattle.std.proofs.Common.{◌≡◌, ◌<◌, ◌+◌, ◌∙◌, List, ◌++◌, length, sym, ap, subst, arith, refl}
 use Rattle.std.specs.Prelude.{All}
 use Rattle.cache.specs.CacheState.{IsPiece, pieces_left}
 use Rattle.cache.specs.declared.piece.Piece.{Piece}
@@ -6,7 +6,7 @@ use Rattle.paged_read.specs.Tail.{tail_at}
 use Rattle.paged_read.specs.Pieces.{pieces_of}
 use Rattle.paged_read.specs.Parts.{IsPieceOf}
 use Rattle.paged_read.proofs.Leaving.{leaves_none}
-use Rattle.paged_read.proofs.BelowReads.{pieces_are, left_are, left_many, missing_read}
+use Rattle.paged_read.proofs.BelowReads.{pieces_are, left_are, left_many, missing_read, page_lacks, only_is, only_many, only_read, offsets_fit}
 use Rattle.paged_read.proofs.view.View.read_missing.Goals as goal
 
 pub returns-in_err-push_pieces-clause-leaves : goal.returns-in_err-push_pieces-clause-leaves
@@ -49,3 +49,25 @@ returns-clause-asks g c =
     let items : c.deref.result.now ≡ pieces_of t.page_size (c.args.offset, len) 0 = c.deref.ensures.value ∙ c.in_ok-push_pieces.ensures.ok ∙ ap (λ (l : List Piece). l ++ pieces_of t.page_size (c.args.offset, len) 0) c.new-pieces.ensures.items in
     let left : c.deref-2.result.now ≡ pieces_left c.args.cache.now t.id (pieces_of t.page_size (c.args.offset, len) 0) = c.deref-2.ensures.value ∙ c.in_ok-left.ensures.reads.0 ∙ ap (λ (l : List Piece). pieces_left c.args.cache.now t.id l) items in
     omega (arith, c.read_pieces.ensures.asks, ap length left, left_many t c.args.cache.now c.args.offset len some c.requires.below)
+
+pub read_piece-requires-clause-piece : goal.read_piece-requires-clause-piece
+read_piece-requires-clause-piece g c =
+    let t = tail_at c.args.self.page_size c.args.self.id c.args.self.tip.now in
+    only_is t c.args.cache.now c.args.offset (length c.args.buf.now) c.args.self.page_size.ok c.requires.below (length c.args.buf.now) c.in-Some.piece (omega arith) c.in-Some.ensures.1
+
+pub returns-in-Some-clause-reads : goal.returns-in-Some-clause-reads
+returns-in-Some-clause-reads g c =
+    let t = tail_at c.args.self.page_size c.args.self.id c.args.self.tip.now in
+    let len = length c.args.buf.now in
+    let fits = offsets_fit t.page_size t.full_pages (c.args.offset + len) c.requires.view.fits c.requires.below in
+    let lacks = page_lacks t c.args.cache.now c.args.offset len c.args.self.page_size.ok c.requires.below c.in-Some.piece.page c.in-Some.ensures.0 c.requires.some fits c.requires.can.page_size c.requires.lacks in
+    only_read t c.args.cache.now c.args.offset len c.args.self.page_size.ok c.requires.below g.H.Sum.sum_of (g.B.Blob.life c.args.blob.now) (g.B.Blob.life c.read_piece.new.blob) c.in-Some.piece c.args.buf.now c.read_piece.new.buf c.read_piece.result
+    c.requires.can refl lacks c.in-Some.ensures.1 c.read_piece.ensures.reads
+
+pub returns-in-Some-clause-asks : goal.returns-in-Some-clause-asks
+returns-in-Some-clause-asks g c =
+    let t = tail_at c.args.self.page_size c.args.self.id c.args.self.tip.now in
+    let len = length c.args.buf.now in
+    let fits = offsets_fit t.page_size t.full_pages (c.args.offset + len) c.requires.view.fits c.requires.below in
+    let lacks = page_lacks t c.args.cache.now c.args.offset len c.args.self.page_size.ok c.requires.below c.in-Some.piece.page c.in-Some.ensures.0 c.requires.some fits c.requires.can.page_size c.requires.lacks in
+    omega (arith, c.read_piece.ensures.asks, only_many t c.args.cache.now c.args.offset len c.args.self.page_size.ok c.requires.below c.in-Some.piece lacks c.in-Some.ensures.1)
