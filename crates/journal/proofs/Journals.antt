@@ -1,5 +1,5 @@
 -- What a journal's calls do, from what the writer's do.
-use Rattle.std.proofs.Common.{◌≡◌, inl, inr, ℕ, ◌+◌, ◌-◌, ◌*◌, ◌^◌, ◌<◌, ◌≤◌, List, [], ◌∷◌, ◌++◌, length, take, drop, refl, sym, ap, ap₂, ◌∙◌, subst, arith, append-nil, length-append, length-take, length-drop, min, Ok, Err, Result}
+use Rattle.std.proofs.Common.{◌≡◌, inl, inr, ℕ, ◌+◌, ◌-◌, ◌^◌, ◌<◌, ◌≤◌, List, [], ◌∷◌, ◌++◌, length, take, drop, refl, sym, ap, ap₂, ◌∙◌, subst, arith, append-nil, length-append, length-take, length-drop, min, Ok, Err, Result}
 use Rattle.std.specs.Prelude.{Option, Some, None, IfOk, OnOk, Vec}
 use Rattle.std.specs.Result.{IsErrAnd}
 use Rattle.std.specs.declared.alloc.Global.{Global}
@@ -21,8 +21,8 @@ use Rattle.writer_state.specs.Sound.{IsSound, LeavesItsContent, content}
 use Rattle.writer_state.specs.WriterState.{WriterState}
 use Rattle.crash.specs.Moments.{through_start, through_then, through_joins, through_end}
 use Rattle.paged_read.specs.Snapshots.{LeavesOthers, LeavesReads, LeavesTails}
-use Rattle.paged_read.specs.Tail.{Tail, CanRead}
-use Rattle.paged_read.specs.Ranges.{Reads, LeavesAll}
+use Rattle.paged_read.specs.Tail.{CanRead}
+use Rattle.paged_read.specs.Ranges.{LeavesAll}
 use Rattle.paged.specs.Caches.{tail_of, KeepsReads}
 use Rattle.paged.specs.Calls.{GoesOn, Appends, BuffersOver, Syncs, TryAppends}
 use Rattle.paged.specs.Reads.{size_of}

@@ -1,5 +1,4 @@
-use Rattle.std.proofs.Common.{◌≡◌, ◌∙◌, [], ◌∷◌, get_or, sym, ap, arith, nat_eq}
-use Rattle.std.specs.Int.{w32, from_be_bytes}
+use Rattle.std.proofs.Common.{◌∙◌, ap, arith, nat_eq}
 use Rattle.journal.proofs.Frames.{unmarked_before, marked_before}
 use Rattle.journal.proofs.frame.is_record_of.Goals as goal
 

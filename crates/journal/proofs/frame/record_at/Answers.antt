@@ -1,4 +1,4 @@
-use Rattle.std.proofs.Common.{◌≡◌, ◌+◌, ◌-◌, ◌++◌, ◌≤◌, ◌<◌, ◌∙◌, List, ℕ, Bool, true, length, take, drop, sym, ap, ap₂, refl, arith}
+use Rattle.std.proofs.Common.{◌≡◌, ◌+◌, ◌-◌, ◌++◌, ◌<◌, ◌∙◌, List, ℕ, true, length, take, drop, sym, ap, ap₂, refl, arith}
 use Rattle.std.specs.Prelude.{Some}
 use Rattle.journal.specs.Frame.{record_len, frame_len, is_record}
 use Rattle.journal.proofs.Frames.{front_is, record_of-after, record_of-none, record_of-short}

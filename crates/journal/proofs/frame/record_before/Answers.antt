@@ -1,4 +1,4 @@
-use Rattle.std.proofs.Common.{◌≡◌, ◌++◌, ◌∙◌, List, ℕ, length, sym, ap, subst}
+use Rattle.std.proofs.Common.{◌≡◌, ◌++◌, ◌∙◌, List, ℕ, length, sym, ap}
 use Rattle.journal.proofs.Frames.{record_of-before, record_of-none}
 use Rattle.journal.proofs.frame.record_before.Goals as goal
 

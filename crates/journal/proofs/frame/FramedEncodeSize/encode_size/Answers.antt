@@ -1,4 +1,4 @@
-use Rattle.std.proofs.Common.{◌+◌, length, arith}
+use Rattle.std.proofs.Common.{arith}
 use Rattle.journal.proofs.Frames.{length-frame}
 use Rattle.journal.proofs.frame.FramedEncodeSize.encode_size.Goals as goal
 

@@ -1,4 +1,4 @@
-use Rattle.std.proofs.Common.{◌≤◌, ℕ, length, arith, refl, Ok, Err, Result}
+use Rattle.std.proofs.Common.{◌≤◌, ℕ, arith, refl, Ok, Err, Result}
 use Rattle.bytes.specs.Filled.{UsesSpare}
 use Rattle.std.specs.Prelude.{IsOk}
 use Rattle.journal.proofs.Frames.{length-frame}

@@ -1,6 +1,6 @@
 use Rattle.crash.specs.Moments.{through_start}
 use Rattle.journal.specs.Journal.{Commits}
-use Rattle.std.proofs.Common.{◌≡◌, ◌++◌, ◌∷◌, [], List, ℕ, ap, subst, sym, ◌∙◌}
+use Rattle.std.proofs.Common.{◌≡◌, ◌++◌, ◌∷◌, [], List, ℕ, subst, sym, ◌∙◌}
 use Rattle.writer_state.specs.Sound.{content}
 use Rattle.writer_state.specs.WriterState.{WriterState}
 use Rattle.crash.specs.Stays.{KeepsAllFloors, LeavesOnly}
