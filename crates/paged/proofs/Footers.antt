@@ -54,6 +54,32 @@ with_footers-built sum P durable (page ∷ pages) are =
     ∙ ap (λ bytes. page_of sum P durable bytes ++ built sum P None (length pages) (concat pages)) (sym (take_at page (concat pages) P full))
     ∙ ap (λ bytes. page_of sum P durable (take P (page ++ concat pages)) ++ built sum P None (length pages) bytes) (sym (drop_at page (concat pages) P full))
 
+-- a page and its footer are the first of those that are left
+with_first : (sum : List ℕ → ℕ) (durable : Option ActiveChecksum) (page : List ℕ) (pages : List (List ℕ)) → with_footers (page ∷ pages) (footers_of sum durable (page ∷ pages))
+    ≡ page ++ footer (kept_slot durable) (kept_bytes durable) (slot_bytes (length page) (sum page)) ++ with_footers pages (footers_of sum None pages)
+with_first sum durable page pages =
+    let f = footer (kept_slot durable) (kept_bytes durable) (slot_bytes (length page) (sum page)) in
+    let fs = footers_of sum None pages in
+    let size = length-footer durable (length page) (sum page) in
+    ap (λ bytes. page ++ bytes ++ with_footers pages (drop 12 (f ++ fs))) (take_at f fs 12 size)
+    ∙ ap (λ bytes. page ++ f ++ with_footers pages bytes) (drop_at f fs 12 size)
+
+-- one page more, with its footer, where both are copied
+pub copied_next : (sum : List ℕ → ℕ) (durable : Option ActiveChecksum) (pages : List (List ℕ)) (i : ℕ) (page footer_more out between next first : List ℕ) → i < length pages → page ≡ get_or pages i page
+    → footer_more ≡ footer (kept_slot durable) (kept_bytes durable) (slot_bytes (length page) (sum page)) → between ≡ out ++ page → next ≡ between ++ footer_more
+    → out ++ with_footers (drop i pages) (footers_of sum durable (drop i pages)) ≡ first → next ++ with_footers (drop (i + 1) pages) (footers_of sum None (drop (i + 1) pages)) ≡ first
+copied_next sum durable pages i page footer_more out between next first below is more joined then before =
+    let rest = drop (i + 1) pages in
+    let f = footer (kept_slot durable) (kept_bytes durable) (slot_bytes (length page) (sum page)) in
+    let others = with_footers rest (footers_of sum None rest) in
+    ap (λ bytes. bytes ++ others) (then ∙ ap (λ bytes. bytes ++ footer_more) joined ∙ ap (λ bytes. (out ++ page) ++ bytes) more)
+    ∙ ap (λ bytes. bytes ++ others) (append_assoc out page f)
+    ∙ append_assoc out (page ++ f) others
+    ∙ ap (λ bytes. out ++ bytes) (sym (with_first sum durable page rest))
+    ∙ ap (λ p. out ++ with_footers (p ∷ rest) (footers_of sum durable (p ∷ rest))) is
+    ∙ ap (λ bytes. out ++ bytes) (sym (at_drop_more (λ ps. with_footers ps (footers_of sum durable ps)) pages i page below))
+    ∙ before
+
 -- one footer more
 pub footers_next : (sum : List ℕ → ℕ) (durable : Option ActiveChecksum) (pages : List (List ℕ)) (i : ℕ) (page footer_more out next first : List ℕ) → i < length pages → page ≡ get_or pages i page
     → footer_more ≡ footer (kept_slot durable) (kept_bytes durable) (slot_bytes (length page) (sum page)) → next ≡ out ++ footer_more

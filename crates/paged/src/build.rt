@@ -154,9 +154,49 @@ fn with_footers(alloc: Global, pages: Vec<IoBuf>, footers: &IoBuf) -> Result<IoB
     Ok(bufs)
 }
 
+/// The most bytes of a page that is copied beside its footer: a copy of so few costs less than two
+/// buffers of a list, the page's bytes where they stand and its footer.
+const MOST_COPIED: usize = 128;
+
+/// The bytes of the first of these pages, where they are so few that it is copied, and the others
+/// with it.
+fn copied_size(pages: &[IoBuf]) -> Option<usize> {
+    let size = pages.first()?.len();
+    (size <= MOST_COPIED).then_some(size)
+}
+
+/// The physical pages of full pages, as [`physical_pages`] gives them, copied to one buffer, which
+/// is made for pages of so many bytes; in a list with room for one buffer more. `OutOfMemory`
+/// alone.
+fn copied_pages<H: Sum>(
+    alloc: Global,
+    mut durable: Option<ActiveChecksum>,
+    mut known: Option<ActiveChecksum>,
+    pages: &[IoBuf],
+    size: usize,
+) -> Result<IoBufs, Error>
+    requires small { All (λ page. length page < 2 ^ 16) pages.now }
+    requires known { TellsFirstPage H.sum_of known pages.now }
+    ensures bytes { IfOk result (λ bufs.
+        concat bufs ≡ with_footers pages.now (footers_of H.sum_of durable pages.now)) }
+    ensures err { IsOkUnless result Error.OutOfMemory }
+{
+    let room = size.saturating_add(FOOTER).saturating_mul(pages.len());
+    let mut out = Vec::with_capacity(alloc, room)?;
+    for page in pages {
+        let new = new_slot::<H>(durable, known, page.as_ref());
+        out.extend_from_slice(page.as_ref())?;
+        out.extend_from_slice(&footer_with(durable, new).to_bytes())?;
+        (durable, known) = (None, None);
+    }
+    let mut bufs = IoBufs::with_capacity(alloc, 2)?;
+    bufs.append(IoBuf::from(Bytes::from_vec(out)?))?;
+    Ok(bufs)
+}
+
 /// The physical pages of full pages, of which the first repeats the durable slot, and begins with
-/// what the known one tells, where there is one. The pages aren't copied, and their footers are
-/// parts of one buffer. `OutOfMemory` alone.
+/// what the known one tells, where there is one. The pages aren't copied, unless they are small,
+/// and their footers are parts of one buffer. `OutOfMemory` alone.
 pub(crate) fn physical_pages<H: Sum>(
     alloc: Global,
     durable: Option<ActiveChecksum>,
@@ -169,6 +209,9 @@ pub(crate) fn physical_pages<H: Sum>(
         concat bufs ≡ with_footers pages.items (footers_of H.sum_of durable pages.items)) }
     ensures err { IsOkUnless result Error.OutOfMemory }
 {
+    if let Some(size) = copied_size(&pages) {
+        return copied_pages::<H>(alloc, durable, known, &pages, size);
+    }
     let footers = footers_of::<H>(alloc, durable, known, &pages)?;
     with_footers(alloc, pages, &IoBuf::from(Bytes::from_vec(footers)?))
 }
