@@ -214,7 +214,7 @@ fn follow_round<H: Sum>(
     Ok(())
 }
 
-/// So many records of a reader.
+/// So many records of a reader. `BlobInsufficientLength` where it ends before the last one.
 fn go_through<B: Blob, H: Sum>(
     reader: &mut Reader<B, H, H>,
     blob: &mut B,
@@ -229,7 +229,7 @@ fn go_through<B: Blob, H: Sum>(
     for _ in 0..count {
         match reader.next(blob, cache)? {
             Some(record) => digest.bytes(record.as_ref()),
-            None => break,
+            None => return Err(Error::BlobInsufficientLength),
         }
     }
     Ok(())

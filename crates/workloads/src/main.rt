@@ -3,7 +3,7 @@
 //! two builds of it.
 //!
 //! `workloads NAME SEED` plays one: `commit`, `open`, `load`, `lookup`, `serve` or `small`. With no
-//! word it plays a little of each, and prints how much that was.
+//! word it plays a little of each, with the seed 1.
 #![tactic(auto)]
 
 mod commit;
@@ -79,12 +79,18 @@ fn plan(seed: u64, bytes: u64, rounds: u64) -> Plan {
     }
 }
 
+/// Plays a job, and prints how much it was, and the digest.
+fn play_and_print(rt: &HostRuntime, name: &str, job: Job, plan: &Plan) -> Result<()> {
+    let mut digest = Digest::new();
+    let count = play(rt.alloc(), job, plan, &mut digest)?;
+    println!(rt; "{name}: {count}, {:016x}", digest.value())?;
+    Ok(())
+}
+
 /// Plays a little of each job.
 fn play_little(rt: &HostRuntime) -> Result<()> {
     for (name, job, _, _) in JOBS {
-        let mut digest = Digest::new();
-        let count = play(rt.alloc(), job, &plan(1, LITTLE, 1), &mut digest)?;
-        println!(rt; "{name}: {count}")?;
+        play_and_print(rt, name, job, &plan(1, LITTLE, 1))?;
     }
     Ok(())
 }
@@ -93,9 +99,7 @@ fn play_little(rt: &HostRuntime) -> Result<()> {
 fn play_named(rt: &HostRuntime, wanted: &str, seed: u64) -> Result<bool> {
     for (name, job, bytes, rounds) in JOBS {
         if name == wanted {
-            let mut digest = Digest::new();
-            let count = play(rt.alloc(), job, &plan(seed, bytes, rounds), &mut digest)?;
-            println!(rt; "{name}: {count}, {:016x}", digest.value())?;
+            play_and_print(rt, name, job, &plan(seed, bytes, rounds))?;
             return Ok(true);
         }
     }

@@ -2,12 +2,12 @@
 use crate::digest::Digest;
 use crate::random::{Random, Records};
 use crate::stage::Plan;
-use anyhow::Result;
+use anyhow::{Result, bail};
 use disk::VecBlob;
 use page::Sum;
 use protocol::{Setting, serve_file};
 use std::alloc::{AllocError, Global};
-use std::io::{BufReader, BufWriter, Write};
+use std::io::{BufReader, BufWriter, Read, Write};
 
 /// The requests of a client that goes on over what it has appended.
 #[derive(Drop)]
@@ -161,7 +161,8 @@ pub fn play_serve<H: Sum>(alloc: Global, plan: &Plan, digest: &mut Digest) -> Re
     Ok(plan.rounds.saturating_mul(count))
 }
 
-// Serves an empty blob, and answers the memory of the answers, for those of the next one.
+// Serves an empty blob, and answers the memory of the answers, for those of the next one. A session
+// that ends before its last request is an error.
 fn serve_once<H: Sum>(
     alloc: Global,
     plan: &Plan,
@@ -180,7 +181,13 @@ fn serve_once<H: Sum>(
     let ended = serve_file::<VecBlob, H, _, _>(
         alloc, &mut blob, &setting, "", &mut input, &mut out,
     );
-    digest.number(ended.map_or_else(|stop| u64::from(stop.status()), |()| 0));
+    match ended {
+        Ok(()) => digest.number(0),
+        Err(stop) => bail!("the session ended early: {stop}"),
+    }
+    if input.read(&mut [0; 1])? != 0 {
+        bail!("the session ended before its last request");
+    }
     out.flush()?;
     let (answers, _) = out.into_parts();
     digest.bytes(&answers);
