@@ -80,7 +80,7 @@ states : List ℕ
 states = map (λ j. after_bits 104 (bits_of j)) (range_with_len 0 32)
 
 -- the code's tables are these
-are_rows : ROWS ≡ rows_of 40 states
+are_rows : ROWS ≡ rows_of 39 states
 unfolding rows_of row_of states bits_of after_bits
 are_rows = refl
 
@@ -100,7 +100,7 @@ row_at (suc n) zero l d less = ap row_of (now l)
 row_at (suc n) (suc k) l d less = row_at n k (map (after_bits 128) l) d (omega arith) ∙ ap row_of (later k l)
 
 -- an entry of a row's tables
-entry : (k index i : ℕ) (d : List ℕ) → k < 40 → index < 4 → i < 32 → get_or (get_or ROWS k d) (32 * index + i) 0 ≡ state_byte (128 * k + 104) index (bits_of i)
+entry : (k index i : ℕ) (d : List ℕ) → k < 39 → index < 4 → i < 32 → get_or (get_or ROWS k d) (32 * index + i) 0 ≡ state_byte (128 * k + 104) index (bits_of i)
 unfolding states row_of
 entry k index i d few less small =
     let high : (32 * index + i) / 32 ≡ index = omega arith in
@@ -113,18 +113,18 @@ entry k index i d few less small =
     ∙ get_or-map-range_with_len g 0 32 i i 0 small (omega arith)
     ∙ sym (bits_more 104 (128 * k) (bits_of i)) ∙ ap (λ n. after_bits n (bits_of i)) e in
     ap (λ (l : List (List ℕ)). get_or (get_or l k d) (32 * index + i) 0) are_rows
-    ∙ ap (λ (l : List ℕ). get_or l (32 * index + i) 0) (row_at 40 k states d few)
+    ∙ ap (λ (l : List ℕ). get_or l (32 * index + i) 0) (row_at 39 k states d few)
     ∙ get_or-map-range_with_len (λ j. byte_of (j / 32) (get_or all (j % 32) 0)) 0 128 (32 * index + i) (32 * index + i) 0 (omega arith) (omega arith)
     ∙ ap₂ (λ a b. byte_of a (get_or all b 0)) high low ∙ ap (byte_of index) of_all
 
-in_low : (k index i : ℕ) (d : List ℕ) → k < 40 → index < 4 → i < 16 → get_or (get_or ROWS k d) (32 * index + i) 0 ≡ state_byte (128 * k + 104) index i
+in_low : (k index i : ℕ) (d : List ℕ) → k < 39 → index < 4 → i < 16 → get_or (get_or ROWS k d) (32 * index + i) 0 ≡ state_byte (128 * k + 104) index i
 unfolding bits_of
 in_low k index i d few less small =
     let zeroth : i / 16 ≡ 0 = omega arith in
     let same : i % 16 * 1 ≡ i = omega arith in
     entry k index i d few less (omega arith) ∙ ap (state_byte (128 * k + 104) index) (ap (λ q. i % 16 * 16 ^ q) zeroth ∙ same)
 
-in_high : (k index i : ℕ) (d : List ℕ) → k < 40 → index < 4 → i < 16 → get_or (get_or ROWS k d) (32 * index + 16 + i) 0 ≡ state_byte (128 * k + 104) index (16 * i)
+in_high : (k index i : ℕ) (d : List ℕ) → k < 39 → index < 4 → i < 16 → get_or (get_or ROWS k d) (32 * index + 16 + i) 0 ≡ state_byte (128 * k + 104) index (16 * i)
 unfolding bits_of
 in_high k index i d few less small =
     let j = 16 + i in
@@ -161,7 +161,7 @@ of_first low high v all =
     map_same _ _ v all (λ x small. ap₂ bit_xor (get_or-take 16 low (x % 16) 0 (omega arith)) (get_or-take 16 high (x / 16) 0 (omega arith)))
 
 -- the look-ups of a row in the tables of so many rows
-pub of_row : (k index : ℕ) (v d : List ℕ) → Each1 (λ x. x < 256) v → k < 40 → index < 4
+pub of_row : (k index : ℕ) (v d : List ℕ) → Each1 (λ x. x < 256) v → k < 39 → index < 4
     → map (λ x. bit_xor (get_or (take (128 - 32 * index) (drop (32 * index) (get_or ROWS k d))) (x % 16) 0) (get_or (take (128 - (32 * index + 16)) (drop (32 * index + 16) (get_or ROWS k d))) (x / 16) 0)) v
     ≡ map (state_byte (128 * k + 104) index) v
 of_row k index v d all few less =

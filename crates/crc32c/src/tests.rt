@@ -15,13 +15,13 @@ fn bit_by_bit(bytes: &[u8]) -> u32 {
     !state
 }
 
-// The vectors are those of RFC 3720, B.4, and the check of the nine digits.
 // The checksum that goes on from that of the first bytes.
 fn in_two(bytes: &[u8], known: usize) -> u32 {
     let known = known.min(bytes.len());
     Crc32c::sum_from(bytes, known, Crc32c::sum(&bytes[..known]))
 }
 
+// The vectors are those of RFC 3720, B.4, and the check of the nine digits.
 #[test]
 fn checks(rt: HostRuntime) {
     let mut command = [0u8; 48];

@@ -1,5 +1,6 @@
 pub mod Apart
 pub mod Below
+pub mod NameLaws
 pub mod StepLaws
 pub mod AppendLaws
 pub mod SyncLaws

@@ -1,10 +1,9 @@
 -- What the steps on started syncs do, and the end of a recovery.
-use Rattle.std.proofs.Common.{◌≡◌, ◌⊎◌, ℕ, zero, suc, ◌+◌, ◌<◌, ◌≤◌, List, [], ◌∷◌, ◌++◌, length, slice_get, refl, sym, ap, ◌∙◌, subst, arith, append-nil, length-append, inl, inr, Bool, true, false, Ok, Err, Result, lit<, lit≤}
+use Rattle.std.proofs.Common.{◌≡◌, ◌⊎◌, ℕ, zero, suc, ◌+◌, ◌<◌, ◌≤◌, List, [], ◌∷◌, length, slice_get, refl, sym, ap, ◌∙◌, subst, arith, append-nil, length-append, inl, inr, Bool, true, false, Ok, Err, Result, lit<, lit≤}
 use Rattle.std.specs.Prelude.{All, Option, Some, None, nat_le, nat_lt, nat_eq, drop, ◌-◌, if◌then◌else◌, is_some, IfOk, ◌||◌}
-use Rattle.std.specs.List.{Contains, list_any}
+use Rattle.std.specs.List.{Contains}
 use Rattle.std.proofs.lemmas.Bool.{false≢true}
 use Rattle.std.proofs.lemmas.Bool.Decides.{nat_tests}
-use Rattle.std.proofs.lemmas.List.Folds.{list_any-append}
 use Rattle.disk.specs.Disk.{Disk, Life, WaitSync as WaitCall, next, life_after, logged, coverings, disk_settled_to, failed_at, WaitGoes}
 use Rattle.disk.specs.declared.started_sync.StartedSync.{StartedSync}
 use Rattle.disk.specs.declared.started_sync.StartedSync.TheVariants.{Done as AllDone, Named}
@@ -27,10 +26,11 @@ use Rattle.session.specs.declared.steps.Reply.{Reply}
 use Rattle.session.specs.declared.steps.Reply.TheVariants.{At, Nothing, Done, Started, Answer, Length, Bytes, Fault, Closed, NotRecovering, NoSuch, Served, Missed, BadRanges, Taken, Sealed, NotAppending, Replaying}
 use Rattle.session.specs.Run.{Replayed, Standing, SessionState, ended, starting, waited, started_by, is_complete, HasCompleted, turned_away, Answers, faults, HasCause, HadFailed, Takes, wait_touch, last, Touches, AllCover, pending_in, WriterStandsFor, WriterFits, NamesFit, HasSoundWriter}
 use Rattle.session.specs.Run.Touch.{Leaves, Changes}
-use Rattle.session.specs.Calls.{KeepsRest, StartSays, names_after, Starts, WaitSays, Waits, WaitsFor, is_given, NeedsSync as SaysNeeds, Begins, KeepsSnapshots}
+use Rattle.session.specs.Calls.{KeepsRest, StartSays, names_after, with_name, Starts, WaitSays, Waits, WaitsFor, is_given, NeedsSync as SaysNeeds, Begins, KeepsSnapshots}
 use Rattle.session.proofs.StepLaws.{held, held_same, last_is, no_moments, answers_away, answers_here, turned_here, turned_closed, leaves, few_calls, raised_within, only_there, Halves, each_end, stepped, unasked, stands_now, stands_ended}
 use Rattle.session.proofs.AppendLaws.{written_no_work, needs_is, had_failed_as, wait_none, wait_one, owed_starts}
 use Rattle.session.proofs.SyncLaws.{same_halves, left_buffered, synced_stands}
+use Rattle.session.proofs.NameLaws.{given_with}
 use Rattle.session.proofs.SessionLaws.{closed_takes, held_takes, sound_of, same_rest}
 use Rattle.session.proofs.Apart.{AlwaysApart, IsReadyApart, StandsApart, SteppedApart, StepsApart}
 
@@ -79,14 +79,8 @@ written_started false AllDone state idle is = sym (ap (λ (s : SyncState). nat_e
 written_started false (Named name) state idle is = sym (ap (λ (s : SyncState). nat_eq (unstarted_calls s) 0) is)
 
 -- one name more
-pub name_more : (names : List ℕ) (covers : List (ℕ × ℕ)) (name cover : ℕ) → NamesFit names covers → NamesFit (names ++ name ∷ []) ((name, cover) ∷ covers)
-name_more names covers name cover fits = λ asked. list_any-append (λ (n : ℕ). nat_eq n asked) names (name ∷ []) ∙ ap (λ (b : Bool). b || (nat_eq name asked || false)) (fits asked) ∙ turned (list_any (λ (c : ℕ × ℕ). nat_eq c.0 asked) covers) (nat_eq name asked)
-  where
-    turned : (a b : Bool) → (a || (b || false)) ≡ (b || a)
-    turned true true = refl
-    turned true false = refl
-    turned false true = refl
-    turned false false = refl
+pub name_more : (names : List ℕ) (covers : List (ℕ × ℕ)) (name cover : ℕ) → NamesFit names covers → NamesFit (with_name name names) ((name, cover) ∷ covers)
+name_more names covers name cover fits = λ asked. given_with names name asked ∙ ap (λ (b : Bool). nat_eq name asked || b) (fits asked)
 
 -- the touch of starting a sync
 start_touch : (w : WriterState) (P : ℕ) (before : Standing) (old new : Life) (moments : List Disk) → WriterStandsFor P w before old.present → new ≡ life_after old moments → length new.present.log ≤ length old.present.log + start_calls w
@@ -130,7 +124,7 @@ started_stands sum P was w v (Named name) old new before moments sound stands sa
     let newest : WouldKeep sum P before.content name (length before.content) new.present =
     subst (λ (n : ℕ). WouldKeep sum n before.content name (length before.content) new.present) fits.page_size
     (subst (λ (l : List ℕ). WouldKeep sum w.page_size l name (length l) new.present) (sym fits.content) s.3) in
-    stands_now sum P (record was { names = was.names ++ name ∷ [] }) v old new (starting P (Named name) before)
+    stands_now sum P (record was { names = with_name name was.names }) v old new (starting P (Named name) before)
     (record {
       page_size = goes.same.page_size ∙ fits.page_size;
       has_writer = fits.has_writer;

@@ -4,7 +4,8 @@ use Rattle.std.specs.Prelude.{length, Bool}
 use Rattle.std.specs.Prelude.{true, false, nat_eq, nat_lt, Option, Some, None, Result, Ok, Err}
 use Rattle.std.specs.Prelude.{IfOk, OnOk, take, min, nat_le, ◌&&◌, slice_set, map, is_some}
 use Rattle.std.specs.Prelude.{if◌then◌else◌}
-use Rattle.std.specs.List.{concat, list_any}
+use Rattle.std.specs.List.{concat, insert, list_any}
+use Rattle.std.specs.List.Sorted.{IsStrictlyIncreasing}
 use Rattle.disk.specs.Disk.{Disk, HasFailed, Life, life_after, WaitGoes}
 use Rattle.disk.specs.declared.started_sync.StartedSync.{StartedSync}
 use Rattle.disk.specs.declared.started_sync.StartedSync.TheVariants.{Done as AllDone, Named}
@@ -147,10 +148,24 @@ pub record StartSays (sum : List ℕ → ℕ) (w : WriterState) (old new : Life)
   pub fresh : 0 < start_calls w → IfOk result (λ r. r.1 ≡ Named (length old.present.started))
   pub owes : OwesStarts sum w old new
 
+-- these names, which are in order, with this one in its place, once
+abbrev pub with_name : (name : ℕ) → List ℕ → List ℕ
+with_name name [] = name ∷ []
+with_name name (n ∷ names) =
+    if nat_lt n name
+    then n ∷ with_name name names
+    else (if nat_eq n name then n ∷ names else name ∷ n ∷ names)
+
+-- a name that isn't one of these, which are in order, goes to this place among them
+pub record IsPlaceOf (names : List ℕ) (name : ℕ) (place : ℕ) : Type 0 where
+  pub within : place ≤ length names
+  pub is : with_name name names ≡ insert names place name
+  pub order : IsStrictlyIncreasing (insert names place name)
+
 -- the names once one more was given, or none
 abbrev pub names_after : StartedSync → List ℕ → List ℕ
 names_after AllDone names = names
-names_after (Named name) names = names ++ name ∷ []
+names_after (Named name) names = with_name name names
 
 -- there was no memory for the name: nothing was done
 pub record NamesHadNoRoom (e : Error) (w : WriterState) (now : Option WriterState)

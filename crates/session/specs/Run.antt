@@ -684,8 +684,8 @@ Ran sum P (step ∷ steps) [] from moments s after = ⊥
 
 -- ---- what a session has
 
--- as contracts see it: the syncs by their names, and the snapshots and the replays, the oldest
--- first; none in the place of one that was let go, or of a replay that was forgotten
+-- as contracts see it: the names of the syncs, in order, and the snapshots and the replays, the
+-- oldest first; none in the place of one that was let go, or of a replay that was forgotten
 pub record SessionState : Type 0 where
   pub writer : Option WriterState
   pub recovering : Bool

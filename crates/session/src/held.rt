@@ -13,6 +13,7 @@ ghost use Rattle.session.specs.Calls.{IsOfEither, TakenBy};
 ghost use Rattle.cache.specs.CacheState.{CacheState};
 ghost use Rattle.session.specs.Run.{FitsOn, FitsWriter, HasSoundWriter, KeepsCache};
 
+use crate::names::Names;
 use crate::steps::{Reply, Step};
 use cache::CacheRef;
 use disk::{Blob, Error, IoBuf, StartedSync};
@@ -78,7 +79,7 @@ impl<B: Blob, H: Sum, Phase> Held<B, H, Phase> {
     /// that the session started.
     pub(crate) fn step(
         &mut self,
-        names: &mut Vec<u64>,
+        names: &mut Names,
         blob: &mut B,
         cache: &mut CacheRef,
         step: &Step,
@@ -194,7 +195,7 @@ impl<B: Blob, H: Sum, Phase> Held<B, H, Phase> {
     }
 
     // Room for the name is made first: refused there, nothing is started and the writer stays.
-    fn start_sync(&mut self, names: &mut Vec<u64>, blob: &mut B, cache: &mut CacheRef) -> Reply
+    fn start_sync(&mut self, names: &mut Names, blob: &mut B, cache: &mut CacheRef) -> Reply
         requires sound { HasSoundWriter H.sum_of self.old (B.life blob.old).present }
         requires cached { FitsWriter self.old cache.old (B.life blob.old).present }
         ensures goes { let old = B.life blob.old in let new = B.life blob.new in
@@ -207,7 +208,7 @@ impl<B: Blob, H: Sum, Phase> Held<B, H, Phase> {
         let Some(writer) = self.writer.take() else {
             return Reply::Closed;
         };
-        if names.try_reserve(1).is_err() {
+        if names.make_room().is_err() {
             self.writer = Some(writer);
             return Reply::Fault(Error::OutOfMemory);
         }
@@ -215,7 +216,7 @@ impl<B: Blob, H: Sum, Phase> Held<B, H, Phase> {
             Ok((writer, started)) => {
                 self.writer = Some(writer);
                 if let StartedSync::Named(name) = started {
-                    names.push_reserved(name);
+                    names.add(name);
                 }
                 Reply::Started(started)
             }

@@ -4,6 +4,7 @@
 
 mod drops;
 mod held;
+mod names;
 mod reads;
 mod recoveries;
 mod replays;

@@ -16,6 +16,7 @@ ghost use Rattle.session.specs.Calls.{KeepsUncut};
 ghost use Rattle.session.specs.Calls.{LeavesTaken, Steps, TakenBy, Truncated, WaitsFor};
 
 use crate::held::Held;
+use crate::names::Names;
 use crate::replays::forget;
 use crate::steps::{Reply, Step};
 use cache::CacheRef;
@@ -40,7 +41,7 @@ pub struct Session<B, H> {
     // The writer, while it is in recovery, and once it appends.
     pub(crate) recovery: Held<B, H, Recovering>,
     pub(crate) appending: Held<B, H, Append>,
-    pub(crate) names: Vec<u64>,
+    pub(crate) names: Names,
     // None in the place of one that was let go, or of a replay that was forgotten.
     pub(crate) snapshots: Vec<Option<Sealed<B, H>>>,
     pub(crate) replays: Vec<Option<Replay<B, H>>>,
@@ -70,7 +71,7 @@ impl<B, H> Session<B, H> {
             recovering: false,
             recovery: Held::none(alloc),
             appending: Held::none(alloc),
-            names: Vec::new(alloc),
+            names: Names::new(alloc),
             snapshots: Vec::new(alloc),
             replays: Vec::new(alloc),
         }
@@ -94,7 +95,7 @@ impl<B: Blob, H: Sum> Session<B, H> {
                 writer: Some(writer),
             },
             appending: Held::none(alloc),
-            names: Vec::new(alloc),
+            names: Names::new(alloc),
             snapshots: Vec::new(alloc),
             replays: Vec::new(alloc),
         }
@@ -170,7 +171,7 @@ impl<B: Blob, H: Sum> Session<B, H> {
             → LeavesAllTails H.sum_of cache cache (B.life blob.old) (B.life blob.new) }
         ensures replays { LeavesAllReplays (B.life blob.old) (B.life blob.new) }
     {
-        if !is_among(&self.names, name) {
+        if !self.names.has(name) {
             return Reply::NoSuch;
         }
         match wait_sync::<B, H>(blob, StartedSync::Named(name)) {
@@ -243,25 +244,6 @@ impl<B: Blob, H: Sum> Session<B, H> {
             Err(error) => Reply::Fault(error),
         }
     }
-}
-
-// Whether this name is one of these. It is sought from both ends, by runs that double: most are
-// waited for soon after they were given.
-fn is_among(names: &[u64], name: u64) -> bool
-    ensures { result ≡ is_given names.now name }
-{
-    let mut left = names;
-    let mut count = 1;
-    while count < left.len() / 2 {
-        let (first, rest) = left.split_at(count);
-        let (between, last) = rest.split_at(rest.len() - count);
-        if last.contains(&name) || first.contains(&name) {
-            return true;
-        }
-        left = between;
-        count *= 2;
-    }
-    left.contains(&name)
 }
 
 /// Takes the steps in order over the session's blob, and adds one reply a step to `replies`. The

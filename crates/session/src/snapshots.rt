@@ -101,7 +101,7 @@ impl<B: Blob, H: Sum> Session<B, H> {
         let Some(writer) = self.appending.writer.take() else {
             return Reply::Closed;
         };
-        if self.snapshots.try_reserve(1).is_err() || self.names.try_reserve(1).is_err() {
+        if self.snapshots.try_reserve(1).is_err() || self.names.make_room().is_err() {
             self.appending.writer = Some(writer);
             return Reply::Fault(Error::OutOfMemory);
         }
@@ -110,7 +110,7 @@ impl<B: Blob, H: Sum> Session<B, H> {
                 let index = self.snapshots.len();
                 self.snapshots.push_reserved(Some(snapshot));
                 if let StartedSync::Named(name) = started {
-                    self.names.push_reserved(name);
+                    self.names.add(name);
                 }
                 Reply::Sealed(index, started)
             }
