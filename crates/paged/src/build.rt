@@ -158,7 +158,7 @@ fn with_footers(alloc: Global, pages: Vec<IoBuf>, footers: &IoBuf) -> Result<IoB
 /// buffers of a list, the page's bytes where they stand and its footer.
 const MOST_COPIED: usize = 128;
 
-/// The physical pages of full pages, as [`pages_in_place`] gives them, copied to one buffer, which
+/// The physical pages of full pages, as [`physical_pages`] gives them, copied to one buffer, which
 /// is made for pages of so many bytes; in a list with room for one buffer more. `OutOfMemory`
 /// alone.
 fn copied_pages<H: Sum>(
@@ -188,26 +188,8 @@ fn copied_pages<H: Sum>(
 }
 
 /// The physical pages of full pages, of which the first repeats the durable slot, and begins with
-/// what the known one tells, where there is one. The pages aren't copied, and their footers are
-/// parts of one buffer. `OutOfMemory` alone.
-pub(crate) fn pages_in_place<H: Sum>(
-    alloc: Global,
-    durable: Option<ActiveChecksum>,
-    known: Option<ActiveChecksum>,
-    pages: Vec<IoBuf>,
-) -> Result<IoBufs, Error>
-    requires small { All (λ page. length page < 2 ^ 16) pages.items }
-    requires known { TellsFirstPage H.sum_of known pages.items }
-    ensures bytes { IfOk result (λ bufs.
-        concat bufs ≡ with_footers pages.items (footers_of H.sum_of durable pages.items)) }
-    ensures err { IsOkUnless result Error.OutOfMemory }
-{
-    let footers = footers_of::<H>(alloc, durable, known, &pages)?;
-    with_footers(alloc, pages, &IoBuf::from(Bytes::from_vec(footers)?))
-}
-
-/// The physical pages of full pages, as [`pages_in_place`] gives them; where a page has few bytes
-/// they are copied. `OutOfMemory` alone.
+/// what the known one tells, where there is one. The pages aren't copied, unless they are small,
+/// and their footers are parts of one buffer. `OutOfMemory` alone.
 pub(crate) fn physical_pages<H: Sum>(
     alloc: Global,
     durable: Option<ActiveChecksum>,
@@ -222,8 +204,8 @@ pub(crate) fn physical_pages<H: Sum>(
 {
     let size = pages.first().map_or(0, |page| page.len());
     if size <= MOST_COPIED {
-        copied_pages::<H>(alloc, durable, known, &pages, size)
-    } else {
-        pages_in_place::<H>(alloc, durable, known, pages)
+        return copied_pages::<H>(alloc, durable, known, &pages, size);
     }
+    let footers = footers_of::<H>(alloc, durable, known, &pages)?;
+    with_footers(alloc, pages, &IoBuf::from(Bytes::from_vec(footers)?))
 }

@@ -1,4 +1,5 @@
-// Appending what is too big for the buffer: whole pages go to the device from where they stand.
+// Appending what is too big for the buffer: whole pages go to the device from where they stand, or,
+// where they are small, copied beside their footers.
 ghost use Rattle.std.specs.Prelude.{◌≡◌, ◌<◌, ◌≤◌, ◌+◌, ◌/◌, ◌%◌, ◌^◌, ◌++◌, [], true, length};
 ghost use Rattle.std.specs.Prelude.{if◌then◌else◌, false, ◌⊎◌};
 ghost use Rattle.std.specs.Prelude.{IfOk, OnOk, IsErrOf, IsOkUnless, Err};
@@ -22,14 +23,15 @@ ghost use Rattle.paged_read.specs.Replay.{LeavesReplays};
 ghost use Rattle.paged_read.specs.Snapshots.{LeavesOthers, LeavesTails};
 
 use crate::Writer;
-use crate::build::pages_in_place;
+use crate::build::physical_pages;
 use cache::CacheRef;
 use disk::{Blob, Error, IoBuf, IoBufs, WriteOptions};
 use page::{ActiveChecksum, Sum, split_pages};
 use std::alloc::Global;
 use writer_state::SyncState;
 
-/// The physical pages of these whole pages, which aren't copied. `OutOfMemory` alone.
+/// The physical pages of these whole pages, which are copied where they are small. `OutOfMemory`
+/// alone.
 fn cut_pages<H: Sum>(
     alloc: Global,
     page_size: usize,
@@ -46,7 +48,7 @@ fn cut_pages<H: Sum>(
     let mut chunks = IoBufs::new(alloc);
     chunks.append(whole)?;
     let pages = split_pages(alloc, &chunks, page_size)?;
-    pages_in_place::<H>(alloc, durable, None, pages)
+    physical_pages::<H>(alloc, durable, None, pages)
 }
 
 impl<B, H, Phase> Writer<B, H, Phase> {
@@ -114,8 +116,8 @@ impl<B, H: Sum, Phase> Writer<B, H, Phase> {
 
 impl<B: Blob, H: Sum, Phase> Writer<B, H, Phase> {
     /// Appends bytes that the caller owns, as [`append`](Writer::append) does: pages that don't go
-    /// through the buffer aren't copied. It answers the logical offset of the first byte: the size
-    /// until now.
+    /// through the buffer aren't copied, unless a page has at most 128 bytes. It answers the
+    /// logical offset of the first byte: the size until now.
     ///
     /// It makes no device call where the bytes fit what is buffered, and at most three else: a wait
     /// for a sync that was started, and two writes.
