@@ -20,18 +20,16 @@ use Rattle.crash.specs.Looks.{Looked, looked_start, looked_joins}
 use Rattle.writer_state.specs.Sound.{IsSound, LeavesItsContent, content}
 use Rattle.writer_state.specs.WriterState.{WriterState}
 use Rattle.crash.specs.Moments.{through_start, through_then, through_joins, through_end}
-use Rattle.paged_read.specs.Snapshots.{LeavesOthers, LeavesReads, LeavesTails}
+use Rattle.paged_read.specs.Snapshots.{LeavesOthers, LeavesReads}
 use Rattle.paged_read.specs.Tail.{CanRead}
-use Rattle.paged_read.specs.Ranges.{LeavesAll}
 use Rattle.paged.specs.Caches.{tail_of, KeepsReads}
 use Rattle.paged.specs.Calls.{GoesOn, Appends, BuffersOver, Syncs, TryAppends}
 use Rattle.paged.specs.Reads.{size_of}
 use Rattle.paged.specs.Recovers.{Recovers}
 use Rattle.paged.specs.Truncate.{Truncates, KeepsFloorsWithin}
 use Rattle.paged.specs.Writer.{physical_blob_size}
-use Rattle.journal.specs.declared.frame.Found.{Found}
 use Rattle.journal.specs.Frame.{frame, record_len, frame_len, listed, record_of, records, whole_frames, IsWhole, IsPrefix}
-use Rattle.journal.specs.Journal.{IsReady, IsJournal, IsNewId, OthersStay, AllStay, OnlyReads, LeavesContent, Commits, OnlyRecords, KeepsCommitted, LeavesRecords, CommitsAll, IsAppended, AppendsRecord, IsCommitted, CommitGoes, BringsBack, BringsOnly, ReadRefused, ReadsBytes, ReadsFrame, ReadsRecord, IsFound, IsTrimmed, Trims, HasRecovered, RecoversJournal}
+use Rattle.journal.specs.Journal.{IsReady, IsJournal, IsNewId, OthersStay, AllStay, OnlyReads, LeavesContent, Commits, OnlyRecords, KeepsCommitted, LeavesRecords, CommitsAll, IsAppended, AppendsRecord, IsCommitted, CommitGoes, BringsBack, BringsOnly, ReadRefused, ReadsBytes, ReadsFrame, IsFound, IsTrimmed, Trims, HasRecovered, RecoversJournal}
 use Rattle.journal.proofs.Frames.{records-append, records-take, whole_more, whole_is_whole, records-whole, whole_first, length-whole, frame_is_whole, records-frame, record_of-frame, length-frame, record_len-front, record_of-front, records-from}
 
 -- the first of the first are the first

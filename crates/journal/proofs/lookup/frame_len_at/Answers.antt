@@ -1,4 +1,4 @@
-use Rattle.std.proofs.Common.{◌≡◌, ◌+◌, ◌∙◌, [], ◌∷◌, List, ℕ, ap, length, take, drop, length-drop, length-take, arith, min}
+use Rattle.std.proofs.Common.{◌≡◌, ◌∙◌, [], ◌∷◌, List, ℕ, ap, length, take, drop, length-drop, length-take, arith, min}
 use Rattle.paged_read.specs.Tail.{tail_at, told}
 use Rattle.journal.proofs.Journals.{frame_measured}
 use Rattle.journal.proofs.Readers.{read_views, view_refused}
