@@ -86,7 +86,8 @@ impl Pieces {
         }
     }
 
-    /// Writes what no reader may do: read on after a failure, or offer more room than bytes come.
+    /// Writes which mistakes its reader made: it read on after a failure, or offered room for more
+    /// bytes than come.
     pub fn say_misuse(&self, said: &mut Vec<u8>) -> io::Result<()> {
         if let Way::Fails = self.way {
             if self.reads > 1 {
