@@ -78,11 +78,11 @@ impl Pieces {
         self.at
     }
 
-    // What a read after the last byte answers.
-    fn end(&self) -> io::Result<usize> {
+    // Whether a read after the last byte fails.
+    fn end(&self) -> io::Result<()> {
         match self.way {
             Way::Fails if self.reads == 1 => Err(io::Error::from(ErrorKind::BrokenPipe)),
-            _ => Ok(0),
+            _ => Ok(()),
         }
     }
 
@@ -111,7 +111,8 @@ impl Read for Pieces {
         let end = self.piece_end();
         let piece = self.bytes.get(self.at..end).unwrap_or_default();
         if piece.is_empty() {
-            return self.end();
+            self.end()?;
+            return Ok(0);
         }
         let count = piece.len().min(buf.len());
         buf[..count].copy_from_slice(&piece[..count]);
