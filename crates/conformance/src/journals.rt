@@ -4,13 +4,15 @@ ghost use Rattle.cache.specs.Pages.{IsFresh};
 
 use crate::calls::say_calls;
 use crate::forms::Argument::{Bytes, Flags, Number};
-use crate::forms::{Form, read_step};
+use crate::forms::{Arguments, Form, read_step};
 use crate::line::Row;
 use crate::subject::Subject;
-use crate::words::{buffer_size, is_refusal, out_of_memory, say_done, say_error, unreadable};
+use crate::words::{
+    buffer_size, is_refusal, out_of_memory, page_size, say_bytes, say_done, say_error, unreadable,
+};
 use cache::CacheRef;
 use disk::{Blob, Error, IoBuf, MemBlob};
-use journal::{Found, Journal, crash_and_recover, frame_of};
+use journal::{Found, Journal, Reader, crash_and_recover, frame_of};
 use page::Sum;
 use paged::Writer;
 use scripts::Hex;
@@ -20,10 +22,32 @@ use std::io::Write;
 use std::marker::Model;
 use std::num::{NonZeroU16, NonZeroUsize};
 
-// The logical bytes of a page, and of a buffer.
-const PAGE_SIZE: u16 = 16;
+/// What a journal's blob and its cache are made with.
+#[derive(Clone, Copy)]
+pub struct Sizes {
+    /// The logical bytes of a page.
+    page_size: NonZeroU16,
+    /// The bytes that the writer may hold back.
+    capacity: usize,
+    /// The pages that the cache may hold.
+    pages: NonZeroUsize,
+}
 
-const CAPACITY: usize = 32;
+impl Sizes {
+    /// Those that the words of a `start` line tell: pages of 16 bytes, a buffer of two and a cache
+    /// of one where there are none.
+    pub fn read(words: &Arguments) -> io::Result<Sizes> {
+        let [page, capacity, pages] = match words.numbers.as_slice() {
+            [page, capacity, pages] => [*page, *capacity, *pages],
+            _ => [16, 32, 1],
+        };
+        Ok(Sizes {
+            page_size: page_size(page)?,
+            capacity: capacity as usize,
+            pages: buffer_size(pages),
+        })
+    }
+}
 
 // What a step asks of a journal.
 #[derive(Clone, Copy)]
@@ -34,6 +58,8 @@ enum Verb {
     Record,
     Commit,
     Read,
+    Reader,
+    Next,
     Fail,
     Size,
     Len,
@@ -41,13 +67,15 @@ enum Verb {
     Frame,
 }
 
-const STEPS: [Form<Verb>; 11] = [
+const STEPS: [Form<Verb>; 13] = [
     (b"content", &[Bytes], Verb::Content),
     (b"recover", &[Number], Verb::Recover),
     (b"crash", &[Flags], Verb::Crash),
     (b"record", &[Bytes], Verb::Record),
     (b"commit", &[], Verb::Commit),
     (b"read", &[Number], Verb::Read),
+    (b"reader", &[], Verb::Reader),
+    (b"next", &[], Verb::Next),
     (b"fail", &[Number], Verb::Fail),
     (b"size", &[], Verb::Size),
     (b"len", &[], Verb::Len),
@@ -55,33 +83,38 @@ const STEPS: [Form<Verb>; 11] = [
     (b"frame", &[Bytes], Verb::Frame),
 ];
 
-/// A blob with its cache, and the journal on it, if there is one.
+/// A blob with its cache, and the journal on it and a reader of the journal, if there are such.
 #[derive(Drop)]
 pub struct Journals<H: Sum, R: Sum> {
+    sizes: Sizes,
     blob: MemBlob,
     cache: CacheRef,
     journal: Option<Journal<MemBlob, H, R>>,
+    reader: Option<Reader<MemBlob, H, R>>,
 }
 
 impl<H: Sum, R: Sum> Model for Journals<H, R> {
-    ghost use Rattle.std.specs.Prelude.{IfSome};
+    ghost use Rattle.std.specs.Prelude.{◌≤◌, IfSome};
     ghost use Rattle.disk.specs.History.{life_of};
     ghost use Rattle.cache.specs.Pages.{IsFresh};
     ghost use Rattle.journal.specs.Journal.{IsJournal};
+    ghost use Rattle.journal.specs.Reader.{IsReader};
 
     ghost Value = { Unit {0} };
 
     ghost view = { λ j. tt };
 
     ghost invariant = { λ j. IsFresh j.cache
-        × IfSome j.journal (λ journal. IsJournal H.sum_of journal j.cache (life_of j.blob)) };
+        × IfSome j.journal (λ journal. IsJournal H.sum_of journal j.cache (life_of j.blob))
+        × IfSome j.reader (λ reader. IsReader H.sum_of reader j.cache (life_of j.blob))
+        × IfSome j.journal (λ journal. IfSome j.reader (λ reader.
+        reader.tail.full_pages ≤ journal.full_pages)) };
 }
 
-fn new_cache(alloc: Global) -> Result<CacheRef, Error>
+fn new_cache(alloc: Global, sizes: Sizes) -> Result<CacheRef, Error>
     ensures { IfOk result (λ cache. IsFresh cache) }
 {
-    let page_size = NonZeroU16::new(PAGE_SIZE).unwrap_or(NonZeroU16::MIN);
-    CacheRef::new(alloc, page_size, NonZeroUsize::MIN)
+    CacheRef::new(alloc, sizes.page_size, sizes.pages)
 }
 
 fn say_records(records: &[IoBuf], size: u64, said: &mut Vec<u8>) -> io::Result<()> {
@@ -106,6 +139,14 @@ fn say_found(found: Result<Option<Found>, Error>, said: &mut Vec<u8>) -> io::Res
     }
 }
 
+fn say_next(next: Result<Option<IoBuf>, Error>, said: &mut Vec<u8>) -> io::Result<()> {
+    match next {
+        Ok(Some(record)) => say_bytes("record", record.as_ref(), said),
+        Ok(None) => write!(said, "none"),
+        Err(error) => say_error(error, said),
+    }
+}
+
 fn say_appended(answer: Result<Option<u64>, Error>, said: &mut Vec<u8>) -> io::Result<()> {
     match answer {
         Ok(Some(offset)) => write!(said, "at {offset}"),
@@ -115,14 +156,14 @@ fn say_appended(answer: Result<Option<u64>, Error>, said: &mut Vec<u8>) -> io::R
 }
 
 // A blob with these logical bytes, all of them durable.
-fn blob_of<H: Sum>(alloc: Global, bytes: &[u8]) -> Result<MemBlob, Error> {
-    let mut cache = new_cache(alloc)?;
+fn blob_of<H: Sum>(alloc: Global, sizes: Sizes, bytes: &[u8]) -> Result<MemBlob, Error> {
+    let mut cache = new_cache(alloc, sizes)?;
     let mut blob = MemBlob::new(alloc);
     let recovery = paged::recover::<MemBlob, H>(
         alloc,
         &mut blob,
         0,
-        CAPACITY,
+        sizes.capacity,
         &mut cache,
         NonZeroUsize::MIN,
     )?;
@@ -134,16 +175,18 @@ fn blob_of<H: Sum>(alloc: Global, bytes: &[u8]) -> Result<MemBlob, Error> {
 
 impl<H: Sum, R: Sum> Journals<H, R> {
     /// An empty blob, and no journal.
-    pub fn new(alloc: Global) -> io::Result<Box<Self>> {
-        let Ok(cache) = new_cache(alloc) else {
+    pub fn new(alloc: Global, sizes: Sizes) -> io::Result<Box<Self>> {
+        let Ok(cache) = new_cache(alloc, sizes) else {
             return Err(out_of_memory());
         };
         Ok(Box::new(
             alloc,
             Journals {
+                sizes,
                 blob: MemBlob::new(alloc),
                 cache,
                 journal: None,
+                reader: None,
             },
         )?)
     }
@@ -151,7 +194,8 @@ impl<H: Sum, R: Sum> Journals<H, R> {
     // Begins again, with a blob of these logical bytes.
     fn begin(&mut self, alloc: Global, bytes: &[u8], said: &mut Vec<u8>) -> io::Result<()> {
         self.journal = None;
-        match blob_of::<H>(alloc, bytes) {
+        self.reader = None;
+        match blob_of::<H>(alloc, self.sizes, bytes) {
             Ok(blob) => {
                 self.blob = blob;
                 say_done(Ok(()), said)
@@ -162,12 +206,13 @@ impl<H: Sum, R: Sum> Journals<H, R> {
 
     fn recover(&mut self, alloc: Global, by: NonZeroUsize) -> Result<Vec<IoBuf>, Error> {
         self.journal = None;
+        self.reader = None;
         let size = self.blob.len();
         let (journal, records) = Journal::<MemBlob, H, R>::recover(
             alloc,
             &mut self.blob,
             size,
-            CAPACITY,
+            self.sizes.capacity,
             &mut self.cache,
             by,
         )?;
@@ -177,11 +222,12 @@ impl<H: Sum, R: Sum> Journals<H, R> {
 
     fn crash(&mut self, alloc: Global, keep: &[bool]) -> Result<Vec<IoBuf>, Error> {
         self.journal = None;
+        self.reader = None;
         let (journal, records) = crash_and_recover::<H, R>(
             alloc,
             &mut self.blob,
             keep,
-            CAPACITY,
+            self.sizes.capacity,
             &mut self.cache,
             NonZeroUsize::MIN,
         )?;
@@ -227,6 +273,24 @@ impl<H: Sum, R: Sum> Journals<H, R> {
     fn read(&mut self, offset: u64) -> Result<Option<Found>, Error> {
         match &self.journal {
             Some(journal) => journal.read_record(&mut self.blob, &mut self.cache, offset),
+            None => Ok(None),
+        }
+    }
+
+    // A reader of the records that there are. A journal that refuses it is gone.
+    fn begin_reader(&mut self) -> Result<(), Error> {
+        let Some(journal) = self.journal.take() else {
+            return Ok(());
+        };
+        let (journal, reader) = journal.reader(&mut self.blob, &mut self.cache)?;
+        self.journal = Some(journal);
+        self.reader = Some(reader);
+        Ok(())
+    }
+
+    fn next(&mut self) -> Result<Option<IoBuf>, Error> {
+        match &mut self.reader {
+            Some(reader) => reader.next(&mut self.blob, &mut self.cache),
             None => Ok(None),
         }
     }
@@ -299,6 +363,8 @@ impl<H: Sum, R: Sum> Subject for Journals<H, R> {
             Verb::Record => say_appended(self.append(bytes), said),
             Verb::Commit => say_done(self.commit(), said),
             Verb::Read => say_found(self.read(number), said),
+            Verb::Reader => say_done(self.begin_reader(), said),
+            Verb::Next => say_next(self.next(), said),
             Verb::Fail => {
                 self.blob.fail_at(number.max(1));
                 say_done(Ok(()), said)

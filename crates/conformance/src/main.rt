@@ -22,6 +22,7 @@ mod mirrored;
 mod names;
 mod nested;
 mod opened;
+mod pieces;
 mod plain;
 mod played;
 mod random;

@@ -1,16 +1,22 @@
 // Requests in bytes, and the answers to them.
 use crate::forms::Argument::Number;
-use crate::forms::{Form, read_step};
-use crate::line::{Row, plain};
+use crate::forms::{Arguments, Form, read_step};
+use crate::line::Row;
+use crate::pieces::{Pieces, Way};
+use crate::refuse::asked_for_more;
 use crate::subject::Subject;
-use crate::words::{bytes_of, out_of_memory, say_bytes, say_done, unreadable};
+use crate::words::{out_of_memory, say_bytes, say_done, unreadable};
 use crc32c::Crc32c;
 use disk::{Blob, MemBlob, VecBlob};
 use protocol::{Cause, Setting, Stop, serve_file};
 use scripts::Hex;
 use std::alloc::Global;
 use std::io;
-use std::io::{BufReader, BufWriter, Read, Write};
+use std::io::{BufReader, BufWriter, Write};
+
+// The most bytes of memory that a server may ask for at once, with the settings and the bytes of
+// these cases.
+const MOST_AT_ONCE: u32 = 1 << 20;
 
 // What a step asks of a server.
 #[derive(Clone, Copy)]
@@ -20,18 +26,24 @@ enum Verb {
     ServeAllowing,
     ServePieces,
     ServeFailing,
+    ServeEnding,
+    ServeBroken,
+    ServeInterrupted,
     Resize,
     Stop,
     Dump,
     Len,
 }
 
-const STEPS: [Form<Verb>; 9] = [
+const STEPS: [Form<Verb>; 12] = [
     (b"serve", &[], Verb::Serve),
     (b"serve-reading", &[], Verb::ServeReading),
     (b"serve-allowing", &[Number], Verb::ServeAllowing),
     (b"serve-pieces", &[], Verb::ServePieces),
     (b"serve-failing", &[Number], Verb::ServeFailing),
+    (b"serve-ending", &[Number, Number], Verb::ServeEnding),
+    (b"serve-broken", &[Number, Number], Verb::ServeBroken),
+    (b"serve-interrupted", &[], Verb::ServeInterrupted),
     (b"resize", &[Number], Verb::Resize),
     (b"stop", &[], Verb::Stop),
     (b"dump", &[], Verb::Dump),
@@ -42,30 +54,6 @@ const STEPS: [Form<Verb>; 9] = [
 #[derive(Drop)]
 pub struct Server {
     blob: VecBlob,
-}
-
-// An input that gives at most one line of a case at a time.
-#[derive(Drop)]
-struct Pieces {
-    bytes: Vec<u8>,
-    // Where each line ends.
-    ends: Vec<usize>,
-    at: usize,
-}
-
-impl Read for Pieces {
-    fn read(&mut self, buf: &mut [u8]) -> io::Result<usize> {
-        for end in &self.ends {
-            if *end > self.at {
-                let piece = self.bytes.get(self.at..*end).unwrap_or_default();
-                let count = piece.len().min(buf.len());
-                buf[..count].copy_from_slice(&piece[..count]);
-                self.at = self.at.saturating_add(count);
-                return Ok(count);
-            }
-        }
-        Ok(0)
-    }
 }
 
 // An output that keeps after how many bytes it was flushed.
@@ -89,21 +77,6 @@ impl Write for Flushed {
     }
 }
 
-// The bytes that some lines tell.
-fn told(alloc: Global, lines: &[u8]) -> io::Result<Pieces> {
-    let mut bytes = Vec::new(alloc);
-    let mut ends = Vec::new(alloc);
-    for line in lines.split(|byte| *byte == b'\n') {
-        let digits = plain(alloc, line)?;
-        if !digits.is_empty() {
-            bytes.extend_from_slice(&bytes_of(alloc, &digits)?)?;
-            ends.push(bytes.len())?;
-        }
-    }
-    let at = 0;
-    Ok(Pieces { bytes, ends, at })
-}
-
 fn say_end(ended: Result<(), Stop>, said: &mut Vec<u8>) -> io::Result<()> {
     match ended {
         Ok(()) => say_done(Ok(()), said),
@@ -111,29 +84,39 @@ fn say_end(ended: Result<(), Stop>, said: &mut Vec<u8>) -> io::Result<()> {
     }
 }
 
-// Serves the requests of a row, of which a read gives one line at most. Writes how that ends, and
-// the answers where they aren't those that the row tells. Answers after how many bytes of them the
-// output was flushed.
+// Serves the requests of an input. Writes how that ends, the answers where they aren't those that
+// the row tells, and what no server may do. Answers after how many bytes of them the output was
+// flushed.
 fn serve<B: Blob + Cause>(
     alloc: Global,
     blob: &mut B,
     setting: &Setting,
+    input: Pieces,
     row: &Row,
     said: &mut Vec<u8>,
 ) -> io::Result<Vec<usize>> {
-    let wanted = told(alloc, &row.wanted)?;
-    let mut input = BufReader::new(alloc, told(alloc, &row.given)?)?;
+    let wanted = Pieces::read(alloc, &row.wanted, Way::Ends)?;
+    let mut input = BufReader::new(alloc, input)?;
     let flushed = Flushed {
         bytes: Vec::new(alloc),
         ends: Vec::new(alloc),
     };
     let mut out = BufWriter::new(alloc, flushed)?;
+    asked_for_more(alloc, MOST_AT_ONCE);
     let ended = serve_file::<B, Crc32c, _, _>(alloc, blob, setting, "", &mut input, &mut out);
+    let greedy = asked_for_more(alloc, MOST_AT_ONCE);
     say_end(ended, said)?;
     out.flush()?;
     let (flushed, _) = out.into_parts();
     if flushed.bytes != wanted.bytes {
         write!(said, ", but wrote {}", Hex(&flushed.bytes))?;
+    }
+    input.get_ref().say_misuse(said)?;
+    if greedy {
+        write!(
+            said,
+            ", with more than {MOST_AT_ONCE} bytes of memory asked for at once"
+        )?;
     }
     Ok(flushed.ends)
 }
@@ -142,7 +125,8 @@ fn serve<B: Blob + Cause>(
 fn serve_failing(alloc: Global, number: u64, row: &Row, said: &mut Vec<u8>) -> io::Result<()> {
     let mut blob = MemBlob::new(alloc);
     blob.fail_at(number.max(1));
-    serve(alloc, &mut blob, &Setting::default(), row, said)?;
+    let input = Pieces::read(alloc, &row.given, Way::Ends)?;
+    serve(alloc, &mut blob, &Setting::default(), input, row, said)?;
     Ok(())
 }
 
@@ -160,18 +144,62 @@ impl Server {
         &mut self,
         alloc: Global,
         setting: Setting,
+        way: Way,
         row: &Row,
         said: &mut Vec<u8>,
     ) -> io::Result<()> {
-        serve(alloc, &mut self.blob, &setting, row, said)?;
+        let input = Pieces::read(alloc, &row.given, way)?;
+        serve(alloc, &mut self.blob, &setting, input, row, said)?;
         Ok(())
     }
 
     fn serve_pieces(&mut self, alloc: Global, row: &Row, said: &mut Vec<u8>) -> io::Result<()> {
-        let ends = serve(alloc, &mut self.blob, &Setting::default(), row, said)?;
+        let input = Pieces::read(alloc, &row.given, Way::Ends)?;
+        let ends = serve(alloc, &mut self.blob, &Setting::default(), input, row, said)?;
         write!(said, ", out after")?;
         for end in &ends {
             write!(said, " {end}")?;
+        }
+        Ok(())
+    }
+
+    // Serves the first so many bytes of a row, over a copy of the blob.
+    fn serve_first(
+        &self,
+        alloc: Global,
+        way: Way,
+        count: usize,
+        row: &Row,
+        said: &mut Vec<u8>,
+    ) -> io::Result<()> {
+        let mut blob = VecBlob::from_vec(Vec::from_slice(alloc, self.blob.bytes())?);
+        let mut input = Pieces::read(alloc, &row.given, way)?;
+        input.cut(count)?;
+        serve(alloc, &mut blob, &Setting::default(), input, row, said)?;
+        Ok(())
+    }
+
+    // The same for each count from the first to the last. Writes what all of them answer, or what
+    // the first that differs does.
+    fn serve_each(
+        &self,
+        alloc: Global,
+        way: Way,
+        words: &Arguments,
+        row: &Row,
+        said: &mut Vec<u8>,
+    ) -> io::Result<()> {
+        let (first, last) = (words.length(0), words.length(1));
+        self.serve_first(alloc, way, first, row, said)?;
+        for count in first.saturating_add(1)..=last {
+            let mut got = Vec::new(alloc);
+            self.serve_first(alloc, way, count, row, &mut got)?;
+            if got.as_slice() != said.as_slice() {
+                said.clear();
+                write!(said, "fault at {count}: ")?;
+                said.extend_from_slice(&got)?;
+                return Ok(());
+            }
         }
         Ok(())
     }
@@ -185,23 +213,27 @@ impl Server {
         &mut self,
         alloc: Global,
         verb: Verb,
-        number: u64,
+        words: &Arguments,
         row: &Row,
         said: &mut Vec<u8>,
     ) -> io::Result<()> {
         let mut setting = Setting::default();
+        let number = words.number(0);
         match verb {
-            Verb::Serve => self.serve(alloc, setting, row, said),
+            Verb::Serve => self.serve(alloc, setting, Way::Ends, row, said),
             Verb::ServeReading => {
                 setting.read_only = true;
-                self.serve(alloc, setting, row, said)
+                self.serve(alloc, setting, Way::Ends, row, said)
             }
             Verb::ServeAllowing => {
                 setting.allowed = number;
-                self.serve(alloc, setting, row, said)
+                self.serve(alloc, setting, Way::Ends, row, said)
             }
             Verb::ServePieces => self.serve_pieces(alloc, row, said),
             Verb::ServeFailing => serve_failing(alloc, number, row, said),
+            Verb::ServeEnding => self.serve_each(alloc, Way::Ends, words, row, said),
+            Verb::ServeBroken => self.serve_each(alloc, Way::Fails, words, row, said),
+            Verb::ServeInterrupted => self.serve(alloc, setting, Way::Interrupted, row, said),
             Verb::Resize => say_done(self.blob.resize(number), said),
             Verb::Stop => self.stop(said),
             Verb::Dump => say_bytes("blob", self.blob.bytes(), said),
@@ -213,7 +245,7 @@ impl Server {
 impl Subject for Server {
     fn play(&mut self, alloc: Global, row: &Row, said: &mut Vec<u8>) -> io::Result<()> {
         match read_step(alloc, &STEPS, &row.step)? {
-            Some((verb, words)) => self.go(alloc, verb, words.number(0), row, said),
+            Some((verb, words)) => self.go(alloc, verb, &words, row, said),
             None => Err(unreadable()),
         }
     }

@@ -4,7 +4,7 @@ use crate::cached::Cached;
 use crate::case::Case;
 use crate::forms::Argument::{Number, Word};
 use crate::forms::{Arguments, Form, read_step};
-use crate::journals::Journals;
+use crate::journals::{Journals, Sizes};
 use crate::memory::Memory;
 use crate::mirrored::Mirrored;
 use crate::nested::Nested;
@@ -35,7 +35,7 @@ enum Kind {
     View,
 }
 
-const KINDS: [Form<Kind>; 11] = [
+const KINDS: [Form<Kind>; 12] = [
     (b"cases", &[], Kind::Cases),
     (b"scripts", &[], Kind::Scripts),
     (b"requests", &[], Kind::Requests),
@@ -43,6 +43,7 @@ const KINDS: [Form<Kind>; 11] = [
     (b"plain", &[], Kind::Plain),
     (b"mirror", &[Number], Kind::Mirror),
     (b"journal", &[Word], Kind::Journal),
+    (b"journal", &[Word, Number, Number, Number], Kind::Journal),
     (b"buffer", &[Number, Number, Number], Kind::Buffer),
     (b"cache", &[Number, Number], Kind::Cache),
     (b"view", &[Number], Kind::View),
@@ -81,17 +82,18 @@ fn play_made<S: Subject + Drop>(
 fn over_journal(
     alloc: Global,
     case: &Case,
-    sum: &[u8],
+    words: &Arguments,
     refuses: u32,
     told: &mut Vec<u8>,
 ) -> io::Result<bool> {
-    match sum_of(sum) {
+    let sizes = Sizes::read(words)?;
+    match sum_of(words.bytes()) {
         Some(SumName::Add) => {
-            let made = Journals::<AddSum, AddSum>::new(alloc);
+            let made = Journals::<AddSum, AddSum>::new(alloc, sizes);
             play_made(alloc, made, case, refuses, told)
         }
         Some(SumName::Const) => {
-            let made = Journals::<ConstSum, ConstSum>::new(alloc);
+            let made = Journals::<ConstSum, ConstSum>::new(alloc, sizes);
             play_made(alloc, made, case, refuses, told)
         }
         _ => Err(unreadable()),
@@ -132,7 +134,7 @@ fn play_kind(
     match kind {
         Kind::Cases => play_once(alloc, &mut Nested, case, refuses, told),
         Kind::Scripts => play_once(alloc, &mut Scripts, case, refuses, told),
-        Kind::Journal => over_journal(alloc, case, words.bytes(), refuses, told),
+        Kind::Journal => over_journal(alloc, case, words, refuses, told),
         Kind::Buffer => {
             let made = Buffered::new(alloc, first, len, words.length(2));
             play_made(alloc, made, case, refuses, told)
