@@ -262,11 +262,13 @@ impl<H: Sum, R: Sum> Journals<H, R> {
         Ok(Some(offset))
     }
 
+    #[tactic(auto, using(crate::proofs::ReaderLaws::reader_stays))]
     fn commit(&mut self) -> Result<(), Error> {
         let Some(journal) = self.journal.take() else {
             return Ok(());
         };
-        self.journal = Some(journal.commit(&mut self.blob, &mut self.cache)?);
+        let journal = journal.commit(&mut self.blob, &mut self.cache)?;
+        self.journal = Some(journal);
         Ok(())
     }
 
