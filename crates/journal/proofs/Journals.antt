@@ -20,18 +20,16 @@ use Rattle.crash.specs.Looks.{Looked, looked_start, looked_joins}
 use Rattle.writer_state.specs.Sound.{IsSound, LeavesItsContent, content}
 use Rattle.writer_state.specs.WriterState.{WriterState}
 use Rattle.crash.specs.Moments.{through_start, through_then, through_joins, through_end}
-use Rattle.paged_read.specs.Snapshots.{LeavesOthers, LeavesReads, LeavesTails}
+use Rattle.paged_read.specs.Snapshots.{LeavesOthers, LeavesReads}
 use Rattle.paged_read.specs.Tail.{CanRead}
-use Rattle.paged_read.specs.Ranges.{LeavesAll}
 use Rattle.paged.specs.Caches.{tail_of, KeepsReads}
 use Rattle.paged.specs.Calls.{GoesOn, Appends, BuffersOver, Syncs, TryAppends}
 use Rattle.paged.specs.Reads.{size_of}
 use Rattle.paged.specs.Recovers.{Recovers}
 use Rattle.paged.specs.Truncate.{Truncates, KeepsFloorsWithin}
 use Rattle.paged.specs.Writer.{physical_blob_size}
-use Rattle.journal.specs.declared.frame.Found.{Found}
 use Rattle.journal.specs.Frame.{frame, record_len, frame_len, listed, record_of, records, whole_frames, IsWhole, IsPrefix}
-use Rattle.journal.specs.Journal.{IsReady, IsJournal, IsNewId, OthersStay, AllStay, OnlyReads, LeavesContent, Commits, OnlyRecords, KeepsCommitted, LeavesRecords, CommitsAll, IsAppended, AppendsRecord, IsCommitted, CommitGoes, BringsBack, BringsOnly, ReadRefused, ReadsBytes, ReadsFrame, ReadsRecord, IsFound, IsTrimmed, Trims, HasRecovered, RecoversJournal}
+use Rattle.journal.specs.Journal.{IsReady, IsJournal, IsNewId, OthersStay, AllStay, OnlyReads, LeavesContent, Commits, OnlyRecords, KeepsCommitted, LeavesRecords, CommitsAll, IsAppended, AppendsRecord, IsCommitted, CommitGoes, BringsBack, BringsOnly, ReadRefused, ReadsBytes, ReadsFrame, IsFound, IsTrimmed, Trims, HasRecovered, RecoversJournal}
 use Rattle.journal.proofs.Frames.{records-append, records-take, whole_more, whole_is_whole, records-whole, whole_first, length-whole, frame_is_whole, records-frame, record_of-frame, length-frame, record_len-front, record_of-front, records-from}
 
 -- the first of the first are the first
@@ -333,29 +331,6 @@ found own content offset rest framed bytes end within some is held after =
           ∙ ap₂ (λ b n. listed b ++ records own (drop n content)) (sym is_record) (sym ends);
     }
 
--- a read of the writer's content
-pub read_leaves : (sum : List ℕ → ℕ) (w : WriterState) (cache after : CacheState) (old new : Life) → IsReady sum w cache old → LeavesAll (tail_of w) cache after old new → LeavesTails sum w.full_pages cache after old new → LeavesOthers w.id cache after → (IsSound sum w old.present → IsSound sum w new.present)
-    → (IsSound sum w old.present → KeepsAllFloors sum w.page_size old new) → (IsSound sum w old.present → LeavesContent sum w.page_size (content w old.present.readable) old new) → OnlyReads sum w cache after old new
-read_leaves sum w cache after old new ready leaves tails others sound kept only =
-    let held = content w old.present.readable in
-    let same : new.present.readable ≡ old.present.readable = ap (λ (d : Disk). d.readable) leaves.looked.same in
-    let holds : content w new.present.readable ≡ held = ap (λ (l : List ℕ). content w l) same in
-    record {
-      ready = record {
-        sound = sound ready.sound;
-        can = leaves.can;
-        fresh = leaves.fresh ready.fresh;
-        size = ready.size ∙ ap length (sym holds);
-        only = subst (λ (l : List ℕ). AllOnly sum w.page_size l l new.present) (sym holds) (through_end (AllOnly sum w.page_size held held) old new (only ready.sound));
-      };
-      tails = tails;
-      others = others;
-      holds = holds;
-      looked = leaves.looked;
-      kept = kept ready.sound;
-      only = only ready.sound;
-    }
-
 -- no read
 pub reads_start : (sum : List ℕ → ℕ) (w : WriterState) (cache : CacheState) (life : Life) → IsReady sum w cache life → OnlyReads sum w cache cache life life
 reads_start sum w cache life ready =
@@ -456,12 +431,6 @@ trim_refused sum own w cache between after end old mid new e left is more refuse
       | inr le ↦ absurd (more (omega (arith, is, le, length-whole held, left.ready.size, ap length left.holds)))
     ]) in
     inr (mid, left.looked, less, subst (λ (n : ℕ). Truncates sum n w mid new (Err e)) is refused)
-
--- no frame was read
-pub not_found : (own : List ℕ → ℕ) (held : List ℕ) (offset rest : ℕ) (old new : Life) (e : Error) (result : Result (Option Found) Error) → IsErrAnd result (λ x. x ≡ e)
-    → ReadsFrame held offset rest old new (Err e) → ReadsRecord own held offset old new result
-not_found own held offset rest old new e (Ok f) is refused = absurd is
-not_found own held offset rest old new e (Err x) is refused = subst (λ (y : Error). ReadRefused old new y) (sym is) refused
 
 -- a floor is one of less, too
 less_kept : (sum : List ℕ → ℕ) (P : ℕ) (content : List ℕ) (floor less : ℕ) (d : Disk) → less ≤ floor → AllKeep sum P content floor d → AllKeep sum P content less d

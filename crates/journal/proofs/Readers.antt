@@ -1,10 +1,11 @@
 -- What a journal's calls leave to readers, and what a reader's reads do.
-use Rattle.std.proofs.Common.{◌≡◌, ℕ, ◌≤◌, List, [], ◌++◌, length, drop, refl, sym, ap, ◌∙◌, subst, append-nil, arith, Ok, Err, Result}
+use Rattle.std.proofs.Common.{◌≡◌, ℕ, ◌+◌, ◌^◌, ◌<◌, ◌≤◌, List, [], ◌∷◌, ◌++◌, length, drop, refl, sym, ap, ◌∙◌, subst, append-nil, arith, Ok, Err, Result}
 use Rattle.std.specs.Prelude.{Option, Some, None, is_some, false}
 use Rattle.std.specs.Result.{IsErrAnd}
 use Rattle.std.proofs.lemmas.List.{drop_all}
 use Rattle.disk.specs.Disk.{Disk, Life, IsImage}
 use Rattle.disk.specs.declared.error.Error.{Error}
+use Rattle.disk.specs.declared.error.Error.TheVariants.{ReadFailed, WriteFailed, ResizeFailed, SyncFailed, InvalidChecksum, BlobInsufficientLength, OffsetOverflow, OutOfMemory, IdsExhausted}
 use Rattle.cache.specs.CacheState.{CacheState}
 use Rattle.cache.specs.Pages.{IsFresh}
 use Rattle.crash.specs.Guard.{IsChanceFree}
@@ -16,15 +17,17 @@ use Rattle.crash.specs.Moments.{through_then}
 use Rattle.writer_state.specs.Sound.{IsSound, content}
 use Rattle.crash.specs.Stays.{KeepsAllFloors, LeavesOnly}
 use Rattle.writer_state.specs.WriterState.{WriterState}
-use Rattle.paged_read.specs.Ranges.{LeavesAll}
-use Rattle.paged_read.specs.Snapshots.{LeavesAllTails, LeavesOthers, LeavesReads, LeavesTails, LeavesWriters, StandsOn}
+use Rattle.paged_read.proofs.FullReads.{no_fault}
+use Rattle.paged_read.proofs.Outliving.{look_leaves_writers, read_leaves_all_tails, read_leaves_others, read_leaves_tails}
+use Rattle.paged_read.specs.Ranges.{LeavesAll, Reads}
+use Rattle.paged_read.specs.Snapshots.{LeavesAllTails, LeavesOthers, LeavesReads, LeavesTails, StandsOn}
 use Rattle.paged_read.specs.Tail.{Tail, CanRead, HasFullPages, told, size_of}
 use Rattle.paged.specs.Caches.{tail_of}
 use Rattle.paged.specs.Calls.{GoesOn}
 use Rattle.journal.specs.declared.frame.Found.{Found}
 use Rattle.journal.specs.Frame.{IsWhole, listed, records}
-use Rattle.journal.specs.Journal.{IsFound, ReadRefused}
-use Rattle.journal.specs.Reader.{ReaderState, AllReadersStay, EachReaderStays, FindsNext, IsNewToReaders, IsNext, IsOpen, HasReader, IsReader, JournalsStay, LeavesTheirRecords, OnlyLooks, OtherReadersStay, ReadersStay, read_over}
+use Rattle.journal.specs.Journal.{IsFound, IsReady, OnlyReads, ReadRefused}
+use Rattle.journal.specs.Reader.{ReaderState, AllReadersStay, EachReaderStays, FindsNext, IsNewToReaders, IsNext, IsOpen, HasReader, IsReader, JournalsStay, LeavesTheirRecords, OnlyLooks, OnlyViews, OtherReadersStay, ReadersStay, read_over}
 use Rattle.journal.proofs.Frames.{records-none}
 use Rattle.journal.proofs.Journals.{gone_on, is_journal, leaves_records, prefix_of_itself, ready_of, refused_later, whole_of}
 
@@ -96,22 +99,75 @@ pub each_reader_still : (id : ℕ) (cache mid after : CacheState) → id ≡ cac
 each_reader_still id cache mid after is first second = λ sum r life reader.
     second sum r life (new_to_readers id cache is sum r life reader) (first sum r life reader)
 
--- ---- reads of a snapshot
+-- ---- reads through a view
 
 -- a read
-pub read_looks : (sum : List ℕ → ℕ) (t : Tail) (cache after : CacheState) (old new : Life) → IsOpen sum t cache old → LeavesAll t cache after old new → LeavesWriters sum old new → LeavesAllTails sum cache after old new
-    → LeavesOthers t.id cache after → OnlyLooks sum t cache after old new
-read_looks sum t cache after old new opened leaves writers tails others =
-    let stands = tails t (told t old.present.readable) opened.stands in
+pub read_views : (sum : List ℕ → ℕ) (t : Tail) (cache after : CacheState) (old new : Life) → IsOpen sum t cache old → LeavesAll t cache after old new → OnlyViews sum t cache after old new
+read_views sum t cache after old new opened leaves =
+    let can = opened.stands.can in
+    let same : t.full_pages ≤ t.full_pages = omega arith in
+    let stands = read_leaves_tails sum t cache after old new can leaves t (told t old.present.readable) same opened.stands in
     record {
       opened = still_open sum t cache after old new opened stands;
       holds = still_tells sum t cache after old new opened stands;
       looked = leaves.looked;
-      sound = λ w sound. (writers w sound).sound;
-      tails = tails;
-      others = others;
+      tails = read_leaves_tails sum t cache after old new can leaves;
+      all_tails = λ short. read_leaves_all_tails sum t cache after old new can leaves short;
+      others = read_leaves_others sum t cache after old new can leaves;
       fresh = leaves.fresh;
     }
+
+-- no read
+pub views_start : (sum : List ℕ → ℕ) (t : Tail) (cache : CacheState) (life : Life) → IsOpen sum t cache life → OnlyViews sum t cache cache life life
+views_start sum t cache life opened = record {
+  opened = opened;
+  holds = refl;
+  looked = looked_start life;
+  tails = λ u held below stands. stands;
+  all_tails = λ short u held stands. stands;
+  others = λ u d apart can. can;
+  fresh = λ fresh. fresh;
+}
+
+-- one after another
+pub views_join : (sum : List ℕ → ℕ) (t : Tail) (cache between after : CacheState) (old mid new : Life) → OnlyViews sum t cache between old mid → OnlyViews sum t between after mid new → OnlyViews sum t cache after old new
+views_join sum t cache between after old mid new first second = record {
+  opened = second.opened;
+  holds = second.holds ∙ first.holds;
+  looked = looked_joins old mid new first.looked second.looked;
+  tails = λ u held below stands. second.tails u held below (first.tails u held below stands);
+  all_tails = λ short u held stands. second.all_tails short u held (first.all_tails short u held stands);
+  others = λ u d apart can. second.others u d apart (first.others u d apart can);
+  fresh = λ fresh. second.fresh (first.fresh fresh);
+}
+
+-- a read within the content is refused neither for its range nor for a page
+pub view_refused : {A : Type 0} (sum : List ℕ → ℕ) (t : Tail) (cache : CacheState) (offset len : ℕ) (bytes : A → List ℕ) (old new : Life) (e : Error) → Reads sum t cache (offset, len) bytes old new (Err e) → IsOpen sum t cache old
+    → offset + len ≤ size_of t → offset + len < 2 ^ 64 → ReadRefused old new e
+view_refused sum t cache offset len bytes old new ReadFailed refused opened within fits = refused
+view_refused sum t cache offset len bytes old new OutOfMemory refused opened within fits = tt
+view_refused sum t cache offset len bytes old new InvalidChecksum refused opened within fits =
+    no_fault sum t cache old new opened.stands.can.there opened.stands.tail.full ((offset, len) ∷ []) refused
+view_refused sum t cache offset len bytes old new OffsetOverflow (same, passes) opened within fits = absurd (omega (arith, passes, fits))
+view_refused sum t cache offset len bytes old new BlobInsufficientLength (same, below, passes) opened within fits = absurd (omega (arith, passes, within))
+view_refused sum t cache offset len bytes old new WriteFailed refused opened within fits = refused
+view_refused sum t cache offset len bytes old new ResizeFailed refused opened within fits = refused
+view_refused sum t cache offset len bytes old new SyncFailed refused opened within fits = refused
+view_refused sum t cache offset len bytes old new IdsExhausted refused opened within fits = refused
+
+-- ---- reads of a snapshot
+
+-- through its view, whose own bytes are less than a page
+pub views_look : (sum : List ℕ → ℕ) (t : Tail) (cache after : CacheState) (old new : Life) → length t.bytes < t.page_size → OnlyViews sum t cache after old new → OnlyLooks sum t cache after old new
+views_look sum t cache after old new short views = record {
+  opened = views.opened;
+  holds = views.holds;
+  looked = views.looked;
+  sound = λ w sound. (look_leaves_writers sum old new views.looked w sound).sound;
+  tails = views.all_tails short;
+  others = views.others;
+  fresh = views.fresh;
+}
 
 -- no read
 pub looks_start : (sum : List ℕ → ℕ) (t : Tail) (cache : CacheState) (life : Life) → IsOpen sum t cache life → OnlyLooks sum t cache cache life life
@@ -176,16 +232,44 @@ pages_full : (sum : List ℕ → ℕ) (w : WriterState) (d : Disk) → IsSound s
 unfolding IsSound
 pages_full sum w d sound = sound.stands.full
 
+-- a ready writer's pages can be read
+pub opened_writer : (sum : List ℕ → ℕ) (w : WriterState) (cache : CacheState) (life : Life) → IsReady sum w cache life → IsOpen sum (tail_of w) cache life
+opened_writer sum w cache life ready = record {
+  stands = record {
+    tail = record { there = ready.can.there; full = pages_full sum w life.present ready.sound; is = refl };
+    can = ready.can;
+  };
+  size = ready.size;
+}
+
+-- the writer's own reads, through its view
+pub views_read : (sum : List ℕ → ℕ) (w : WriterState) (cache after : CacheState) (old new : Life) → IsReady sum w cache old → OnlyViews sum (tail_of w) cache after old new → OnlyReads sum w cache after old new
+views_read sum w cache after old new ready views =
+    let held = content w old.present.readable in
+    let same : content w new.present.readable ≡ held = views.holds in
+    let left_only : AllOnly sum w.page_size held held new.present = only_later sum w.page_size held old.present new.present views.looked.same ready.only in
+    record {
+      ready = record {
+        sound = (look_leaves_writers sum old new views.looked w ready.sound).sound;
+        can = views.opened.stands.can;
+        fresh = views.fresh ready.fresh;
+        size = ready.size ∙ sym (ap length same);
+        only = subst (λ (l : List ℕ). AllOnly sum w.page_size l l new.present) (sym same) left_only;
+      };
+      tails = views.tails;
+      others = views.others;
+      holds = same;
+      looked = views.looked;
+      kept = looked_keeps sum w.page_size old new views.looked;
+      only = looked_leaves sum w.page_size held old new views.looked ready.only;
+    }
+
 -- so it stays a journal
 pub journals_stay : (sum : List ℕ → ℕ) (t : Tail) (cache after : CacheState) (old new : Life) → OnlyLooks sum t cache after old new → JournalsStay sum cache after old new
 journals_stay sum t cache after old new looks = λ w journal.
     let ready = ready_of sum w cache old journal in
     let held = content w old.present.readable in
-    let stood : StandsOn sum (tail_of w) held cache old.present = record {
-      tail = record { there = ready.can.there; full = pages_full sum w old.present ready.sound; is = refl };
-      can = ready.can;
-    } in
-    let stands = looks.tails (tail_of w) held stood in
+    let stands = looks.tails (tail_of w) held (opened_writer sum w cache old ready).stands in
     let same : content w new.present.readable ≡ held = stands.tail.is in
     let left_only : AllOnly sum w.page_size held held new.present = only_later sum w.page_size held old.present new.present looks.looked.same ready.only in
     record {

@@ -1,5 +1,5 @@
 -- A reader of a journal's records, and what leaves it as it is.
-use Rattle.std.specs.Prelude.{◌≡◌, ◌≢◌, ◌≤◌, ℕ, List, [], ◌++◌, length, drop}
+use Rattle.std.specs.Prelude.{◌≡◌, ◌≢◌, ◌≤◌, ◌<◌, ℕ, List, [], ◌++◌, length, drop}
 use Rattle.std.specs.Prelude.{Option, None, Result, Ok, Err}
 use Rattle.disk.specs.Disk.{Life}
 use Rattle.disk.specs.declared.error.Error.{Error}
@@ -8,7 +8,7 @@ use Rattle.cache.specs.Pages.{IsFresh}
 use Rattle.crash.specs.Looks.{Looked}
 use Rattle.writer_state.specs.Sound.{IsSound, content}
 use Rattle.writer_state.specs.WriterState.{WriterState}
-use Rattle.paged_read.specs.Snapshots.{LeavesAllTails, LeavesOthers, StandsOn}
+use Rattle.paged_read.specs.Snapshots.{LeavesAllTails, LeavesOthers, LeavesTails, StandsOn}
 use Rattle.paged_read.specs.Tail.{Tail, told, size_of}
 use Rattle.paged.specs.Calls.{CallCause, IsSameWriter}
 use Rattle.journal.specs.declared.frame.Found.{Found}
@@ -72,6 +72,19 @@ EachReaderStays cache after =
 abbrev pub IsNewToReaders : ℕ → CacheState → Type 0
 IsNewToReaders id cache =
     (sum : List ℕ → ℕ) (r : ReaderState) (life : Life) → IsReader sum r cache life → r.tail.id ≢ id
+
+-- reads through a view of such pages, a writer's or a snapshot's: they can be read on, over the same
+-- content; the device was only read, and what reads of other blobs stand on stands. Each snapshot
+-- does whose pages lie below the view's own bytes, and each at all where these are less than a page
+pub record OnlyViews (sum : List ℕ → ℕ) (t : Tail) (cache after : CacheState) (old new : Life)
+    : Type 0 where
+  pub opened : IsOpen sum t after new
+  pub holds : told t new.present.readable ≡ told t old.present.readable
+  pub looked : Looked old new
+  pub tails : LeavesTails sum t.full_pages cache after old new
+  pub all_tails : length t.bytes < t.page_size → LeavesAllTails sum cache after old new
+  pub others : LeavesOthers t.id cache after
+  pub fresh : IsFresh cache → IsFresh after
 
 -- reads of a snapshot: it can be read on, over the same content; each writer of the blob stays
 -- sound, each snapshot stands, and so does what reads of other blobs stand on

@@ -1,5 +1,5 @@
 // Journals: records over a paged blob.
-ghost use Rattle.std.specs.Prelude.{◌≡◌, ◌+◌, ◌*◌, ◌^◌, ◌<◌, ◌≤◌, ◌++◌, ◌∷◌, [], length};
+ghost use Rattle.std.specs.Prelude.{◌≡◌, ◌≤◌, ◌++◌, length};
 ghost use Rattle.std.specs.Prelude.{IfOk, OnOk};
 ghost use Rattle.cache.specs.Pages.{IsFresh};
 ghost use Rattle.crash.specs.Looks.{Looked};
@@ -15,18 +15,18 @@ ghost use Rattle.paged.specs.Snapshots.{MakesSnapshot};
 ghost use Rattle.paged_read.specs.Snapshots.{LeavesOthers, LeavesTails, StandsOn};
 ghost use Rattle.paged_read.specs.Tail.{CanRead};
 ghost use Rattle.journal.specs.Journal.{IsJournal, IsNewId, OthersStay, AllStay};
-ghost use Rattle.journal.specs.Journal.{AppendsRecord, CommitGoes, ReadsBytes};
-ghost use Rattle.journal.specs.Journal.{MeasuresFrame, ReadsFrame, ReadsRecord, ReadsAll, Trims};
+ghost use Rattle.journal.specs.Journal.{AppendsRecord, CommitGoes};
+ghost use Rattle.journal.specs.Journal.{ReadsRecord, ReadsAll, Trims};
 ghost use Rattle.journal.specs.Journal.{RecoversJournal, IsReady, OnlyReads, KeepsCommitted};
 ghost use Rattle.journal.specs.Journal.{LeavesItsRecords, LeavesOneMore, KeepsAllRecords};
 ghost use Rattle.journal.specs.Journal.{LeavesAllRecords, BringsBack};
 ghost use Rattle.journal.specs.Reader.{EachReaderStays, IsNewToReaders, IsReader, MakesReader};
 ghost use Rattle.journal.specs.Reader.{OtherReadersStay, ReadersStay};
 
-use crate::frame::{Found, Framed, IN_FRONT, frame_of, record_at, record_len_of};
+use crate::frame::{Found, Framed, frame_of};
+use crate::lookup::frame_at;
 use crate::reader::Reader;
 use crate::replay::records_of;
-use bytes::Bytes;
 use cache::CacheRef;
 use disk::{Blob, Error, IoBuf, ReadOptions};
 use page::Sum;
@@ -55,77 +55,6 @@ impl<B, H, R> Model for Journal<B, H, R> {
     ghost Value = { WriterState };
 
     ghost view = { λ j. j.writer };
-}
-
-// Reads bytes of a writer's content, in one buffer.
-fn read_bytes<B: Blob, H: Sum, Phase>(
-    alloc: Global,
-    writer: &Writer<B, H, Phase>,
-    blob: &mut B,
-    cache: &mut CacheRef,
-    offset: u64,
-    len: usize,
-) -> Result<IoBuf, Error>
-    requires ready { IsReady H.sum_of writer.now cache.old (B.life blob.old) }
-    requires within { offset + len ≤ size_of writer.now }
-    requires fits { offset + len < 2 ^ 64 }
-    ensures reads { let old = B.life blob.old in let new = B.life blob.new in
-        ReadsBytes (content writer.now old.present.readable) offset len old new result }
-    ensures leaves { let old = B.life blob.old in let new = B.life blob.new in
-        OnlyReads H.sum_of writer.now cache.old cache.new old new }
-{
-    let mut bytes = Vec::new(alloc);
-    bytes.resize(len, 0)?;
-    match writer.read_into(blob, cache, &mut bytes, offset) {
-        Ok(()) => Ok(IoBuf::from(Bytes::from_vec(bytes)?)),
-        Err(error) => Err(error),
-    }
-}
-
-// How many bytes the frame that begins at an offset has of those that stand there: what it says of
-// itself is read without memory.
-fn frame_len_at<B: Blob, H: Sum, Phase>(
-    writer: &Writer<B, H, Phase>,
-    blob: &mut B,
-    cache: &mut CacheRef,
-    offset: u64,
-    rest: u64,
-) -> Result<u64, Error>
-    requires ready { IsReady H.sum_of writer.now cache.old (B.life blob.old) }
-    requires within { offset + rest ≡ size_of writer.now }
-    requires fits { offset + rest < 2 ^ 64 }
-    ensures measures { let old = B.life blob.old in let new = B.life blob.new in
-        MeasuresFrame (content writer.now old.present.readable) offset rest old new result }
-    ensures leaves { let old = B.life blob.old in let new = B.life blob.new in
-        OnlyReads H.sum_of writer.now cache.old cache.new old new }
-{
-    let mut head = [0; IN_FRONT];
-    let front = &mut head[..rest.min(2) as usize];
-    match writer.read_into(blob, cache, front, offset) {
-        Ok(()) => Ok(rest.min(record_len_of(front) as u64 + 7)),
-        Err(error) => Err(error),
-    }
-}
-
-// The bytes of the frame that begins at an offset, after which so many stand in the content.
-fn read_frame<B: Blob, H: Sum, Phase>(
-    alloc: Global,
-    writer: &Writer<B, H, Phase>,
-    blob: &mut B,
-    cache: &mut CacheRef,
-    offset: u64,
-    rest: u64,
-) -> Result<IoBuf, Error>
-    requires ready { IsReady H.sum_of writer.now cache.old (B.life blob.old) }
-    requires within { offset + rest ≡ size_of writer.now }
-    requires fits { offset + rest < 2 ^ 64 }
-    ensures reads { let old = B.life blob.old in let new = B.life blob.new in
-        ReadsFrame (content writer.now old.present.readable) offset rest old new result }
-    ensures leaves { let old = B.life blob.old in let new = B.life blob.new in
-        OnlyReads H.sum_of writer.now cache.old cache.new old new }
-{
-    let len = frame_len_at(writer, blob, cache, offset, rest)?;
-    read_bytes(alloc, writer, blob, cache, offset, len as usize)
 }
 
 // Goes through the frames of a recovered content by a replay, which reads ahead, and answers their
@@ -427,25 +356,6 @@ impl<B: Blob, H: Sum, R: Sum> Journal<B, H, R> {
         Ok((Self::new(alloc, Writer::from(recovery)), found))
     }
 
-    // The bytes of the frame that begins at an offset, after which so many stand in the journal.
-    fn read_frame(
-        &self,
-        blob: &mut B,
-        cache: &mut CacheRef,
-        offset: u64,
-        rest: u64,
-    ) -> Result<IoBuf, Error>
-        requires ready { IsReady H.sum_of self.now cache.old (B.life blob.old) }
-        requires within { offset + rest ≡ size_of self.now }
-        requires fits { offset + rest < 2 ^ 64 }
-        ensures reads { let old = B.life blob.old in let new = B.life blob.new in
-            ReadsFrame (content self.now old.present.readable) offset rest old new result }
-        ensures leaves { let old = B.life blob.old in let new = B.life blob.new in
-            OnlyReads H.sum_of self.now cache.old cache.new old new }
-    {
-        read_frame(self.alloc, &self.writer, blob, cache, offset, rest)
-    }
-
     // The frame that begins at an offset, or none.
     fn find(&self, blob: &mut B, cache: &mut CacheRef, offset: u64) -> Result<Option<Found>, Error>
         requires ready { IsReady H.sum_of self.now cache.old (B.life blob.old) }
@@ -454,16 +364,7 @@ impl<B: Blob, H: Sum, R: Sum> Journal<B, H, R> {
         ensures leaves { let old = B.life blob.old in let new = B.life blob.new in
             OnlyReads H.sum_of self.now cache.old cache.new old new }
     {
-        let size = self.size();
-        if size <= offset {
-            return Ok(None);
-        }
-        let framed = self.read_frame(blob, cache, offset, size - offset)?;
-        let bytes = record_at::<R>(&framed)?;
-        Ok(Some(Found {
-            bytes,
-            end: offset + framed.len() as u64,
-        }))
+        frame_at::<B, H, R>(self.alloc, self.writer.view(), blob, cache, offset)
     }
 
     /// The frame that begins at an offset, in logical bytes: one that an append answered, or the

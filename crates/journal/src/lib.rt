@@ -5,6 +5,7 @@
 mod crashes;
 mod frame;
 mod journal;
+mod lookup;
 mod reader;
 mod replay;
 

@@ -1,15 +1,14 @@
 // Readers of a journal's records.
-ghost use Rattle.std.specs.Prelude.{◌≡◌, ◌+◌, ◌^◌, ◌<◌, ◌≤◌};
+ghost use Rattle.std.specs.Prelude.{◌≡◌};
 ghost use Rattle.cache.specs.Pages.{IsFresh};
 ghost use Rattle.crash.specs.Looks.{Looked};
-ghost use Rattle.paged_read.specs.Tail.{size_of, told};
-ghost use Rattle.journal.specs.Journal.{KeepsCommitted, OthersStay, MeasuresFrame, ReadsBytes};
-ghost use Rattle.journal.specs.Journal.{ReadsFrame, ReadsRecord};
+ghost use Rattle.paged_read.specs.Tail.{told};
+ghost use Rattle.journal.specs.Journal.{KeepsCommitted, OthersStay, ReadsRecord};
 ghost use Rattle.journal.specs.Reader.{AllReadersStay, FindsNext, IsOpen, IsReader, JournalsStay};
 ghost use Rattle.journal.specs.Reader.{LeavesTheirRecords, OnlyLooks, OtherReadersStay, ReadsNext};
 
-use crate::frame::{Found, IN_FRONT, record_at, record_len_of};
-use bytes::Bytes;
+use crate::frame::Found;
+use crate::lookup::frame_at;
 use cache::CacheRef;
 use disk::{Blob, Error, IoBuf};
 use page::Sum;
@@ -42,77 +41,6 @@ impl<B, H, R> Model for Reader<B, H, R> {
     ghost view = { λ r. record { tail = r.snapshot; offset = r.offset } };
 }
 
-// Reads bytes of a snapshot's content, in one buffer.
-fn read_bytes<B: Blob, H: Sum>(
-    alloc: Global,
-    snapshot: &Sealed<B, H>,
-    blob: &mut B,
-    cache: &mut CacheRef,
-    offset: u64,
-    len: usize,
-) -> Result<IoBuf, Error>
-    requires opened { IsOpen H.sum_of snapshot.now cache.old (B.life blob.old) }
-    requires within { offset + len ≤ size_of snapshot.now }
-    requires fits { offset + len < 2 ^ 64 }
-    ensures reads { let old = B.life blob.old in let new = B.life blob.new in
-        ReadsBytes (told snapshot.now old.present.readable) offset len old new result }
-    ensures leaves { let old = B.life blob.old in let new = B.life blob.new in
-        OnlyLooks H.sum_of snapshot.now cache.old cache.new old new }
-{
-    let mut bytes = Vec::new(alloc);
-    bytes.resize(len, 0)?;
-    match snapshot.read_into(blob, cache, &mut bytes, offset) {
-        Ok(()) => Ok(IoBuf::from(Bytes::from_vec(bytes)?)),
-        Err(error) => Err(error),
-    }
-}
-
-// How many bytes the frame that begins at an offset has of those that stand there: what it says of
-// itself is read without memory.
-fn frame_len_at<B: Blob, H: Sum>(
-    snapshot: &Sealed<B, H>,
-    blob: &mut B,
-    cache: &mut CacheRef,
-    offset: u64,
-    rest: u64,
-) -> Result<u64, Error>
-    requires opened { IsOpen H.sum_of snapshot.now cache.old (B.life blob.old) }
-    requires within { offset + rest ≡ size_of snapshot.now }
-    requires fits { offset + rest < 2 ^ 64 }
-    ensures measures { let old = B.life blob.old in let new = B.life blob.new in
-        MeasuresFrame (told snapshot.now old.present.readable) offset rest old new result }
-    ensures leaves { let old = B.life blob.old in let new = B.life blob.new in
-        OnlyLooks H.sum_of snapshot.now cache.old cache.new old new }
-{
-    let mut head = [0; IN_FRONT];
-    let front = &mut head[..rest.min(2) as usize];
-    match snapshot.read_into(blob, cache, front, offset) {
-        Ok(()) => Ok(rest.min(record_len_of(front) as u64 + 7)),
-        Err(error) => Err(error),
-    }
-}
-
-// The bytes of the frame that begins at an offset, after which so many stand in the snapshot.
-fn read_frame<B: Blob, H: Sum>(
-    alloc: Global,
-    snapshot: &Sealed<B, H>,
-    blob: &mut B,
-    cache: &mut CacheRef,
-    offset: u64,
-    rest: u64,
-) -> Result<IoBuf, Error>
-    requires opened { IsOpen H.sum_of snapshot.now cache.old (B.life blob.old) }
-    requires within { offset + rest ≡ size_of snapshot.now }
-    requires fits { offset + rest < 2 ^ 64 }
-    ensures reads { let old = B.life blob.old in let new = B.life blob.new in
-        ReadsFrame (told snapshot.now old.present.readable) offset rest old new result }
-    ensures leaves { let old = B.life blob.old in let new = B.life blob.new in
-        OnlyLooks H.sum_of snapshot.now cache.old cache.new old new }
-{
-    let len = frame_len_at(snapshot, blob, cache, offset, rest)?;
-    read_bytes(alloc, snapshot, blob, cache, offset, len as usize)
-}
-
 // The frame that begins at an offset, or none at the end.
 fn find<B: Blob, H: Sum, R: Sum>(
     alloc: Global,
@@ -127,16 +55,7 @@ fn find<B: Blob, H: Sum, R: Sum>(
     ensures leaves { let old = B.life blob.old in let new = B.life blob.new in
         OnlyLooks H.sum_of snapshot.now cache.old cache.new old new }
 {
-    let size = snapshot.size();
-    if size <= offset {
-        return Ok(None);
-    }
-    let framed = read_frame(alloc, snapshot, blob, cache, offset, size - offset)?;
-    let bytes = record_at::<R>(&framed)?;
-    Ok(Some(Found {
-        bytes,
-        end: offset + framed.len() as u64,
-    }))
+    frame_at::<B, H, R>(alloc, snapshot.view(), blob, cache, offset)
 }
 
 // The first frame from an offset on that is a record; at the end one with no record.

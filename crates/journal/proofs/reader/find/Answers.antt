@@ -1,17 +1,27 @@
-use Rattle.std.proofs.Common.{◌+◌, ◌-◌, ap, arith}
-use Rattle.paged_read.specs.Tail.{told}
-use Rattle.journal.proofs.Journals.{found}
-use Rattle.journal.proofs.Readers.{looks_start}
+use Rattle.std.proofs.Common.{subst, sym}
+use Rattle.paged_read.specs.Tail.{Tail, told}
+use Rattle.journal.specs.Journal.{ReadsRecord}
+use Rattle.journal.specs.Reader.{IsOpen, OnlyViews}
+use Rattle.journal.proofs.Readers.{views_look}
 use Rattle.journal.proofs.reader.find.Goals as goal
 
-pub returns-then-size-offset-clause-leaves : goal.returns-then-size-offset-clause-leaves
-returns-then-size-offset-clause-leaves g c = looks_start g.H.Sum.sum_of c.args.snapshot.now c.args.cache.now (g.B.Blob.life c.args.blob.now) c.requires.opened
+pub frame_at-requires : goal.frame_at-requires
+frame_at-requires g c =
+    let life = g.B.Blob.life c.args.blob.now in
+    record {
+      view = c.view.ensures.view;
+      opened = subst (λ (t : Tail). IsOpen g.H.Sum.sum_of t c.args.cache.now life) (sym c.view.ensures.tail) c.requires.opened;
+    }
 
 pub returns-clause-reads : goal.returns-clause-reads
 returns-clause-reads g c =
-    let held = told c.args.snapshot.now (g.B.Blob.life c.args.blob.now).present.readable in
-    let rest = c.size-size.result - c.args.offset in
-    let size = c.requires.opened.size in
-    found g.R.Sum.sum_of held c.args.offset rest c.in_ok-framed.framed c.in_ok-bytes.bytes (c.args.offset + c.len.result)
-    (omega (arith, c.if-size-offset.false, c.size-size.ensures, size)) (omega (arith, c.if-size-offset.false))
-    c.in_ok-framed.ensures.reads c.in_ok-bytes.ensures.found (ap (λ n. c.args.offset + n) c.len.ensures)
+    let old = g.B.Blob.life c.args.blob.now in
+    let new = g.B.Blob.life c.frame_at.new.blob in
+    subst (λ (t : Tail). ReadsRecord g.R.Sum.sum_of (told t old.present.readable) c.args.offset old new c.frame_at.result) c.view.ensures.tail c.frame_at.ensures.reads
+
+pub returns-clause-leaves : goal.returns-clause-leaves
+returns-clause-leaves g c =
+    let old = g.B.Blob.life c.args.blob.now in
+    let new = g.B.Blob.life c.frame_at.new.blob in
+    views_look g.H.Sum.sum_of c.args.snapshot.now c.args.cache.now c.frame_at.new.cache old new c.view.ensures.short
+    (subst (λ (t : Tail). OnlyViews g.H.Sum.sum_of t c.args.cache.now c.frame_at.new.cache old new) c.view.ensures.tail c.frame_at.ensures.leaves)

@@ -1,11 +1,11 @@
-use Rattle.paged_read.specs.Tail.{told}
+use Rattle.paged_read.specs.Tail.{tail_at, told}
 use Rattle.journal.proofs.Journals.{frame_read}
-use Rattle.journal.proofs.Readers.{looks_join}
-use Rattle.journal.proofs.reader.read_frame.Goals as goal
+use Rattle.journal.proofs.Readers.{views_join}
+use Rattle.journal.proofs.lookup.read_frame.Goals as goal
 
 pub returns-clause-reads : goal.returns-clause-reads
 returns-clause-reads g c =
-    let t = c.args.snapshot.now in
+    let t = tail_at c.args.view.page_size c.args.view.id c.args.view.tip.now in
     let old = g.B.Blob.life c.args.blob.now in
     let mid = g.B.Blob.life c.frame_len_at.new.blob in
     let left = c.frame_len_at.ensures.leaves in
@@ -14,5 +14,5 @@ returns-clause-reads g c =
 
 pub returns-clause-leaves : goal.returns-clause-leaves
 returns-clause-leaves g c =
-    looks_join g.H.Sum.sum_of c.args.snapshot.now c.args.cache.now c.frame_len_at.new.cache c.read_bytes.new.cache (g.B.Blob.life c.args.blob.now) (g.B.Blob.life c.frame_len_at.new.blob) (g.B.Blob.life c.read_bytes.new.blob)
+    views_join g.H.Sum.sum_of (tail_at c.args.view.page_size c.args.view.id c.args.view.tip.now) c.args.cache.now c.frame_len_at.new.cache c.read_bytes.new.cache (g.B.Blob.life c.args.blob.now) (g.B.Blob.life c.frame_len_at.new.blob) (g.B.Blob.life c.read_bytes.new.blob)
     c.frame_len_at.ensures.leaves c.read_bytes.ensures.leaves

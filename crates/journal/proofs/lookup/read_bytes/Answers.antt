@@ -1,0 +1,30 @@
+use Rattle.std.proofs.Common.{◌≡◌, ◌∙◌, length, arith}
+use Rattle.paged_read.specs.Tail.{tail_at}
+use Rattle.journal.specs.Reader.{OnlyViews}
+use Rattle.journal.proofs.Readers.{read_views, view_refused, views_start}
+use Rattle.journal.proofs.lookup.read_bytes.Given.{Over}
+use Rattle.journal.proofs.lookup.read_bytes.Goals as goal
+use Rattle.journal.proofs.lookup.read_bytes.Goals.{After-read_into}
+
+-- the read
+views : (g : Over) (c : After-read_into g) → OnlyViews g.H.Sum.sum_of (tail_at c.args.view.page_size c.args.view.id c.args.view.tip.now) c.args.cache.now c.read_into.new.cache (g.B.Blob.life c.args.blob.now) (g.B.Blob.life c.read_into.new.blob)
+views g c =
+    read_views g.H.Sum.sum_of (tail_at c.args.view.page_size c.args.view.id c.args.view.tip.now) c.args.cache.now c.read_into.new.cache (g.B.Blob.life c.args.blob.now) (g.B.Blob.life c.read_into.new.blob) c.requires.opened c.read_into.ensures.leaves
+
+pub returns-in_err-resize-clause-leaves : goal.returns-in_err-resize-clause-leaves
+returns-in_err-resize-clause-leaves g c = views_start g.H.Sum.sum_of (tail_at c.args.view.page_size c.args.view.id c.args.view.tip.now) c.args.cache.now (g.B.Blob.life c.args.blob.now) c.requires.opened
+
+pub returns-in_err-from_vec-in-Ok-clause-leaves : goal.returns-in_err-from_vec-in-Ok-clause-leaves
+returns-in_err-from_vec-in-Ok-clause-leaves g c = views g (goal.at.returns-in_err-from_vec-in-Ok-clause-leaves g c).After-read_into
+
+pub returns-in_ok-from_vec-in-Ok-clause-leaves : goal.returns-in_ok-from_vec-in-Ok-clause-leaves
+returns-in_ok-from_vec-in-Ok-clause-leaves g c = views g (goal.at.returns-in_ok-from_vec-in-Ok-clause-leaves g c).After-read_into
+
+pub returns-in-Err-clause-leaves : goal.returns-in-Err-clause-leaves
+returns-in-Err-clause-leaves g c = views g (goal.at.returns-in-Err-clause-leaves g c).After-read_into
+
+pub returns-in-Err-clause-reads : goal.returns-in-Err-clause-reads
+returns-in-Err-clause-reads g c =
+    let many : length c.deref_mut.result.now ≡ c.args.len = c.deref_mut.ensures.len ∙ c.in_ok-resize.ensures.len in
+    view_refused g.H.Sum.sum_of (tail_at c.args.view.page_size c.args.view.id c.args.view.tip.now) c.args.cache.now c.args.offset (length c.deref_mut.result.now) (λ (u : Unit {0}). c.read_into.new.buf) (g.B.Blob.life c.args.blob.now) (g.B.Blob.life c.read_into.new.blob) c.in-Err.error
+    c.in-Err.ensures.reads c.requires.opened (omega (arith, many, c.requires.within)) (omega (arith, many, c.requires.fits))

@@ -1,0 +1,129 @@
+// The frame at an offset of a blob's content, read through a view: that of a journal's writer, or
+// of a snapshot.
+ghost use Rattle.std.specs.Prelude.{◌≡◌, ◌+◌, ◌^◌, ◌<◌, ◌≤◌};
+ghost use Rattle.std.specs.Int.NonZero.{non_zero_u16_get};
+ghost use Rattle.paged_read.specs.Tail.{IsView, size_of, tail_at, told};
+ghost use Rattle.journal.specs.Journal.{MeasuresFrame, ReadsBytes, ReadsFrame, ReadsRecord};
+ghost use Rattle.journal.specs.Reader.{IsOpen, OnlyViews};
+
+use crate::frame::{AFTER, Found, IN_FRONT, record_at, record_len_of};
+use bytes::Bytes;
+use cache::CacheRef;
+use disk::{Blob, Error, IoBuf};
+use page::Sum;
+use paged_read::View;
+use std::alloc::Global;
+
+// Reads bytes of the content, in one buffer.
+fn read_bytes<B: Blob, H: Sum>(
+    alloc: Global,
+    view: View<'_, B, H>,
+    blob: &mut B,
+    cache: &mut CacheRef,
+    offset: u64,
+    len: usize,
+) -> Result<IoBuf, Error>
+    requires view { IsView (non_zero_u16_get view.page_size) view.tip.now }
+    requires opened { let t = tail_at view.page_size view.id view.tip.now in
+        IsOpen H.sum_of t cache.old (B.life blob.old) }
+    requires within { let t = tail_at view.page_size view.id view.tip.now in
+        offset + len ≤ size_of t }
+    requires fits { offset + len < 2 ^ 64 }
+    ensures reads { let t = tail_at view.entry.page_size view.entry.id view.entry.tip.now in
+        let old = B.life blob.old in let new = B.life blob.new in
+        ReadsBytes (told t old.present.readable) offset len old new result }
+    ensures leaves { let t = tail_at view.entry.page_size view.entry.id view.entry.tip.now in
+        OnlyViews H.sum_of t cache.old cache.new (B.life blob.old) (B.life blob.new) }
+{
+    let mut bytes = Vec::new(alloc);
+    bytes.resize(len, 0)?;
+    match view.read_into(blob, cache, &mut bytes, offset) {
+        Ok(()) => Ok(IoBuf::from(Bytes::from_vec(bytes)?)),
+        Err(error) => Err(error),
+    }
+}
+
+// How many bytes the frame that begins at an offset has of those that stand there: what it says of
+// itself is read without memory.
+fn frame_len_at<B: Blob, H: Sum>(
+    view: View<'_, B, H>,
+    blob: &mut B,
+    cache: &mut CacheRef,
+    offset: u64,
+    rest: u64,
+) -> Result<u64, Error>
+    requires view { IsView (non_zero_u16_get view.page_size) view.tip.now }
+    requires opened { let t = tail_at view.page_size view.id view.tip.now in
+        IsOpen H.sum_of t cache.old (B.life blob.old) }
+    requires within { let t = tail_at view.page_size view.id view.tip.now in
+        offset + rest ≡ size_of t }
+    requires fits { offset + rest < 2 ^ 64 }
+    ensures measures { let t = tail_at view.entry.page_size view.entry.id view.entry.tip.now in
+        let old = B.life blob.old in let new = B.life blob.new in
+        MeasuresFrame (told t old.present.readable) offset rest old new result }
+    ensures leaves { let t = tail_at view.entry.page_size view.entry.id view.entry.tip.now in
+        OnlyViews H.sum_of t cache.old cache.new (B.life blob.old) (B.life blob.new) }
+{
+    let mut head = [0; IN_FRONT];
+    let front = &mut head[..rest.min(IN_FRONT as u64) as usize];
+    match view.read_into(blob, cache, front, offset) {
+        Ok(()) => Ok(rest.min((IN_FRONT + record_len_of(front) + AFTER) as u64)),
+        Err(error) => Err(error),
+    }
+}
+
+// The bytes of the frame that begins at an offset, after which so many stand in the content.
+fn read_frame<B: Blob, H: Sum>(
+    alloc: Global,
+    view: View<'_, B, H>,
+    blob: &mut B,
+    cache: &mut CacheRef,
+    offset: u64,
+    rest: u64,
+) -> Result<IoBuf, Error>
+    requires view { IsView (non_zero_u16_get view.page_size) view.tip.now }
+    requires opened { let t = tail_at view.page_size view.id view.tip.now in
+        IsOpen H.sum_of t cache.old (B.life blob.old) }
+    requires within { let t = tail_at view.page_size view.id view.tip.now in
+        offset + rest ≡ size_of t }
+    requires fits { offset + rest < 2 ^ 64 }
+    ensures reads { let t = tail_at view.entry.page_size view.entry.id view.entry.tip.now in
+        let old = B.life blob.old in let new = B.life blob.new in
+        ReadsFrame (told t old.present.readable) offset rest old new result }
+    ensures leaves { let t = tail_at view.entry.page_size view.entry.id view.entry.tip.now in
+        OnlyViews H.sum_of t cache.old cache.new (B.life blob.old) (B.life blob.new) }
+{
+    let len = frame_len_at(view, blob, cache, offset, rest)?;
+    read_bytes(alloc, view, blob, cache, offset, len as usize)
+}
+
+/// The frame that begins at an offset, or none at the end and after it.
+///
+/// `ReadFailed` where the device failed, `OutOfMemory`.
+pub fn frame_at<B: Blob, H: Sum, R: Sum>(
+    alloc: Global,
+    view: View<'_, B, H>,
+    blob: &mut B,
+    cache: &mut CacheRef,
+    offset: u64,
+) -> Result<Option<Found>, Error>
+    requires view { IsView (non_zero_u16_get view.page_size) view.tip.now }
+    requires opened { let t = tail_at view.page_size view.id view.tip.now in
+        IsOpen H.sum_of t cache.old (B.life blob.old) }
+    ensures reads { let t = tail_at view.entry.page_size view.entry.id view.entry.tip.now in
+        let old = B.life blob.old in let new = B.life blob.new in
+        ReadsRecord R.sum_of (told t old.present.readable) offset old new result }
+    ensures leaves { let t = tail_at view.entry.page_size view.entry.id view.entry.tip.now in
+        OnlyViews H.sum_of t cache.old cache.new (B.life blob.old) (B.life blob.new) }
+{
+    let size = view.size();
+    if size <= offset {
+        return Ok(None);
+    }
+    let framed = read_frame(alloc, view, blob, cache, offset, size - offset)?;
+    let bytes = record_at::<R>(&framed)?;
+    Ok(Some(Found {
+        bytes,
+        end: offset + framed.len() as u64,
+    }))
+}
