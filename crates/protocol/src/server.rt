@@ -177,8 +177,7 @@ pub fn serve<B: Blob, H: Sum, R: Read, W: Write + Drop>(
             Some(Request::Step(step)) => {
                 take_step(&mut replies, session, blob, cache, setting, step, out)?;
             }
-            Some(Request::Close) => return Ok(()),
-            None => return Ok(()),
+            Some(Request::Close) | None => return Ok(()),
         }
     }
     Err(Stop::Failed)

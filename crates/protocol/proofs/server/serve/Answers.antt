@@ -1,8 +1,9 @@
 use Rattle.std.proofs.Common.{rules}
 use Rattle.std.specs.Io.Buffered.{reader_remaining, writer_contents}
 use Rattle.protocol.specs.declared.request.Request.TheVariants.{Step}
-use Rattle.protocol.proofs.Serving.{serving_begins, serving_more, serving_stops, serving_fails}
+use Rattle.protocol.proofs.Serving.{serving_begins, serving_ends, serving_more, serving_stops, serving_fails}
 use Rattle.protocol.proofs.server.serve.Goals as goal
+use Rattle.protocol.proofs.server.serve.Goals.{in-Some+in-Close-1, in-None-1}
 
 pub loop-number-init : goal.loop-number-init
 loop-number-init g c = record {
@@ -38,3 +39,13 @@ loop-number-preserved g c = record {
       c.loop-number.number c.loop-number.invariant.serving c.next_request.ensures.keeps
       (search rules) c.in_ok-take_step-in-Some-Step.ensures.takes;
 }
+
+pub returns-in-Some-Close-clause-serves : goal.returns-in-Some-Close-clause-serves
+returns-in-Some-Close-clause-serves g c =
+    serving_ends g.H.Sum.sum_of c.args.setting.now c.args.session.now c.loop-number.session (g.B.Blob.life c.args.blob.now) (g.B.Blob.life c.loop-number.blob) (reader_remaining g.R.Read.remaining c.args.input.now)
+    (reader_remaining g.R.Read.remaining c.loop-number.input) (reader_remaining g.R.Read.remaining c.next_request.new.input) (writer_contents g.W.Write.contents c.args.out.now) (writer_contents g.W.Write.contents c.loop-number.out) (writer_contents g.W.Write.contents c.next_request.new.out)
+    c.loop-number.number c.loop-number.invariant.serving c.next_request.ensures.keeps
+    (elim c.in-Some-Close-1.branch [
+      | in-Some+in-Close-1 w ↦ search rules
+      | in-None-1 w ↦ search rules
+    ])
