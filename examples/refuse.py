@@ -9,9 +9,9 @@ a `try` line it is each request of its tried lines. The first reply that is anot
 `fault E8 OutOfMemory`. Of a session the line is then played once more: unless it took the writer, it and
 all lines after it have to answer as told. After the tried lines of a `try each` what follows them has to
 hold. The program asks for that by requests that no machine grants; refuse.c, which is compiled here,
-stands in front of the C library's heap and answers them. It answers too where a server asks for more
-memory at once than the bytes that have come need; without it nothing tells. The program's own cases,
-those with `start cases`, are left out: they tell how many runs there are.
+stands in front of the C library's heap and answers them. It also answers whether a server asked for more
+memory at once than any case needs, which shows under this heap alone. The program's own cases, those with
+`start cases`, are left out: their output says how many runs there are.
 """
 import os, re, subprocess, sys, tempfile, time
 

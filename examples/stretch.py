@@ -12,8 +12,8 @@ and 4,084, as most programs take, with N 1,021. The rule knows nothing of the la
 - a place in the blob is a page and a place in it: a page has 4 * N + 12 bytes in place of 16, its payload
   is stretched, and its footer is as long as before. The bytes of a device call are those between the
   places where they begin and end;
-- numbers of snapshots, replays, syncs, pages and device calls stay, and so does every reply but for its
-  lengths and bytes.
+- numbers of snapshots, replays, syncs, pages and device calls stay, and so does every reply, apart from
+  its lengths and bytes.
 
 What a crash keeps, as `first:48`, goes by pages too: of 48 bytes, which are three pages, it is three
 stretched ones. With N 1,021 that is each of 12,288 bytes: of the torn cases one is played so.
