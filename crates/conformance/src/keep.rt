@@ -20,8 +20,8 @@ pub enum Keep {
     Every(usize),
 }
 
-// More flags than a case has bytes.
-const MOST: usize = 256;
+// More flags than a case has unsynced bytes.
+const MOST: usize = 65_536;
 
 const KEEPS: [(&[u8], Keep); 3] = [
     (b"at-once", Keep::AtOnce),
@@ -58,31 +58,23 @@ impl Keep {
         }
     }
 
-    // Whether the crash of a number keeps a byte.
-    fn keeps(self, number: usize, byte: usize) -> bool {
-        match self {
-            Keep::AtOnce | Keep::Nothing => false,
-            Keep::All => true,
-            Keep::First(_) => byte < number,
-            Keep::One(_) => byte == number,
-            Keep::Every(_) => number / 2usize.saturating_pow(byte.min(20) as u32) % 2 == 1,
-        }
-    }
-
-    // How many flags are needed.
-    fn len(self) -> usize {
-        match self {
-            Keep::AtOnce | Keep::Nothing => 0,
-            Keep::All => MOST,
-            Keep::First(count) | Keep::One(count) | Keep::Every(count) => count.min(MOST),
-        }
-    }
-
     /// The flags of the crash of this number.
     pub fn flags(self, alloc: Global, number: usize) -> Result<Vec<bool>, AllocError> {
         let mut flags = Vec::new(alloc);
-        for byte in 0..self.len() {
-            flags.push(self.keeps(number, byte))?;
+        match self {
+            Keep::AtOnce | Keep::Nothing => {}
+            Keep::All => flags.resize(MOST, true)?,
+            Keep::First(_) => flags.resize(number, true)?,
+            Keep::One(_) => {
+                flags.resize(number, false)?;
+                flags.push(true)?;
+            }
+            Keep::Every(count) => {
+                for byte in 0..count.min(20) {
+                    let kept = number / 2usize.saturating_pow(byte.min(20) as u32) % 2 == 1;
+                    flags.push(kept)?;
+                }
+            }
         }
         Ok(flags)
     }
