@@ -73,9 +73,9 @@ abbrev pub IsNewToReaders : ℕ → CacheState → Type 0
 IsNewToReaders id cache =
     (sum : List ℕ → ℕ) (r : ReaderState) (life : Life) → IsReader sum r cache life → r.tail.id ≢ id
 
--- reads through a view of such pages, a writer's or a snapshot's: they can be read on, over the same
--- content; the device was only read, and what reads of other blobs stand on stands. Each snapshot
--- does whose pages lie below the view's own bytes, and each at all where these are less than a page
+-- reads through a view, a writer's or a snapshot's: it can be read on, over the same content; the
+-- device was only read, and reads of other blobs stay valid. So does each snapshot whose pages lie
+-- below the view's own bytes, and every snapshot if these bytes are less than a page
 pub record OnlyViews (sum : List ℕ → ℕ) (t : Tail) (cache after : CacheState) (old new : Life)
     : Type 0 where
   pub opened : IsOpen sum t after new
