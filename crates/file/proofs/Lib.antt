@@ -1,1 +1,3 @@
 pub mod Asking
+mod Running
+mod RunExamples

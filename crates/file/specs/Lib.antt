@@ -1,3 +1,4 @@
 pub mod Asked
 pub mod Mirror
 pub mod Names
+pub mod Runs

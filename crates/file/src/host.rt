@@ -6,11 +6,11 @@ ghost use Rattle.disk.specs.declared.action.Action.TheVariants as actions;
 ghost use Rattle.disk.specs.declared.action.Event.{Event};
 ghost use Rattle.file.specs.Asked.{outcome};
 
+use crate::runs::put_runs;
 use disk::{IoBufs, Past};
 use std::fs::File;
 use std::io;
 use std::marker::Model;
-use std::os::unix::fs::FileExt;
 use std::snapshot::Snapshot;
 
 /// What holds a blob's bytes for good. No clause says what it does with them: each says just that
@@ -39,10 +39,12 @@ pub trait Host {
 /// A file of the system as a host.
 ///
 /// That the file does what it is asked for is not proved but read, in the three calls below: the
-/// ghost record beside each says only that it was asked.
+/// ghost record beside each says only that it was asked. That the bytes of a write go out in runs,
+/// each at its place, is proved.
 #[derive(Drop)]
 pub struct FileHost {
     file: File,
+    gathered: Vec<u8>,
     past: Snapshot<Past>,
 }
 
@@ -57,13 +59,16 @@ impl Model for FileHost {
 
 impl FileHost {
     /// A file that begins with these bytes, of which nothing was asked yet. Its descriptor is none
-    /// of the standard streams', since what is printed there would get into the file.
-    pub fn new(file: File, bytes: &Vec<u8>) -> Self
+    /// of the standard streams', since what is printed there would get into the file. Buffers are
+    /// gathered in `room` into runs of at most its capacity, and each run is written by one call; a
+    /// buffer as long as that is written alone. [`crate::RUN_SIZE`] is a capacity that serves.
+    pub fn new(file: File, bytes: &Vec<u8>, room: Vec<u8>) -> Self
         requires beyond { pos 2 <ℤ file_raw_fd file }
         ensures { result ≡ [] }
     {
         FileHost {
             file,
+            gathered: room,
             past: Past::begun(bytes),
         }
     }
@@ -73,7 +78,11 @@ impl Host for FileHost {
     ghost asked = { λ h. h };
 
     fn put(&mut self, offset: u64, bufs: &IoBufs) -> io::Result<()> {
-        let result = write_all(&self.file, offset, bufs);
+        let result = if bufs.is_empty() {
+            fill(&self.file, offset)
+        } else {
+            put_runs(&mut self.file, &mut self.gathered, offset, bufs.as_slice())
+        };
         self.past = Past::write(&self.past, offset, bufs, false, result.is_err());
         result
     }
@@ -89,19 +98,6 @@ impl Host for FileHost {
         self.past = Past::sync(&self.past, result.is_err());
         result
     }
-}
-
-// Each buffer goes to the file as it is.
-fn write_all(file: &File, offset: u64, bufs: &IoBufs) -> io::Result<()> {
-    if bufs.is_empty() {
-        return fill(file, offset);
-    }
-    let mut at = offset;
-    for buf in bufs.iter() {
-        file.write_all_at(buf.as_ref(), at)?;
-        at = at.wrapping_add(buf.len() as u64);
-    }
-    Ok(())
 }
 
 // A write of no byte leaves a file's end where it is.

@@ -10,11 +10,13 @@ mod host;
 mod mirror;
 mod opening;
 mod replacing;
+mod runs;
 
 pub use host::{FileHost, Host};
 pub use mirror::Mirror;
 pub use opening::{open, read};
 pub use replacing::{replace, set_aside};
+pub use runs::RUN_SIZE;
 
 /// A blob over a file of the system.
 pub type FileBlob = Mirror<FileHost>;

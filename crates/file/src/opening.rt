@@ -3,6 +3,7 @@ ghost use Rattle.std.specs.Prelude.{◌≡◌, [], pos, ◌<ℤ◌, IfOk, false}
 ghost use Rattle.std.specs.Fd.{file_raw_fd};
 ghost use Rattle.disk.specs.History.{life_of, begun};
 
+use crate::runs::RUN_SIZE;
 use crate::{FileBlob, FileHost, Mirror};
 use disk::VecBlob;
 use std::alloc::Global;
@@ -24,7 +25,8 @@ use std::{fs, io};
 /// - `IsADirectory`, `InvalidInput`: the path names a folder, or a fifo, a socket or a device.
 ///   It isn't opened.
 /// - `WouldBlock`: another process has the file open, or has just replaced it.
-/// - `OutOfMemory`: its bytes have no room in memory. None was read.
+/// - `OutOfMemory`: its bytes have no room in memory, or the runs that it will write have none.
+///   None was read.
 /// - `UnexpectedEof`: a read ended before the file's end. Nothing was cut.
 /// - Any other is the system's.
 ///
@@ -39,10 +41,11 @@ pub fn open(rt: &HostRuntime, path: &str) -> io::Result<FileBlob>
     options.read(true).write(true).create(true);
     let file = open_locked(rt, path, &options, Lock::Exclusive)?;
     let mut bytes = room_for(rt.alloc(), &file)?;
+    let room = Vec::with_capacity(rt.alloc(), RUN_SIZE)?;
     file.sync_all()?;
     sync_folder(rt, path)?;
     read_all(&file, &mut bytes)?;
-    let host = FileHost::new(file, &bytes);
+    let host = FileHost::new(file, &bytes, room);
     Ok(Mirror::new(host, bytes))
 }
 

@@ -5,6 +5,7 @@ ghost use Rattle.disk.specs.History.{life_of, begun};
 ghost use Rattle.file.specs.Names.{IsNumbered};
 
 use crate::opening::{Lock, beyond_streams, open_locked, sync_folder, take_lock};
+use crate::runs::RUN_SIZE;
 use crate::{FileBlob, FileHost, Mirror};
 use std::fs::{File, OpenOptions, Permissions};
 use std::io::ErrorKind;
@@ -31,6 +32,7 @@ pub fn replace(rt: &HostRuntime, path: &str, bytes: &[u8]) -> io::Result<FileBlo
     ensures well { IfOk result (λ blob. blob.kept.stopped ≡ false) }
 {
     let kept = Vec::from_slice(rt.alloc(), bytes)?;
+    let room = Vec::with_capacity(rt.alloc(), RUN_SIZE)?;
     let place: PathBuf = fs::canonicalize(rt, path)?;
     let path = place.as_str();
     let mut options = OpenOptions::new();
@@ -43,7 +45,7 @@ pub fn replace(rt: &HostRuntime, path: &str, bytes: &[u8]) -> io::Result<FileBlo
     }
     sync_folder(rt, path)?;
     drop(old);
-    let host = FileHost::new(file, &kept);
+    let host = FileHost::new(file, &kept, room);
     Ok(Mirror::new(host, kept))
 }
 
