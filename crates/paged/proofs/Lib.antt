@@ -48,3 +48,4 @@ pub mod ScanExamples
 pub mod Foretelling
 pub mod Surveying
 pub mod SurveyExamples
+pub mod LookedFirst

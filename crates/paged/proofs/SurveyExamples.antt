@@ -1,49 +1,155 @@
--- What a survey tells, and its verdict, at a few bytes. Pages have 4 bytes, and the checksum is their sum.
-use Rattle.std.proofs.Common.{◌≡◌, ℕ, [], ◌∷◌, ◌++◌, refl}
+-- What a survey tells, how much is set aside, and the verdict, at a few bytes. Pages have 4 bytes, and the checksum is their sum.
+use Rattle.std.proofs.Common.{◌≡◌, Bool, true, false, ℕ, List, [], ◌∷◌, ◌++◌, refl, lit≤}
 use Rattle.page.specs.Sums.{add_sum}
-use Rattle.page.proofs.Examples.{abcd_page, ef_page}
+use Rattle.page.proofs.Examples.{abcd_page, ef_page, efg_page}
 use Rattle.paged.specs.declared.verdict.Survey.{Survey}
 use Rattle.paged.specs.declared.verdict.Verdict.TheVariants.{Whole, Cut, Keep, Refuse}
-use Rattle.paged.specs.Outlook.{IsSurvey, verdict_of}
+use Rattle.paged.specs.Outlook.{IsSurvey, are_zeros, set_aside_of, verdict_of}
+use Rattle.paged.specs.Within.{MayGo, at_stake}
 use Rattle.paged.proofs.RecoveryExamples.{no_page}
 
-abbrev told : (pages len cut beyond : ℕ) → Survey
-told pages len cut beyond = record { outlook = record { pages = pages; len = len; cut = cut }; beyond = beyond }
+abbrev told : (pages len cut beyond : ℕ) (blank torn : Bool) → Survey
+told pages len cut beyond blank torn = record { outlook = record { pages = pages; len = len; cut = cut }; beyond = beyond; blank = blank; torn = torn }
 
--- two pages, of which the second is partial: nothing is cut
-pub a_whole_blob : IsSurvey add_sum 4 (abcd_page ++ ef_page) (told 2 6 0 0)
-a_whole_blob = record { outlook = record { len = refl; pages = refl; cut = refl }; beyond = refl }
+-- "efg" as a crash may leave it: the second slot says 3 bytes, and another sum than theirs
+abbrev torn_page : List ℕ
+torn_page = 101 ∷ 102 ∷ 103 ∷ 0 ∷ 0 ∷ 2 ∷ 0 ∷ 0 ∷ 0 ∷ 203 ∷ 0 ∷ 3 ∷ 0 ∷ 0 ∷ 1 ∷ 51 ∷ []
 
-pub whole_is_recovered : verdict_of 4 31 (told 2 6 0 0) ≡ Whole
+-- "abcd" with such a slot beside its own
+abbrev full_page : List ℕ
+full_page = 97 ∷ 98 ∷ 99 ∷ 100 ∷ 0 ∷ 4 ∷ 0 ∷ 0 ∷ 1 ∷ 138 ∷ 0 ∷ 2 ∷ 0 ∷ 0 ∷ 0 ∷ 9 ∷ []
+
+-- "ef" of which a byte was damaged, so that no slot verifies
+abbrev rotten_page : List ℕ
+rotten_page = 101 ∷ 103 ∷ 0 ∷ 0 ∷ 0 ∷ 2 ∷ 0 ∷ 0 ∷ 0 ∷ 203 ∷ 0 ∷ 0 ∷ 0 ∷ 0 ∷ 0 ∷ 0 ∷ []
+
+-- "ef" with empty slots
+abbrev unsaid_page : List ℕ
+unsaid_page = 101 ∷ 102 ∷ 0 ∷ 0 ∷ 0 ∷ 0 ∷ 0 ∷ 0 ∷ 0 ∷ 0 ∷ 0 ∷ 0 ∷ 0 ∷ 0 ∷ 0 ∷ 0 ∷ []
+
+-- ---- nothing goes
+
+-- of two pages, of which the second is partial, with one slot or two
+pub a_whole_blob : IsSurvey add_sum 4 (abcd_page ++ ef_page) (told 2 6 0 0 true false)
+a_whole_blob = record { outlook = record { len = refl; pages = refl; cut = refl }; beyond = refl; blank = refl; torn = refl }
+
+pub two_slots : IsSurvey add_sum 4 (abcd_page ++ efg_page) (told 2 7 0 0 true false)
+two_slots = record { outlook = record { len = refl; pages = refl; cut = refl }; beyond = refl; blank = refl; torn = refl }
+
+pub whole_is_recovered : verdict_of 4 31 (told 2 6 0 0 true false) ≡ Whole
 whole_is_recovered = refl
 
--- with a byte after them, that one is
-pub a_torn_end : IsSurvey add_sum 4 (abcd_page ++ ef_page ++ 255 ∷ []) (told 2 6 1 0)
-a_torn_end = record { outlook = record { len = refl; pages = refl; cut = refl }; beyond = refl }
+-- nor of a page that is full, whatever its other slot says
+pub a_full_page : IsSurvey add_sum 4 full_page (told 1 4 0 0 true false)
+a_full_page = record { outlook = record { len = refl; pages = refl; cut = refl }; beyond = refl; blank = refl; torn = refl }
 
-pub torn_end_is_cut : verdict_of 4 31 (told 2 6 1 0) ≡ Cut
-torn_end_is_cut = refl
+-- nor of no byte
+pub an_empty_blob : IsSurvey add_sum 4 [] (told 0 0 0 0 true false)
+an_empty_blob = record { outlook = record { len = refl; pages = refl; cut = refl }; beyond = refl; blank = refl; torn = refl }
 
--- two pages of zeros are kept beside it
-pub zeros_after : IsSurvey add_sum 4 (abcd_page ++ no_page ++ no_page) (told 1 4 32 0)
-zeros_after = record { outlook = record { len = refl; pages = refl; cut = refl }; beyond = refl }
+-- ---- zeros go
 
-pub zeros_are_kept : verdict_of 4 31 (told 1 4 32 0) ≡ Keep
-zeros_are_kept = refl
+pub zeros_after : IsSurvey add_sum 4 (abcd_page ++ no_page ++ no_page) (told 1 4 32 0 true false)
+zeros_after = record { outlook = record { len = refl; pages = refl; cut = refl }; beyond = refl; blank = refl; torn = refl }
 
--- where the second of them has a value, it depends on how much may go
-pub a_value_after : IsSurvey add_sum 4 (abcd_page ++ no_page ++ ef_page) (told 1 4 32 1)
-a_value_after = record { outlook = record { len = refl; pages = refl; cut = refl }; beyond = refl }
+pub zeros_are_cut : verdict_of 4 31 (told 1 4 32 0 true false) ≡ Cut
+zeros_are_cut = refl
 
-pub value_is_kept : verdict_of 4 32 (told 1 4 32 1) ≡ Keep
+-- ---- what goes is set aside
+
+-- a page whose longer slot fails: it may have been synced with 3 bytes, and keeps 2
+pub a_torn_page : IsSurvey add_sum 4 (abcd_page ++ torn_page) (told 2 6 0 0 true true)
+a_torn_page = record { outlook = record { len = refl; pages = refl; cut = refl }; beyond = refl; blank = refl; torn = refl }
+
+pub torn_page_is_kept : verdict_of 4 31 (told 2 6 0 0 true true) ≡ Keep
+torn_page_is_kept = refl
+
+pub all_of_it : set_aside_of 4 (told 2 6 0 0 true true) ≡ 16
+all_of_it = refl
+
+-- one of which no slot verifies, or of which none says anything, though it has bytes
+pub a_rotten_page : IsSurvey add_sum 4 (abcd_page ++ rotten_page) (told 1 4 16 0 false false)
+a_rotten_page = record { outlook = record { len = refl; pages = refl; cut = refl }; beyond = refl; blank = refl; torn = refl }
+
+pub an_unsaid_page : IsSurvey add_sum 4 (abcd_page ++ unsaid_page) (told 1 4 16 0 false false)
+an_unsaid_page = record { outlook = record { len = refl; pages = refl; cut = refl }; beyond = refl; blank = refl; torn = refl }
+
+pub rotten_is_kept : verdict_of 4 31 (told 1 4 16 0 false false) ≡ Keep
+rotten_is_kept = refl
+
+-- a rest below a page, of zeros too: the page may have been cut off
+pub a_rest : IsSurvey add_sum 4 (abcd_page ++ ef_page ++ 0 ∷ []) (told 2 6 1 0 true false)
+a_rest = record { outlook = record { len = refl; pages = refl; cut = refl }; beyond = refl; blank = refl; torn = refl }
+
+pub rest_is_kept : verdict_of 4 31 (told 2 6 1 0 true false) ≡ Keep
+rest_is_kept = refl
+
+-- with a torn page both are
+pub a_torn_page_and_a_rest : set_aside_of 4 (told 2 6 1 0 true true) ≡ 17
+a_torn_page_and_a_rest = refl
+
+-- where a page after zeros has a value, it depends on how much may go
+pub a_value_after : IsSurvey add_sum 4 (abcd_page ++ no_page ++ ef_page) (told 1 4 32 1 false false)
+a_value_after = record { outlook = record { len = refl; pages = refl; cut = refl }; beyond = refl; blank = refl; torn = refl }
+
+pub value_is_kept : verdict_of 4 32 (told 1 4 32 1 false false) ≡ Keep
 value_is_kept = refl
 
-pub value_is_refused : verdict_of 4 31 (told 1 4 32 1) ≡ Refuse
+pub value_is_refused : verdict_of 4 31 (told 1 4 32 1 false false) ≡ Refuse
 value_is_refused = refl
 
--- of a blob whose first page has no value nothing would be kept
-pub nothing_first : IsSurvey add_sum 4 (no_page ++ abcd_page ++ abcd_page) (told 0 0 48 2)
-nothing_first = record { outlook = record { len = refl; pages = refl; cut = refl }; beyond = refl }
+-- ---- nothing would be kept
 
-pub nothing_is_refused : verdict_of 4 100 (told 0 0 48 2) ≡ Refuse
+-- of a blob whose first page has no value, whatever follows
+pub nothing_first : IsSurvey add_sum 4 (no_page ++ abcd_page ++ abcd_page) (told 0 0 48 2 false false)
+nothing_first = record { outlook = record { len = refl; pages = refl; cut = refl }; beyond = refl; blank = refl; torn = refl }
+
+pub nothing_is_refused : verdict_of 4 100 (told 0 0 48 2 false false) ≡ Refuse
 nothing_is_refused = refl
+
+-- of one page that has none
+pub one_rotten_page : IsSurvey add_sum 4 rotten_page (told 0 0 16 0 false false)
+one_rotten_page = record { outlook = record { len = refl; pages = refl; cut = refl }; beyond = refl; blank = refl; torn = refl }
+
+pub one_page_is_refused : verdict_of 4 100 (told 0 0 16 0 false false) ≡ Refuse
+one_page_is_refused = refl
+
+-- of zeros alone
+pub zeros_alone : IsSurvey add_sum 4 no_page (told 0 0 16 0 true false)
+zeros_alone = record { outlook = record { len = refl; pages = refl; cut = refl }; beyond = refl; blank = refl; torn = refl }
+
+pub zeros_are_refused : verdict_of 4 100 (told 0 0 16 0 true false) ≡ Refuse
+zeros_are_refused = refl
+
+-- ---- a recovery that may give up so much
+
+-- of two pages none goes
+pub whole_at_stake : at_stake add_sum 4 (abcd_page ++ ef_page) (record { pages = 2; len = 6; cut = 0 }) ≡ 0
+whole_at_stake = refl
+
+-- of zeros all, though none is set aside
+pub zeros_at_stake : at_stake add_sum 4 (abcd_page ++ no_page ++ no_page) (record { pages = 1; len = 4; cut = 32 }) ≡ 32
+zeros_at_stake = refl
+
+pub zeros_aside : set_aside_of 4 (told 1 4 32 0 true false) ≡ 0
+zeros_aside = refl
+
+-- of a torn page that page, though nothing is cut
+pub page_at_stake : at_stake add_sum 4 (abcd_page ++ torn_page) (record { pages = 2; len = 6; cut = 0 }) ≡ 16
+page_at_stake = refl
+
+-- of a torn page and a byte after it both do, though only the byte is cut
+pub torn_at_stake : at_stake add_sum 4 (abcd_page ++ torn_page ++ 255 ∷ []) (record { pages = 2; len = 6; cut = 1 }) ≡ 17
+torn_at_stake = refl
+
+-- so that many may go where 17 are allowed
+pub seventeen_may_go : MayGo add_sum 4 17 (abcd_page ++ torn_page ++ 255 ∷ [])
+seventeen_may_go = (17, (record { pages = 2; len = 6; cut = 1 }, record { len = refl; pages = refl; cut = refl }, refl), lit≤ tt)
+
+-- ---- zeros
+
+pub some_zeros : are_zeros (0 ∷ 0 ∷ []) ≡ true
+some_zeros = refl
+
+pub no_zeros : are_zeros (0 ∷ 1 ∷ []) ≡ false
+no_zeros = refl

@@ -1,25 +1,30 @@
--- Counting the pages that have a value, and what a survey owes.
-use Rattle.std.proofs.Common.{◌≡◌, ℕ, ◌+◌, ◌-◌, ◌*◌, ◌/◌, ◌≤◌, List, ◌++◌, length, take, drop, Bool, true, false, sym, ap, ◌∙◌, arith, Result, Ok, Err}
-use Rattle.std.specs.Prelude.{is_some, cond}
+-- Counting the pages that have a value, zeros, and what a survey owes.
+use Rattle.std.proofs.Common.{◌≡◌, ◌<◌, ◌%◌, ℕ, [], ◌∷◌, inl, inr, refl, subst, ◌+◌, ◌-◌, ◌*◌, ◌/◌, ◌≤◌, List, ◌++◌, length, take, drop, Bool, true, false, sym, ap, ◌∙◌, arith, Result, Ok, Err}
+use Rattle.std.specs.Prelude.{is_some, cond, ◌&&◌, ◌==◌, nat_lt}
 use Rattle.std.proofs.lemmas.List.{drop-drop, length-drop}
+use Rattle.std.proofs.lemmas.Bool.Decides.{nat_tests}
+use Rattle.std.proofs.lemmas.List.Folds.{list_all-append}
+use Rattle.std.proofs.Math.Nat.{div-add-mod', mul-div_cancel}
+use Rattle.std.proofs.Math.Seq.{take-add, take_all}
 use Rattle.std.proofs.lemmas.List.Sums.{count_by-le-length, sum_by-append, sum_by_push}
-use Rattle.disk.specs.Disk.{Life}
+use Rattle.disk.specs.Disk.{Life, ReadGoes, ReadAt, Request}
 use Rattle.disk.specs.declared.error.Error.{Error}
 use Rattle.disk.specs.declared.error.Error.TheVariants.{ReadFailed, WriteFailed, ResizeFailed, SyncFailed, InvalidChecksum, BlobInsufficientLength, OffsetOverflow, OutOfMemory, IdsExhausted}
 use Rattle.disk.proofs.Logs.{failed_later}
-use Rattle.page.specs.Page.{active, pages, pieces}
+use Rattle.page.specs.Page.{active, bad_slot, pages, pieces}
 use Rattle.crash.specs.Looks.{Looked}
 use Rattle.crash.proofs.FloorLaws.{floors_looked}
 use Rattle.crash.proofs.LookLaws.{looked_readable}
 use Rattle.crash.proofs.Pages.{pieces-add, pieces_more, length-pieces, pages_of_take, take-pages, drop-pieces, pages_fit}
-use Rattle.paged_read.specs.Scans.{LooksThrough, pages_from, ReadsForward}
+use Rattle.paged_read.specs.Scans.{AreForward, LooksThrough, pages_from, ReadsForward}
 use Rattle.paged_read.specs.Searches.{AreWithin, ReadsWithin}
-use Rattle.paged_read.proofs.Forward.{forward_start, forward_end}
+use Rattle.paged_read.proofs.Forward.{forward_start, forward_end, forward_once}
 use Rattle.paged_read.proofs.Outliving.{look_leaves_reads, look_leaves_tails, look_leaves_writers}
 use Rattle.paged_read.proofs.OutlivingReplays.{look_leaves_replays}
-use Rattle.paged_read.proofs.Searching.{gained_joins, within_joins}
+use Rattle.paged_read.proofs.Searching.{gained_joins, gained_once, within_joins}
 use Rattle.paged.specs.declared.outlook.Outlook.{Outlook}
-use Rattle.paged.specs.Outlook.{IsOutlook, IsSurvey, LeavesAsIs, Looks, ReadsTwice, Surveys, values_of}
+use Rattle.paged.specs.declared.verdict.Survey.{Survey}
+use Rattle.paged.specs.Outlook.{IsOutlook, IsSurvey, LeavesAsIs, Looks, ReadsLast, ReadsTwice, Surveys, are_zeros, beyond_bytes, beyond_of, is_torn, last_page, values_of}
 use Rattle.paged.proofs.Foretelling.{look_keeps_text, look_leaves_text}
 
 -- ---- counting
@@ -29,6 +34,13 @@ counts b = cond b 1 0
 
 join : (m n size : ℕ) → m * size + n * size ≡ (m + n) * size
 join m n size = omega arith
+
+-- where the page before this one ends
+page_end : (n P : ℕ) → 0 < n → (n - 1) * (P + 12) + (P + 12) ≡ n * (P + 12)
+page_end n P some =
+    ap (λ (x : ℕ). (n - 1) * (P + 12) + x) (let e : P + 12 ≡ 1 * (P + 12) = omega arith in e)
+    ∙ join (n - 1) 1 (P + 12)
+    ∙ ap (λ (x : ℕ). x * (P + 12)) (let e : n - 1 + 1 ≡ n = omega (arith, some) in e)
 
 module _ (sum : List ℕ → ℕ) (P : ℕ) where
   abbrev one : List ℕ → ℕ
@@ -78,6 +90,82 @@ module _ (sum : List ℕ → ℕ) (P : ℕ) where
       sym (drop-pieces kept (whole - kept) (P + 12) bytes)
       ∙ ap (λ (n : ℕ). drop kept (pieces n (P + 12) bytes)) (let e : kept + (whole - kept) ≡ length bytes / (P + 12) = omega (arith, all) in e)
 
+-- ---- zeros
+
+-- those of a batch more
+pub zeros_more : (P first k b : ℕ) (readable bytes : List ℕ) → first ≤ k → bytes ≡ take (b * (P + 12)) (drop (k * (P + 12)) readable)
+    → are_zeros (take ((k + b - first) * (P + 12)) (drop (first * (P + 12)) readable)) ≡ (are_zeros (take ((k - first) * (P + 12)) (drop (first * (P + 12)) readable)) && are_zeros bytes)
+zeros_more P first k b readable bytes le read =
+    let rest = drop (first * (P + 12)) readable in
+    let m = (k - first) * (P + 12) in
+    let n = b * (P + 12) in
+    let both : (k + b - first) * (P + 12) ≡ m + n = ap (λ (x : ℕ). x * (P + 12)) (let e : k + b - first ≡ k - first + b = omega arith in e) ∙ sym (join (k - first) b (P + 12)) in
+    let there : drop m rest ≡ drop (k * (P + 12)) readable =
+    drop-drop m (first * (P + 12)) readable ∙ ap (λ (x : ℕ). drop x readable) (join first (k - first) (P + 12) ∙ ap (λ (x : ℕ). x * (P + 12)) (let e : first + (k - first) ≡ k = omega arith in e)) in
+    let split : take ((k + b - first) * (P + 12)) rest ≡ take m rest ++ bytes =
+    ap (λ (x : ℕ). take x rest) both ∙ take-add m n rest ∙ ap (λ (l : List ℕ). take m rest ++ take n l) there ∙ ap (λ (l : List ℕ). take m rest ++ l) (sym read) in
+    ap are_zeros split ∙ list_all-append (λ (byte : ℕ). byte == 0) (take m rest) bytes
+
+-- ---- the last page
+
+first_holds : (a b : Bool) → (a && b) ≡ true → a ≡ true
+first_holds true b both = refl
+first_holds false b both = absurd (cc both)
+
+-- a torn one isn't full
+torn_partial : (sum : List ℕ → ℕ) (P : ℕ) (bytes : List ℕ) (outlook : Outlook) → is_torn sum P bytes outlook ≡ true → 0 < outlook.len % P
+torn_partial sum P bytes outlook torn =
+    let less = first_holds (nat_lt 0 (outlook.len % P)) (is_some (bad_slot sum P (last_page P outlook bytes))) torn in
+    grind (arith, nat_tests, less)
+
+-- of a page that is full nothing is torn
+pub not_torn : (sum : List ℕ → ℕ) (P : ℕ) (bytes : List ℕ) (outlook : Outlook) → outlook.len % P ≡ 0 → false ≡ is_torn sum P bytes outlook
+not_torn sum P bytes outlook full = ap (λ (n : ℕ). nat_lt 0 n && is_some (bad_slot sum P (last_page P outlook bytes))) (sym full)
+
+-- a text that doesn't end with a full page has one
+pub kept_some : (sum : List ℕ → ℕ) (P : ℕ) (bytes : List ℕ) (outlook : Outlook) → IsOutlook sum P bytes outlook → 0 < outlook.len % P → 0 < outlook.pages
+kept_some sum P bytes outlook is partial = omega (arith, is.pages, partial)
+
+-- its last page is there
+pub last_end : (sum : List ℕ → ℕ) (P : ℕ) (bytes : List ℕ) (outlook : Outlook) → IsOutlook sum P bytes outlook → 0 < outlook.pages → (outlook.pages - 1) * (P + 12) + (P + 12) ≤ length bytes
+last_end sum P bytes outlook is some = omega (arith, is.cut, page_end outlook.pages P some)
+
+-- what its slots say
+pub torn_is : (sum : List ℕ → ℕ) (P : ℕ) (bytes page : List ℕ) (outlook : Outlook) (bad : Bool) → 0 < outlook.len % P → page ≡ last_page P outlook bytes → bad ≡ is_some (bad_slot sum P page) → bad ≡ is_torn sum P bytes outlook
+torn_is sum P bytes page outlook bad partial is told =
+    told
+    ∙ ap (λ (l : List ℕ). is_some (bad_slot sum P l)) is
+    ∙ ap (λ (b : Bool). b && is_some (bad_slot sum P (last_page P outlook bytes))) (let e : true ≡ nat_lt 0 (outlook.len % P) = grind (arith, nat_tests) in e)
+
+-- it and what is cut are within the blob
+pub stake_there : (sum : List ℕ → ℕ) (P : ℕ) (bytes : List ℕ) (outlook : Outlook) → IsOutlook sum P bytes outlook → is_torn sum P bytes outlook ≡ true → outlook.cut + (P + 12) ≤ length bytes
+stake_there sum P bytes outlook is torn =
+    let some = kept_some sum P bytes outlook is (torn_partial sum P bytes outlook torn) in
+    omega (arith, is.cut, page_end outlook.pages P some)
+
+-- ---- what is cut
+
+-- as many bytes as are cut
+cut_bytes : (sum : List ℕ → ℕ) (P : ℕ) (bytes : List ℕ) (survey : Survey) → IsSurvey sum P bytes survey → length (drop (survey.outlook.pages * (P + 12)) bytes) ≡ survey.outlook.cut
+cut_bytes sum P bytes survey is = omega (arith, is.outlook.cut, length-drop (survey.outlook.pages * (P + 12)) bytes)
+
+-- whole pages are all of them
+all_beyond : (sum : List ℕ → ℕ) (P : ℕ) (bytes : List ℕ) (survey : Survey) → IsSurvey sum P bytes survey → survey.outlook.cut % (P + 12) ≡ 0 → beyond_bytes P survey.outlook.pages bytes ≡ drop (survey.outlook.pages * (P + 12)) bytes
+all_beyond sum P bytes survey is even =
+    let size = P + 12 in
+    let pages = survey.outlook.pages in
+    let cut = survey.outlook.cut in
+    let k = cut / size in
+    let whole : cut ≡ k * size = omega (arith, even, div-add-mod' cut size) in
+    let long : length bytes ≡ (pages + k) * size = omega (arith, is.outlook.cut, whole, sym (join pages k size)) in
+    let count : length bytes / size ≡ pages + k = ap (λ (n : ℕ). n / size) long ∙ mul-div_cancel (pages + k) (let e : 0 < size = omega arith in e) in
+    let much : (length bytes / size - pages) * size ≡ cut = ap (λ (n : ℕ). (n - pages) * size) count ∙ ap (λ (n : ℕ). n * size) (let e : pages + k - pages ≡ k = omega arith in e) ∙ sym whole in
+    take_all ((length bytes / size - pages) * size) (drop (pages * size) bytes) (omega (arith, much, cut_bytes sum P bytes survey is))
+
+-- where all of them are zero
+pub zeros_cut : (sum : List ℕ → ℕ) (P : ℕ) (bytes : List ℕ) (survey : Survey) → IsSurvey sum P bytes survey → survey.blank ≡ true → survey.outlook.cut % (P + 12) ≡ 0 → are_zeros (drop (survey.outlook.pages * (P + 12)) bytes) ≡ true
+zeros_cut sum P bytes survey is blank even = ap are_zeros (sym (all_beyond sum P bytes survey is even)) ∙ sym is.blank ∙ blank
+
 -- ---- what a survey owes
 
 pub leaves_as_is : (old new : Life) → Looked old new → LeavesAsIs old new
@@ -103,30 +191,64 @@ survey_fault sum P old new BlobInsufficientLength looks = looks
 survey_fault sum P old new OffsetOverflow looks = looks
 survey_fault sum P old new IdsExhausted looks = looks
 
--- a count after it that failed
-pub count_fault : (sum : List ℕ → ℕ) (P reach n : ℕ) (old mid new : Life) (e : Error) → reach ≤ length mid.present.readable → Looked old mid → LooksThrough reach n mid new (Err e) → Surveys sum P old new (Err e)
-count_fault sum P reach n old mid new ReadFailed there looked looks = failed_later ReadFailed old.present mid.present new.present looked.log looks.0
-count_fault sum P reach n old mid new OutOfMemory there looked looks = tt
-count_fault sum P reach n old mid new BlobInsufficientLength there looked looks = absurd (omega (arith, there, looks.0))
-count_fault sum P reach n old mid new WriteFailed there looked looks = looks
-count_fault sum P reach n old mid new ResizeFailed there looked looks = looks
-count_fault sum P reach n old mid new SyncFailed there looked looks = looks
-count_fault sum P reach n old mid new InvalidChecksum there looked looks = looks
-count_fault sum P reach n old mid new OffsetOverflow there looked looks = looks
-count_fault sum P reach n old mid new IdsExhausted there looked looks = looks
+-- a look after it that failed
+pub look_fault_later : {A : Type 0} (sum : List ℕ → ℕ) (P reach : ℕ) (a : A) (old mid new : Life) (e : Error) → reach ≤ length mid.present.readable → Looked old mid → LooksThrough reach a mid new (Err e) → Looks sum P old new (Err e)
+look_fault_later sum P reach a old mid new ReadFailed there looked looks = failed_later ReadFailed old.present mid.present new.present looked.log looks.0
+look_fault_later sum P reach a old mid new OutOfMemory there looked looks = tt
+look_fault_later sum P reach a old mid new BlobInsufficientLength there looked looks = absurd (omega (arith, there, looks.0))
+look_fault_later sum P reach a old mid new WriteFailed there looked looks = looks
+look_fault_later sum P reach a old mid new ResizeFailed there looked looks = looks
+look_fault_later sum P reach a old mid new SyncFailed there looked looks = looks
+look_fault_later sum P reach a old mid new InvalidChecksum there looked looks = looks
+look_fault_later sum P reach a old mid new OffsetOverflow there looked looks = looks
+look_fault_later sum P reach a old mid new IdsExhausted there looked looks = looks
+
+pub later_fault : {A : Type 0} (sum : List ℕ → ℕ) (P reach : ℕ) (a : A) (old mid new : Life) (e : Error) → reach ≤ length mid.present.readable → Looked old mid → LooksThrough reach a mid new (Err e) → Surveys sum P old new (Err e)
+later_fault sum P reach a old mid new e there looked looks = survey_fault sum P old new e (look_fault_later sum P reach a old mid new e there looked looks)
 
 -- it only looked, also where it failed
-pub count_looks : (reach n : ℕ) (old new : Life) (result : Result ℕ Error) → LooksThrough reach n old new result → Looked old new
-count_looks reach n old new (Ok found) looks = looks.1
-count_looks reach n old new (Err ReadFailed) looks = looks.1
-count_looks reach n old new (Err OutOfMemory) looks = looks
-count_looks reach n old new (Err BlobInsufficientLength) looks = looks.1
-count_looks reach n old new (Err WriteFailed) looks = absurd looks
-count_looks reach n old new (Err ResizeFailed) looks = absurd looks
-count_looks reach n old new (Err SyncFailed) looks = absurd looks
-count_looks reach n old new (Err InvalidChecksum) looks = absurd looks
-count_looks reach n old new (Err OffsetOverflow) looks = absurd looks
-count_looks reach n old new (Err IdsExhausted) looks = absurd looks
+pub only_looks : {A : Type 0} (reach : ℕ) (a : A) (old new : Life) (result : Result A Error) → LooksThrough reach a old new result → Looked old new
+only_looks reach a old new (Ok found) looks = looks.1
+only_looks reach a old new (Err ReadFailed) looks = looks.1
+only_looks reach a old new (Err OutOfMemory) looks = looks
+only_looks reach a old new (Err BlobInsufficientLength) looks = looks.1
+only_looks reach a old new (Err WriteFailed) looks = absurd looks
+only_looks reach a old new (Err ResizeFailed) looks = absurd looks
+only_looks reach a old new (Err SyncFailed) looks = absurd looks
+only_looks reach a old new (Err InvalidChecksum) looks = absurd looks
+only_looks reach a old new (Err OffsetOverflow) looks = absurd looks
+only_looks reach a old new (Err IdsExhausted) looks = absurd looks
+
+-- the last page is read, and then those after it
+last_and_then : (most at len to : ℕ) (old mid new : Life) (bytes : List ℕ) → len ≤ most → at + len ≤ to → ReadGoes at len old mid (Ok bytes) → ReadsForward most (at + len) to mid new → ReadsForward most at to old new
+last_and_then most at len to old mid new bytes few le goes reads =
+    gained_joins (λ xs. xs ≡ ReadAt at len ∷ []) (AreForward most (at + len) to) (AreForward most at to) old mid new
+    (λ xs ys is go. subst (λ (l : List Request). AreForward most at to (l ++ ys)) (sym is) (refl, few, le, go))
+    (gained_once (λ xs. xs ≡ ReadAt at len ∷ []) (ReadAt at len) false old mid (ap (λ (l : Life). l.present.log) goes.2) refl) reads
+
+-- a second reading, from the last page on where that is read, and else from the one after it
+pub second_reading : (P most to : ℕ) (outlook : Outlook) (old mid new : Life) (torn : Bool) → P + 12 ≤ most → outlook.pages * (P + 12) ≤ to → ReadsLast P outlook old mid (Ok torn) → ReadsForward most (outlook.pages * (P + 12)) to mid new
+    → (from : ℕ) × ReadsForward most from to old new
+second_reading P most to outlook old mid new torn few le last reads = elim last [
+  | inl same ↦ (outlook.pages * (P + 12), subst (λ (l : Life). ReadsForward most (outlook.pages * (P + 12)) to l new) same.1 reads)
+  | inr was ↦
+      let at = (outlook.pages - 1) * (P + 12) in
+      let ends : at + (P + 12) ≡ outlook.pages * (P + 12) = page_end outlook.pages P was.1 in
+      (at, last_and_then most at (P + 12) to old mid new was.2 few (omega (arith, ends, le)) was.3 (subst (λ (n : ℕ). ReadsForward most n to mid new) (sym ends) reads))
+]
+
+-- with nothing read after it
+pub last_reading : (P most to : ℕ) (outlook : Outlook) (old new : Life) (torn : Bool) → P + 12 ≤ most → outlook.pages * (P + 12) ≤ to → ReadsLast P outlook old new (Ok torn) → (from : ℕ) × ReadsForward most from to old new
+last_reading P most to outlook old new torn few le last =
+    let at = outlook.pages * (P + 12) in
+    second_reading P most to outlook old new new torn few le last (forward_end most at at to new new le (forward_start most at new))
+
+-- the last page isn't read
+pub last_unread : (P most to : ℕ) (outlook : Outlook) (old new : Life) (e : Error) → P + 12 ≤ most → outlook.pages * (P + 12) ≤ to → ReadsLast P outlook old new (Err e) → ReadsForward most ((outlook.pages - 1) * (P + 12)) to old new
+last_unread P most to outlook old new e few le last =
+    let at = (outlook.pages - 1) * (P + 12) in
+    let ends : at + (P + 12) ≡ outlook.pages * (P + 12) = page_end outlook.pages P last.0 in
+    forward_once most at at (P + 12) to old old new (Err e) few (omega (arith, ends, le)) (forward_start most at old) last.1
 
 -- nothing is read after the first reading
 pub reads_once : (most to : ℕ) (old new : Life) → ReadsForward most 0 to old new → ReadsTwice most to old new
@@ -139,11 +261,16 @@ within_both most old mid new first second = gained_joins (AreWithin most) (AreWi
 pub kept_within : (sum : List ℕ → ℕ) (P : ℕ) (bytes : List ℕ) (outlook : Outlook) → IsOutlook sum P bytes outlook → outlook.pages ≤ length bytes / (P + 12)
 kept_within sum P bytes outlook is = pages_fit P outlook.pages bytes (omega (arith, is.cut))
 
-pub survey_is : (sum : List ℕ → ℕ) (P whole beyond : ℕ) (old mid : Life) (outlook : Outlook) → Looked old mid → IsOutlook sum P old.present.readable outlook → whole ≡ length old.present.readable / (P + 12)
-    → beyond ≡ values_of sum P (pages_from P (whole - outlook.pages) outlook.pages mid.present.readable) → IsSurvey sum P old.present.readable (record { outlook = outlook; beyond = beyond })
-survey_is sum P whole beyond old mid outlook looked is all counted = record {
-  outlook = is;
-  beyond = counted
-      ∙ ap (λ (l : List ℕ). values_of sum P (pages_from P (whole - outlook.pages) outlook.pages l)) (looked_readable old mid looked)
-      ∙ ap (λ (l : List (List ℕ)). values_of sum P l) (beyond_is sum P outlook.pages whole old.present.readable all (omega (arith, all, kept_within sum P old.present.readable outlook is)));
-}
+kept_few : (sum : List ℕ → ℕ) (P whole : ℕ) (bytes : List ℕ) (outlook : Outlook) → IsOutlook sum P bytes outlook → whole ≡ length bytes / (P + 12) → outlook.pages ≤ whole
+kept_few sum P whole bytes outlook is all = omega (arith, all, kept_within sum P bytes outlook is)
+
+pub survey_is : (sum : List ℕ → ℕ) (P whole : ℕ) (old mid : Life) (outlook : Outlook) (torn : Bool) (found : ℕ × Bool) → Looked old mid → IsOutlook sum P old.present.readable outlook → torn ≡ is_torn sum P old.present.readable outlook
+    → whole ≡ length old.present.readable / (P + 12) → found ≡ beyond_of sum P outlook.pages whole mid.present.readable → IsSurvey sum P old.present.readable (record { outlook = outlook; beyond = found.0; blank = found.1; torn = torn })
+survey_is sum P whole old mid outlook torn found looked is bad all told =
+    let counted : found ≡ beyond_of sum P outlook.pages whole old.present.readable = told ∙ ap (λ (l : List ℕ). beyond_of sum P outlook.pages whole l) (looked_readable old mid looked) in
+    record {
+      outlook = is;
+      beyond = ap (λ (b : ℕ × Bool). b.0) counted ∙ ap (λ (l : List (List ℕ)). values_of sum P l) (beyond_is sum P outlook.pages whole old.present.readable all (kept_few sum P whole old.present.readable outlook is all));
+      blank = ap (λ (b : ℕ × Bool). b.1) counted ∙ ap (λ (n : ℕ). are_zeros (take ((n - outlook.pages) * (P + 12)) (drop (outlook.pages * (P + 12)) old.present.readable))) all;
+      torn = bad;
+    }

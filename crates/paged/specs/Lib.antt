@@ -13,3 +13,4 @@ pub mod LaterCalls
 pub mod Replays
 pub mod Scans
 pub mod Outlook
+pub mod Within

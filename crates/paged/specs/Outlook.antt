@@ -1,16 +1,18 @@
 -- What a look at a blob tells of a recovery of it.
-use Rattle.std.specs.Prelude.{◌≡◌, ◌==◌, ◌&&◌, ◌||◌, ◌+◌, ◌*◌, ℕ, List, length, drop, count_by}
+use Rattle.std.specs.Prelude.{◌≡◌, ◌⊎◌, ◌<◌, ◌==◌, ◌&&◌, ◌||◌, ◌+◌, ◌-◌, ◌*◌, ◌/◌, ◌%◌, ◌^◌}
+use Rattle.std.specs.Prelude.{ℕ, List, length, take, drop, count_by, min, Bool, not}
 use Rattle.std.specs.Prelude.{Result, Ok, Err, IfOk, if◌then◌else◌, nat_lt, is_some}
 use Rattle.std.specs.Int.{div_ceil}
-use Rattle.disk.specs.Disk.{Life, HasFailed}
+use Rattle.std.specs.List.{list_all}
+use Rattle.disk.specs.Disk.{Life, HasFailed, ReadGoes}
 use Rattle.disk.specs.declared.error.Error.{Error}
 use Rattle.disk.specs.declared.error.Error.TheVariants.{ReadFailed, OutOfMemory}
-use Rattle.page.specs.Page.{active, pages, text}
+use Rattle.page.specs.Page.{active, bad_slot, pages, text}
 use Rattle.cache.specs.CacheState.{CacheState}
 use Rattle.writer_state.specs.WriterState.{WriterState}
 use Rattle.crash.specs.Stays.{KeepsAllFloors}
 use Rattle.paged_read.specs.Replay.{LeavesAllReplays}
-use Rattle.paged_read.specs.Scans.{ReadsForward}
+use Rattle.paged_read.specs.Scans.{ReadsForward, pages_from}
 use Rattle.paged_read.specs.Snapshots.{LeavesAllReads, LeavesAllTails, LeavesWriters}
 use Rattle.paged.specs.declared.outlook.Outlook.{Outlook}
 use Rattle.paged.specs.declared.verdict.Survey.{Survey}
@@ -48,10 +50,47 @@ Foretells sum P bytes outlook =
 abbrev pub values_of : (List ℕ → ℕ) → (P : ℕ) → List (List ℕ) → ℕ
 values_of sum P some = count_by (λ page. is_some (active sum P page)) some
 
--- of these bytes' whole pages, how many after the first that are kept have a value
+-- each of these bytes is zero
+abbrev pub are_zeros : List ℕ → Bool
+are_zeros bytes = list_all (λ byte. byte == 0) bytes
+
+-- the bytes of the whole pages that would be cut; a rest below a page isn't among them
+abbrev pub beyond_bytes : (P kept : ℕ) → List ℕ → List ℕ
+beyond_bytes P kept bytes =
+    take ((length bytes / (P + 12) - kept) * (P + 12)) (drop (kept * (P + 12)) bytes)
+
+-- of the pages from one to before another: how many have a value, and whether all bytes are zero
+abbrev pub beyond_of : (List ℕ → ℕ) → (P first pages : ℕ) → List ℕ → ℕ × Bool
+beyond_of sum P first pages bytes = (
+  values_of sum P (pages_from P (pages - first) first bytes),
+  are_zeros (take ((pages - first) * (P + 12)) (drop (first * (P + 12)) bytes)),
+)
+
+-- the last page that would be kept
+abbrev pub last_page : (P : ℕ) → Outlook → List ℕ → List ℕ
+last_page P outlook bytes = take (P + 12) (drop ((outlook.pages - 1) * (P + 12)) bytes)
+
+-- the last page is partial, and its other slot is neither zero nor verifies: that may tell of more
+-- bytes of the page than its value has, and a recovery empties it
+abbrev pub is_torn : (List ℕ → ℕ) → (P : ℕ) → List ℕ → Outlook → Bool
+is_torn sum P bytes outlook =
+    nat_lt 0 (outlook.len % P) && is_some (bad_slot sum P (last_page P outlook bytes))
+
+-- a look that goes on to the last page: it tells that too
+abbrev pub LooksToLast : (List ℕ → ℕ) → (P : ℕ) → Life → Life → Result (Outlook × Bool) Error
+    → Type 0
+LooksToLast sum P old new (Ok found) =
+    IsOutlook sum P old.present.readable found.0
+    × (found.1 ≡ is_torn sum P old.present.readable found.0)
+LooksToLast sum P old new (Err e) = Looks sum P old new (Err e)
+
+-- how many of these bytes' whole pages after the kept ones have a value, and whether all bytes of
+-- these pages are zero; and whether the last kept page is torn
 pub record IsSurvey (sum : List ℕ → ℕ) (P : ℕ) (bytes : List ℕ) (survey : Survey) : Type 0 where
   pub outlook : IsOutlook sum P bytes survey.outlook
   pub beyond : survey.beyond ≡ values_of sum P (drop survey.outlook.pages (pages P bytes))
+  pub blank : survey.blank ≡ are_zeros (beyond_bytes P survey.outlook.pages bytes)
+  pub torn : survey.torn ≡ is_torn sum P bytes survey.outlook
 
 -- a survey: it tells that, or a read failed in the call, or memory was refused
 abbrev pub Surveys : (List ℕ → ℕ) → (P : ℕ) → Life → Life → Result Survey Error → Type 0
@@ -60,11 +99,26 @@ Surveys sum P old new (Err ReadFailed) = HasFailed ReadFailed old.present new.pr
 Surveys sum P old new (Err OutOfMemory) = Unit {0}
 Surveys sum P old new (Err _) = ⊥
 
+-- the last page that would be kept was read, if it is partial
+abbrev pub ReadsLast : (P : ℕ) → Outlook → Life → Life → Result Bool Error → Type 0
+ReadsLast P outlook old new (Ok torn) =
+    ((outlook.len % P ≡ 0) × (new ≡ old))
+    ⊎ ((0 < outlook.len % P) × (0 < outlook.pages) × (bytes : List ℕ)
+    × ReadGoes ((outlook.pages - 1) * (P + 12)) (P + 12) old new (Ok bytes))
+ReadsLast P outlook old new (Err e) =
+    (0 < outlook.pages) × ReadGoes ((outlook.pages - 1) * (P + 12)) (P + 12) old new (Err e)
+
 -- two readings, each forward, up to this offset: one from the first byte on, the other from
 -- whichever
 abbrev pub ReadsTwice : (most to : ℕ) → Life → Life → Type 0
 ReadsTwice most to old new =
     (mid : Life) × (from : ℕ) × ReadsForward most 0 to old mid × ReadsForward most from to mid new
+
+-- a reading forward up to this offset, and then one of the last page
+abbrev pub ReadsToLast : (P most to : ℕ) → Life → Life → Result (Outlook × Bool) Error → Type 0
+ReadsToLast P most to old new (Ok found) =
+    (mid : Life) × ReadsForward most 0 to old mid × ReadsLast P found.0 mid new (Ok found.1)
+ReadsToLast P most to old new (Err e) = ReadsTwice most to old new
 
 -- what a blob's writer stands on, its snapshots and its replays, through any cache, and what a
 -- crash at any moment keeps and leaves: all is as it was
@@ -77,11 +131,21 @@ pub record LeavesAsIs (old new : Life) : Type 0 where
   pub kept : (sum : List ℕ → ℕ) (P : ℕ) → KeepsText sum P old new
   pub only : (sum : List ℕ → ℕ) (P : ℕ) → LeavesText sum P old new
 
--- what to do: nothing to cut; nothing that is kept, or too much with a value among it; more than a
--- page; a page at most
+-- how many bytes at the end may hold synced bytes that a recovery gives up: those of a torn last
+-- page and of all after it; else all that would be cut, unless these are whole pages of zeros. At
+-- most 2 ^ 64 - 1
+abbrev pub set_aside_of : (P : ℕ) → Survey → ℕ
+set_aside_of P survey =
+    let cut = survey.outlook.cut in
+    if survey.torn then min (cut + (P + 12)) (2 ^ 64 - 1)
+    else (if survey.blank && (cut % (P + 12) == 0) then 0 else cut)
+
+-- what to do: nothing is given up; nothing would be kept, or too much is cut with a value among it;
+-- some of it may have been synced; it is zeros
 abbrev pub verdict_of : (P limit : ℕ) → Survey → Verdict
 verdict_of P limit survey =
     let cut = survey.outlook.cut in
-    if cut == 0 then Whole
-    else (if (survey.outlook.pages == 0) || (nat_lt 0 survey.beyond && nat_lt limit cut) then Refuse
-    else (if nat_lt (P + 12) cut then Keep else Cut))
+    if (cut == 0) && not survey.torn then Whole
+    else (if (nat_lt 0 cut && (survey.outlook.pages == 0))
+    || (nat_lt 0 survey.beyond && nat_lt limit cut) then Refuse
+    else (if nat_lt 0 (set_aside_of P survey) then Keep else Cut))

@@ -16,10 +16,12 @@ mod snapshot;
 mod start;
 mod truncate;
 mod verdict;
+mod within;
 mod writer;
 
 pub use outlook::{Outlook, look, survey};
 pub use recovery::recover;
 pub use start::wait_sync;
 pub use verdict::{Survey, Verdict};
+pub use within::{Refusal, recover_within};
 pub use writer::{Append, Recovering, Recovery, Writer};

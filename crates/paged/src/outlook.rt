@@ -1,18 +1,19 @@
 // Looking at a blob before it is recovered.
 ghost use Rattle.std.specs.Prelude.{◌≡◌, ◌+◌, ◌-◌, ◌*◌, ◌/◌, ◌<◌, ◌≤◌, ◌^◌, ℕ, List};
-ghost use Rattle.std.specs.Prelude.{length, take, drop, Ok, IfOk, is_some};
+ghost use Rattle.std.specs.Prelude.{length, take, drop, Ok, IfOk, is_some, true, if◌then◌else◌};
 ghost use Rattle.std.specs.Int.NonZero.{non_zero_u16_get, non_zero_usize_get};
 ghost use Rattle.cache.specs.CacheState.{CacheState};
 ghost use Rattle.crash.specs.Looks.{Looked};
 ghost use Rattle.crash.specs.Stays.{KeepsAllFloors};
 ghost use Rattle.paged_read.specs.Replay.{LeavesAllReplays};
 ghost use Rattle.page.specs.Page.{active, pages};
-ghost use Rattle.paged_read.specs.Scans.{LooksThrough, pages_from, ReadsForward};
+ghost use Rattle.paged_read.specs.Scans.{LooksThrough, ReadsForward};
 ghost use Rattle.paged_read.specs.Searches.{ReadsWithin, scan_bytes};
 ghost use Rattle.paged_read.specs.Snapshots.{LeavesAllReads, LeavesAllTails, LeavesWriters};
 ghost use Rattle.paged.specs.Recovery.{KeepsText, LeavesText};
-ghost use Rattle.paged.specs.Outlook.{Foretells, LeavesAsIs, Looks, ReadsTwice, Surveys};
-ghost use Rattle.paged.specs.Outlook.{values_of};
+ghost use Rattle.paged.specs.Outlook.{Foretells, IsOutlook, LeavesAsIs, Looks, LooksToLast};
+ghost use Rattle.paged.specs.Outlook.{ReadsLast, ReadsToLast, ReadsTwice, Surveys};
+ghost use Rattle.paged.specs.Outlook.{are_zeros, beyond_of, is_torn, values_of};
 
 use crate::recovery::size_of;
 use crate::verdict::Survey;
@@ -32,6 +33,22 @@ pub struct Outlook {
     pub len: u64,
     /// How many physical bytes after those pages it would cut off.
     pub cut: u64,
+}
+
+impl Outlook {
+    /// How many physical bytes at the end go: all that would be cut, and where the last page is
+    /// torn, that page too.
+    pub(crate) fn at_stake(&self, torn: bool, page_size: NonZeroU16) -> u64
+        requires fits { torn ≡ true → self.now.cut + (non_zero_u16_get page_size + 12) < 2 ^ 64 }
+        ensures { let page = if torn then non_zero_u16_get page_size + 12 else 0 in
+            result ≡ self.now.cut + page }
+    {
+        if torn {
+            self.cut + physical_page_size(page_size)
+        } else {
+            self.cut
+        }
+    }
 }
 
 /// Looks at a blob of `size` physical bytes that nobody opened: what [`crate::recover`] would make
@@ -122,22 +139,30 @@ fn values_in<H: Sum>(page_size: NonZeroU16, bytes: &[u8]) -> u64
     found
 }
 
+/// Whether each of these bytes is zero.
+fn are_zeros(bytes: &[u8]) -> bool
+    ensures { result ≡ are_zeros bytes.now }
+{
+    bytes.iter().all(|byte| *byte == 0)
+}
+
 /// How many of the physical pages from `first` to before `pages` have a value, of a blob that has
-/// them. Each read is of at most as many pages as fit `buffer_size` bytes, and at least one.
-fn values_from<B: Blob, H: Sum>(
+/// them, and whether all bytes of these pages are zero. Each read is of at most as many pages as
+/// fit `buffer_size` bytes, and at least one.
+fn look_beyond<B: Blob, H: Sum>(
     alloc: Global,
     blob: &mut B,
     page_size: NonZeroU16,
     first: u64,
     pages: u64,
     buffer_size: NonZeroUsize,
-) -> Result<u64, Error>
+) -> Result<(u64, bool), Error>
     requires order { first ≤ pages }
     requires fits { pages * (non_zero_u16_get page_size + 12) < 2 ^ 64 }
     ensures counts { let old = B.life blob.old in let new = B.life blob.new in
         let P = non_zero_u16_get page_size in
-        let beyond = pages_from P (pages - first) first old.present.readable in
-        LooksThrough (pages * (P + 12)) (values_of H.sum_of P beyond) old new result }
+        let beyond = beyond_of H.sum_of P first pages old.present.readable in
+        LooksThrough (pages * (P + 12)) beyond old new result }
     ensures reads { let old = B.life blob.old in let new = B.life blob.new in
         let P = non_zero_u16_get page_size in
         let most = scan_bytes P (non_zero_usize_get buffer_size) in
@@ -147,22 +172,78 @@ fn values_from<B: Blob, H: Sum>(
     let most = (buffer_size.get() as u64 / size).max(1);
     let mut done = first;
     let mut found = 0;
+    let mut blank = true;
     while done < pages {
         let batch = most.min(pages - done);
         let len = (batch * size) as usize;
         let bytes = blob.read_at(alloc, done * size, len, ReadOptions::default())?;
         found += values_in::<H>(page_size, bytes.as_ref());
+        blank &= are_zeros(bytes.as_ref());
         done += batch;
     }
-    Ok(found)
+    Ok((found, blank))
 }
 
-/// Looks at a blob of `size` physical bytes as [`look`] does, and at the pages after those of the
-/// text: how many have a value. A crash leaves few of them. [`Survey::verdict`] says what to do.
+/// Whether the last page of the text is partial, and has a slot that neither verifies nor is all
+/// zero. Only where it is partial it is read.
+fn last_is_torn<B: Blob, H: Sum>(
+    alloc: Global,
+    blob: &mut B,
+    page_size: NonZeroU16,
+    outlook: &Outlook,
+) -> Result<bool, Error>
+    requires is { let readable = (B.life blob.old).present.readable in
+        IsOutlook H.sum_of (non_zero_u16_get page_size) readable outlook.now }
+    requires fits { length (B.life blob.old).present.readable < 2 ^ 64 }
+    ensures tells { let old = B.life blob.old in let new = B.life blob.new in
+        let P = non_zero_u16_get page_size in
+        let torn = is_torn H.sum_of P old.present.readable outlook.now in
+        LooksThrough (length old.present.readable) torn old new result }
+    ensures reads { let old = B.life blob.old in let new = B.life blob.new in
+        ReadsLast (non_zero_u16_get page_size) outlook.now old new result }
+{
+    if outlook.len % u64::from(page_size.get()) == 0 {
+        return Ok(false);
+    }
+    let size = physical_page_size(page_size);
+    let at = (outlook.pages - 1) * size;
+    let page = blob.read_at(alloc, at, size as usize, ReadOptions::default())?;
+    Ok(Checksum::bad_slot::<H>(page.as_ref()).is_some())
+}
+
+/// Looks at a blob of `size` physical bytes as [`look`] does, and then at the last page of the
+/// text: what a recovery would make of it, and whether that page is torn.
+pub(crate) fn look_to_last<B: Blob, H: Sum>(
+    alloc: Global,
+    blob: &mut B,
+    size: u64,
+    page_size: NonZeroU16,
+    buffer_size: NonZeroUsize,
+) -> Result<(Outlook, bool), Error>
+    requires length { size ≡ length (B.life blob.old).present.readable }
+    ensures looks { let old = B.life blob.old in let new = B.life blob.new in
+        LooksToLast H.sum_of (non_zero_u16_get page_size) old new result }
+    ensures reads { let old = B.life blob.old in let new = B.life blob.new in
+        let P = non_zero_u16_get page_size in
+        let most = scan_bytes P (non_zero_usize_get buffer_size) in
+        ReadsToLast P most (size / (P + 12) * (P + 12)) old new result }
+    ensures within { let old = B.life blob.old in let new = B.life blob.new in
+        let P = non_zero_u16_get page_size in
+        ReadsWithin (scan_bytes P (non_zero_usize_get buffer_size)) old new }
+    ensures looked { Looked (B.life blob.old) (B.life blob.new) }
+{
+    let outlook = look::<B, H>(alloc, blob, size, page_size, buffer_size)?;
+    let torn = last_is_torn::<B, H>(alloc, blob, page_size, &outlook)?;
+    Ok((outlook, torn))
+}
+
+/// Looks at a blob of `size` physical bytes as [`look`] does, and at what would go: at the slots of
+/// the text's last page, and at the pages after those of the text. [`Survey::verdict`] says what to
+/// do, and [`Survey::set_aside_len`] how many bytes to set aside before a recovery.
 ///
 /// The pages of the text are read, from the first one on, up to the read in which it ends, and then
-/// the pages after those of the text; so each is read twice at most. Each read has at most as many
-/// pages as fit `buffer_size` bytes, and at least one.
+/// its last page, where that is partial, and the pages after those of the text; so each is read
+/// twice at most. Each read has at most as many pages as fit `buffer_size` bytes, and at least one.
 ///
 /// `ReadFailed` where the device failed, `OutOfMemory`. The blob is only read, also where it fails.
 pub fn survey<B: Blob, H: Sum>(
@@ -192,9 +273,14 @@ pub fn survey<B: Blob, H: Sum>(
     // What stood on the blob's bytes still does, whatever they were written with.
     ensures leaves { LeavesAsIs (B.life blob.old) (B.life blob.new) }
 {
-    let outlook = look::<B, H>(alloc, blob, size, page_size, buffer_size)?;
+    let (outlook, torn) = look_to_last::<B, H>(alloc, blob, size, page_size, buffer_size)?;
     let whole = size / physical_page_size(page_size);
     let first = outlook.pages;
-    let beyond = values_from::<B, H>(alloc, blob, page_size, first, whole, buffer_size)?;
-    Ok(Survey { outlook, beyond })
+    let (beyond, blank) = look_beyond::<B, H>(alloc, blob, page_size, first, whole, buffer_size)?;
+    Ok(Survey {
+        outlook,
+        beyond,
+        blank,
+        torn,
+    })
 }

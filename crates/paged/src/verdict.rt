@@ -1,43 +1,100 @@
 // What to do with a blob before it is recovered.
-ghost use Rattle.std.specs.Prelude.{◌≡◌, ◌⊎◌, ◌↔◌, ◌<◌, ℕ, List, [], length};
+ghost use Rattle.std.specs.Prelude.{◌≡◌, ◌⊎◌, ◌↔◌, ◌<◌, ◌≤◌, ◌+◌, ◌*◌, ◌^◌, ℕ, List, [], length, drop};
+ghost use Rattle.std.specs.Prelude.{true, false};
 ghost use Rattle.std.specs.Int.NonZero.{non_zero_u16_get};
 ghost use Rattle.page.specs.Page.{text};
-ghost use Rattle.paged.specs.Outlook.{IsSurvey, verdict_of};
+ghost use Rattle.paged.specs.Outlook.{IsSurvey, are_zeros, set_aside_of, verdict_of};
+ghost use Rattle.paged.specs.Within.{at_stake};
 
 use crate::Outlook;
 use paged_read::physical_page_size;
 use std::num::NonZeroU16;
 
-/// What a recovery would make of a blob, and what it would cut.
+/// What a recovery would make of a blob, and what would go with it.
 #[derive(Clone, Copy, Debug, PartialEq, Eq)]
 pub struct Survey {
     /// What a recovery would make of it.
     pub outlook: Outlook,
     /// How many of the whole physical pages that it would cut have a value.
     pub beyond: u64,
+    /// Whether all bytes of these pages are zero, as in pages that nobody has written.
+    pub blank: bool,
+    /// Whether the last page of the text is partial, and its other slot says something and doesn't
+    /// verify. A crash in a write of that page leaves it so. But the slot may also have been synced
+    /// and damaged since; then the page had more bytes than its value has now.
+    pub torn: bool,
 }
 
 /// What to do with a blob before it is recovered.
 #[derive(Clone, Copy, Debug, PartialEq, Eq)]
 pub enum Verdict {
-    /// Recover it: nothing is cut.
+    /// Recover it: nothing is cut, and no page is torn.
     Whole,
-    /// Recover it: at most the bytes of one page are cut, as after a crash.
+    /// Recover it: only whole pages of zeros are cut.
     Cut,
-    /// Set aside the bytes that a recovery would cut, durably, and then recover it.
+    /// Set aside, durably, what a recovery gives up and may have been synced, and then recover it.
     Keep,
     /// Leave it as it is, and ask: this may be rot, another page size, or no blob at all.
     Refuse,
 }
 
 impl Survey {
+    /// How many physical bytes at the end go in a recovery: all that it cuts, and where the last
+    /// page of the text is torn, those of that page, whose other slot it empties. So many are to be
+    /// allowed in [`crate::recover_within`].
+    pub fn at_stake(&self, page_size: NonZeroU16) -> u64
+        ensures stake { (sum : List ℕ → ℕ) (bytes : List ℕ) →
+            let P = non_zero_u16_get page_size in
+            IsSurvey sum P bytes self.now → length bytes < 2 ^ 64
+            → result ≡ at_stake sum P bytes self.now.outlook }
+    {
+        if self.torn {
+            self.outlook
+                .cut
+                .saturating_add(physical_page_size(page_size))
+        } else {
+            self.outlook.cut
+        }
+    }
+
+    /// How many physical bytes at the end of the blob may hold synced bytes that a recovery gives
+    /// up: those that are to be set aside before it.
+    ///
+    /// Nothing tells a page that a crash tore from one that was synced and damaged since. So it is
+    /// all that would be cut, and where the last page of the text is torn, that page too, whose
+    /// other slot a recovery empties. Whole pages of zeros aren't among them: they have no byte
+    /// that is worth keeping.
+    pub fn set_aside_len(&self, page_size: NonZeroU16) -> u64
+        ensures cases { result ≡ set_aside_of (non_zero_u16_get page_size) self.now }
+
+        // Of a blob's survey: so many bytes are there. Where it is none, each byte that would be cut
+        // is zero.
+        ensures there { (sum : List ℕ → ℕ) (bytes : List ℕ) →
+            IsSurvey sum (non_zero_u16_get page_size) bytes self.now → result ≤ length bytes }
+        ensures zeros { (sum : List ℕ → ℕ) (bytes : List ℕ) →
+            let P = non_zero_u16_get page_size in
+            IsSurvey sum P bytes self.now → result ≡ 0
+            → are_zeros (drop (self.now.outlook.pages * (P + 12)) bytes) ≡ true }
+    {
+        let size = physical_page_size(page_size);
+        let cut = self.outlook.cut;
+        if self.torn {
+            cut.saturating_add(size)
+        } else if self.blank && cut % size == 0 {
+            0
+        } else {
+            cut
+        }
+    }
+
     /// What to do with the surveyed blob, with pages of `page_size` logical bytes. A crash leaves
-    /// few pages after the text, none of them synced. Rot, another page size and a file that is no
-    /// blob leave such bytes too, and nothing tells them apart. So at most `limit` physical bytes may
-    /// go where a page among them has a value.
+    /// few pages after the text; rot, another page size and a file that is no blob may leave many.
+    /// So it is refused where nothing would be kept, and where a page after the text has a value
+    /// and more than `limit` bytes would be cut. A torn last page doesn't count towards `limit`.
     pub fn verdict(&self, page_size: NonZeroU16, limit: u64) -> Verdict
         ensures cases { result ≡ verdict_of (non_zero_u16_get page_size) limit self.now }
-        ensures whole { (result ≡ Verdict.Whole) ↔ (self.now.outlook.cut ≡ 0) }
+        ensures whole { (result ≡ Verdict.Whole)
+            ↔ ((self.now.outlook.cut ≡ 0) × (self.now.torn ≡ false)) }
         ensures refuse { let cut = self.now.outlook.cut in
             (result ≡ Verdict.Refuse)
             ↔ (((0 < cut) × (self.now.outlook.pages ≡ 0))
@@ -48,13 +105,19 @@ impl Survey {
             let P = non_zero_u16_get page_size in
             IsSurvey sum P bytes self.now → text sum P bytes ≡ [] → 0 < length bytes
             → result ≡ Verdict.Refuse }
+
+        // It is cut with nothing set aside where no byte but zeros goes.
+        ensures zeros { (sum : List ℕ → ℕ) (bytes : List ℕ) →
+            let P = non_zero_u16_get page_size in
+            IsSurvey sum P bytes self.now → result ≡ Verdict.Cut
+            → are_zeros (drop (self.now.outlook.pages * (P + 12)) bytes) ≡ true }
     {
         let Outlook { pages, cut, .. } = self.outlook;
-        if cut == 0 {
+        if cut == 0 && !self.torn {
             Verdict::Whole
-        } else if pages == 0 || self.beyond > 0 && cut > limit {
+        } else if cut > 0 && pages == 0 || self.beyond > 0 && cut > limit {
             Verdict::Refuse
-        } else if cut > physical_page_size(page_size) {
+        } else if self.set_aside_len(page_size) > 0 {
             Verdict::Keep
         } else {
             Verdict::Cut

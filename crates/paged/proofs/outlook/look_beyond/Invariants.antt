@@ -1,10 +1,10 @@
-use Rattle.std.proofs.Common.{◌≡◌, ◌≤◌, ◌<◌, ◌-◌, ◌+◌, ◌*◌}
+use Rattle.std.proofs.Common.{◌≡◌, ◌≤◌, ◌<◌, ◌-◌, ◌+◌, ◌*◌, take, drop}
 use Rattle.std.specs.Int.NonZero.{non_zero_u16_get}
 use Rattle.crash.specs.Looks.{Looked}
 use Rattle.paged_read.specs.Scans.{pages_from}
 use Rattle.paged_read.proofs.Forward.{ReadsTo}
-use Rattle.paged.specs.Outlook.{values_of}
-use Rattle.paged.proofs.outlook.values_from.Given as goal
+use Rattle.paged.specs.Outlook.{are_zeros, values_of}
+use Rattle.paged.proofs.outlook.look_beyond.Given as goal
 
 abbrev pub invariant-loop-done : goal.invariant-loop-done
 invariant-loop-done g l =
@@ -16,6 +16,7 @@ invariant-loop-done g l =
       begun : l.first ≤ l.done;
       within : l.done ≤ l.pages;
       counted : l.found ≡ values_of g.H.Sum.sum_of P (pages_from P (l.done - l.first) l.first old.present.readable);
+      blank : l.blank ≡ are_zeros (take ((l.done - l.first) * (P + 12)) (drop (l.first * (P + 12)) old.present.readable));
       looked : Looked old now;
       reads : ReadsTo (l.most * (P + 12)) (l.first * (P + 12)) (l.done * (P + 12)) old now;
     }
