@@ -1,3 +1,4 @@
 pub mod Run
 pub mod Calls
 pub mod Promise
+pub mod Within

@@ -11,11 +11,13 @@ ghost use Rattle.cache.specs.Pages.{IsFresh};
 ghost use Rattle.session.specs.Run.{StandsFor, IsReady, CacheFits};
 ghost use Rattle.session.specs.Promise.{HasCrashed, AttemptsThrough, BeginsBy, GivesId, GivesBack};
 ghost use Rattle.session.specs.Promise.{GivesBackLeft, LeadsOn, fresh, closed};
+ghost use Rattle.session.specs.Within.{BeginsWithin, GivesIdWithin};
 
 use crate::Session;
 use cache::CacheRef;
 use disk::{Blob, Error, MemBlob};
 use page::Sum;
+use paged::Refusal;
 use std::alloc::Global;
 use std::num::NonZeroUsize;
 
@@ -61,6 +63,56 @@ impl<B: Blob, H: Sum> Session<B, H> {
             ReadsWithin (scan_bytes cache.old.page_size (non_zero_usize_get buffer_size)) old new }
     {
         let writer = paged::recover::<B, H>(alloc, blob, size, capacity, cache, buffer_size)?;
+        Ok(Session::new(alloc, writer))
+    }
+
+    /// Recovers a blob and begins a session on it, as [`Session::recover`] does, unless more than
+    /// `allowed` physical bytes at its end would go: those that the recovery cuts, and where the
+    /// last page of the text is torn, those of that page ([`paged::Survey::at_stake`]). Its text is
+    /// summed once.
+    ///
+    /// `WouldCut` where more would go, with the number: then the blob was only looked at. Else the
+    /// errors are those of [`Session::recover`].
+    pub fn recover_within(
+        alloc: Global,
+        blob: &mut B,
+        size: u64,
+        capacity: usize,
+        cache: &mut CacheRef,
+        buffer_size: NonZeroUsize,
+        allowed: u64,
+    ) -> Result<Self, Refusal>
+        requires length { size ≡ length (B.life blob.old).present.readable }
+        ensures begins { let old = B.life blob.old in
+            BeginsWithin H.sum_of cache.old capacity allowed old (B.life blob.new) result }
+        ensures ready { let new = B.life blob.new in
+            IfOk result (λ session. IsReady H.sum_of session new.present) }
+        ensures cached { let new = B.life blob.new in IsFresh cache.old
+            → IfOk result (λ session. CacheFits session cache.new new.present) }
+        ensures fresh_ids { IsFresh cache.old → IsFresh cache.new }
+        ensures overflow { 2 ^ 64 ≤ adjusted capacity cache.old.page_size
+            → result ≡ Err (Refusal.Failed Error.OffsetOverflow) }
+        ensures ids { GivesIdWithin result cache.old cache.new }
+
+        // What came back, by what stood as the call began.
+        ensures gives { let old = B.life blob.old in
+            OnOk result (GivesBack H.sum_of cache.old.page_size old.present) }
+
+        // At each moment since the call began, and at every answer.
+        ensures attempts { let old = B.life blob.old in
+            AttemptsThrough H.sum_of cache.old.page_size old (B.life blob.new) }
+        ensures reads { let old = B.life blob.old in let new = B.life blob.new in
+            ReadsWithin (scan_bytes cache.old.page_size (non_zero_usize_get buffer_size)) old new }
+    {
+        let writer = paged::recover_within::<B, H>(
+            alloc,
+            blob,
+            size,
+            capacity,
+            cache,
+            buffer_size,
+            allowed,
+        )?;
         Ok(Session::new(alloc, writer))
     }
 }

@@ -1,0 +1,29 @@
+-- How a session begins on a blob of which at most so many bytes may go.
+use Rattle.std.specs.Prelude.{◌≡◌, ◌⊎◌, ◌<◌, ℕ, List, Result, Ok, Err}
+use Rattle.disk.specs.Disk.{Life}
+use Rattle.cache.specs.CacheState.{CacheState}
+use Rattle.crash.specs.Looks.{Looked}
+use Rattle.paged.specs.declared.within.Refusal.{Refusal}
+use Rattle.paged.specs.declared.within.Refusal.TheVariants.{WouldCut, Failed}
+use Rattle.paged.specs.Within.{PutsAtStake, MayGo}
+use Rattle.session.specs.Run.{SessionState}
+use Rattle.session.specs.Promise.{BeginsBy, GivesId}
+
+-- by its answer: where one begins, no more was to go than is allowed; where more would go, that
+-- number is told, and the blob was only looked at; after an error too, unless no more was to go
+abbrev pub BeginsWithin : (List ℕ → ℕ) → CacheState → (capacity allowed : ℕ) → Life → Life
+    → Result SessionState Refusal → Type 0
+BeginsWithin sum cache capacity allowed old new (Ok now) =
+    MayGo sum cache.page_size allowed old.present.readable
+    × BeginsBy sum cache capacity old new (Ok now)
+BeginsWithin sum cache capacity allowed old new (Err (WouldCut cut)) =
+    PutsAtStake sum cache.page_size old.present.readable cut × (allowed < cut) × Looked old new
+BeginsWithin sum cache capacity allowed old new (Err (Failed e)) =
+    (Looked old new ⊎ MayGo sum cache.page_size allowed old.present.readable)
+    × BeginsBy sum cache capacity old new (Err e)
+
+-- the cache after it: where more would go than is allowed, it gave no id
+abbrev pub GivesIdWithin : Result SessionState Refusal → CacheState → CacheState → Type 0
+GivesIdWithin (Ok now) old new = GivesId (Ok now) old new
+GivesIdWithin (Err (WouldCut cut)) old new = new ≡ old
+GivesIdWithin (Err (Failed e)) old new = GivesId (Err e) old new
