@@ -1,7 +1,8 @@
 -- Steps are taken and answered, one after another.
 use Rattle.std.proofs.Common.{◌≡◌, ◌⊎◌, ◌≤◌, ◌<◌, Bool, true, false, slice_index_or, ℕ, ◌+◌, ◌*◌, take, arith, List, [], ◌∷◌, ◌++◌, length, refl, sym, ap, ◌∙◌, subst, append-nil, append_assoc, length-append, inl, inr}
-use Rattle.std.specs.Prelude.{Option, Some, None, Result, Ok, Err, IfSome, IfErr, IsErrAnd, OnErr, OnOk, is_err, ◌&&◌, ◌≢◌}
-use Rattle.std.specs.List.{flat_map}
+use Rattle.std.specs.Prelude.{Option, Some, None, Result, Ok, Err, IfSome, IfErr, IsErrAnd, OnErr, OnOk, is_err, is_some, ◌&&◌, ◌≢◌}
+use Rattle.std.specs.List.{Contains, flat_map}
+use Rattle.std.proofs.lemmas.List.Elements.{All-nil, All-push, Contains-append_left, Contains-push}
 use Rattle.std.specs.Io.KnownBytes.{Appends, Consumes, IsAtEnd, Keeps}
 use Rattle.std.proofs.KnownBytes.{Appends-nil, Appends-trans, Consumes-nil, Consumes-trans}
 use Rattle.disk.specs.Disk.{Life}
@@ -10,6 +11,7 @@ use Rattle.cache.specs.CacheState.{CacheState}
 use Rattle.session.specs.declared.steps.Step.{Step}
 use Rattle.session.specs.declared.steps.Step.TheVariants.{Size}
 use Rattle.session.specs.declared.steps.Reply.{Reply}
+use Rattle.session.specs.declared.steps.Reply.TheVariants.{Fault}
 use Rattle.session.specs.Run.{SessionState, RunsAlways}
 use Rattle.session.proofs.Joined.{runs_join, runs_none, promised}
 use Rattle.protocol.specs.declared.request.Request.{Request}
@@ -18,7 +20,7 @@ use Rattle.protocol.specs.declared.setting.Setting.{Setting}
 use Rattle.protocol.specs.declared.stop.ReadError.{ReadError}
 use Rattle.protocol.specs.declared.stop.ReadError.TheVariants.{Malformed as IsMalformed, Failed as HasFailed, OutOfMemory as NoMemory}
 use Rattle.protocol.specs.declared.stop.Stop.{Stop}
-use Rattle.protocol.specs.declared.stop.Stop.TheVariants.{Malformed, Version, WouldCut, Refused, LongAnswer, Failed, OutOfMemory}
+use Rattle.protocol.specs.declared.stop.Stop.TheVariants.{Malformed, Version, WouldCut, Refused, Lost, LongAnswer, Failed, OutOfMemory}
 use Rattle.protocol.specs.Answer.{answer_bytes, payload, refusal_bytes, status_byte, IsLong, IsTooLong, IsWriteError}
 use Rattle.protocol.specs.Input.{IsBroken}
 use Rattle.protocol.specs.Stop.{stop_at}
@@ -26,7 +28,7 @@ use Rattle.protocol.specs.Request.{IsRequest, request_bytes, number_bytes, lengt
 use Rattle.protocol.proofs.Bytes.{length-number_bytes, length-length_bytes}
 use Rattle.protocol.specs.Serve.AreServed.{no_more, one_more}
 use Rattle.protocol.specs.Serve.Served.{taken, refused}
-use Rattle.protocol.specs.Serve.{requests_bytes, IsAny, Took, TookFor, TookNext, Answered, TakesRequest, ReadsNext, ReadsVersion, Serves, Begun, HasAttempted, IsNotBegun, Greets, Greeted, EndsEarly, ServedAfter, ServesFile, changes, version_byte}
+use Rattle.protocol.specs.Serve.{requests_bytes, Served, fault_of, fault_in, later_fault, WritesReply, AnsweredAll, EndsSession, IsFaultAmong, IsAny, Took, TookFor, TookNext, Answered, TakesRequest, ReadsNext, ReadsVersion, Serves, Begun, IsNotBegun, Greets, Greeted, EndsEarly, ServedAfter, ServesFile, changes, version_byte}
 
 -- ---- lists of bytes
 
@@ -124,23 +126,32 @@ both true b one other = other
 both false b one other = absurd (cc one)
 
 -- it is refused: no step is taken
-pub step_refused : (sum : List ℕ → ℕ) (setting : Setting) (step : Step) (was : SessionState) (life : Life) (out written : Option (List ℕ)) (result : Result (Unit {0}) Stop) → (setting.read_only && changes step) ≡ true
-    → OnOk result (Appends out written refusal_bytes) → IfErr result (IsWriteError 0) → TakesRequest sum setting (StepOf step) was was life life out written result
-step_refused sum setting step was life out written (Ok done) is answers why = ([], [], refusal_bytes, refused step is, took_none sum was life, answers)
-step_refused sum setting step was life out written (Err LongAnswer) is answers why = absurd (omega (arith, why))
-step_refused sum setting step was life out written (Err Failed) is answers why = ([], [], refusal_bytes, refused step is, took_none sum was life, tt)
-step_refused sum setting step was life out written (Err OutOfMemory) is answers why = absurd why
-step_refused sum setting step was life out written (Err (Malformed number flaw)) is answers why = absurd why
-step_refused sum setting step was life out written (Err (Version byte)) is answers why = absurd why
-step_refused sum setting step was life out written (Err (WouldCut cut)) is answers why = absurd why
-step_refused sum setting step was life out written (Err (Refused error)) is answers why = absurd why
+pub step_refused : (sum : List ℕ → ℕ) (setting : Setting) (step : Step) (was : SessionState) (life : Life) (out written : Option (List ℕ)) → (setting.read_only && changes step) ≡ true → Appends out written refusal_bytes
+    → TakesRequest sum setting (StepOf step) was was life life out written (Ok None)
+step_refused sum setting step was life out written is answers = ([], [], refusal_bytes, refused step is, took_none sum was life, (answers, refl))
+
+-- nor is one where that can't be written
+pub refusal_unwritten : (sum : List ℕ → ℕ) (setting : Setting) (step : Step) (was : SessionState) (life : Life) (out written : Option (List ℕ)) (stop : Stop) (result : Result (Option Error) Stop) → IsErrAnd result (λ x. x ≡ stop) → (setting.read_only && changes step) ≡ true
+    → IsWriteError 0 stop → TakesRequest sum setting (StepOf step) was was life life out written result
+refusal_unwritten sum setting step was life out written stop (Ok fault) same is why = absurd same
+refusal_unwritten sum setting step was life out written stop (Err error) same is why = by_cause error (subst (IsWriteError 0) (sym same) why)
+  where
+    by_cause : (x : Stop) → IsWriteError 0 x → TakesRequest sum setting (StepOf step) was was life life out written (Err x)
+    by_cause LongAnswer long = absurd (omega (arith, long))
+    by_cause Failed failed = ([], [], refusal_bytes, refused step is, took_none sum was life, tt)
+    by_cause OutOfMemory none = absurd none
+    by_cause (Malformed number flaw) none = absurd none
+    by_cause (Version byte) none = absurd none
+    by_cause (WouldCut cut) none = absurd none
+    by_cause (Refused error) none = absurd none
+    by_cause (Lost error) none = absurd none
 
 -- its reply is the only one, and was written
 pub takes_step : (sum : List ℕ → ℕ) (setting : Setting) (step : Step) (reply : Reply) (was now : SessionState) (old new : Life) (earlier replies : List Reply) (out written : Option (List ℕ)) (ran : Result (Unit {0}) Error)
-    (result : Result (Unit {0}) Stop) → (setting.read_only && changes step) ≡ false → is_err ran ≡ false → OnOk ran (RunsAlways sum (step ∷ []) was now old new earlier replies) → earlier ≡ [] → replies ≡ reply ∷ []
-    → OnOk result (Appends out written (answer_bytes reply)) → IfErr result (IsWriteError (length (payload reply))) → TakesRequest sum setting (StepOf step) was now old new out written result
-takes_step sum setting step reply was now old new earlier replies out written (Err error) result may is runs none one answers why = absurd (cc is)
-takes_step sum setting step reply was now old new earlier replies out written (Ok done) result may is runs none one answers why = by_answer result answers why
+    (result : Result (Option Error) Stop) → (setting.read_only && changes step) ≡ false → is_err ran ≡ false → OnOk ran (RunsAlways sum (step ∷ []) was now old new earlier replies) → earlier ≡ [] → replies ≡ reply ∷ []
+    → WritesReply out written reply result → TakesRequest sum setting (StepOf step) was now old new out written result
+takes_step sum setting step reply was now old new earlier replies out written (Err error) result may is runs none one answers = absurd (cc is)
+takes_step sum setting step reply was now old new earlier replies out written (Ok done) result may is runs none one answers = by_answer result answers
   where
     alone : RunsAlways sum (step ∷ []) was now old new [] (reply ∷ [])
     alone = subst (λ (rs : List Reply). RunsAlways sum (step ∷ []) was now old new [] rs) one (subst (λ (rs : List Reply). RunsAlways sum (step ∷ []) was now old new rs replies) none runs)
@@ -151,35 +162,59 @@ takes_step sum setting step reply was now old new earlier replies out written (O
     with_answer : (Is : List ℕ → Type 0) → Is (answer_bytes reply) → TookFor sum setting Is (StepOf step) was now old new
     with_answer Is is = (step ∷ [], reply ∷ [], answer_bytes reply, taken step reply may, took, is)
 
-    by_answer : (r : Result (Unit {0}) Stop) → OnOk r (Appends out written (answer_bytes reply)) → IfErr r (IsWriteError (length (payload reply))) → TakesRequest sum setting (StepOf step) was now old new out written r
-    by_answer (Ok done) answers why = with_answer (Appends out written) answers
-    by_answer (Err LongAnswer) answers why = with_answer IsTooLong (too_long reply why)
-    by_answer (Err Failed) answers why = with_answer IsAny tt
-    by_answer (Err OutOfMemory) answers why = absurd why
-    by_answer (Err (Malformed number flaw)) answers why = absurd why
-    by_answer (Err (Version byte)) answers why = absurd why
-    by_answer (Err (WouldCut cut)) answers why = absurd why
-    by_answer (Err (Refused error)) answers why = absurd why
+    by_answer : (r : Result (Option Error) Stop) → WritesReply out written reply r → TakesRequest sum setting (StepOf step) was now old new out written r
+    by_answer (Ok fault) (answers, told) = (step ∷ [], reply ∷ [], answer_bytes reply, taken step reply may, took, (answers, told))
+    by_answer (Err LongAnswer) why = with_answer IsTooLong (too_long reply why)
+    by_answer (Err Failed) why = with_answer IsAny tt
+    by_answer (Err OutOfMemory) why = absurd why
+    by_answer (Err (Malformed number flaw)) why = absurd why
+    by_answer (Err (Version byte)) why = absurd why
+    by_answer (Err (WouldCut cut)) why = absurd why
+    by_answer (Err (Refused error)) why = absurd why
+    by_answer (Err (Lost error)) why = absurd why
+
+-- ---- the errors of requests
+
+is_fault : (reply : Reply) (error : Error) → fault_of reply ≡ Some error → reply ≡ Fault error
+is_fault (Fault other) error is = cc is
+is_fault _ error is = absurd (cc is)
+
+-- one reply more
+reply_more : (earlier next : Option Error) (replies : List Reply) (reply : Reply) (had_writer : Bool) → fault_of reply ≡ next → IsFaultAmong earlier replies → IsFaultAmong (later_fault earlier next had_writer) (replies ++ reply ∷ [])
+reply_more None None replies reply had_writer is all = All-push (λ r. fault_of r ≡ None) replies reply all is
+reply_more None (Some error) replies reply true is all = subst (λ (r : Reply). Contains (replies ++ r ∷ []) (Fault error)) (sym (is_fault reply error is)) (Contains-push replies (Fault error))
+reply_more None (Some error) replies reply false is all = subst (λ (r : Reply). Contains (replies ++ r ∷ []) (Fault error)) (sym (is_fault reply error is)) (Contains-push replies (Fault error))
+reply_more (Some error) None replies reply had_writer is there = Contains-append_left replies (reply ∷ []) (Fault error) there
+reply_more (Some error) (Some next) replies reply true is there = subst (λ (r : Reply). Contains (replies ++ r ∷ []) (Fault next)) (sym (is_fault reply next is)) (Contains-push replies (Fault next))
+reply_more (Some error) (Some next) replies reply false is there = Contains-append_left replies (reply ∷ []) (Fault error) there
+
+-- one request more
+fault_more : (fault : Option Error) (setting : Setting) (request : Request) (steps : List Step) (replies others : List Reply) (answer : List ℕ) (had_writer : Bool) → Served setting request steps others answer → IsFaultAmong fault replies
+    → IsFaultAmong (later_fault fault (fault_in others) had_writer) (replies ++ others)
+fault_more fault setting request steps replies others answer had_writer (refused step is) among = subst (IsFaultAmong fault) (sym (append-nil replies)) among
+fault_more fault setting request steps replies others answer had_writer (taken step reply may) among = reply_more fault (fault_of reply) replies reply had_writer refl among
 
 -- ---- request after request
 
--- the requests before that of this number were answered
-pub record Serving (sum : List ℕ → ℕ) (setting : Setting) (was now : SessionState) (old new : Life) (input rest out written : Option (List ℕ)) (number : ℕ) : Type 0 where
+-- the requests before that of this number were answered, with this error last
+pub record Serving (sum : List ℕ → ℕ) (setting : Setting) (was now : SessionState) (old new : Life) (input rest out written : Option (List ℕ)) (fault : Option Error) (number : ℕ) : Type 0 where
   pub answered : Answered sum setting was now old new input rest out written
+  pub among : IsFaultAmong fault answered.replies
   pub counts : number ≡ length answered.requests + 1
 
 -- none is before the first
-pub serving_begins : (sum : List ℕ → ℕ) (setting : Setting) (was : SessionState) (life : Life) (input out : Option (List ℕ)) → Serving sum setting was was life life input input out out 1
+pub serving_begins : (sum : List ℕ → ℕ) (setting : Setting) (was : SessionState) (life : Life) (input out : Option (List ℕ)) → Serving sum setting was was life life input input out out None 1
 unfolding answered_none
-serving_begins sum setting was life input out = record { answered = answered_none sum setting was life input out; counts = refl }
+serving_begins sum setting was life input out = record { answered = answered_none sum setting was life input out; among = All-nil (λ r. fault_of r ≡ None); counts = refl }
 
 -- one more
-pub serving_more : (sum : List ℕ → ℕ) (setting : Setting) (request : Request) (was mid now : SessionState) (old between new : Life) (input rest last out written kept all : Option (List ℕ)) (number : ℕ)
-    → Serving sum setting was mid old between input rest out written number → Keeps written kept → ReadsNext number rest last (Ok (Some request)) → TakesRequest sum setting request mid now between new kept all (Ok tt)
-    → Serving sum setting was now old new input last out all (number + 1)
+pub serving_more : (sum : List ℕ → ℕ) (setting : Setting) (request : Request) (was mid now : SessionState) (old between new : Life) (input rest last out written kept all : Option (List ℕ)) (fault next after : Option Error) (had_writer : Bool) (number : ℕ)
+    → after ≡ later_fault fault next had_writer → Serving sum setting was mid old between input rest out written fault number → Keeps written kept → ReadsNext number rest last (Ok (Some request)) → TakesRequest sum setting request mid now between new kept all (Ok next)
+    → Serving sum setting was now old new input last out all after (number + 1)
 unfolding answered_more
-serving_more sum setting request was mid now old between new input rest last out written kept all number before keeps (is, takes) took = record {
-  answered = answered_more sum setting request was mid now old between new input rest last out written kept all before.answered keeps is takes took;
+serving_more sum setting request was mid now old between new input rest last out written kept all fault next after had_writer number later before keeps (is, takes) (more, others, answer, served, took, (answers, told)) = record {
+  answered = answered_more sum setting request was mid now old between new input rest last out written kept all before.answered keeps is takes (more, others, answer, served, took, answers);
+  among = subst (λ (f : Option Error). IsFaultAmong f (before.answered.replies ++ others)) (sym (later ∙ ap (λ (f : Option Error). later_fault fault f had_writer) told)) (fault_more fault setting request more before.answered.replies others answer had_writer served before.among);
   counts = omega (arith, before.counts, length-append before.answered.requests (request ∷ []));
 }
 
@@ -198,27 +233,28 @@ unmoved sum setting was now old new input rest out written kept a keeps = record
 }
 
 -- no further request was read
-pub serving_stops : (sum : List ℕ → ℕ) (setting : Setting) (was now : SessionState) (old new : Life) (input rest last out written kept : Option (List ℕ)) (number : ℕ) (stop : Stop) (result : Result (Unit {0}) Stop) → IsErrAnd result (λ x. x ≡ stop)
-    → Serving sum setting was now old new input rest out written number → Keeps written kept → ReadsNext number rest last (Err stop) → Serves sum setting was now old new input last out kept result
+pub serving_stops : (sum : List ℕ → ℕ) (setting : Setting) (was now : SessionState) (old new : Life) (input rest last out written kept : Option (List ℕ)) (fault : Option Error) (number : ℕ) (stop : Stop) (result : Result (Unit {0}) Stop) → IsErrAnd result (λ x. x ≡ stop)
+    → Serving sum setting was now old new input rest out written fault number → Keeps written kept → ReadsNext number rest last (Err stop) → Serves sum setting was now old new input last out kept result
 unfolding unmoved
-serving_stops sum setting was now old new input rest last out written kept number stop (Ok done) is before keeps reads = absurd is
-serving_stops sum setting was now old new input rest last out written kept number stop (Err why) is before keeps reads = by_cause why (subst (λ (x : Stop). ReadsNext number rest last (Err x)) (sym is) reads)
+serving_stops sum setting was now old new input rest last out written kept fault number stop (Ok done) is before keeps reads = absurd is
+serving_stops sum setting was now old new input rest last out written kept fault number stop (Err why) is before keeps reads = by_cause why (subst (λ (x : Stop). ReadsNext number rest last (Err x)) (sym is) reads)
   where
     by_cause : (x : Stop) → ReadsNext number rest last (Err x) → Serves sum setting was now old new input last out kept (Err x)
     by_cause (Malformed which flaw) (this, none) = (rest, unmoved sum setting was now old new input rest out written kept before.answered keeps, this ∙ before.counts, none)
     by_cause (Version byte) none = absurd none
     by_cause (WouldCut cut) none = absurd none
     by_cause (Refused error) none = absurd none
+    by_cause (Lost error) none = absurd none
     by_cause LongAnswer none = absurd none
     by_cause Failed none = (now, new, rest, written, before.answered, inl (refl, refl))
     by_cause OutOfMemory none = (now, new, rest, written, before.answered, inl (refl, refl))
 
 -- a request wasn't answered
-pub serving_fails : (sum : List ℕ → ℕ) (setting : Setting) (request : Request) (was mid now : SessionState) (old between new : Life) (input rest last out written kept all : Option (List ℕ)) (number : ℕ) (stop : Stop) (result : Result (Unit {0}) Stop)
-    → IsErrAnd result (λ x. x ≡ stop) → Serving sum setting was mid old between input rest out written number → ReadsNext number rest last (Ok (Some request)) → TakesRequest sum setting request mid now between new kept all (Err stop)
+pub serving_fails : (sum : List ℕ → ℕ) (setting : Setting) (request : Request) (was mid now : SessionState) (old between new : Life) (input rest last out written kept all : Option (List ℕ)) (fault : Option Error) (number : ℕ) (stop : Stop) (result : Result (Unit {0}) Stop)
+    → IsErrAnd result (λ x. x ≡ stop) → Serving sum setting was mid old between input rest out written fault number → ReadsNext number rest last (Ok (Some request)) → TakesRequest sum setting request mid now between new kept all (Err stop)
     → Serves sum setting was now old new input last out all result
-serving_fails sum setting request was mid now old between new input rest last out written kept all number stop (Ok done) is before reads takes = absurd is
-serving_fails sum setting request was mid now old between new input rest last out written kept all number stop (Err why) is before reads takes =
+serving_fails sum setting request was mid now old between new input rest last out written kept all fault number stop (Ok done) is before reads takes = absurd is
+serving_fails sum setting request was mid now old between new input rest last out written kept all fault number stop (Err why) is before reads takes =
     by_cause why (subst (λ (x : Stop). TakesRequest sum setting request mid now between new kept all (Err x)) (sym is) takes)
   where
     more : (Is : List ℕ → Type 0) → TookFor sum setting Is request mid now between new → TookNext sum setting Is mid now between new rest
@@ -229,15 +265,31 @@ serving_fails sum setting request was mid now old between new input rest last ou
     by_cause (Version byte) none = absurd none
     by_cause (WouldCut cut) none = absurd none
     by_cause (Refused error) none = absurd none
+    by_cause (Lost error) none = absurd none
     by_cause LongAnswer this = (mid, between, rest, written, before.answered, more IsTooLong this)
     by_cause Failed this = (mid, between, rest, written, before.answered, inr (more IsAny this))
     by_cause OutOfMemory same = (mid, between, rest, written, before.answered, inl same)
 
 -- a close, or the end of the input
-pub serving_ends : (sum : List ℕ → ℕ) (setting : Setting) (was now : SessionState) (old new : Life) (input rest last out written kept : Option (List ℕ)) (number : ℕ)
-    → Serving sum setting was now old new input rest out written number → Keeps written kept → IsAtEnd rest ⊎ Consumes rest last (request_bytes Close) → Serves sum setting was now old new input last out kept (Ok tt)
+pub serving_ends : (sum : List ℕ → ℕ) (setting : Setting) (was now : SessionState) (old new : Life) (input rest last out written kept : Option (List ℕ)) (fault : Option Error) (number : ℕ) (result : Result (Unit {0}) Stop)
+    → Serving sum setting was now old new input rest out written fault number → Keeps written kept → IsAtEnd rest ⊎ Consumes rest last (request_bytes Close) → EndsSession now fault result → Serves sum setting was now old new input last out kept result
 unfolding unmoved
-serving_ends sum setting was now old new input rest last out written kept number before keeps ends = (rest, unmoved sum setting was now old new input rest out written kept before.answered keeps, ends)
+serving_ends sum setting was now old new input rest last out written kept fault number result before keeps at_end ends = by_answer result ends
+  where
+    all : (Are : List Reply → Type 0) → Are before.answered.replies → AnsweredAll sum setting Are was now old new input last out kept
+    all Are are = (rest, unmoved sum setting was now old new input rest out written kept before.answered keeps, at_end, are)
+
+    by_answer : (r : Result (Unit {0}) Stop) → EndsSession now fault r → Serves sum setting was now old new input last out kept r
+    by_answer (Ok done) (inl has) = all (λ replies. (is_some now.writer ≡ true) ⊎ IsFaultAmong None replies) (inl has)
+    by_answer (Ok done) (inr none) = all (λ replies. (is_some now.writer ≡ true) ⊎ IsFaultAmong None replies) (inr (subst (λ (f : Option Error). IsFaultAmong f before.answered.replies) none before.among))
+    by_answer (Err (Lost error)) (gone, told) = all (λ replies. (now.writer ≡ None) × IsFaultAmong (Some error) replies) (gone, subst (λ (f : Option Error). IsFaultAmong f before.answered.replies) told before.among)
+    by_answer (Err (Malformed number flaw)) none = absurd none
+    by_answer (Err (Version byte)) none = absurd none
+    by_answer (Err (WouldCut cut)) none = absurd none
+    by_answer (Err (Refused error)) none = absurd none
+    by_answer (Err LongAnswer) none = absurd none
+    by_answer (Err Failed) none = absurd none
+    by_answer (Err OutOfMemory) none = absurd none
 
 -- the end of an input
 pub at_end : (rest : Option (List ℕ)) → IfSome rest (λ bytes. bytes ≡ []) → IsAtEnd rest
@@ -252,24 +304,10 @@ would_cut sum setting old new out written (Malformed number flaw) none other sam
 would_cut sum setting old new out written (Version byte) none other same = absurd none
 would_cut sum setting old new out written (WouldCut cut) more other same = (more, same)
 would_cut sum setting old new out written (Refused error) had other same = absurd (other error refl)
+would_cut sum setting old new out written (Lost error) none other same = absurd none
 would_cut sum setting old new out written LongAnswer none other same = absurd none
 would_cut sum setting old new out written Failed none other same = absurd none
 would_cut sum setting old new out written OutOfMemory none other same = absurd none
-
--- a refusal of the recovery wasn't written
-pub refusal_unwritten : (sum : List ℕ → ℕ) (setting : Setting) (old new : Life) (out written : Option (List ℕ)) (stop : Stop) (result : Result (SessionState × CacheState) Stop) → IsErrAnd result (λ x. x ≡ stop) → HasAttempted sum setting old new → IsWriteError 0 stop
-    → Greets sum setting old new out written result
-refusal_unwritten sum setting old new out written stop (Ok begun) is had why = absurd is
-refusal_unwritten sum setting old new out written stop (Err error) is had why = by_cause error (subst (IsWriteError 0) (sym is) why)
-  where
-    by_cause : (x : Stop) → IsWriteError 0 x → Greets sum setting old new out written (Err x)
-    by_cause (Malformed number flaw) none = absurd none
-    by_cause (Version byte) none = absurd none
-    by_cause (WouldCut cut) none = absurd none
-    by_cause (Refused error) none = absurd none
-    by_cause LongAnswer long = absurd (omega (arith, long))
-    by_cause Failed failed = inl had
-    by_cause OutOfMemory none = absurd none
 
 -- the version isn't read
 pub version_unread : (input rest : Option (List ℕ)) (error : ReadError) (stop : Stop) → IsBroken error → stop ≡ stop_at 0 error → ReadsVersion input rest (Err stop)
@@ -289,20 +327,26 @@ greeting_fails sum setting was now old mid new out after written stop (Err why) 
     by_cause (Version byte) none = absurd none
     by_cause (WouldCut cut) none = absurd none
     by_cause (Refused error) none = absurd none
+    by_cause (Lost error) none = absurd none
     by_cause LongAnswer this = (mid, was, now, begins, this)
     by_cause Failed this = inr (inr (mid, was, now, begins, this))
     by_cause OutOfMemory same = inr (inl (was, subst (λ (life : Life). Begun sum setting old life was) (sym same.1) begins))
 
+-- nor asked for
+pub greeting_cut : (sum : List ℕ → ℕ) (setting : Setting) (was : SessionState) (old new : Life) (out written : Option (List ℕ)) (result : Result (SessionState × CacheState) Stop) → IsErrAnd result (λ x. x ≡ Failed) → Begun sum setting old new was → Greets sum setting old new out written result
+greeting_cut sum setting was old new out written (Ok begun) is begins = absurd is
+greeting_cut sum setting was old new out written (Err why) is begins = subst (λ (x : Stop). Greets sum setting old new out written (Err x)) (sym is) (inr (inl (was, begins)))
+
 -- or it isn't out
-pub greeting_unsent : (sum : List ℕ → ℕ) (setting : Setting) (was now : SessionState) (old mid new : Life) (out kept written : Option (List ℕ)) (result : Result (SessionState × CacheState) Stop) → IsErrAnd result (λ x. x ≡ Failed)
-    → Begun sum setting old mid was → TakesRequest sum setting (StepOf Size) was now mid new kept written (Ok tt) → (last : Option (List ℕ)) → Greets sum setting old new out last result
-greeting_unsent sum setting was now old mid new out kept written result is begins (steps, replies, answer, served, took, answers) last =
+pub greeting_unsent : (sum : List ℕ → ℕ) (setting : Setting) (was now : SessionState) (old mid new : Life) (out kept written : Option (List ℕ)) (fault : Option Error) (result : Result (SessionState × CacheState) Stop) → IsErrAnd result (λ x. x ≡ Failed)
+    → Begun sum setting old mid was → TakesRequest sum setting (StepOf Size) was now mid new kept written (Ok fault) → (last : Option (List ℕ)) → Greets sum setting old new out last result
+greeting_unsent sum setting was now old mid new out kept written fault result is begins (steps, replies, answer, served, took, (answers, told)) last =
     greeting_fails sum setting was now old mid new out kept last Failed result is begins (steps, replies, answer, served, took, tt)
 
 -- all of it is
-pub greeted : (sum : List ℕ → ℕ) (setting : Setting) (was now : SessionState) (old mid new : Life) (out first second last : Option (List ℕ)) → Begun sum setting old mid was → Appends out first (version_byte ∷ [])
-    → TakesRequest sum setting (StepOf Size) was now mid new first second (Ok tt) → Keeps second last → Greeted sum setting old new now out last
-greeted sum setting was now old mid new out first second last begins version (steps, replies, answer, served, took, answers) keeps = record {
+pub greeted : (sum : List ℕ → ℕ) (setting : Setting) (was now : SessionState) (old mid new : Life) (out first second last : Option (List ℕ)) (fault : Option Error) → Begun sum setting old mid was → Appends out first (version_byte ∷ [])
+    → TakesRequest sum setting (StepOf Size) was now mid new first second (Ok fault) → Keeps second last → Greeted sum setting old new now out last
+greeted sum setting was now old mid new out first second last fault begins version (steps, replies, answer, served, took, (answers, told)) keeps = record {
   mid = mid;
   was = was;
   begun = begins;
@@ -334,6 +378,7 @@ file_not_greeted sum setting old new input out written stop (Err why) is greets 
     by_cause (Version byte) none = absurd none
     by_cause (WouldCut cut) (more, same) = (more, same, refl)
     by_cause (Refused error) had = had
+    by_cause (Lost error) none = absurd none
     by_cause LongAnswer ends = inl ends
     by_cause Failed ends = inl ends
     by_cause OutOfMemory ends = inl ends
@@ -349,6 +394,7 @@ file_not_begun sum setting old new was input rest out written stop (Err why) is 
     by_cause (Version byte) (other, takes) = (other, takes, (was, g))
     by_cause (WouldCut cut) none = absurd none
     by_cause (Refused error) none = absurd none
+    by_cause (Lost error) none = absurd none
     by_cause LongAnswer none = absurd none
     by_cause Failed none = inl (only_greeted sum setting old new was out written g)
     by_cause OutOfMemory none = inl (only_greeted sum setting old new was out written g)
@@ -377,6 +423,7 @@ file_served sum setting old between new was now input after rest out greeting wr
     by_answer (Err (Version byte)) s = absurd s
     by_answer (Err (WouldCut cut)) s = absurd s
     by_answer (Err (Refused error)) s = absurd s
+    by_answer (Err (Lost error)) s = served (Err (Lost error)) s
     by_answer (Err LongAnswer) s = inr (served (Err LongAnswer) s)
     by_answer (Err Failed) s = inr (served (Err Failed) s)
     by_answer (Err OutOfMemory) s = inr (served (Err OutOfMemory) s)

@@ -1,8 +1,9 @@
 -- What serving an input does.
 use Rattle.std.specs.Prelude.{◌≡◌, ◌≢◌, ◌⊎◌, ◌+◌, ◌≤◌, ◌<◌, ◌++◌, ◌&&◌, ℕ, List, [], ◌∷◌, length}
-use Rattle.std.specs.Prelude.{Option, Result, Ok, Err, IfSome, Bool, true, false}
+use Rattle.std.specs.Prelude.{Option, Some, None, Result, Ok, Err, IfSome, Bool, true, false, All}
+use Rattle.std.specs.Prelude.{◌||◌, not, is_some, if◌then◌else◌}
 use Rattle.std.specs.Int.NonZero.{non_zero_u16_get}
-use Rattle.std.specs.List.{flat_map}
+use Rattle.std.specs.List.{Contains, flat_map}
 use Rattle.std.specs.Io.KnownBytes.{Appends, Consumes, IsAtEnd}
 use Rattle.disk.specs.Disk.{Life}
 use Rattle.disk.specs.declared.error.Error.{Error}
@@ -10,6 +11,7 @@ use Rattle.cache.specs.CacheState.{CacheState}
 use Rattle.crash.specs.Looks.{Looked}
 use Rattle.paged.specs.declared.outlook.Outlook.{Outlook}
 use Rattle.paged.specs.Outlook.{IsOutlook}
+use Rattle.paged.specs.Within.{at_stake}
 use Rattle.session.specs.declared.steps.Step.{Step}
 use Rattle.session.specs.declared.steps.Step.TheVariants.{Append, Sync, StartSync, Begin, Truncate}
 use Rattle.session.specs.declared.steps.Step.TheVariants.{Size}
@@ -23,8 +25,8 @@ use Rattle.protocol.specs.declared.setting.Setting.{Setting}
 use Rattle.protocol.specs.declared.stop.ReadError.TheVariants.{Malformed as IsMalformed}
 use Rattle.protocol.specs.declared.stop.Stop.{Stop}
 use Rattle.protocol.specs.declared.stop.Stop.TheVariants.{Malformed, Version, WouldCut, Refused}
-use Rattle.protocol.specs.declared.stop.Stop.TheVariants.{LongAnswer, Failed, OutOfMemory}
-use Rattle.protocol.specs.Answer.{answer_bytes, refusal_bytes, IsTooLong}
+use Rattle.protocol.specs.declared.stop.Stop.TheVariants.{Lost, LongAnswer, Failed, OutOfMemory}
+use Rattle.protocol.specs.Answer.{answer_bytes, payload, refusal_bytes, IsTooLong, IsWriteError}
 use Rattle.protocol.specs.Request.{IsFlawed, IsRequest, ReadsRequest, request_bytes}
 
 -- requests, one after another
@@ -83,23 +85,47 @@ pub record Answered (sum : List ℕ → ℕ) (setting : Setting) (was now : Sess
   pub takes : Consumes input rest (requests_bytes requests)
   pub answers : Appends out written bytes
 
--- the steps of a request were taken, and this is so of its answer
+-- the error that a reply tells; and of some replies that of the only one, and none where there isn't
+-- just one
+abbrev pub fault_of : Reply → Option Error
+fault_of (Fault error) = Some error
+fault_of reply = None
+
+abbrev pub fault_in : List Reply → Option Error
+fault_in (reply ∷ []) = fault_of reply
+fault_in replies = None
+
+-- a reply was written, by how that ended; where it was, its error is told
+abbrev pub WritesReply : (out written : Option (List ℕ)) → Reply → Result (Option Error) Stop
+    → Type 0
+WritesReply out written reply (Ok fault) =
+    Appends out written (answer_bytes reply) × (fault ≡ fault_of reply)
+WritesReply out written reply (Err stop) = IsWriteError (length (payload reply)) stop
+
+-- the steps of a request were taken, and this is so of their replies and its answer
+abbrev pub TookWith : (List ℕ → ℕ) → Setting → (List Reply → List ℕ → Type 0) → Request
+    → SessionState → SessionState → Life → Life → Type 0
+TookWith sum setting Is request was now old new =
+    (steps : List Step) × (replies : List Reply) × (answer : List ℕ)
+    × Served setting request steps replies answer × Took sum steps replies was now old new
+    × Is replies answer
+
+-- and this is so of its answer
 abbrev pub TookFor : (List ℕ → ℕ) → Setting → (List ℕ → Type 0) → Request → SessionState
     → SessionState → Life → Life → Type 0
 TookFor sum setting Is request was now old new =
-    (steps : List Step) × (replies : List Reply) × (answer : List ℕ)
-    × Served setting request steps replies answer × Took sum steps replies was now old new
-    × Is answer
+    TookWith sum setting (λ replies answer. Is answer) request was now old new
 
 -- any answer
 abbrev pub IsAny : List ℕ → Type 0
 IsAny answer = Unit {0}
 
--- a request was served and answered, by how that ended
+-- a request was served and answered, by how that ended; where it was, its error is told
 abbrev pub TakesRequest : (List ℕ → ℕ) → Setting → Request → SessionState → SessionState → Life
-    → Life → (out written : Option (List ℕ)) → Result (Unit {0}) Stop → Type 0
-TakesRequest sum setting request was now old new out written (Ok done) =
-    TookFor sum setting (Appends out written) request was now old new
+    → Life → (out written : Option (List ℕ)) → Result (Option Error) Stop → Type 0
+TakesRequest sum setting request was now old new out written (Ok fault) =
+    TookWith sum setting (λ replies answer. Appends out written answer × (fault ≡ fault_in replies))
+    request was now old new
 TakesRequest sum setting request was now old new out written (Err LongAnswer) =
     TookFor sum setting IsTooLong request was now old new
 TakesRequest sum setting request was now old new out written (Err Failed) =
@@ -140,13 +166,44 @@ BreaksOff sum setting was now old new input out =
     AnsweredThen sum setting was old input out (λ mid between rest.
     ((now ≡ mid) × (new ≡ between)) ⊎ TookNext sum setting IsAny mid now between new rest)
 
+-- an error that requests were answered with is among these replies; or none of them tells one
+abbrev pub IsFaultAmong : Option Error → List Reply → Type 0
+IsFaultAmong None replies = All (λ reply. fault_of reply ≡ None) replies
+IsFaultAmong (Some error) replies = Contains replies (Fault error)
+
+-- the last of two such errors, where there was a writer as the request of the later one was taken;
+-- else the earlier one, if there is one
+abbrev pub later_fault : (fault next : Option Error) → (had_writer : Bool) → Option Error
+later_fault fault next had_writer =
+    if is_some next && (had_writer || not (is_some fault)) then next else fault
+
+-- how a session ends whose requests were answered, with this error last: well, where it has its
+-- writer, or no request was answered with an error
+abbrev pub EndsSession : SessionState → Option Error → Result (Unit {0}) Stop → Type 0
+EndsSession now fault (Ok done) = (is_some now.writer ≡ true) ⊎ (fault ≡ None)
+EndsSession now fault (Err (Lost error)) = (now.writer ≡ None) × (fault ≡ Some error)
+EndsSession now fault (Err other) = ⊥
+
+-- all requests of an input were answered, up to its end or a close, and this is so of the replies
+abbrev pub AnsweredAll : (List ℕ → ℕ) → Setting → (List Reply → Type 0) → SessionState
+    → SessionState → Life → Life → (input rest out written : Option (List ℕ)) → Type 0
+AnsweredAll sum setting Are was now old new input rest out written =
+    (mid : Option (List ℕ))
+    × (answered : Answered sum setting was now old new input mid out written)
+    × (IsAtEnd mid ⊎ Consumes mid rest (request_bytes Close)) × Are answered.replies
+
 -- how the requests of an input were served, by how that ended: all of them up to the end or a
--- close; or those before the first that isn't one, whose number is told
+-- close, and the writer is there, unless no request was answered with an error; or it is gone, and
+-- an error is told that a request was answered with; or those before the first that isn't one,
+-- whose number is told
 abbrev pub Serves : (List ℕ → ℕ) → Setting → SessionState → SessionState → Life → Life
     → (input rest out written : Option (List ℕ)) → Result (Unit {0}) Stop → Type 0
 Serves sum setting was now old new input rest out written (Ok done) =
-    (mid : Option (List ℕ)) × Answered sum setting was now old new input mid out written
-    × (IsAtEnd mid ⊎ Consumes mid rest (request_bytes Close))
+    AnsweredAll sum setting (λ replies. (is_some now.writer ≡ true) ⊎ IsFaultAmong None replies)
+    was now old new input rest out written
+Serves sum setting was now old new input rest out written (Err (Lost error)) =
+    AnsweredAll sum setting (λ replies. (now.writer ≡ None) × IsFaultAmong (Some error) replies)
+    was now old new input rest out written
 Serves sum setting was now old new input rest out written (Err (Malformed number flaw)) =
     (mid : Option (List ℕ))
     × (answered : Answered sum setting was now old new input mid out written)
@@ -167,15 +224,16 @@ Serves sum setting was now old new input rest out written (Err other) = ⊥
 abbrev pub version_byte : ℕ
 version_byte = 1
 
--- the blob was only looked at, which told that a recovery of it would cut so many bytes
+-- the blob was only looked at, which told that in a recovery of it so many bytes at its end would
+-- go: those that it would cut, and those of a torn last page
 pub record LookedAt (sum : List ℕ → ℕ) (setting : Setting) (old new : Life)
     (cut : ℕ) : Type 0 where
   pub outlook : Outlook
   pub is : IsOutlook sum (page_bytes setting) old.present.readable outlook
-  pub cuts : outlook.cut ≡ cut
+  pub stake : at_stake sum (page_bytes setting) old.present.readable outlook ≡ cut
   pub looked : Looked old new
 
--- no more than may be cut
+-- no more than may go
 abbrev pub MayRecover : (List ℕ → ℕ) → Setting → Life → Life → Type 0
 MayRecover sum setting old new =
     (cut : ℕ) × LookedAt sum setting old new cut × (cut ≤ setting.allowed)
@@ -300,6 +358,8 @@ ServesFile sum setting old new input rest out written (Err (WouldCut cut)) =
     WouldCutMore sum setting old new cut × (written ≡ out) × (rest ≡ input)
 ServesFile sum setting old new input rest out written (Err (Refused error)) =
     IsRefused sum setting old new out written error
+ServesFile sum setting old new input rest out written (Err (Lost error)) =
+    ServedAfter sum setting old new input rest out written (Err (Lost error))
 ServesFile sum setting old new input rest out written (Err LongAnswer) =
     TookSize sum setting IsTooLong old new
     ⊎ ServedAfter sum setting old new input rest out written (Err LongAnswer)

@@ -2,6 +2,8 @@
 use Rattle.std.specs.Prelude.{ℕ, List, ◌++◌, codes}
 use Rattle.std.specs.Fmt.{decimal}
 use Rattle.disk.specs.Error.{name_of}
+use Rattle.paged.specs.declared.within.Refusal.{Refusal}
+use Rattle.paged.specs.declared.within.Refusal.TheVariants as refusal
 use Rattle.protocol.specs.declared.stop.Flaw.{Flaw}
 use Rattle.protocol.specs.declared.stop.Flaw.TheVariants.{Cut, Empty, Kind, Length, LongRead}
 use Rattle.protocol.specs.declared.stop.Flaw.TheVariants.{NoBuffer}
@@ -9,7 +11,7 @@ use Rattle.protocol.specs.declared.stop.ReadError.{ReadError}
 use Rattle.protocol.specs.declared.stop.ReadError.TheVariants as read
 use Rattle.protocol.specs.declared.stop.Stop.{Stop}
 use Rattle.protocol.specs.declared.stop.Stop.TheVariants.{Malformed, Version, WouldCut, Refused}
-use Rattle.protocol.specs.declared.stop.Stop.TheVariants.{LongAnswer, Failed, OutOfMemory}
+use Rattle.protocol.specs.declared.stop.Stop.TheVariants.{Lost, LongAnswer, Failed, OutOfMemory}
 
 -- where the request of this number isn't read
 abbrev pub stop_at : ℕ → ReadError → Stop
@@ -17,12 +19,18 @@ stop_at number (read.Malformed flaw) = Malformed number flaw
 stop_at number read.Failed = Failed
 stop_at number read.OutOfMemory = OutOfMemory
 
+-- where the file isn't recovered
+abbrev pub stop_for : Refusal → Stop
+stop_for (refusal.WouldCut cut) = WouldCut cut
+stop_for (refusal.Failed error) = Refused error
+
 -- the exit status
 abbrev pub status_of : Stop → ℕ
 status_of (Malformed number flaw) = 2
 status_of (Version byte) = 2
 status_of (WouldCut cut) = 3
 status_of (Refused error) = 1
+status_of (Lost error) = 1
 status_of LongAnswer = 1
 status_of Failed = 1
 status_of OutOfMemory = 1
@@ -43,8 +51,12 @@ stop_text (Malformed number flaw) =
 stop_text (Version byte) =
     codes "pagedd: version " ++ decimal byte ++ codes " of the protocol is not 1"
 stop_text (WouldCut cut) =
-    codes "pagedd: nothing was done: a recovery would cut " ++ decimal cut ++ codes " bytes"
+    codes "pagedd: nothing was done: a recovery would give up the last " ++ decimal cut
+    ++ codes " bytes"
 stop_text (Refused error) = codes "pagedd: the recovery failed: " ++ name_of error
+stop_text (Lost error) =
+    codes "pagedd: the writer ended with " ++ name_of error
+    ++ codes ": what was appended since the last sync may be lost"
 stop_text LongAnswer = codes "pagedd: an answer is too long"
 stop_text Failed = codes "pagedd: the input or the output failed"
 stop_text OutOfMemory = codes "pagedd: out of memory"

@@ -1,12 +1,13 @@
 // Serving: requests are read, taken as steps of a session, and answered.
-ghost use Rattle.std.specs.Prelude.{◌≡◌, [], IfErr, IfOk, OnOk};
+ghost use Rattle.std.specs.Prelude.{◌≡◌, [], IfOk, OnOk};
 ghost use Rattle.std.specs.Io.Buffered.{reader_buffer, reader_remaining};
 ghost use Rattle.std.specs.Io.Buffered.{writer_buffer, writer_contents};
 ghost use Rattle.std.specs.Io.KnownBytes.{Keeps};
 ghost use Rattle.session.specs.Run.{IsReady, CacheFits};
 ghost use Rattle.protocol.specs.Input.{IsSent, has_frame};
-ghost use Rattle.protocol.specs.Serve.{Greets, IsNotBegun, MayRecover, ReadsNext, ReadsVersion};
-ghost use Rattle.protocol.specs.Serve.{Recovers, Serves, ServesFile, TakesRequest, changes};
+ghost use Rattle.protocol.specs.Serve.{EndsSession, Greets, ReadsNext, ReadsVersion, Recovers};
+ghost use Rattle.protocol.specs.Serve.{Serves, ServesFile, TakesRequest, WritesReply};
+ghost use Rattle.protocol.specs.Serve.{changes, later_fault};
 
 use crate::answer::{write_answer, write_refusal};
 use crate::input::read_front;
@@ -14,9 +15,8 @@ use crate::request::{Request, read_request};
 use crate::stop::Stop;
 use crate::{Cause, Setting};
 use cache::CacheRef;
-use disk::Blob;
+use disk::{Blob, Error};
 use page::Sum;
-use paged::look;
 use session::{Reply, Session, Step, run};
 use std::alloc::Global;
 use std::io::{BufReader, BufWriter, Read, Write};
@@ -29,8 +29,8 @@ pub const VERSION: u8 = 1;
 /// was answered is out. What is answered last may be held back by the output: the caller flushes
 /// it.
 ///
-/// Before it recovers the blob it looks at it. [`Stop::WouldCut`] where the recovery would cut more
-/// than the setting allows: then the blob is as it was, and nothing is read or written.
+/// In the recovery no more goes than the setting allows: [`Stop::WouldCut`] where more would go.
+/// Then the blob was only looked at, and nothing is read or written.
 pub fn serve_file<B: Blob + Cause, H: Sum, R: Read, W: Write + Drop>(
     alloc: Global,
     blob: &mut B,
@@ -93,7 +93,7 @@ fn greet<B: Blob, H: Sum, W: Write + Drop>(
     Ok((session, cache))
 }
 
-// A session on a blob, and its cache, where the recovery may cut what it would.
+// A session on a blob, and its cache, unless more would go than the setting allows.
 fn recover<B: Blob, H: Sum>(
     alloc: Global,
     blob: &mut B,
@@ -104,28 +104,18 @@ fn recover<B: Blob, H: Sum>(
         IfOk result (λ r. IsReady H.sum_of r.0 new.present) }
     ensures cached { let new = B.life blob.new in IfOk result (λ r. CacheFits r.0 r.1 new.present) }
 {
-    look_first::<B, H>(alloc, blob, setting)?;
     let mut cache = CacheRef::new(alloc, setting.page_size, setting.pages)?;
     let size = blob.len();
-    let capacity = setting.capacity;
-    let buffer_size = setting.buffer_size;
-    let session = Session::recover(alloc, blob, size, capacity, &mut cache, buffer_size)?;
+    let session = Session::recover_within(
+        alloc,
+        blob,
+        size,
+        setting.capacity,
+        &mut cache,
+        setting.buffer_size,
+        setting.allowed,
+    )?;
     Ok((session, cache))
-}
-
-// Looks at a blob, and tells where a recovery would cut more than it may.
-fn look_first<B: Blob, H: Sum>(alloc: Global, blob: &mut B, setting: &Setting) -> Result<(), Stop>
-    ensures may { let old = B.life blob.old in let new = B.life blob.new in
-        OnOk result (MayRecover H.sum_of setting.now old new) }
-    ensures err { let old = B.life blob.old in let new = B.life blob.new in
-        IfErr result (IsNotBegun H.sum_of setting.now old new) }
-{
-    let size = blob.len();
-    let outlook = look::<B, H>(alloc, blob, size, setting.page_size, setting.buffer_size)?;
-    if outlook.cut > setting.allowed {
-        return Err(Stop::WouldCut(outlook.cut));
-    }
-    Ok(())
 }
 
 // Reads the version with which a client begins; false where its input has no byte. What was written
@@ -150,6 +140,9 @@ fn read_version<R: Read, W: Write + Drop>(input: &mut R, _out: &BufWriter<W>) ->
 /// answer to each after its step, up to a close or the end of the input; where the client may only
 /// read, a request for a change is refused, and no step taken. What was answered is out before the
 /// program reads a request that hasn't come whole.
+///
+/// [`Stop::Lost`] at the end, where the writer is gone then, with the last error that a request was
+/// answered with while there was one.
 pub fn serve<B: Blob, H: Sum, R: Read, W: Write + Drop>(
     alloc: Global,
     session: &mut Session<B, H>,
@@ -172,15 +165,40 @@ pub fn serve<B: Blob, H: Sum, R: Read, W: Write + Drop>(
         out_new result }
 {
     let mut replies = Vec::new(alloc);
+    let mut fault = None;
     for number in 1..u64::MAX {
         match next_request(alloc, number, input, out)? {
             Some(Request::Step(step)) => {
-                take_step(&mut replies, session, blob, cache, setting, step, out)?;
+                let had_writer = session.size().is_some();
+                let next = take_step(&mut replies, session, blob, cache, setting, step, out)?;
+                fault = later(fault, next, had_writer);
             }
-            Some(Request::Close) | None => return Ok(()),
+            Some(Request::Close) | None => return end(session, fault),
         }
     }
     Err(Stop::Failed)
+}
+
+// The later of two errors, where there was a writer as its request was taken, or no error before;
+// else the earlier.
+fn later(fault: Option<Error>, next: Option<Error>, had_writer: bool) -> Option<Error>
+    ensures { result ≡ later_fault fault next had_writer }
+{
+    if next.is_some() && (had_writer || fault.is_none()) {
+        next
+    } else {
+        fault
+    }
+}
+
+// How a session ends whose requests were all answered.
+fn end<B: Blob, H: Sum>(session: &Session<B, H>, fault: Option<Error>) -> Result<(), Stop>
+    ensures { EndsSession session.now fault result }
+{
+    match fault {
+        Some(error) if session.size().is_none() => Err(Stop::Lost(error)),
+        _ => Ok(()),
+    }
 }
 
 // The request of this number. Where it hasn't come whole, what was answered is out before the rest
@@ -232,8 +250,8 @@ fn read_sent<R: Read, W: Write + Drop>(
     }
 }
 
-// Takes one step, unless it is refused, and writes its answer after it. The room for its reply is
-// kept from step to step, and the reply is not.
+// Takes one step, unless it is refused, and writes its answer after it. Returns the error of its
+// reply, if that is one. The room for its reply is kept from step to step, and the reply is not.
 fn take_step<B: Blob, H: Sum, W: Write>(
     replies: &mut Vec<Reply>,
     session: &mut Session<B, H>,
@@ -242,7 +260,7 @@ fn take_step<B: Blob, H: Sum, W: Write>(
     setting: &Setting,
     step: Step,
     out: &mut W,
-) -> Result<(), Stop>
+) -> Result<Option<Error>, Stop>
     requires none { replies.old.items ≡ [] }
     requires ready { IsReady H.sum_of session.old (B.life blob.old).present }
     requires cached { CacheFits session.old cache.old (B.life blob.old).present }
@@ -254,17 +272,30 @@ fn take_step<B: Blob, H: Sum, W: Write>(
         (W.contents out.old) (W.contents out.new) result }
 {
     if setting.read_only && is_change(&step) {
-        return write_refusal(out);
+        write_refusal(out)?;
+        return Ok(None);
     }
     if run(session, blob, cache, &[step], replies).is_err() {
         return Err(Stop::OutOfMemory);
     }
     let written = match replies.as_slice() {
-        [reply] => write_answer(out, reply),
+        [reply] => write_reply(out, reply),
         _ => unreachable!(),
     };
     replies.clear();
     written
+}
+
+// Writes the answer to a step with this reply, and returns the reply's error, if it is one.
+fn write_reply<W: Write>(out: &mut W, reply: &Reply) -> Result<Option<Error>, Stop>
+    ensures { let out_old = W.contents out.old in
+        WritesReply out_old (W.contents out.new) reply.now result }
+{
+    write_answer(out, reply)?;
+    match reply {
+        Reply::Fault(error) => Ok(Some(*error)),
+        _ => Ok(None),
+    }
 }
 
 // Whether a client that may only read is refused this step.

@@ -16,7 +16,8 @@ pub struct Setting {
     /// end of the recovery. The recovery itself is made: where the file is not to change, serve a
     /// copy of it in memory.
     pub read_only: bool,
-    /// How many physical bytes the recovery may cut.
+    /// How many physical bytes at the end may go in the recovery: those that it cuts, and where the
+    /// last page of the text is torn ([`paged::Survey`] says what that is), those of that page.
     pub allowed: u64,
 }
 

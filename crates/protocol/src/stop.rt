@@ -1,8 +1,9 @@
 // Why the program ends before the end of its input.
 ghost use Rattle.std.specs.Prelude.{◌≡◌, Some};
-ghost use Rattle.protocol.specs.Stop.{flaw_text, stop_at, status_of, stop_text};
+ghost use Rattle.protocol.specs.Stop.{flaw_text, stop_at, stop_for, status_of, stop_text};
 
 use disk::Error;
+use paged::Refusal;
 use std::alloc::AllocError;
 use std::{fmt, io};
 
@@ -42,11 +43,15 @@ pub enum Stop {
     Malformed(u64, Flaw),
     /// The input begins with this byte in place of the version.
     Version(u8),
-    /// A recovery of the file would cut so many physical bytes, which is more than it may. It was
-    /// only looked at.
+    /// In a recovery of the file so many physical bytes at its end would go, which is more than
+    /// may: those that it cuts, and those of a torn last page. The file was only looked at.
     WouldCut(u64),
     /// The recovery of the file was refused.
     Refused(Error),
+    /// The input ended, or the client closed, and the writer was gone. This error is the last one
+    /// that a request was answered with while there was a writer. What was synced is in the file;
+    /// what was appended since may not be.
+    Lost(Error),
     /// The answer to a request is longer than a frame.
     LongAnswer,
     /// The input or the output failed.
@@ -74,7 +79,8 @@ impl Stop {
         match self {
             Stop::Malformed(_, _) | Stop::Version(_) => 2,
             Stop::WouldCut(_) => 3,
-            Stop::Refused(_) | Stop::LongAnswer | Stop::Failed | Stop::OutOfMemory => 1,
+            Stop::Refused(_) | Stop::Lost(_) => 1,
+            Stop::LongAnswer | Stop::Failed | Stop::OutOfMemory => 1,
         }
     }
 }
@@ -103,9 +109,14 @@ impl fmt::Display for Stop {
             Stop::Version(byte) => write!(f, "pagedd: version {byte} of the protocol is not 1"),
             Stop::WouldCut(cut) => write!(
                 f,
-                "pagedd: nothing was done: a recovery would cut {cut} bytes"
+                "pagedd: nothing was done: a recovery would give up the last {cut} bytes"
             ),
             Stop::Refused(error) => write!(f, "pagedd: the recovery failed: {}", error.name()),
+            Stop::Lost(error) => write!(
+                f,
+                "pagedd: the writer ended with {}: what was appended since the last sync may be lost",
+                error.name()
+            ),
             Stop::LongAnswer => write!(f, "pagedd: an answer is too long"),
             Stop::Failed => write!(f, "pagedd: the input or the output failed"),
             Stop::OutOfMemory => write!(f, "pagedd: out of memory"),
@@ -140,6 +151,17 @@ impl From<Error> for Stop {
 
     fn from(error: Error) -> Self {
         Stop::Refused(error)
+    }
+}
+
+impl From<Refusal> for Stop {
+    ghost from_gives = { λ refusal stop. stop ≡ stop_for refusal };
+
+    fn from(refusal: Refusal) -> Self {
+        match refusal {
+            Refusal::WouldCut(cut) => Stop::WouldCut(cut),
+            Refusal::Failed(error) => Stop::Refused(error),
+        }
     }
 }
 

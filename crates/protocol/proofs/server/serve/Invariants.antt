@@ -10,5 +10,5 @@ invariant-loop-number g l = record {
   ready : IsReady g.H.Sum.sum_of l.session (g.B.Blob.life l.blob).present;
   cached : CacheFits l.session l.cache (g.B.Blob.life l.blob).present;
   serving : Serving g.H.Sum.sum_of l.setting l.fn.session l.session (g.B.Blob.life l.fn.blob) (g.B.Blob.life l.blob) (reader_remaining g.R.Read.remaining l.fn.input) (reader_remaining g.R.Read.remaining l.input)
-      (writer_contents g.W.Write.contents l.fn.out) (writer_contents g.W.Write.contents l.out) l.number;
+      (writer_contents g.W.Write.contents l.fn.out) (writer_contents g.W.Write.contents l.out) l.fault l.number;
 }
