@@ -1,6 +1,6 @@
 //! Keeps two records in a journal over a blob that counts its calls, and then shows what comes back
 //! of a journal whose blob crashed inside a record. What the crash left is looked at first, so that
-//! nothing is cut that a crash doesn't leave.
+//! nothing is cut that a crash doesn't leave, and what goes and may have been synced is set aside.
 #![tactic(auto)]
 
 ghost use Rattle.std.specs.Prelude.{IfOk};
@@ -40,6 +40,7 @@ struct Told {
 struct Found {
     survey: Survey,
     verdict: Verdict,
+    set_aside: Vec<u8>,
     records: Vec<IoBuf>,
 }
 
@@ -102,11 +103,15 @@ fn cut_short(alloc: Global) -> Result<MemBlob, Error> {
     Ok(blob)
 }
 
-/// Looks at a blob, and recovers its journal, except where it is to be left as it is.
+/// Looks at a blob, keeps a copy of what goes in a recovery and may have been synced, and recovers
+/// its journal; unless the blob is to be left as it is.
 fn look_and_recover(alloc: Global, blob: &mut MemBlob) -> Result<Found, Error> {
     let size = blob.len();
     let survey = survey::<MemBlob, AddSum>(alloc, blob, size, page_size(), NonZeroUsize::MIN)?;
     let verdict = survey.verdict(page_size(), LIMIT);
+    let len = survey.set_aside_len(page_size()) as usize;
+    let start = blob.bytes().len().saturating_sub(len);
+    let set_aside = Vec::from_slice(alloc, blob.bytes().get(start..).unwrap_or_default())?;
     let mut records = Vec::new(alloc);
     if verdict != Verdict::Refuse {
         let mut cache = new_cache(alloc)?;
@@ -123,6 +128,7 @@ fn look_and_recover(alloc: Global, blob: &mut MemBlob) -> Result<Found, Error> {
     Ok(Found {
         survey,
         verdict,
+        set_aside,
         records,
     })
 }
@@ -143,12 +149,17 @@ fn main(rt: HostRuntime) -> io::Result<()> {
     let found = cut_short(rt.alloc()).and_then(|mut blob| look_and_recover(rt.alloc(), &mut blob));
     match found {
         Ok(found) => {
-            let Survey { outlook, beyond } = found.survey;
+            let Survey {
+                outlook,
+                beyond,
+                ..
+            } = found.survey;
             println!(rt;
                 "{} bytes in {} page, {} to be cut",
                 outlook.len, outlook.pages, outlook.cut
             )?;
             println!(rt; "{beyond} pages with a value after it: {:?}", found.verdict)?;
+            println!(rt; "{} bytes set aside", found.set_aside.len())?;
             println!(rt; "{} came back", found.records.len())?;
             for record in &found.records {
                 println!(rt; "  {}", text_of(record))?;
