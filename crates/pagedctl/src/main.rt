@@ -3,12 +3,89 @@
 //!
 //! The script comes on standard input. The exit status is 0 where it was played to its end (a fault
 //! is a reply), 2 where a line can't be read (then nothing was played), and 1 where the input or
-//! the output failed or there was no memory for the script.
+//! the output failed, there was no memory for the script, or the command line isn't understood.
+//! `--help` and `--version` play nothing.
 #![tactic(auto)]
 
 use scripts::play;
+use std::io::ErrorKind;
 use std::process::ExitCode;
+use std::{env, io};
+
+const USAGE: &str = "usage: pagedctl < SCRIPT, or pagedctl --help or --version";
+
+const HELP: &str = "\
+Plays a script over a paged blob in memory, whose device calls can be made to fail and which can
+crash. The script comes on standard input, and each of its lines gets one line of standard output.
+
+The first line is `start P C N S`: the page size, the capacity of the writer's buffer in bytes, how
+many pages the cache may hold, and the checksum function: add, const or crc32c. docs/SCRIPT.md has
+the others.
+
+Exit status: 0 the script was played to its end; 1 the input or the output failed, there was no
+memory for the script, or the command line isn't understood; 2 a line can't be read.";
+
+/// What the words of the command line ask for.
+#[derive(Clone, Copy)]
+enum Task {
+    Play,
+    Help,
+    Version,
+    Unknown,
+}
+
+impl Task {
+    // The first word is the program's own name.
+    fn of(words: &[String]) -> Self {
+        match words {
+            [] | [_] => Task::Play,
+            [_, word] => match word.as_str() {
+                "-h" | "--help" => Task::Help,
+                "-V" | "--version" => Task::Version,
+                _ => Task::Unknown,
+            },
+            _ => Task::Unknown,
+        }
+    }
+}
+
+fn read_task(rt: &HostRuntime) -> io::Result<Task> {
+    match env::args(rt) {
+        Ok(words) => {
+            let words: Vec<String> = words.collect(rt.alloc())?;
+            Ok(Task::of(&words))
+        }
+        // A word is no text.
+        Err(error) if error.kind() == ErrorKind::InvalidData => Ok(Task::Unknown),
+        Err(error) => Err(error),
+    }
+}
+
+// Does what is asked for, and answers the exit status.
+fn run(rt: &HostRuntime) -> io::Result<u8> {
+    match read_task(rt)? {
+        Task::Play => Ok(play(rt.alloc(), rt.stdin(), rt.stdout(), rt.stderr())),
+        Task::Help => {
+            println!(rt; "{USAGE}\n\n{HELP}")?;
+            Ok(0)
+        }
+        Task::Version => {
+            println!(rt; "pagedctl 0.3.0")?;
+            Ok(0)
+        }
+        Task::Unknown => {
+            eprintln!(rt; "{USAGE}")?;
+            Ok(1)
+        }
+    }
+}
 
 fn main(rt: HostRuntime) -> ExitCode {
-    ExitCode::from(play(rt.alloc(), rt.stdin(), rt.stdout(), rt.stderr()))
+    match run(&rt) {
+        Ok(status) => ExitCode::from(status),
+        Err(_) => {
+            let _ = eprintln!(rt; "pagedctl: stopped");
+            ExitCode::from(1)
+        }
+    }
 }

@@ -16,7 +16,7 @@ use Rattle.scripts.specs.declared.stop.Stop.{Stop}
 use Rattle.scripts.specs.declared.stop.Stop.TheVariants as stop
 use Rattle.scripts.specs.declared.script.Start.{Start}
 use Rattle.scripts.specs.declared.script.SumName.{SumName}
-use Rattle.scripts.specs.declared.script.SumName.TheVariants.{Add, Const}
+use Rattle.scripts.specs.declared.script.SumName.TheVariants.{Add, Const, Crc32c}
 use Rattle.session.specs.declared.steps.Step as step
 use Rattle.session.specs.declared.steps.Step.TheVariants.{Append, Owned, TryAppend, Sync, StartSync}
 use Rattle.session.specs.declared.steps.Step.TheVariants.{Wait, WaitSync, Needs, Size, Read, Begin}
@@ -83,6 +83,7 @@ lines_of input = parts_of 10 (without_last_feed input)
 abbrev pub sum_word : SumName → List ℕ
 sum_word Add = codes "add"
 sum_word Const = codes "const"
+sum_word Crc32c = codes "crc32c"
 
 -- the words of a script's first line
 abbrev pub start_words : Start → List (List ℕ)

@@ -124,7 +124,7 @@ impl fmt::Display for Form {
             Form::Count => write!(f, "a number from 1 to 2^64 - 1, with no 0 in front"),
             Form::PageSize => write!(f, "a page size, 1 to 65535"),
             Form::Pages => write!(f, "a number of pages, 1 to 4096"),
-            Form::Sum => write!(f, "add or const"),
+            Form::Sum => write!(f, "add, const or crc32c"),
             Form::Flags => write!(f, "the digits 0 and 1, or -"),
             Form::Range => write!(f, "a range, as 0:4"),
             Form::RangeOrEnd => write!(f, "a range, as 0:4, or the end of the line"),

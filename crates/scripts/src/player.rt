@@ -7,6 +7,7 @@ use crate::explain::explain;
 use crate::script::{Script, SumName, parse};
 use crate::stage::Stage;
 use crate::stop::Stop;
+use crc32c::Crc32c;
 use page::{AddSum, ConstSum, Sum};
 use std::alloc::Global;
 use std::io;
@@ -83,6 +84,7 @@ fn play_script<W: Write>(alloc: Global, script: Script, out: &mut W) -> io::Resu
     match script.start.sum {
         SumName::Add => play_over::<AddSum, _>(alloc, script, &mut out),
         SumName::Const => play_over::<ConstSum, _>(alloc, script, &mut out),
+        SumName::Crc32c => play_over::<Crc32c, _>(alloc, script, &mut out),
     }
 }
 

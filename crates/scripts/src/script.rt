@@ -46,6 +46,8 @@ pub enum SumName {
     Add,
     /// `ConstSum`.
     Const,
+    /// `Crc32c`.
+    Crc32c,
 }
 
 /// A line after the first.
@@ -174,6 +176,7 @@ pub fn parse_sum(word: &[u8]) -> Result<SumName, ReadError>
     match word {
         b"add" => Ok(SumName::Add),
         b"const" => Ok(SumName::Const),
+        b"crc32c" => Ok(SumName::Crc32c),
         _ => Err(ReadError::Unreadable),
     }
 }
