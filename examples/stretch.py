@@ -16,7 +16,8 @@ and 4,084, as most programs take, with N 1,021. The rule knows nothing of the la
   its lengths and bytes.
 
 What a crash keeps, as `first:48`, goes by pages too: of 48 bytes, which are three pages, it is three
-stretched ones. With N 1,021 that is each of 12,288 bytes: of the torn cases one is played so.
+stretched ones. With N 1,021 that is each of 12,288 bytes: of the torn cases one is played so. Surveys are
+stretched to pages of 4,084 bytes alone.
 """
 import os
 import re
@@ -31,8 +32,11 @@ BEGINS = "# Stretched cases, which examples/stretch.py writes."
 # The cases that are stretched, by how their names begin.
 WANTED = re.compile(
     r"cut \d|a recovery that cuts$|a torn |torn pages|append \d|owned \d|refused \d, at each call|each sync takes|"
-    r"a full buffer|an append may|tries fill|failing calls: |two failing calls: "
+    r"a full buffer|an append may|tries fill|failing calls: |two failing calls: |surveys? "
 )
+
+# Those that are played with pages of 4,084 bytes alone.
+ONLY_LARGE = re.compile(r"surveys? ")
 
 # The torn case that is stretched to whole pages of 4,096 bytes.
 ONE_TORN = "case torn pages: a sync"
@@ -44,13 +48,14 @@ STEPS = {
     "needs": "", "size": "", "read": "LL", "upto": "LL", "cached": "LL", "ranges": "R", "cached-ranges": "R",
     "scan": "LLP", "begin": "", "truncate": "L", "snapshot": "", "try-snapshot": "", "snap": "=LL", "replay": "P",
     "ensure": "=L", "take": "=L", "seek": "=L", "seal": "", "recover": "P", "open": "", "cut": "L", "look": "P",
-    "holds": "BB", "has": "==", "fail": "=", "dump": "", "mark": "", "calls": "", "crash": "-",
+    "survey": "PP", "load": "I", "holds": "BB", "has": "==", "fail": "=", "dump": "", "mark": "", "calls": "",
+    "crash": "-",
 }
 REPLIES = {
     "at": "L", "ok": "", "named": "=", "done": "", "size": "L", "bytes": "B", "none": "", "served": "=B",
     "missed": "=", "snapshot": "=", "replay": "=", "yes": "", "no": "", "sealed": "===", "recovered": "L",
     "opened": "L", "closed": "", "no-such": "", "bad-ranges": "", "fault": "==", "holds": "", "blob": "I",
-    "crashed": "P", "pages": "==L=P",
+    "crashed": "P", "pages": "==L=P", "whole": "", "cut": "P", "keep": "P", "refuse": "P",
 }
 CALLS = {"read": "PP", "write": "PP=", "ranges": "Q", "start-ranges": "Q", "resize": "P", "sync": "", "start": "",
          "wait": "=", "none": ""}
@@ -136,7 +141,7 @@ def phrase(text, kinds, n):
     if name not in kinds:
         raise Skipped(name)
     of = kinds[name]
-    if of[:2] == "PP":
+    if kinds is CALLS and of[:2] == "PP":
         begin, length = span(int(words[0]), int(words[1]), n)
         return " ".join([name, str(begin), str(length), *words[2:]])
     of = of + of[-1:] * len(words)
@@ -202,7 +207,7 @@ def cases(text):
 def stretched(found, n):
     out = []
     for name, *lines in found:
-        if not WANTED.match(name[5:]):
+        if not WANTED.match(name[5:]) or n < 100 and ONLY_LARGE.match(name[5:]):
             continue
         if n > 100 and any(" first:" in line for line in lines):
             if name != ONE_TORN:

@@ -7,6 +7,7 @@ use crate::step::content;
 use crate::words::out_of_memory;
 use disk::{Error, IoBuf, MemBlob};
 use page::{Checksum, Sum};
+use paged::{Survey, Verdict};
 use scripts::Hex;
 use std::alloc::{AllocError, Global};
 use std::io;
@@ -143,25 +144,39 @@ fn text<H: Sum>(alloc: Global, bytes: &[u8], page_size: NonZeroU16) -> Result<Ve
     Ok(text)
 }
 
-// A look tells what a recovery does; it leaves the text of the blob, and a second recovery changes
-// nothing.
+// Whether a survey says of a recovery what it did. Nothing goes, by a survey, exactly where the
+// recovery wrote nothing; and only zeros were cut where there is nothing to set aside.
+fn is_right_of(survey: &Survey, page_size: NonZeroU16, cut: &[u8], wrote: bool) -> bool {
+    let whole = survey.verdict(page_size, 0) == Verdict::Whole;
+    let zeros = cut.iter().all(|byte| *byte == 0);
+    whole != wrote && (zeros || survey.set_aside_len(page_size) > 0)
+}
+
+// A look and a survey tell what a recovery of these bytes does; it leaves their text, and a second
+// recovery changes nothing.
 fn goes<H: Sum>(
     stage: &mut Stage<H>,
+    bytes: &[u8],
     text: &[u8],
     buffer_size: NonZeroUsize,
 ) -> Result<bool, Error> {
-    let before = stage.bytes().len() as u64;
     let told = stage.look(buffer_size)?;
+    let survey = stage.survey(buffer_size)?;
+    let start = stage.device_calls().len();
     let size = stage.recover(buffer_size)?;
-    let after = stage.bytes().len() as u64;
+    let left = stage.bytes().len();
+    let wrote = stage.device_calls().iter().skip(start).any(is_write);
     let first = content(stage)?;
     let mark = stage.device_calls().len();
     let again = stage.recover(NonZeroUsize::MIN)?;
     let second = content(stage)?;
     let calls = stage.device_calls();
+    let cut = bytes.get(left..).unwrap_or(&[]);
     Ok(
         told.len == size
-            && told.cut == before.saturating_sub(after)
+            && told.cut == cut.len() as u64
+            && survey.outlook == told
+            && is_right_of(&survey, stage.page_size(), cut, wrote)
             && again == size
             && first.as_slice() == text
             && second.as_slice() == text
@@ -200,7 +215,7 @@ fn try_one<H: Sum>(stage: &Stage<H>, alloc: Global, bytes: &[u8]) -> Result<bool
     let text = text::<H>(alloc, bytes, stage.page_size())?;
     let mut other = stage.another(alloc, bytes)?;
     Ok(
-        goes(&mut other, &text, NonZeroUsize::MIN)?
+        goes(&mut other, bytes, &text, NonZeroUsize::MIN)?
             && reads_well::<H>(alloc, bytes, stage.page_size())?,
     )
 }

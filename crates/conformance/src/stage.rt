@@ -3,7 +3,7 @@ use crate::setting::Setting;
 use cache::CacheRef;
 use disk::{Blob, Call, Error, MemBlob};
 use page::Sum;
-use paged::{Outlook, Recovery, look};
+use paged::{Outlook, Recovery, Survey, look, survey};
 use session::{Reply, Session, Step, run};
 use std::alloc::Global;
 use std::marker::Model;
@@ -111,6 +111,14 @@ impl<H: Sum> Stage<H> {
         self.session = Session::closed(self.alloc);
         let page_size = self.setting.page_size;
         look::<MemBlob, H>(self.alloc, &mut self.blob, size, page_size, buffer_size)
+    }
+
+    /// What a recovery would make of the blob, and what would go with it.
+    pub fn survey(&mut self, buffer_size: NonZeroUsize) -> Result<Survey, Error> {
+        let size = self.blob.len();
+        self.session = Session::closed(self.alloc);
+        let page_size = self.setting.page_size;
+        survey::<MemBlob, H>(self.alloc, &mut self.blob, size, page_size, buffer_size)
     }
 
     /// Takes a step.

@@ -6,16 +6,18 @@ use crate::hostile::try_hostile;
 use crate::line::Row;
 use crate::stage::Stage;
 use crate::subject::Subject;
-use crate::words::{buffer_size, out_of_memory, say, say_error, say_size, say_whether, unreadable};
+use crate::words::{
+    buffer_size, out_of_memory, say, say_done, say_error, say_size, say_whether, unreadable,
+};
 use disk::Error;
 use page::Sum;
-use paged::Outlook;
+use paged::{Outlook, Verdict};
 use scripts::{Hex, Line, ReadError, parse_line};
 use session::{Reply, Step};
 use std::alloc::Global;
-use std::io;
 use std::io::Write;
 use std::num::NonZeroUsize;
+use std::{io, mem};
 
 // What a step asks of a stage that is none of a script's.
 #[derive(Clone, Copy)]
@@ -27,6 +29,8 @@ enum Verb {
     Open,
     Cut,
     Look,
+    Survey,
+    Load,
     Holds,
     Has,
     DropSnapshot,
@@ -34,7 +38,7 @@ enum Verb {
     Hostile,
 }
 
-const STEPS: [Form<Verb>; 13] = [
+const STEPS: [Form<Verb>; 15] = [
     (b"try-append", &[Bytes], Verb::TryAppend),
     (b"recover", &[Number], Verb::Recover),
     (b"mark", &[], Verb::Mark),
@@ -42,6 +46,8 @@ const STEPS: [Form<Verb>; 13] = [
     (b"open", &[], Verb::Open),
     (b"cut", &[Number], Verb::Cut),
     (b"look", &[Number], Verb::Look),
+    (b"survey", &[Number, Number], Verb::Survey),
+    (b"load", &[Bytes], Verb::Load),
     (b"holds", &[Bytes], Verb::Holds),
     (b"holds", &[Bytes, Bytes], Verb::Holds),
     (b"has", &[Number, Number], Verb::Has),
@@ -57,6 +63,42 @@ fn say_outlook(answer: Result<Outlook, Error>, said: &mut Vec<u8>) -> io::Result
             "pages {} len {} cut {}",
             told.pages, told.len, told.cut
         ),
+        Err(error) => say_error(error, said),
+    }
+}
+
+// Beside the verdict: how many bytes are to be set aside, or else how many a recovery would cut.
+fn say_survey<H: Sum>(
+    stage: &mut Stage<H>,
+    buffer_size: NonZeroUsize,
+    limit: u64,
+    said: &mut Vec<u8>,
+) -> io::Result<()> {
+    let survey = match stage.survey(buffer_size) {
+        Ok(survey) => survey,
+        Err(error) => return say_error(error, said),
+    };
+    let page_size = stage.page_size();
+    match survey.verdict(page_size, limit) {
+        Verdict::Whole => write!(said, "whole"),
+        Verdict::Cut => write!(said, "cut {}", survey.outlook.cut),
+        Verdict::Keep => write!(said, "keep {}", survey.set_aside_len(page_size)),
+        Verdict::Refuse => write!(said, "refuse {}", survey.outlook.cut),
+    }
+}
+
+// Begins anew, over a blob of these bytes.
+fn load<H: Sum>(
+    alloc: Global,
+    stage: &mut Stage<H>,
+    bytes: &[u8],
+    said: &mut Vec<u8>,
+) -> io::Result<()> {
+    match stage.another(alloc, bytes) {
+        Ok(mut other) => {
+            mem::swap(stage, &mut other);
+            say_done(Ok(()), said)
+        }
         Err(error) => say_error(error, said),
     }
 }
@@ -157,6 +199,8 @@ fn go<H: Sum>(
         Verb::Open => say_size("opened", stage.open(), said),
         Verb::Cut => say_size("size", stage.cut(first), said),
         Verb::Look => say_outlook(stage.look(by), said),
+        Verb::Survey => say_survey(stage, by, second, said),
+        Verb::Load => load(alloc, stage, bytes, said),
         Verb::Holds => holds(stage, bytes, words.piece(1), said),
         Verb::Has => say_whether(stage.holds(first, second), said),
         Verb::DropSnapshot => say(&stage.step(Step::DropSnapshot(first as usize)), said),
