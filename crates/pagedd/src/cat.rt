@@ -1,47 +1,62 @@
 // Writing the content of a file.
-use crate::command::Request;
+use crate::ending::{fail, tell};
+use crate::look::{Look, read, surveyed};
 use crate::pages::value_of;
+use crate::request::Request;
+use crate::status::Status;
 use page::Sum;
 use paged_read::physical_page_size;
 use std::io::{self, BufWriter, Write};
-use std::process::ExitCode;
 
-/// Writes the content of these bytes to standard output, at most `len` bytes from an offset on. The
-/// exit status is 0 where the content is all that the file has, and else 3.
-pub fn cat<H: Sum>(
+/// Writes the content of a file to standard output, at most `len` bytes from an offset on. The file
+/// is whole where a recovery would give up none of it.
+pub fn cat<H: Sum>(rt: &HostRuntime, request: &Request, from: u64, len: u64) -> io::Result<Status> {
+    let file = request.file;
+    let mut blob = match read(rt, file)? {
+        Ok(blob) => blob,
+        Err(status) => return Ok(status),
+    };
+    let survey = match surveyed::<_, H>(rt, request, &mut blob) {
+        Ok(survey) => survey,
+        Err(error) => return fail(rt, file, error),
+    };
+    let end = survey.outlook.len;
+    if from > end {
+        return fail(
+            rt,
+            file,
+            format_args!("--from {from} is after the end of its content, {end}"),
+        );
+    }
+    write_content::<H>(rt, request, blob.bytes(), survey.outlook.pages, from, len)?;
+    if survey.outlook.cut == 0 && !survey.torn {
+        return Ok(Status::Done);
+    }
+    let look = Look::of::<H>(blob.bytes(), request.shape, survey);
+    let lost = look.lost("aren't in its content");
+    tell(rt, format_args!("{file}: {lost}: see 'pagedd check'"));
+    Ok(Status::NotWhole)
+}
+
+// Writes the values of the first so many pages, at most `len` bytes from an offset on.
+fn write_content<H: Sum>(
     rt: &HostRuntime,
     request: &Request,
     bytes: &[u8],
+    pages: u64,
     from: u64,
     len: u64,
-) -> io::Result<ExitCode> {
-    let size = physical_page_size(request.page_size) as usize;
-    let full = usize::from(request.page_size.get());
+) -> io::Result<()> {
+    let size = physical_page_size(request.shape.page_size) as usize;
     let end = from.saturating_add(len);
     let mut out = BufWriter::new(rt.alloc(), rt.stdout())?;
     let mut at = 0u64;
-    let mut kept = 0usize;
-    for page in bytes.chunks_exact(size) {
+    for page in bytes.chunks_exact(size).take(pages as usize) {
         let value = value_of::<H>(page);
         let start = from.saturating_sub(at).min(value.len() as u64) as usize;
         let stop = end.saturating_sub(at).min(value.len() as u64) as usize;
         out.write_all(value.get(start..stop).unwrap_or_default())?;
         at = at.saturating_add(value.len() as u64);
-        if !value.is_empty() {
-            kept = kept.saturating_add(size);
-        }
-        if value.len() < full {
-            break;
-        }
     }
-    out.flush()?;
-    let rest = bytes.len().saturating_sub(kept);
-    if rest == 0 {
-        return Ok(ExitCode::SUCCESS);
-    }
-    eprintln!(rt;
-        "pagedd: {}: its content ends at {at}, and {rest} bytes are after it: see 'pagedd check'",
-        request.file
-    )?;
-    Ok(ExitCode::from(3))
+    out.flush()
 }

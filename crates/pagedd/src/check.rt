@@ -1,75 +1,118 @@
 // Telling what a file holds.
-use crate::command::Request;
-use crate::pages::{Found, Page, fail, tell_progress};
-use disk::{Blob, VecBlob};
+use crate::census::{Census, Numbers};
+use crate::ending::fail;
+use crate::look::{Look, read, surveyed};
+use crate::pages::Page;
+use crate::refusing::Causes;
+use crate::report::{print_json, report_check, report_fits};
+use crate::request::Request;
+use crate::status::Status;
 use page::Sum;
-use paged::{Survey, Verdict, survey};
-use paged_read::physical_page_size;
+use paged::Verdict;
 use std::io;
-use std::process::ExitCode;
 
-/// Tells what a recovery would make of a file, and which of its pages have no value. The exit
-/// status is 0 where nothing would be cut and each page has one, and else 3.
-pub fn check<H: Sum>(
-    rt: &HostRuntime,
-    request: &Request,
-    mut blob: VecBlob,
-) -> io::Result<ExitCode> {
-    let size = blob.len();
-    let page_size = request.page_size;
-    let surveyed = match survey::<_, H>(rt.alloc(), &mut blob, size, page_size, request.buffer) {
-        Ok(surveyed) => surveyed,
+/// Tells what a recovery would make of a file, and which of its pages aren't whole. It is whole where
+/// nothing would be cut, each page has a value, and no slot is bad.
+pub fn check<H: Sum>(rt: &HostRuntime, request: &Request) -> io::Result<Status> {
+    let mut blob = match read(rt, request.file)? {
+        Ok(blob) => blob,
+        Err(status) => return Ok(status),
+    };
+    let survey = match surveyed::<_, H>(rt, request, &mut blob) {
+        Ok(survey) => survey,
         Err(error) => return fail(rt, request.file, error),
     };
-    let found = Found::of::<H>(blob.bytes(), page_size, surveyed);
-    println!(rt; "{} {found}", request.file)?;
-    tell_outlook(rt, request, &surveyed, size)?;
-    let bad = tell_pages::<H>(rt, request, blob.bytes())?;
-    let whole = surveyed.outlook.cut == 0 && bad == 0;
-    Ok(ExitCode::from(if whole { 0 } else { 3 }))
+    let look = Look::of::<H>(blob.bytes(), request.shape, survey);
+    let causes = Causes::of(rt.alloc(), blob.bytes(), look)?;
+    let census = Census::of::<H>(rt, blob.bytes(), request.shape)?;
+    let is_whole = survey.outlook.cut == 0 && census.is_empty();
+    if request.json {
+        let fits = report_fits(rt.alloc(), causes.fits())?;
+        let report = report_check(rt.alloc(), request, &look, census, fits)?;
+        print_json(rt, &report)?;
+        return Ok(Status::of_file(is_whole));
+    }
+    println!(rt; "{} {look}", request.file)?;
+    tell_outlook(rt, request, &look, &causes)?;
+    tell_pages::<H>(rt, blob.bytes(), &look, &census.bad_pages, "have no value")?;
+    tell_pages::<H>(
+        rt,
+        blob.bytes(),
+        &look,
+        &census.bad_slots,
+        "have a bad slot",
+    )?;
+    tell_tail(rt, &look)?;
+    Ok(Status::of_file(is_whole))
 }
 
 // What a recovery would do.
 fn tell_outlook(
     rt: &HostRuntime,
     request: &Request,
-    surveyed: &Survey,
-    size: u64,
+    look: &Look,
+    causes: &Causes,
 ) -> io::Result<()> {
-    let outlook = surveyed.outlook;
+    let outlook = look.survey.outlook;
     println!(rt;
         "a recovery keeps {} content bytes in {} pages, and cuts {} bytes",
         outlook.len, outlook.pages, outlook.cut
     )?;
-    match surveyed.verdict(request.page_size, request.cut_limit) {
+    let verdict = look.verdict(request.cut_limit);
+    if verdict != Verdict::Whole {
+        println!(rt; "{}", look.lost("would be cut"))?;
+    }
+    if let (Verdict::Cut | Verdict::Keep, Some(fit)) = (verdict, causes.fits().first()) {
+        println!(rt; "{fit}")?;
+    }
+    match verdict {
         Verdict::Whole => Ok(()),
-        Verdict::Cut => println!(rt; "that is a page at most, as a crash leaves it"),
-        Verdict::Keep => println!(rt; "'pagedd serve' keeps them in a file beside it"),
-        Verdict::Refuse => println!(rt; "'pagedd serve' refuses it, except with --cut"),
+        Verdict::Cut => println!(rt;
+            "they are whole pages of zeros: 'pagedd serve' cuts them, and makes no copy"
+        ),
+        Verdict::Keep => tell_keep(rt, look),
+        Verdict::Refuse => {
+            println!(rt; "{causes}")?;
+            println!(rt; "'pagedd serve' refuses it, except with --cut")
+        }
     }
 }
 
-// Tells which pages have no value, and answers how many.
-fn tell_pages<H: Sum>(rt: &HostRuntime, request: &Request, bytes: &[u8]) -> io::Result<u64> {
-    let size = physical_page_size(request.page_size) as usize;
-    let count = bytes.len() / size;
-    let mut bad = 0u64;
-    for (number, page) in bytes.chunks_exact(size).enumerate() {
-        tell_progress(rt, number, count)?;
-        let page = Page::of::<H>(page);
-        if page.len > 0 {
-            continue;
-        }
-        bad = bad.saturating_add(1);
-        if bad <= MOST {
+// What the bytes may be that are set aside.
+fn tell_keep(rt: &HostRuntime, look: &Look) -> io::Result<()> {
+    println!(rt;
+        "this is either a write that a crash tore, and then nothing that was synced is lost, or what \
+         was synced and is damaged since; nothing tells which"
+    )?;
+    println!(rt;
+        "'pagedd serve' first makes a copy of the file from byte {} on, beside it",
+        look.set_aside_start()
+    )
+}
+
+// Tells the first pages of a kind, with what their slots say, and how many others there are.
+fn tell_pages<H: Sum>(
+    rt: &HostRuntime,
+    bytes: &[u8],
+    look: &Look,
+    numbers: &Numbers,
+    kind: &str,
+) -> io::Result<()> {
+    for number in &numbers.first {
+        if let Some(page) = Page::at::<H>(bytes, look.shape.page_size, *number) {
             println!(rt; "page {number}: {page}")?;
         }
     }
-    if bad > MOST {
-        println!(rt; "and {} pages more have no value", bad.saturating_sub(MOST))?;
+    match numbers.others() {
+        0 => Ok(()),
+        others => println!(rt; "and {others} pages more {kind}"),
     }
-    Ok(bad)
 }
 
-/// How many pages without a value are told.
-const MOST: u64 = 20;
+// Tells what follows the last page.
+fn tell_tail(rt: &HostRuntime, look: &Look) -> io::Result<()> {
+    match look.tail_len() {
+        0 => Ok(()),
+        len => println!(rt; "after the last page: {len} bytes, less than a page"),
+    }
+}

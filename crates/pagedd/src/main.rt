@@ -1,78 +1,103 @@
-//! Serves a paged blob over a file to a program in any language, and looks at such files.
+//! Serves a paged blob over a file to a program in any language, appends to such files, and looks at
+//! them.
 //!
-//! `pagedd FILE`, or `pagedd serve FILE`: requests come on standard input, answers go to standard
-//! output, in frames of bytes that `docs/PROTOCOL.md` describes. Before anything is cut the file is
-//! looked at: what isn't a page's worth is set aside, and what a crash doesn't leave is refused.
+//! `pagedd serve FILE`: requests come on standard input, answers go to standard output, in frames of
+//! bytes that `docs/PROTOCOL.md` describes. Before anything is cut the file is looked at. What goes
+//! and may have been synced is set aside, and a line on standard error says what goes. What a crash
+//! doesn't leave is refused.
 //!
-//! The exit status is 0 at the end of the input or after a `close`, 2 where the input is not one
-//! request after another, 3 where the file is refused, and 1 where the file, the input, the output
-//! or the recovery failed, memory was refused, or the command line isn't understood. Where it isn't
-//! 0, the last line of standard error says why.
+//! `append` takes standard input as content. `check`, `map`, `cat` and `salvage` read a file and
+//! change nothing of it.
 //!
-//! `check`, `map`, `cat` and `salvage` read a file and change nothing of it.
+//! [`Status`](status::Status) lists the exit statuses. Where the status is neither 0 nor 141, standard
+//! error says why; for `check`, its own output does.
 #![tactic(auto)]
 
+mod answers;
+mod appending;
 mod cat;
+mod census;
 mod check;
 mod command;
+mod ending;
+mod fits;
+mod look;
 mod map;
 mod opening;
 mod pages;
+mod refusing;
+mod report;
+mod request;
+mod requests;
 mod salvage;
+mod salvaged;
 mod serving;
+mod status;
+mod streams;
+mod words;
 
+use crate::appending::append;
 use crate::cat::cat;
 use crate::check::check;
-use crate::command::{Checksum, Request, Task, command};
+use crate::command::{VERSION, command};
+use crate::ending::end;
 use crate::map::map;
-use crate::pages::fail;
+use crate::request::{Checksum, Request, Task, set_aside_in};
 use crate::salvage::salvage;
 use crate::serving::serve;
+use crate::status::Status;
+use crate::words::{command_first, read_words, tell_unknown, unknown_name};
 use crc32c::Crc32c;
 use page::{AddSum, Sum};
-use std::io::ErrorKind;
+use std::io;
 use std::process::ExitCode;
-use std::{env, io};
 
 // Does what is asked for, with this checksum function.
-fn run<H: Sum>(rt: &HostRuntime, request: &Request) -> io::Result<ExitCode> {
-    if let Task::Serve = request.task {
-        return serve::<H>(rt, request);
-    }
-    let blob = match file::read(rt, request.file) {
-        Ok(blob) => blob,
-        Err(error) => return fail(rt, request.file, error),
-    };
+fn perform<H: Sum>(rt: &HostRuntime, request: &Request, set_aside: &[&str]) -> io::Result<Status> {
     match request.task {
-        Task::Serve | Task::Check => check::<H>(rt, request, blob),
-        Task::Map { from, to, long } => map::<H>(rt, request, blob.bytes(), from, to, long),
-        Task::Cat { from, len } => cat::<H>(rt, request, blob.bytes(), from, len),
-        Task::Salvage { out } => salvage::<H>(rt, request, blob.bytes(), out),
+        Task::Serve { create } => serve::<H>(rt, request, create),
+        Task::Append { each_line } => append::<H>(rt, request, each_line),
+        Task::Check => check::<H>(rt, request),
+        Task::Map { from, to, long } => map::<H>(rt, request, from, to, long),
+        Task::Cat { from, len } => cat::<H>(rt, request, from, len),
+        Task::Salvage { out } => salvage::<H>(rt, request, set_aside, out),
+        Task::Version => {
+            println!(rt; "pagedd {VERSION}")?;
+            Ok(Status::Done)
+        }
     }
 }
 
-fn main(rt: HostRuntime) -> io::Result<ExitCode> {
+// Does what the command line asks for.
+fn run(rt: &HostRuntime) -> io::Result<Status> {
     let alloc = rt.alloc();
-    let words: Vec<String> = match env::args(&rt) {
-        Ok(words) => words.collect(alloc)?,
-        Err(error) if error.kind() == ErrorKind::InvalidData => {
-            eprintln!(rt;
-                "pagedd: a word of the command line is no text: give the file another name"
-            )?;
-            return Ok(ExitCode::from(1));
-        }
-        Err(error) => return Err(error),
+    let words = match read_words(rt)? {
+        Ok(words) => words,
+        Err(status) => return Ok(status),
     };
-    let matches = match command(alloc)?.try_get_matches_from(words.as_slice()) {
+    if let Some(name) = unknown_name(rt, &words) {
+        return tell_unknown(rt, name);
+    }
+    let arranged = command_first(alloc, &words)?;
+    let matches = match command(alloc)?.try_get_matches_from(arranged.as_slice()) {
         Ok(matches) => matches,
         Err(error) => {
-            error.print(&rt)?;
-            return Ok(ExitCode::from(u8::from(error.use_stderr())));
+            error.print(rt)?;
+            return Ok(if error.use_stderr() {
+                Status::Failed
+            } else {
+                Status::Done
+            });
         }
     };
     let request = Request::of(&matches);
-    match request.checksum {
-        Checksum::Add => run::<AddSum>(&rt, &request),
-        Checksum::Crc32c => run::<Crc32c>(&rt, &request),
+    let set_aside = set_aside_in(&matches).unwrap_or_default();
+    match request.shape.checksum {
+        Checksum::Add => perform::<AddSum>(rt, &request, set_aside),
+        Checksum::Crc32c => perform::<Crc32c>(rt, &request, set_aside),
     }
+}
+
+fn main(rt: HostRuntime) -> ExitCode {
+    ExitCode::from(end(&rt, run(&rt)))
 }

@@ -1,11 +1,9 @@
 // What a physical page holds.
 use page::{Checksum, Slot, Sum};
-use paged::{Outlook, Survey};
 use paged_read::physical_page_size;
 use std::fmt;
 use std::io::{self, IsTerminal};
 use std::num::NonZeroU16;
-use std::process::ExitCode;
 
 /// What a slot of a page says. Lengths are bytes.
 #[derive(Clone, Copy, PartialEq, Eq)]
@@ -51,6 +49,8 @@ pub struct Page {
     /// How many bytes its value has; 0 where it has none.
     pub len: u16,
     pub slots: [SlotState; 2],
+    /// Where it has a value: what its other slot says, if that neither verifies nor is empty.
+    pub bad: Option<SlotState>,
     /// All its bytes are zero.
     pub blank: bool,
 }
@@ -60,15 +60,27 @@ impl Page {
     pub fn of<H: Sum>(bytes: &[u8]) -> Self {
         let len = Checksum::validate_page::<H>(bytes).map_or(0, |slot| slot.len);
         let blank = bytes.iter().all(|byte| *byte == 0);
-        let mut slots = [SlotState::Empty; 2];
-        if let Some((payload, footer)) = bytes.split_last_chunk::<12>() {
-            let footer = Checksum::from_bytes(*footer);
-            slots = [
-                SlotState::of::<H>(footer.get_slot(Slot::First), payload),
-                SlotState::of::<H>(footer.get_slot(Slot::Second), payload),
-            ];
+        let slots = slots_of::<H>(bytes);
+        let [first, second] = slots;
+        let bad = match Checksum::bad_slot::<H>(bytes) {
+            Some(Slot::First) => Some(first),
+            Some(Slot::Second) => Some(second),
+            None => None,
+        };
+        Page {
+            len,
+            slots,
+            bad,
+            blank,
         }
-        Page { len, slots, blank }
+    }
+
+    /// What the page of this number holds, of these bytes; `None` where it isn't there.
+    pub fn at<H: Sum>(bytes: &[u8], page_size: NonZeroU16, number: u64) -> Option<Self> {
+        let size = physical_page_size(page_size);
+        let start = number.saturating_mul(size) as usize;
+        let page = bytes.get(start..start.saturating_add(size as usize))?;
+        Some(Page::of::<H>(page))
     }
 
     /// Why it has no value, in a few words.
@@ -82,9 +94,12 @@ impl Page {
         }
     }
 
-    /// One mark for it: `#` full, `+` partial, `.` empty, `!` torn.
+    /// One mark for it: `#` full, `+` partial, `~` with a bad slot beside its value, `.` empty, `!`
+    /// without a value.
     pub fn mark(&self, page_size: NonZeroU16) -> char {
-        if self.len == page_size.get() {
+        if self.bad.is_some() {
+            '~'
+        } else if self.len == page_size.get() {
             '#'
         } else if self.len > 0 {
             '+'
@@ -94,6 +109,18 @@ impl Page {
             '!'
         }
     }
+}
+
+// What the slots of these bytes say, which are a whole page.
+fn slots_of<H: Sum>(bytes: &[u8]) -> [SlotState; 2] {
+    let Some((payload, footer)) = bytes.split_last_chunk::<12>() else {
+        return [SlotState::Empty; 2];
+    };
+    let footer = Checksum::from_bytes(*footer);
+    [
+        SlotState::of::<H>(footer.get_slot(Slot::First), payload),
+        SlotState::of::<H>(footer.get_slot(Slot::Second), payload),
+    ]
 }
 
 /// What its slots say.
@@ -107,53 +134,6 @@ impl fmt::Display for Page {
     }
 }
 
-/// How the pages of a file stand to the text that a recovery would find in them.
-#[derive(Clone, Copy)]
-pub struct Found {
-    pub survey: Survey,
-    pub page_size: NonZeroU16,
-    /// How many whole pages the file has.
-    pub pages: u64,
-    /// The page after those of the text, if there is one.
-    pub next: Option<Page>,
-}
-
-impl Found {
-    /// What this survey says of the file of these bytes.
-    pub fn of<H: Sum>(bytes: &[u8], page_size: NonZeroU16, survey: Survey) -> Self {
-        let size = physical_page_size(page_size);
-        let start = survey.outlook.pages.saturating_mul(size) as usize;
-        let next = bytes.get(start..start.saturating_add(size as usize));
-        Found {
-            survey,
-            page_size,
-            pages: bytes.len() as u64 / size,
-            next: next.map(|page| Page::of::<H>(page)),
-        }
-    }
-}
-
-impl fmt::Display for Found {
-    fn fmt<W: fmt::Write>(&self, f: &mut fmt::Formatter<W>) -> fmt::Result {
-        let Outlook { pages, len, .. } = self.survey.outlook;
-        let over = len % u64::from(self.page_size.get());
-        write!(f, "has {} pages; the text ends ", self.pages)?;
-        match self.next {
-            _ if over > 0 => {
-                let last = pages.saturating_sub(1);
-                write!(
-                    f,
-                    "in page {last}, which has {over} of {} bytes",
-                    self.page_size
-                )?;
-            }
-            Some(page) => write!(f, "at page {pages}, {}", page.why())?,
-            None => write!(f, "with the last of them")?,
-        }
-        write!(f, "; {} pages after it have a value", self.survey.beyond)
-    }
-}
-
 /// The value of a physical page; no byte where it has none.
 pub fn value_of<H: Sum>(page: &[u8]) -> &[u8] {
     match Checksum::validate_page::<H>(page) {
@@ -162,14 +142,17 @@ pub fn value_of<H: Sum>(page: &[u8]) -> &[u8] {
     }
 }
 
-/// Says in a line why a file isn't served, and answers the exit status.
-pub fn fail<E: fmt::Display + Drop>(
-    rt: &HostRuntime,
-    path: &str,
-    error: E,
-) -> io::Result<ExitCode> {
-    eprintln!(rt; "pagedd: {path}: {error}")?;
-    Ok(ExitCode::from(1))
+/// A number of pages, in words.
+#[derive(Clone, Copy)]
+pub struct Pages(pub u64);
+
+impl fmt::Display for Pages {
+    fn fmt<W: fmt::Write>(&self, f: &mut fmt::Formatter<W>) -> fmt::Result {
+        match self.0 {
+            1 => write!(f, "1 page"),
+            number => write!(f, "{number} pages"),
+        }
+    }
 }
 
 /// So many pages make one line of progress.

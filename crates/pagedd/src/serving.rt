@@ -1,70 +1,103 @@
 // Serving a file to the program's input and output.
-use crate::command::Request;
-use crate::opening::open;
-use crate::pages::fail;
-use disk::Blob;
+use crate::ending::{fail, fail_stop, tell};
+use crate::look::{Look, read, surveyed};
+use crate::opening::{open, serve_opened, setting_of};
+use crate::refusing::refuse;
+use crate::request::Request;
+use crate::status::Status;
+use crate::streams::{Input, Output};
+use crate::words::tell_unknown;
+use disk::VecBlob;
 use page::Sum;
-use protocol::{Cause, Setting, Stop, serve_file};
+use paged::Verdict;
+use protocol::{Cause, Stop, serve_file};
+use std::fs;
 use std::io::{self, BufReader, BufWriter, Write};
-use std::process::ExitCode;
 
-/// Serves a file, or for reading alone a copy of it in memory, which may be cut as it needs to be.
-pub fn serve<H: Sum>(rt: &HostRuntime, request: &Request) -> io::Result<ExitCode> {
+/// So many bytes of requests are taken by one call of the system, and so many of answers are given.
+const PIECE: usize = 1 << 16;
+
+/// Serves a file, or for reading alone a copy of it in memory. A file that is missing is made where
+/// `create` asks.
+pub fn serve<H: Sum>(rt: &HostRuntime, request: &Request, create: bool) -> io::Result<Status> {
     if request.read_only {
-        return match file::read(rt, request.file) {
-            Ok(mut blob) => serve_blob::<_, H>(rt, request, &mut blob, u64::MAX, ""),
-            Err(error) => fail(rt, request.file, error),
-        };
+        return serve_copy::<H>(rt, request);
     }
-    match open::<H>(rt, request)? {
-        Ok(mut opened) => {
-            let set_aside = &opened.set_aside;
-            serve_blob::<_, H>(rt, request, &mut opened.blob, opened.allowed, set_aside)
-        }
+    if !create && !fs::exists(rt, request.file).unwrap_or(true) {
+        return tell_unknown(rt, request.file);
+    }
+    let mut blob = match open(rt, request)? {
+        Ok(blob) => blob,
+        Err(status) => return Ok(status),
+    };
+    let mut input = BufReader::with_capacity(rt.alloc(), PIECE, Input::of(rt))?;
+    let mut out = BufWriter::with_capacity(rt.alloc(), PIECE, Output::of(rt))?;
+    match serve_opened::<H, _, _>(rt, request, &mut blob, &mut input, &mut out)? {
+        Ok(served) => tell_end(rt, request, &blob, served, input, out),
         Err(status) => Ok(status),
     }
 }
 
-// Serves a blob, and answers the exit status. Where it isn't 0, one line says why.
-fn serve_blob<B: Blob + Cause, H: Sum>(
+// Serves a copy in memory as a recovery would leave it, and says what it hides.
+fn serve_copy<H: Sum>(rt: &HostRuntime, request: &Request) -> io::Result<Status> {
+    let file = request.file;
+    let mut blob = match read(rt, file)? {
+        Ok(blob) => blob,
+        Err(status) => return Ok(status),
+    };
+    let survey = match surveyed::<_, H>(rt, request, &mut blob) {
+        Ok(survey) => survey,
+        Err(error) => return fail(rt, file, error),
+    };
+    let look = Look::of::<H>(blob.bytes(), request.shape, survey);
+    match look.verdict(request.cut_limit) {
+        Verdict::Whole => {}
+        Verdict::Refuse if !request.cut => return refuse(rt, request, blob.bytes(), &look),
+        _ => tell(rt, format_args!("{file}: {}", look.lost("aren't served"))),
+    }
+    let alloc = rt.alloc();
+    let setting = setting_of(request, look.at_stake());
+    let mut input = BufReader::with_capacity(alloc, PIECE, Input::of(rt))?;
+    let mut out = BufWriter::with_capacity(alloc, PIECE, Output::of(rt))?;
+    let served = serve_file::<VecBlob, H, _, _>(
+        alloc, &mut blob, &setting, "", &mut input, &mut out,
+    );
+    tell_end(rt, request, &blob, served, input, out)
+}
+
+// The status with which a session ends, whose last answers are sent now. Where it isn't `Done`, one
+// line says why.
+fn tell_end<B: Cause>(
     rt: &HostRuntime,
     request: &Request,
-    blob: &mut B,
-    allowed: u64,
-    set_aside: &str,
-) -> io::Result<ExitCode> {
-    let setting = Setting {
-        page_size: request.page_size,
-        capacity: request.buffer.get(),
-        buffer_size: request.buffer,
-        pages: request.cache,
-        read_only: request.read_only,
-        allowed,
-    };
-    let ended = run_session::<_, H>(rt, blob, &setting, set_aside);
+    blob: &B,
+    served: Result<(), Stop>,
+    input: BufReader<Input>,
+    mut out: BufWriter<Output>,
+) -> io::Result<Status> {
+    let ended = flushed(served, &mut out);
     // Why the file failed says more than the answer that a request got.
     if let Some(error) = blob.cause() {
         return fail(rt, request.file, error);
     }
-    match ended {
-        Ok(()) => Ok(ExitCode::SUCCESS),
-        Err(stop) => {
-            eprintln!(rt; "{stop}")?;
-            Ok(ExitCode::from(stop.status()))
-        }
+    let stop = match ended {
+        Ok(()) => return Ok(Status::Done),
+        Err(stop) => stop,
+    };
+    let (output, _) = out.into_parts();
+    if let Some(error) = output.into_failure() {
+        return Err(error);
+    }
+    match input.get_ref().failure() {
+        Some(error) if stop == Stop::Failed => fail(rt, "standard input", error),
+        _ => fail_stop(rt, request.file, stop),
     }
 }
 
-fn run_session<B: Blob + Cause, H: Sum>(
-    rt: &HostRuntime,
-    blob: &mut B,
-    setting: &Setting,
-    set_aside: &str,
-) -> Result<(), Stop> {
-    let alloc = rt.alloc();
-    let mut input = BufReader::new(alloc, rt.stdin())?;
-    let mut out = BufWriter::new(alloc, rt.stdout())?;
-    let ended = serve_file::<_, H, _, _>(alloc, blob, setting, set_aside, &mut input, &mut out);
-    out.flush()?;
-    ended
+/// How a session ends whose last answers are sent now.
+pub fn flushed<W: Write>(served: Result<(), Stop>, out: &mut W) -> Result<(), Stop> {
+    let sent = out.flush();
+    served?;
+    sent?;
+    Ok(())
 }

@@ -1,0 +1,78 @@
+// The page sizes and checksum functions with which a file verifies.
+use crate::pages::value_of;
+use crate::request::{Checksum, Shape};
+use crc32c::Crc32c;
+use page::{AddSum, Sum};
+use paged_read::physical_page_size;
+use std::alloc::{AllocError, Global};
+use std::fmt;
+use std::num::NonZeroU16;
+
+/// The page sizes that are tried: with them a physical page has 4,096, 1,024 and 512 bytes.
+const SIZES: [u16; 3] = [4084, 1012, 500];
+
+/// How many pages at the start of a file verify, where they are read with this shape, and how many
+/// bytes their values have.
+#[derive(Clone, Copy)]
+pub struct Fit {
+    pub shape: Shape,
+    pub pages: u64,
+    pub len: u64,
+}
+
+impl fmt::Display for Fit {
+    fn fmt<W: fmt::Write>(&self, f: &mut fmt::Formatter<W>) -> fmt::Result {
+        let Fit { shape, pages, .. } = self;
+        write!(f, "its first {pages} pages verify with {shape}")
+    }
+}
+
+/// The shapes, other than the one that was asked for, with which the first page of these bytes
+/// verifies. The one with the most content stands first. Each is tried up to the first page that
+/// doesn't verify, so one that doesn't fit costs little.
+pub fn other_fits(alloc: Global, bytes: &[u8], asked: Shape) -> Result<Vec<Fit>, AllocError> {
+    let mut fits: Vec<Fit> = Vec::new(alloc);
+    for size in SIZES {
+        for checksum in [Checksum::Crc32c, Checksum::Add] {
+            let shape = Shape {
+                page_size: NonZeroU16::new(size).unwrap_or(NonZeroU16::MIN),
+                checksum,
+            };
+            let fit = fit_of(bytes, shape);
+            if shape == asked || fit.pages == 0 {
+                continue;
+            }
+            if fits.first().is_some_and(|best| best.len >= fit.len) {
+                fits.push(fit)?;
+            } else {
+                fits.insert(0, fit)?;
+            }
+        }
+    }
+    Ok(fits)
+}
+
+// How the pages at the start of these bytes fit.
+fn fit_of(bytes: &[u8], shape: Shape) -> Fit {
+    match shape.checksum {
+        Checksum::Add => fit_under::<AddSum>(bytes, shape),
+        Checksum::Crc32c => fit_under::<Crc32c>(bytes, shape),
+    }
+}
+
+fn fit_under<H: Sum>(bytes: &[u8], shape: Shape) -> Fit {
+    let mut fit = Fit {
+        shape,
+        pages: 0,
+        len: 0,
+    };
+    for page in bytes.chunks_exact(physical_page_size(shape.page_size) as usize) {
+        let value = value_of::<H>(page);
+        if value.is_empty() {
+            break;
+        }
+        fit.pages = fit.pages.saturating_add(1);
+        fit.len = fit.len.saturating_add(value.len() as u64);
+    }
+    fit
+}

@@ -1,0 +1,165 @@
+// A look at a file before anything is done with it.
+use crate::ending::fail;
+use crate::pages::{Page, Pages};
+use crate::request::{Request, Shape};
+use crate::status::Status;
+use disk::{Blob, Error, VecBlob};
+use page::Sum;
+use paged::{Outlook, Survey, Verdict, survey};
+use paged_read::physical_page_size;
+use std::{fmt, io};
+
+/// What a survey found in a file, and the two pages that its words are about.
+#[derive(Clone, Copy)]
+pub struct Look {
+    pub survey: Survey,
+    pub shape: Shape,
+    /// How many bytes the file has.
+    pub size: u64,
+    /// The last page of the text, where its other slot fails.
+    torn: Option<Page>,
+    /// The page after those of the text, if there is one.
+    next: Option<Page>,
+}
+
+/// Reads a file into memory. Where that fails, a line says why, and the status is answered.
+pub fn read(rt: &HostRuntime, path: &str) -> io::Result<Result<VecBlob, Status>> {
+    match file::read(rt, path) {
+        Ok(blob) => Ok(Ok(blob)),
+        Err(error) => Ok(Err(fail(rt, path, error)?)),
+    }
+}
+
+/// Surveys a blob that nobody opened.
+pub fn surveyed<B: Blob, H: Sum>(
+    rt: &HostRuntime,
+    request: &Request,
+    blob: &mut B,
+) -> Result<Survey, Error> {
+    let size = blob.len();
+    let page_size = request.shape.page_size;
+    survey::<B, H>(rt.alloc(), blob, size, page_size, request.buffer)
+}
+
+impl Look {
+    /// What this survey says of the file of these bytes.
+    pub fn of<H: Sum>(bytes: &[u8], shape: Shape, survey: Survey) -> Self {
+        let pages = survey.outlook.pages;
+        let last = pages.saturating_sub(1);
+        Look {
+            survey,
+            shape,
+            size: bytes.len() as u64,
+            torn: if survey.torn {
+                Page::at::<H>(bytes, shape.page_size, last)
+            } else {
+                None
+            },
+            next: Page::at::<H>(bytes, shape.page_size, pages),
+        }
+    }
+
+    /// What to do with the file, where so many bytes may go.
+    pub fn verdict(&self, cut_limit: u64) -> Verdict {
+        self.survey.verdict(self.shape.page_size, cut_limit)
+    }
+
+    /// How many whole pages the file has.
+    pub fn pages(&self) -> u64 {
+        self.size / physical_page_size(self.shape.page_size)
+    }
+
+    /// How many bytes follow them, which are less than a page.
+    pub fn tail_len(&self) -> u64 {
+        self.size % physical_page_size(self.shape.page_size)
+    }
+
+    /// The first byte that a recovery would cut.
+    pub fn cut_start(&self) -> u64 {
+        self.size.saturating_sub(self.survey.outlook.cut)
+    }
+
+    /// How many bytes at the end are to be set aside before a recovery.
+    pub fn set_aside_len(&self) -> u64 {
+        self.survey.set_aside_len(self.shape.page_size)
+    }
+
+    /// How many bytes at the end go in a recovery: those that it cuts, and those of a torn last page.
+    pub fn at_stake(&self) -> u64 {
+        self.survey.at_stake(self.shape.page_size)
+    }
+
+    /// The first of the bytes that are to be set aside.
+    pub fn set_aside_start(&self) -> u64 {
+        self.size.saturating_sub(self.set_aside_len())
+    }
+
+    /// What a recovery gives up, in words. `verb` says what becomes of the bytes after the text.
+    pub fn lost<'a>(&'a self, verb: &'a str) -> Lost<'a> {
+        Lost { look: self, verb }
+    }
+}
+
+/// Where the text ends, and what is after it.
+impl fmt::Display for Look {
+    fn fmt<W: fmt::Write>(&self, f: &mut fmt::Formatter<W>) -> fmt::Result {
+        let Outlook { pages, len, .. } = self.survey.outlook;
+        let page_size = self.shape.page_size;
+        let over = len % u64::from(page_size.get());
+        let count = self.pages();
+        if count == 0 {
+            return write!(f, "has {} bytes, and no whole page", self.size);
+        }
+        write!(f, "has {}; the text ends ", Pages(count))?;
+        match self.next {
+            _ if over > 0 => {
+                let last = pages.saturating_sub(1);
+                write!(f, "in page {last}, which has {over} of {page_size} bytes")?;
+            }
+            Some(page) => write!(f, "at page {pages}, {}", page.why())?,
+            None => write!(f, "with the last of them")?,
+        }
+        match self.survey.beyond {
+            1 => write!(f, "; 1 page after it has a value"),
+            number => write!(f, "; {number} pages after it have a value"),
+        }
+    }
+}
+
+/// What a recovery gives up of a file, in words.
+#[derive(Clone, Copy)]
+pub struct Lost<'a> {
+    look: &'a Look,
+    verb: &'a str,
+}
+
+impl fmt::Display for Lost<'_> {
+    fn fmt<W: fmt::Write>(&self, f: &mut fmt::Formatter<W>) -> fmt::Result {
+        let Outlook { pages, cut, .. } = self.look.survey.outlook;
+        if let Some(
+            Page {
+                len,
+                bad: Some(bad),
+                ..
+            },
+        ) = self.look.torn
+        {
+            let last = pages.saturating_sub(1);
+            let start = self.look.set_aside_start();
+            write!(
+                f,
+                "page {last}, from byte {start} of the file on, keeps {len} bytes; its other slot \
+                 {bad}: if that is damage, it may have had more"
+            )?;
+            if cut > 0 {
+                write!(f, "; ")?;
+            }
+        }
+        if cut > 0 {
+            let start = self.look.cut_start();
+            let verb = self.verb;
+            write!(f, "{cut} bytes, from byte {start} of the file on, {verb}")?;
+        }
+        Ok(())
+    }
+}

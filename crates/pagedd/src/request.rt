@@ -1,0 +1,153 @@
+// What the command line asks for.
+use clap::ArgMatches;
+use serde::Serialize;
+use std::fmt;
+use std::num::{NonZeroU16, NonZeroUsize};
+
+/// A checksum function by its name.
+#[derive(Clone, Copy, PartialEq, Eq, Serialize)]
+#[serde(rename_all = "lowercase")]
+pub enum Checksum {
+    /// The sum of the bytes.
+    Add,
+    /// CRC-32C.
+    Crc32c,
+}
+
+impl Checksum {
+    /// The name, as the command line has it.
+    pub fn name(self) -> &'static str {
+        match self {
+            Checksum::Add => "add",
+            Checksum::Crc32c => "crc32c",
+        }
+    }
+}
+
+/// How the pages of a file are written: with which page size, and under which checksum function.
+#[derive(Clone, Copy, PartialEq, Eq)]
+pub struct Shape {
+    /// The content bytes of a page.
+    pub page_size: NonZeroU16,
+    pub checksum: Checksum,
+}
+
+/// The options that ask for it.
+impl fmt::Display for Shape {
+    fn fmt<W: fmt::Write>(&self, f: &mut fmt::Formatter<W>) -> fmt::Result {
+        let name = self.checksum.name();
+        write!(f, "--page-size {} --checksum {name}", self.page_size)
+    }
+}
+
+/// What is to be done with a file.
+#[derive(Clone, Copy)]
+pub enum Task<'a> {
+    /// Serve it to the program's input and output; where it is missing, make it, if `create`.
+    Serve { create: bool },
+    /// Append the program's input to it, with a sync after each line, if `each_line`.
+    Append { each_line: bool },
+    /// Tell what a recovery would make of it.
+    Check,
+    /// Draw its pages from one to before another; of each what its slots say, where `long` asks.
+    Map { from: u64, to: u64, long: bool },
+    /// Write so many content bytes from an offset on.
+    Cat { from: u64, len: u64 },
+    /// Put all that verifies into a new file of this name.
+    Salvage { out: &'a str },
+    /// Print the program's version.
+    Version,
+}
+
+/// What the words of the command line ask for. Sizes are bytes, except for the cache's: pages.
+#[derive(Clone, Copy)]
+pub struct Request<'a> {
+    pub task: Task<'a>,
+    pub file: &'a str,
+    pub shape: Shape,
+    pub buffer: NonZeroUsize,
+    pub cache: NonZeroUsize,
+    pub read_only: bool,
+    /// A file is cut whatever the survey says.
+    pub cut: bool,
+    pub cut_limit: u64,
+    /// The answer is one JSON object.
+    pub json: bool,
+}
+
+impl<'a> Request<'a> {
+    /// What these matches ask for.
+    pub fn of(matches: &ArgMatches<'a>) -> Self {
+        let (task, words) = match matches.subcommand() {
+            Some((name, words)) => (task_of(name, words), words),
+            None => (serve_task(matches), matches),
+        };
+        Request {
+            task,
+            file: words.get_str("FILE").unwrap_or_default(),
+            shape: shape_of(words),
+            buffer: non_zero(words.get_one::<usize>("buffer")),
+            cache: non_zero(words.get_one::<usize>("cache")),
+            read_only: words.get_flag("read-only"),
+            cut: words.get_flag("cut"),
+            cut_limit: words.get_one::<u64>("cut-limit").unwrap_or(0),
+            json: words.get_flag("json"),
+        }
+    }
+}
+
+/// The files with what was set aside of the one that is to be salvaged.
+pub fn set_aside_in<'m, 'a>(matches: &'m ArgMatches<'a>) -> Option<&'m [&'a str]> {
+    let (_, words) = matches.subcommand()?;
+    words.get_strs("CUT")
+}
+
+// What a command of this name asks for.
+fn task_of<'a>(name: &str, words: &ArgMatches<'a>) -> Task<'a> {
+    match name {
+        "append" => Task::Append {
+            each_line: words.get_flag("each-line"),
+        },
+        "check" => Task::Check,
+        "map" => Task::Map {
+            from: words.get_one::<u64>("from").unwrap_or(0),
+            to: words.get_one::<u64>("to").unwrap_or(u64::MAX),
+            long: words.get_flag("long"),
+        },
+        "cat" => Task::Cat {
+            from: words.get_one::<u64>("from").unwrap_or(0),
+            len: words.get_one::<u64>("len").unwrap_or(u64::MAX),
+        },
+        "salvage" => Task::Salvage {
+            out: words.get_str("OUT").unwrap_or_default(),
+        },
+        "version" => Task::Version,
+        _ => Task::Serve { create: true },
+    }
+}
+
+// What words with no command ask for.
+fn serve_task<'a>(words: &ArgMatches<'a>) -> Task<'a> {
+    Task::Serve {
+        create: words.get_flag("create"),
+    }
+}
+
+fn shape_of(words: &ArgMatches<'_>) -> Shape {
+    let page_size = words.get_one::<u16>("page-size");
+    Shape {
+        page_size: page_size
+            .and_then(NonZeroU16::new)
+            .unwrap_or(NonZeroU16::MIN),
+        checksum: match words.get_str("checksum") {
+            Some("add") => Checksum::Add,
+            _ => Checksum::Crc32c,
+        },
+    }
+}
+
+fn non_zero(number: Option<usize>) -> NonZeroUsize {
+    number
+        .and_then(NonZeroUsize::new)
+        .unwrap_or(NonZeroUsize::MIN)
+}

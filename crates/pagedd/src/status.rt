@@ -1,0 +1,60 @@
+// How a command ends.
+use protocol::Stop;
+use std::process::ExitCode;
+
+/// How a command ends. Each end has one exit status, whichever command it is.
+#[derive(Clone, Copy, PartialEq, Eq)]
+pub enum Status {
+    /// 0: it is done. All that the file holds is whole, and in what was answered.
+    Done,
+    /// 1: it couldn't be done. The file, the input, the output or memory failed, the command line
+    /// isn't understood, or a session ended after its writer was lost.
+    Failed,
+    /// 2: the input of `serve` isn't requests.
+    Malformed,
+    /// 3: the file isn't whole. `serve` and `append` refuse it, and change nothing. `check` found a
+    /// cut, a page without a value, a bad slot or a part of a page. `cat` and `salvage` couldn't
+    /// give all that the file may hold.
+    NotWhole,
+    /// 141: whoever read the output has closed it, as at the end of a pipe. A shell gives a program
+    /// this status that SIGPIPE ends.
+    Unread,
+}
+
+impl Status {
+    /// The exit status.
+    fn code(self) -> u8 {
+        match self {
+            Status::Done => 0,
+            Status::Failed => 1,
+            Status::Malformed => 2,
+            Status::NotWhole => 3,
+            Status::Unread => 141,
+        }
+    }
+
+    /// The end of a command that looked at a file and found it whole, or not.
+    pub fn of_file(is_whole: bool) -> Self {
+        if is_whole {
+            Status::Done
+        } else {
+            Status::NotWhole
+        }
+    }
+}
+
+impl From<Status> for ExitCode {
+    fn from(status: Status) -> Self {
+        ExitCode::from(status.code())
+    }
+}
+
+impl From<Stop> for Status {
+    fn from(stop: Stop) -> Self {
+        match stop.status() {
+            2 => Status::Malformed,
+            3 => Status::NotWhole,
+            _ => Status::Failed,
+        }
+    }
+}

@@ -1,0 +1,83 @@
+// Standard input and output, which keep why they failed.
+use std::io::{self, Read, Stdin, Stdout, Write};
+
+/// Standard input.
+#[derive(Drop)]
+pub struct Input {
+    stdin: Stdin,
+    failure: Option<io::Error>,
+}
+
+impl Input {
+    /// Of the running program.
+    pub fn of(rt: &HostRuntime) -> Self {
+        Input {
+            stdin: rt.stdin(),
+            failure: None,
+        }
+    }
+
+    /// Why the last read failed, if it did.
+    pub fn failure(&self) -> Option<&io::Error> {
+        self.failure.as_ref()
+    }
+}
+
+impl Read for Input {
+    fn read(&mut self, buf: &mut [u8]) -> io::Result<usize> {
+        match self.stdin.read(buf) {
+            Ok(count) => {
+                self.failure = None;
+                Ok(count)
+            }
+            Err(error) => {
+                let kind = error.kind();
+                self.failure = Some(error);
+                Err(kind.into())
+            }
+        }
+    }
+}
+
+/// Standard output.
+#[derive(Drop)]
+pub struct Output {
+    stdout: Stdout,
+    failure: Option<io::Error>,
+}
+
+impl Output {
+    /// Of the running program.
+    pub fn of(rt: &HostRuntime) -> Self {
+        Output {
+            stdout: rt.stdout(),
+            failure: None,
+        }
+    }
+
+    /// Why the last write failed, if it did.
+    pub fn into_failure(self) -> Option<io::Error> {
+        let Output { failure, .. } = self;
+        failure
+    }
+}
+
+impl Write for Output {
+    fn write(&mut self, buf: &[u8]) -> io::Result<usize> {
+        match self.stdout.write(buf) {
+            Ok(count) => {
+                self.failure = None;
+                Ok(count)
+            }
+            Err(error) => {
+                let kind = error.kind();
+                self.failure = Some(error);
+                Err(kind.into())
+            }
+        }
+    }
+
+    fn flush(&mut self) -> io::Result<()> {
+        self.stdout.flush()
+    }
+}

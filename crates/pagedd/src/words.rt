@@ -1,0 +1,172 @@
+// The words of the command line, before they are parsed.
+use crate::ending::tell;
+use crate::status::Status;
+use std::alloc::{AllocError, Global};
+use std::env::{Env, FillError};
+use std::io::{self, ErrorKind};
+use std::{env, fs, str};
+use strsim::levenshtein;
+
+/// The commands.
+const COMMANDS: [&str; 8] = [
+    "serve", "append", "check", "map", "cat", "salvage", "version", "help",
+];
+
+/// The options that take no value.
+const FLAGS: [&str; 10] = [
+    "--create",
+    "--read-only",
+    "--cut",
+    "--each-line",
+    "--long",
+    "--json",
+    "--help",
+    "-h",
+    "--version",
+    "-V",
+];
+
+/// The options that take a value, which may be the next word.
+const WITH_VALUE: [&str; 8] = [
+    "--page-size",
+    "--checksum",
+    "--buffer",
+    "--cache",
+    "--cut-limit",
+    "--from",
+    "--to",
+    "--len",
+];
+
+/// So many edits at most lie between a word and the command that it is near.
+const NEAR: usize = 2;
+
+/// The longest word that a system gives a program.
+const LONGEST: usize = 1 << 17;
+
+/// All words, the program's name first. Where one isn't UTF-8, a line says which.
+pub fn read_words(rt: &HostRuntime) -> io::Result<Result<Vec<String>, Status>> {
+    match env::args(rt) {
+        Ok(words) => Ok(Ok(words.collect(rt.alloc())?)),
+        Err(error) if error.kind() == ErrorKind::InvalidData => Ok(Err(tell_no_text(rt)?)),
+        Err(error) => Err(error),
+    }
+}
+
+// Says which word isn't UTF-8.
+fn tell_no_text(rt: &HostRuntime) -> io::Result<Status> {
+    let mut room = vec![in rt.alloc(); 0u8; LONGEST]?;
+    for number in 0..LONGEST {
+        let len = match rt.arg(number, &mut room) {
+            Ok(len) => len,
+            Err(FillError::TooLong) => continue,
+            Err(FillError::NotPresent) => break,
+        };
+        let word = room.get(..len).unwrap_or_default();
+        if str::from_utf8(word).is_err() {
+            let shown = String::from_utf8_lossy(rt.alloc(), word)?;
+            let advice = "if it names a file, give that another name";
+            tell(
+                rt,
+                format_args!("word {number} of the command line isn't UTF-8: '{shown}': {advice}"),
+            );
+            break;
+        }
+    }
+    Ok(Status::Failed)
+}
+
+// The place of the first word that is no option, nor an option's value. There is none after a word
+// that no command knows: so an unknown option is told as such. Nor is there one after `--`.
+fn place_of_name(words: &[String]) -> Option<usize> {
+    let mut is_value = false;
+    for (place, word) in words.iter().enumerate().skip(1) {
+        let word = word.as_str();
+        if is_value {
+            is_value = false;
+        } else if !word.starts_with('-') {
+            return Some(place);
+        } else if is_one_of(&WITH_VALUE, word) {
+            is_value = true;
+        } else if !is_one_of(&FLAGS, word) && !has_value(word) {
+            return None;
+        }
+    }
+    None
+}
+
+// Whether a word is an option with its value.
+fn has_value(word: &str) -> bool {
+    match word.split_once('=') {
+        Some((name, _)) => is_one_of(&WITH_VALUE, name),
+        None => false,
+    }
+}
+
+fn is_one_of(names: &[&str], word: &str) -> bool {
+    names.iter().any(|name| *name == word)
+}
+
+/// The first word that is no option, where it names neither a command nor a file that is there, and
+/// no file is to be made.
+pub fn unknown_name<'a>(rt: &HostRuntime, words: &'a [String]) -> Option<&'a str> {
+    let name = words.get(place_of_name(words)?)?.as_str();
+    let creates = words.iter().any(|word| word.as_str() == "--create");
+    let is_known = creates || is_one_of(&COMMANDS, name) || fs::exists(rt, name).unwrap_or(true);
+    if is_known { None } else { Some(name) }
+}
+
+/// Says that a word names neither a file nor a command, and which command it may mean.
+pub fn tell_unknown(rt: &HostRuntime, name: &str) -> io::Result<Status> {
+    let hint = "'pagedd serve FILE' makes a new blob";
+    match nearest_command(rt.alloc(), name)? {
+        Some(command) => tell(
+            rt,
+            format_args!(
+                "no such file or command: '{name}'; the nearest command is '{command}'; {hint}"
+            ),
+        ),
+        None => tell(
+            rt,
+            format_args!("no such file or command: '{name}'; {hint}"),
+        ),
+    }
+    Ok(Status::Failed)
+}
+
+fn nearest_command(alloc: Global, name: &str) -> Result<Option<&'static str>, AllocError> {
+    let mut nearest = None;
+    let mut least = NEAR.saturating_add(1);
+    for command in COMMANDS {
+        let edits = levenshtein(alloc, name, command)?;
+        if edits < least && edits < name.len() {
+            least = edits;
+            nearest = Some(command);
+        }
+    }
+    Ok(nearest)
+}
+
+/// The same words, with the command, if there is one, before the options.
+pub fn command_first(alloc: Global, words: &[String]) -> Result<Vec<String>, AllocError> {
+    let place = place_of_command(words);
+    let mut arranged = Vec::new(alloc);
+    if let Some(program) = words.first() {
+        arranged.push(program.clone()?)?;
+    }
+    if let Some(name) = place.and_then(|at| words.get(at)) {
+        arranged.push(name.clone()?)?;
+    }
+    for (at, word) in words.iter().enumerate().skip(1) {
+        if Some(at) != place {
+            arranged.push(word.clone()?)?;
+        }
+    }
+    Ok(arranged)
+}
+
+fn place_of_command(words: &[String]) -> Option<usize> {
+    let place = place_of_name(words)?;
+    let name = words.get(place)?.as_str();
+    is_one_of(&COMMANDS, name).then_some(place)
+}
