@@ -11,10 +11,10 @@ dump after every line. With PAGEDD, files that this program wrote are read, whol
 import os
 import random
 import subprocess
-import sys
 import tempfile
 
 import reader
+import usage
 from client import APPEND, READ, SYNC
 from served import Served, opened
 
@@ -207,9 +207,11 @@ def read_files(program, rng):
 
 
 def main():
-    if len(sys.argv) > 3:
-        raise SystemExit("usage: python3 check.py [PAGEDCTL [PAGEDD]]")
-    programs = [os.path.abspath(path) for path in sys.argv[1:]]
+    parser = usage.parser(__doc__)
+    parser.add_argument("PAGEDCTL", nargs="?", type=usage.program)
+    parser.add_argument("PAGEDD", nargs="?", type=usage.program)
+    given = parser.parse_args()
+    programs = [program for program in (given.PAGEDCTL, given.PAGEDD) if program]
     found = scripts()
     dumps = sum(compare(name, *texts) for name, texts in found.items())
     print(f"{len(found)} scripts, {dumps} dumps: the reader tells what the replies tell")

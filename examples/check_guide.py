@@ -4,8 +4,8 @@ README.md and docs/GUIDE.md: each block of code that follows a line `In FILE:` m
 at whatever indentation. README.md and docs/CONTRACTS.md: each clause must stand in a file of crates/*/src, except for
 the short names that docs/CONTRACTS.md introduces at its beginning. docs/GUIDE.md: each line of crates.txt that it
 quotes must stand there, except that of the crate `mine`. docs/DEFINITIONS.md: each word must stand in a file of
-crates/. In every page each link, and each path below crates/, docs/ or examples/, must be there. It prints what isn't
-so, and ends with status 1 then.
+crates/. In every page each link, and each path below crates/, docs/ or examples/, must be there. README.md and
+docs/PROTOCOL.md must have the same table of exit statuses. It prints what isn't so, and ends with status 1 then.
 """
 import glob
 import os
@@ -127,6 +127,15 @@ def wrong_places(pages):
     return wrong, len(places)
 
 
+def wrong_statuses(pages):
+    """The pages whose table of exit statuses isn't that of the first page, and how many tables there are."""
+    tables = {page: [table for table in re.findall(r"(?:^\|.*\n)+", read(page), re.M) if "\n| 141 |" in table]
+              for page in pages}
+    wrong = [f"{page}: not the table of exit statuses of {pages[0]}" for page in pages
+             if len(tables[page]) != 1 or tables[page] != tables[pages[0]]]
+    return wrong, len(pages)
+
+
 def main():
     pages = ["README.md"] + sorted(f"docs/{name}" for name in os.listdir(os.path.join(ROOT, "docs")))
     found = {
@@ -135,6 +144,7 @@ def main():
         "crates": wrong_crates("docs/GUIDE.md"),
         "words": wrong_words("docs/DEFINITIONS.md"),
         "links and paths": wrong_places(pages),
+        "tables of statuses": wrong_statuses(["README.md", "docs/PROTOCOL.md"]),
     }
     wrong = [line for lines, _ in found.values() for line in lines]
     for line in wrong:

@@ -103,7 +103,7 @@ static uint64_t start(const char *program, const char *path) {
         dup2(out[1], 1);
         close(in[0]), close(in[1]), close(out[0]), close(out[1]);
         signal(SIGPIPE, SIG_DFL);
-        execl(program, program, path, (char *)NULL);
+        execl(program, program, "serve", path, (char *)NULL);
         fprintf(stderr, "client: %s: %s\n", program, strerror(errno));
         _exit(127);
     }
@@ -161,7 +161,7 @@ static void append_record(const char *word) {
 int main(int count, char **words) {
     if (count < 3) {
         fprintf(stderr, "usage: client PAGEDD FILE [RECORD ..]\n");
-        return 1;
+        return 2;
     }
     unsigned char range[16] = {0};
     uint64_t size = start(words[1], words[2]);

@@ -30,7 +30,7 @@ class Blob:
     def __init__(self, program, path):
         try:
             self.process = subprocess.Popen(
-                [program, path], stdin=subprocess.PIPE, stdout=subprocess.PIPE)
+                [program, "serve", path], stdin=subprocess.PIPE, stdout=subprocess.PIPE)
         except OSError as error:
             raise SystemExit(f"client: {program} can't be started: {error.strerror}")
         self.send(b"\x01")
@@ -87,7 +87,8 @@ def records(content):
 
 def main():
     if len(sys.argv) < 3:
-        raise SystemExit(USAGE)
+        print(USAGE, file=sys.stderr)
+        sys.exit(2)
     blob = Blob(sys.argv[1], sys.argv[2])
     found, end = records(blob.ask(READ, 0, blob.size))
     if end < blob.size:

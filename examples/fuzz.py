@@ -15,14 +15,17 @@ what reader.py finds by docs/FORMAT.md.
 The same SEED and COUNT make the same cases. The exit status is 1 where one fails: it is written with
 as few lines as still fail, and with what the program says of it.
 """
+import argparse
 import os
 import random
+import shutil
 import struct
 import subprocess
 import sys
 import time
 
 import reader
+import usage
 
 HERE = os.path.dirname(os.path.abspath(__file__))
 PROGRAM = os.path.join(HERE, "..", "crates", "conformance", "out", "conformance")
@@ -346,7 +349,18 @@ def main(seed, count, program):
     return 0
 
 
+def words():
+    """The seed, the number of cases, and the program with its words."""
+    parser = usage.parser(__doc__)
+    parser.add_argument("SEED", type=int)
+    parser.add_argument("COUNT", type=usage.count)
+    parser.add_argument("PROGRAM", nargs=argparse.REMAINDER, help="conformance, and its words")
+    given = parser.parse_args()
+    program = given.PROGRAM or [PROGRAM]
+    if not shutil.which(program[0]):
+        parser.error(f"{program[0]} is no program")
+    return given.SEED, given.COUNT, program
+
+
 if __name__ == "__main__":
-    if len(sys.argv) < 3:
-        raise SystemExit(__doc__)
-    sys.exit(main(int(sys.argv[1]), int(sys.argv[2]), sys.argv[3:] or [PROGRAM]))
+    sys.exit(main(*words()))

@@ -11,10 +11,10 @@ fails: what the system was given is still there. `tear.py` is for that.
 import os
 import random
 import struct
-import sys
 import tempfile
 import threading
 
+import usage
 from client import APPEND, BEGIN, READ, SYNC, TRUNCATE
 from served import opened
 
@@ -50,11 +50,12 @@ def work(blob, number, sent, synced, rng):
 
 
 def main():
-    if not 2 <= len(sys.argv) <= 4:
-        raise SystemExit("usage: python3 kill.py PAGEDD [KILLS [SEED]]")
-    program = os.path.abspath(sys.argv[1])
-    kills = int(sys.argv[2]) if len(sys.argv) > 2 else 50
-    rng = random.Random(int(sys.argv[3]) if len(sys.argv) > 3 else 1)
+    parser = usage.parser(__doc__)
+    parser.add_argument("PAGEDD", type=usage.program)
+    parser.add_argument("KILLS", nargs="?", type=usage.count, default=50)
+    parser.add_argument("SEED", nargs="?", type=int, default=1)
+    given = parser.parse_args()
+    program, kills, rng = given.PAGEDD, given.KILLS, random.Random(given.SEED)
     sent, synced, most = b"", 0, 0
     with tempfile.TemporaryDirectory() as folder:
         path = os.path.join(folder, "log")
@@ -81,4 +82,5 @@ def main():
     print(f"{kills} kills: each synced record was there, and at most {most} bytes more")
 
 
-main()
+if __name__ == "__main__":
+    main()

@@ -3,16 +3,24 @@
 P is the page size, and SUM the checksum function: add, const or crc32c. FILE holds the bytes of a
 blob. Without it each line `blob ..` of standard input is read, as `pagedctl` prints its dumps.
 """
+import argparse
 import struct
 import sys
+
+
+def of_byte(state):
+    for _ in range(8):
+        state = state >> 1 ^ (0x82F63B78 if state & 1 else 0)
+    return state
+
+
+TABLE = [of_byte(byte) for byte in range(256)]
 
 
 def crc32c(data):
     state = 0xFFFFFFFF
     for byte in data:
-        state ^= byte
-        for _ in range(8):
-            state = state >> 1 ^ (0x82F63B78 if state & 1 else 0)
+        state = TABLE[(state ^ byte) & 255] ^ state >> 8
     return state ^ 0xFFFFFFFF
 
 
@@ -50,10 +58,22 @@ def show(blob, size, checksum):
     print(f"text: {len(text)} bytes: {text.hex() or '-'}")
 
 
+def words():
+    """What the command line names."""
+    parser = argparse.ArgumentParser(description=__doc__, formatter_class=argparse.RawDescriptionHelpFormatter)
+    parser.add_argument("P", type=int, help="the page size, from 1 to 65535")
+    parser.add_argument("SUM", choices=SUMS, help="the checksum function: add, const or crc32c")
+    parser.add_argument("FILE", nargs="?", type=argparse.FileType("rb"), help="a blob")
+    given = parser.parse_args()
+    if not 1 <= given.P <= 65535:
+        parser.error("a page has from 1 to 65535 bytes")
+    return given.P, SUMS[given.SUM], given.FILE
+
+
 def main():
-    size, checksum = int(sys.argv[1]), SUMS[sys.argv[2]]
-    if len(sys.argv) > 3:
-        with open(sys.argv[3], "rb") as file:
+    size, checksum, file = words()
+    if file:
+        with file:
             show(file.read(), size, checksum)
         return
     for line in sys.stdin:

@@ -15,6 +15,8 @@ memory at once than any case needs, which shows under this heap alone. The progr
 """
 import os, re, subprocess, sys, tempfile, time
 
+import usage
+
 HERE = os.path.dirname(os.path.abspath(__file__))
 
 def main(program, cases):
@@ -38,5 +40,14 @@ def play(program, cases, env):
     lines = ran.stdout.decode().splitlines()
     return lines, lines[-1] if lines else "nothing", time.time() - start, ran.returncode
 
+def words():
+    parser = usage.parser(__doc__)
+    parser.add_argument("CONFORMANCE", type=usage.program)
+    parser.add_argument("CASES", nargs="?", default=f"{HERE}/../crates/conformance/stdin", help="a file of cases")
+    given = parser.parse_args()
+    if not os.path.isfile(given.CASES):
+        parser.error(f"{given.CASES} is no file")
+    return given.CONFORMANCE, given.CASES
+
 if __name__ == "__main__":
-    sys.exit(main(os.path.abspath(sys.argv[1]), sys.argv[2] if len(sys.argv) > 2 else f"{HERE}/../crates/conformance/stdin"))
+    sys.exit(main(*words()))

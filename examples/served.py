@@ -1,6 +1,7 @@
 """A blob that `pagedd` serves with options, for the other scripts."""
 import subprocess
 
+import usage
 from client import Blob
 
 
@@ -16,7 +17,7 @@ class Served(Blob):
     """A blob that is served with these options."""
 
     def __init__(self, program, path, *options):
-        self.process = subprocess.Popen([program, *options, path], stdin=subprocess.PIPE,
+        self.process = subprocess.Popen([program, "serve", *options, path], stdin=subprocess.PIPE,
                                         stdout=subprocess.PIPE, stderr=subprocess.PIPE)
         self.process.stdin.write(b"\x01")
         if self.process.stdout.read(1) != b"\x01":
@@ -43,3 +44,7 @@ def opened(program, path, synced):
         if refused.status != 3 or synced:
             raise SystemExit(f"{synced} bytes were synced, and it is refused: {refused}") from refused
         return Served(program, path, "--cut")
+
+
+if __name__ == "__main__":
+    usage.module("kill.py, tear.py, check.py and faults.py")

@@ -5,20 +5,21 @@ calls left is known, and which of them a sync made durable. A crash may leave th
 any part of what was written since. Such images are made at every call of the run: each byte from a
 state of its own, each sector of 512 bytes, or a front of the newest state. The program is started on
 each image: what it recovers must begin with all that was synced, and be the beginning of what was
-appended. An image of which a byte was synced is never refused, and what is cut of any, where it is
-more than a page, is the end of the image, in a file beside it.
+appended. An image of which a byte was synced is never refused. What may have been synced of any, and
+goes, is in a file beside it, and no other byte is; a line on standard error says so.
 
 It shows that recovery stands such images. It doesn't show that a disk leaves no others.
 """
 import os
 import random
-import sys
 import tempfile
 
+import survey
+import usage
 from client import APPEND, READ, SYNC
 from served import Served, opened
 
-SECTOR, PAGE = 512, 4096
+SECTOR = 512
 
 
 def run(program, path, rng, calls):
@@ -66,29 +67,31 @@ def torn(states, how, rng):
     return bytes(image)
 
 
-def set_aside(path, image, synced):
-    """How many bytes are in the file of what was cut of an image, which is removed; none is 0."""
-    with open(path, "rb") as file:
-        kept = len(file.read())
-    beside = path + ".cut-1"
-    if not os.path.exists(beside):
-        if synced and len(image) - kept > PAGE:
-            raise SystemExit(f"{len(image) - kept} bytes were cut, and none is beside it")
-        return 0
-    with open(beside, "rb") as file:
-        cut = file.read()
-    os.remove(beside)
-    if image[kept:] != cut:
-        raise SystemExit(f"{len(cut)} bytes are beside it, which aren't the end of the image")
-    return len(cut)
+def check_told(path, image, said):
+    """Whether bytes of an image were set aside: just those that may have been synced are in a file beside it, which is
+    removed. What goes, or is copied, is told in one line."""
+    found = survey.survey(image)
+    count, beside = survey.set_aside(found), path + ".cut-1"
+    kept = b""
+    if os.path.exists(beside):
+        with open(beside, "rb") as file:
+            kept = file.read()
+        os.remove(beside)
+    if kept != image[len(image) - count:]:
+        raise SystemExit(f"{path}: {len(kept)} bytes are beside it, and should be the last {count}")
+    lines = 0 if survey.verdict(found) == "whole" else 1
+    if said.count("\n") != lines:
+        raise SystemExit(f"{path}: {lines} lines should tell what goes, and not: {said}")
+    return count > 0
 
 
 def main():
-    if not 2 <= len(sys.argv) <= 4:
-        raise SystemExit("usage: python3 tear.py PAGEDD [IMAGES [SEED]]")
-    program = os.path.abspath(sys.argv[1])
-    images = int(sys.argv[2]) if len(sys.argv) > 2 else 400
-    rng = random.Random(int(sys.argv[3]) if len(sys.argv) > 3 else 1)
+    parser = usage.parser(__doc__)
+    parser.add_argument("PAGEDD", type=usage.program)
+    parser.add_argument("IMAGES", nargs="?", type=usage.count, default=400)
+    parser.add_argument("SEED", nargs="?", type=int, default=1)
+    given = parser.parse_args()
+    program, images, rng = given.PAGEDD, given.IMAGES, random.Random(given.SEED)
     tried, beside = {"byte": 0, "sector": 0, "front": 0}, 0
     with tempfile.TemporaryDirectory() as folder:
         crashes = run(program, os.path.join(folder, "log"), rng, 60)
@@ -102,14 +105,15 @@ def main():
             blob = opened(program, path, synced)
             content = blob.ask(READ, 0, blob.size)
             blob.kill()
-            beside += set_aside(path, image, synced) > 0
+            beside += check_told(path, image, blob.process.stderr.read().decode())
             os.remove(path)
             if content[:synced] != sent[:synced] or content != sent[:len(content)]:
                 raise SystemExit(f"image {number}, by {how}: {len(content)} bytes, {synced} synced")
             tried[how] += 1
     each = ", ".join(f"{count} by {how}" for how, count in tried.items())
-    print(f"{images} images at {len(crashes)} calls, {each}: nothing synced was lost, and what was cut"
-          f" of {beside} is beside them")
+    print(f"{images} images at {len(crashes)} calls, {each}: nothing synced was lost, and what may have"
+          f" been synced of {beside} is beside them")
 
 
-main()
+if __name__ == "__main__":
+    main()
