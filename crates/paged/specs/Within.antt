@@ -10,8 +10,8 @@ use Rattle.paged.specs.declared.within.Refusal.TheVariants.{WouldCut, Failed}
 use Rattle.paged.specs.Outlook.{IsOutlook, is_torn}
 use Rattle.paged.specs.Recovers.{Recovers, GivesId}
 
--- how many bytes at the end go in a recovery: all that it cuts, and those of a torn last page, whose
--- other slot it empties
+-- how many bytes at the end go in a recovery: all that it cuts, and those of a torn last page,
+-- whose other slot it empties
 abbrev pub at_stake : (List ℕ → ℕ) → (P : ℕ) → List ℕ → Outlook → ℕ
 at_stake sum P bytes outlook =
     outlook.cut + (if is_torn sum P bytes outlook then P + 12 else 0)

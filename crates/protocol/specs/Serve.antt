@@ -85,8 +85,8 @@ pub record Answered (sum : List ℕ → ℕ) (setting : Setting) (was now : Sess
   pub takes : Consumes input rest (requests_bytes requests)
   pub answers : Appends out written bytes
 
--- the error that a reply tells; and of some replies that of the only one, and none where there isn't
--- just one
+-- the error that a reply tells; and of some replies that of the only one, and none where there
+-- isn't just one
 abbrev pub fault_of : Reply → Option Error
 fault_of (Fault error) = Some error
 fault_of reply = None
