@@ -9,7 +9,6 @@ It shows what the program keeps when it is killed. It doesn't show what a disk k
 fails: what the system was given is still there. `tear.py` is for that.
 """
 import os
-import random
 import struct
 import tempfile
 import threading
@@ -50,12 +49,7 @@ def work(blob, number, sent, synced, rng):
 
 
 def main():
-    parser = usage.parser(__doc__)
-    parser.add_argument("PAGEDD", type=usage.program)
-    parser.add_argument("KILLS", nargs="?", type=usage.count, default=50)
-    parser.add_argument("SEED", nargs="?", type=int, default=1)
-    given = parser.parse_args()
-    program, kills, rng = given.PAGEDD, given.KILLS, random.Random(given.SEED)
+    program, kills, rng = usage.trials(__doc__, "KILLS", 50)
     sent, synced, most = b"", 0, 0
     with tempfile.TemporaryDirectory() as folder:
         path = os.path.join(folder, "log")

@@ -11,7 +11,6 @@ goes, is in a file beside it, and no other byte is; a line on standard error say
 It shows that recovery stands such images. It doesn't show that a disk leaves no others.
 """
 import os
-import random
 import tempfile
 
 import survey
@@ -86,12 +85,7 @@ def check_told(path, image, said):
 
 
 def main():
-    parser = usage.parser(__doc__)
-    parser.add_argument("PAGEDD", type=usage.program)
-    parser.add_argument("IMAGES", nargs="?", type=usage.count, default=400)
-    parser.add_argument("SEED", nargs="?", type=int, default=1)
-    given = parser.parse_args()
-    program, images, rng = given.PAGEDD, given.IMAGES, random.Random(given.SEED)
+    program, images, rng = usage.trials(__doc__, "IMAGES", 400)
     tried, beside = {"byte": 0, "sector": 0, "front": 0}, 0
     with tempfile.TemporaryDirectory() as folder:
         crashes = run(program, os.path.join(folder, "log"), rng, 60)

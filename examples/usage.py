@@ -1,6 +1,7 @@
 """The command lines of the scripts in this folder. A wrong word ends a script with a usage line and status 2."""
 import argparse
 import os
+import random
 import sys
 
 
@@ -23,6 +24,16 @@ def count(word):
     if number < 0:
         raise ValueError
     return number
+
+
+def trials(text, name, default):
+    """What a script is given that tries `pagedd` so many times: the program, how many, and random numbers by a seed."""
+    made = parser(text)
+    made.add_argument("PAGEDD", type=program)
+    made.add_argument(name, nargs="?", type=count, default=default)
+    made.add_argument("SEED", nargs="?", type=int, default=1)
+    given = vars(made.parse_args())
+    return given["PAGEDD"], given[name], random.Random(given["SEED"])
 
 
 def module(users):
