@@ -54,9 +54,10 @@ impl Model for Mirrored {
 }
 
 impl Mirrored {
-    /// An empty one, over a host whose call of this number fails.
-    pub fn new(alloc: Global, failing: u64) -> io::Result<Box<Mirrored>> {
-        let host = Recorder::new(alloc, failing as usize);
+    /// An empty one, over a host whose call of this number fails, and whose runs have at most so
+    /// many bytes.
+    pub fn new(alloc: Global, failing: u64, room: usize) -> io::Result<Box<Mirrored>> {
+        let host = Recorder::new(alloc, failing as usize, room)?;
         Ok(Box::new(
             alloc,
             Mirrored {

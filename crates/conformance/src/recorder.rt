@@ -1,9 +1,10 @@
 // A host in memory.
-ghost use Rattle.std.specs.Prelude.{◌≡◌, []};
+ghost use Rattle.std.specs.Prelude.{◌≡◌, [], IfOk};
 
-use disk::{Blob, IoBufs, Past, VecBlob, WriteOptions};
-use file::Host;
-use std::alloc::Global;
+use crate::devices::add_copy;
+use disk::{Blob, Error, IoBufs, Past, VecBlob, WriteOptions};
+use file::{Host, Sink, put_runs};
+use std::alloc::{AllocError, Global};
 use std::io;
 use std::io::{ErrorKind, Write};
 use std::marker::Model;
@@ -20,13 +21,60 @@ pub enum Told {
     Sync,
 }
 
-/// A host in memory that notes what it is asked for, and whose call of some number fails, counted
-/// from 1.
+// What a host holds and was asked for. Its call of some number fails, counted from 1.
 #[derive(Drop)]
-pub struct Recorder {
-    medium: VecBlob,
+struct Medium {
+    alloc: Global,
+    blob: VecBlob,
     told: Vec<Told>,
     failing: usize,
+}
+
+impl Medium {
+    // Notes a call, and fails where it is the one.
+    fn note(&mut self, told: Told) -> io::Result<()> {
+        self.told.push(told)?;
+        if self.told.len() == self.failing {
+            return Err(ErrorKind::StorageFull.into());
+        }
+        Ok(())
+    }
+
+    fn write(&mut self, offset: u64, bufs: &IoBufs) -> io::Result<()> {
+        self.note(Told::Put(offset, bufs.len()))?;
+        done(self.blob.write_at(offset, bufs, WriteOptions::default()))
+    }
+
+    fn cut(&mut self, len: u64) -> io::Result<()> {
+        self.note(Told::SetLen(len))?;
+        done(self.blob.resize(len))
+    }
+}
+
+impl Sink for Medium {
+    ghost goes = { λ _ _ _. Unit {0} };
+
+    fn put(&mut self, offset: u64, bytes: &[u8]) -> io::Result<()> {
+        let mut bufs = IoBufs::new(self.alloc);
+        done(add_copy(self.alloc, &mut bufs, bytes))?;
+        self.write(offset, &bufs)
+    }
+}
+
+// What is done in memory fails for want of memory alone.
+fn done(answer: Result<(), Error>) -> io::Result<()> {
+    match answer {
+        Ok(()) => Ok(()),
+        Err(_) => Err(ErrorKind::OutOfMemory.into()),
+    }
+}
+
+/// A host in memory that writes in runs, as a file does, and notes what it is asked for. Its call of
+/// some number fails, counted from 1; each run is a call.
+#[derive(Drop)]
+pub struct Recorder {
+    medium: Medium,
+    gathered: Vec<u8>,
     past: Snapshot<Past>,
 }
 
@@ -40,57 +88,45 @@ impl Model for Recorder {
 }
 
 impl Recorder {
-    /// An empty one.
-    pub fn new(alloc: Global, failing: usize) -> Self
-        ensures { result ≡ [] }
+    /// An empty one, whose runs have at most so many bytes.
+    pub fn new(alloc: Global, failing: usize, room: usize) -> Result<Self, AllocError>
+        ensures { IfOk result (λ host. host ≡ []) }
     {
-        Recorder {
-            medium: VecBlob::new(alloc),
-            told: Vec::new(alloc),
-            failing,
+        Ok(Recorder {
+            medium: Medium {
+                alloc,
+                blob: VecBlob::new(alloc),
+                told: Vec::new(alloc),
+                failing,
+            },
+            gathered: Vec::with_capacity(alloc, room)?,
             past: Past::begun(&Vec::new(alloc)),
-        }
+        })
     }
 
     /// The bytes that it holds.
     pub fn bytes(&self) -> &[u8] {
-        self.medium.bytes()
+        self.medium.blob.bytes()
     }
 
     /// What it was asked for.
     pub fn told(&self) -> &[Told] {
-        &self.told
+        &self.medium.told
     }
 
-    // Notes a call, and fails where it is the one.
-    fn note(&mut self, told: Told) -> io::Result<()>
-        ensures { self.new ≡ self.old }
-    {
-        self.told.push(told)?;
-        if self.told.len() == self.failing {
-            return Err(ErrorKind::StorageFull.into());
-        }
-        Ok(())
-    }
-
+    // A write of no byte is a call too.
     fn write(&mut self, offset: u64, bufs: &IoBufs) -> io::Result<()>
         ensures { self.new ≡ self.old }
     {
-        self.note(Told::Put(offset, bufs.len()))?;
-        match self.medium.write_at(offset, bufs, WriteOptions::default()) {
-            Ok(()) => Ok(()),
-            Err(_) => Err(ErrorKind::OutOfMemory.into()),
+        if bufs.is_empty() {
+            return self.medium.write(offset, bufs);
         }
-    }
-
-    fn cut(&mut self, len: u64) -> io::Result<()>
-        ensures { self.new ≡ self.old }
-    {
-        self.note(Told::SetLen(len))?;
-        match self.medium.resize(len) {
-            Ok(()) => Ok(()),
-            Err(_) => Err(ErrorKind::OutOfMemory.into()),
-        }
+        put_runs(
+            &mut self.medium,
+            &mut self.gathered,
+            offset,
+            bufs.as_slice(),
+        )
     }
 }
 
@@ -104,13 +140,13 @@ impl Host for Recorder {
     }
 
     fn set_len(&mut self, len: u64) -> io::Result<()> {
-        let result = self.cut(len);
+        let result = self.medium.cut(len);
         self.past = Past::resize(&self.past, len, result.is_err());
         result
     }
 
     fn sync(&mut self) -> io::Result<()> {
-        let result = self.note(Told::Sync);
+        let result = self.medium.note(Told::Sync);
         self.past = Past::sync(&self.past, result.is_err());
         result
     }

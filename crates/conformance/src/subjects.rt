@@ -35,13 +35,14 @@ enum Kind {
     View,
 }
 
-const KINDS: [Form<Kind>; 12] = [
+const KINDS: [Form<Kind>; 13] = [
     (b"cases", &[], Kind::Cases),
     (b"scripts", &[], Kind::Scripts),
     (b"requests", &[], Kind::Requests),
     (b"memory", &[], Kind::Memory),
     (b"plain", &[], Kind::Plain),
     (b"mirror", &[Number], Kind::Mirror),
+    (b"mirror", &[Number, Number], Kind::Mirror),
     (b"journal", &[Word], Kind::Journal),
     (b"journal", &[Word, Number, Number, Number], Kind::Journal),
     (b"buffer", &[Number, Number, Number], Kind::Buffer),
@@ -114,9 +115,10 @@ fn over_device(
         Kind::Memory => play_made(alloc, Memory::new(alloc, &bytes), case, refuses, told),
         Kind::Plain => play_made(alloc, Plain::new(alloc, bytes), case, refuses, told),
         Kind::Requests => play_made(alloc, Server::new(alloc, bytes), case, refuses, told),
-        // (the host's call of a number fails)
+        // (the host's call of a number fails; its runs have 16 bytes at most where none is told)
         _ => {
-            let made = Mirrored::new(alloc, words.number(0));
+            let room = words.numbers.get(1).copied().unwrap_or(16);
+            let made = Mirrored::new(alloc, words.number(0), room as usize);
             play_made(alloc, made, case, refuses, told)
         }
     }
