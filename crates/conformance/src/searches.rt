@@ -35,7 +35,7 @@ fn scanned(
     buffer_size: NonZeroUsize,
 ) -> Result<Prefix, Error> {
     let pages = count(blob, page_size)?;
-    scan::<MemBlob, AddSum>(alloc, blob, page_size, pages, buffer_size)
+    scan::<MemBlob, AddSum>(alloc, blob, page_size, pages, buffer_size, &mut None)
 }
 
 fn searched(alloc: Global, blob: &mut MemBlob, page_size: NonZeroU16) -> Result<Prefix, Error> {

@@ -32,6 +32,7 @@ use Rattle.paged.specs.Flush.{has_work, synced}
 use Rattle.page.specs.Geometry.{adjusted}
 use Rattle.paged_read.specs.Ranges.{page_at}
 use Rattle.paged_read.specs.Prefix.{prefix_of, prefix_pages, prefix_size, partial_pages, tip_of}
+use Rattle.paged_read.specs.Scans.{text_of_first}
 use Rattle.paged.specs.Reads.{size_of}
 use Rattle.paged.specs.Calls.{WaitsForNone, HadFailed}
 use Rattle.paged.specs.Truncate.{IsCut, IsTruncated, SoundAndKept, TruncateCause, Truncates, cut_writer, cut_bytes, shortened_writer}
@@ -111,6 +112,20 @@ module _ (sum : List ℕ → ℕ) (cache : CacheState) (capacity : ℕ) (old mid
       is
       ∙ ap (λ (l : List (List ℕ)). prefix_of sum page_size l) (sym (pages_whole page_size count mid.present.readable (counted_length count page_size same counted)))
       ∙ ap (λ (n : ℕ). prefix_of sum n (pages n mid.present.readable)) same
+
+  -- and the text of those pages, which is that of all that there was
+  pub kept_is : (count page_size : ℕ) → 0 < cache.page_size → page_size ≡ cache.page_size → count ≡ w.full_pages + slot_pages w.flushed
+      → text_of_first sum page_size count mid.present.readable ≡ text sum cache.page_size old.present.readable
+  kept_is count page_size some same counted =
+      ap (λ (l : List (List ℕ)). text_of_pages sum page_size l) (sym (pages_whole page_size count mid.present.readable (counted_length count page_size same counted)))
+      ∙ ap (λ (n : ℕ). text_of_pages sum n (pages n mid.present.readable)) same
+      ∙ ap (λ (l : List ℕ). text sum cache.page_size l) opened_readable
+      ∙ opened_says sum cache.page_size old.present.readable some
+
+-- what holds whatever was answered holds of what was
+pub on_ok : {A E : Type 0} {Q : Type 0} (result : Result A E) → Q → OnOk result Q
+on_ok (Ok a) holds = holds
+on_ok (Err e) holds = tt
 
 -- a prefix has no more pages than there are
 pub found_within : (sum : List ℕ → ℕ) (P count : ℕ) (bytes : List ℕ) (p : Prefix) → p ≡ prefix_of sum P (pieces count (P + 12) bytes) → prefix_pages p ≤ count

@@ -20,7 +20,7 @@ mod within;
 mod writer;
 
 pub use outlook::{Outlook, look, survey};
-pub use recovery::recover;
+pub use recovery::{recover, recover_keeping};
 pub use start::wait_sync;
 pub use verdict::{Survey, Verdict};
 pub use within::{Refusal, recover_within};

@@ -16,6 +16,7 @@ ghost use Rattle.paged.specs.Mends.{Empties, KeepsPages};
 ghost use Rattle.paged.specs.Truncate.{WritesSlot};
 ghost use Rattle.paged.specs.Recovers.{Recovers, GivesId};
 ghost use Rattle.paged_read.specs.Backward.{ReadsBack};
+ghost use Rattle.paged_read.specs.Hand.{IsEmptyHand, kept_with};
 ghost use Rattle.paged_read.specs.Searches.{ReadsWithin, scan_bytes};
 ghost use Rattle.page.specs.Page.{text};
 ghost use Rattle.paged.specs.Reads.{HasPages};
@@ -30,7 +31,7 @@ use crate::{Recovery, Writer};
 use cache::CacheRef;
 use disk::{Blob, Error, IoBuf, IoBufs, WriteOptions};
 use page::{ActiveChecksum, Buffer, Checksum, Slot, Sum, adjusted_capacity};
-use paged_read::{Partial, Prefix, last_pages, pages_of, physical_page_size, scan};
+use paged_read::{Hand, Partial, Prefix, last_pages, pages_of, physical_page_size, scan};
 use std::alloc::Global;
 use std::marker::PhantomData;
 use std::num::{NonZeroU16, NonZeroUsize};
@@ -368,9 +369,72 @@ pub fn recover<B: Blob, H: Sum>(
     ensures reads { let old = B.life blob.old in let new = B.life blob.new in
         ReadsWithin (scan_bytes cache.old.page_size (non_zero_usize_get buffer_size)) old new }
 {
+    recover_keeping::<B, H>(alloc, blob, size, capacity, cache, buffer_size, &mut None)
+}
+
+/// Recovers a blob as [`recover`] does, and keeps the content as it is read: where `kept` is some,
+/// it holds nothing yet, of pages of the cache's size, and holds the recovered content then, in
+/// what was read, without a copy. After an error what it holds says nothing.
+///
+/// Errors are those of [`recover`].
+pub fn recover_keeping<B: Blob, H: Sum>(
+    alloc: Global,
+    blob: &mut B,
+    size: u64,
+    capacity: usize,
+    cache: &mut CacheRef,
+    buffer_size: NonZeroUsize,
+    kept: &mut Option<Hand>,
+) -> Result<Recovery<B, H>, Error>
+    requires length { size ≡ length (B.life blob.old).present.readable }
+    requires empty { IsEmptyHand cache.old.page_size kept.old }
+    ensures recovers { let old = B.life blob.old in let new = B.life blob.new in
+        Recovers H.sum_of cache.old capacity old new result }
+    ensures overflow { 2 ^ 64 ≤ adjusted capacity cache.old.page_size
+        → result ≡ Err Error.OffsetOverflow }
+    ensures sound { IfOk result (λ w. IsSound H.sum_of w (B.life blob.new).present) }
+    ensures there { IfOk result (λ w. HasPages w (B.life blob.new)) }
+    ensures within { IfOk result (λ w. HoldsWithin w) }
+    ensures id { IfOk result (λ w. w.id ≡ cache.old.ids_given) }
+    ensures ids { GivesId result cache.old cache.new }
+
+    // Nothing is held under a new id, so reads may begin.
+    ensures can_read { IsFresh cache.old
+        → IfOk result (λ w. CanRead (tail_of w) cache.new (B.life blob.new).present) }
+    ensures fresh_ids { IsFresh cache.old → IsFresh cache.new }
+
+    // What reads of other blobs stand on.
+    ensures others { LeavesReads cache.old cache.new }
+
+    // From then on every image keeps the whole text.
+    ensures durable { let old = B.life blob.old in let new = B.life blob.new in
+        let all = text H.sum_of cache.old.page_size old.present.readable in
+        OnOk result (KeepsAll H.sum_of cache.old.page_size all new) }
+
+    // Once it has answered, no slot of the tip's page is bad, durably.
+    ensures mended { let new = B.life blob.new in
+        IfOk result (λ w. TailIsMended H.sum_of w new.present.base) }
+
+    // At each moment since the call began, and at every answer.
+    ensures floors { let old = B.life blob.old in let new = B.life blob.new in
+        KeepsAllFloors H.sum_of cache.old.page_size old new }
+
+    // The same, where all was durable.
+    ensures kept { KeepsText H.sum_of cache.old.page_size (B.life blob.old) (B.life blob.new) }
+    ensures only { LeavesText H.sum_of cache.old.page_size (B.life blob.old) (B.life blob.new) }
+
+    // No read has more pages than fit `buffer_size`, but for one page.
+    ensures reads { let old = B.life blob.old in let new = B.life blob.new in
+        ReadsWithin (scan_bytes cache.old.page_size (non_zero_usize_get buffer_size)) old new }
+
+    // The content, of which no page is read again.
+    ensures kept_text { let old = B.life blob.old in
+        let all = text H.sum_of cache.old.page_size old.present.readable in
+        OnOk result (kept.new ≡ kept_with all kept.old) }
+{
     let recovery = Recovery::<B, H>::open(alloc, blob, size, capacity, cache)?;
     let pages = recovery.flushed_pages();
-    let prefix = scan::<B, H>(alloc, blob, recovery.page_size, pages, buffer_size)?;
+    let prefix = scan::<B, H>(alloc, blob, recovery.page_size, pages, buffer_size, kept)?;
     let text_size = size_of(&prefix, recovery.page_size);
     recovery.truncate(blob, cache, text_size)
 }

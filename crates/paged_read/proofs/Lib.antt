@@ -27,3 +27,4 @@ pub mod ReplayExamples
 pub mod OutlivingReplays
 pub mod Scanning
 pub mod RawReading
+pub mod Keeping

@@ -301,18 +301,22 @@ module _ (sum : List ℕ → ℕ) (P : ℕ) where
     abbrev rest : List ℕ
     rest = drop (k * (P + 12)) readable
 
-    abbrev front : List (List ℕ)
+    abbrev pub front : List (List ℕ)
     front = pieces b (P + 12) (drop (k * (P + 12)) readable)
 
-    abbrev back : List (List ℕ)
+    abbrev pub back : List (List ℕ)
     back = pieces (n - (k + b)) (P + 12) (drop ((k + b) * (P + 12)) readable)
 
-    front_is : q ≡ prefix_of sum P front
-    front_is =
+    -- these bytes are pages
+    pub pages_are : pages P bytes ≡ front
+    pages_are =
         let reach : b * (P + 12) ≤ length rest = omega (arith, batch.fits, length-drop (k * (P + 12)) readable) in
-        batch.prefix ∙ ap (λ (l : List (List ℕ)). prefix_of sum P l) (ap (λ (l : List ℕ). pages P l) batch.read ∙ pages_of_take P b rest reach ∙ take-pages P b rest reach)
+        ap (λ (l : List ℕ). pages P l) batch.read ∙ pages_of_take P b rest reach ∙ take-pages P b rest reach
 
-    split : pieces (n - k) (P + 12) rest ≡ front ++ back
+    pub front_is : q ≡ prefix_of sum P front
+    front_is = batch.prefix ∙ ap (λ (l : List (List ℕ)). prefix_of sum P l) pages_are
+
+    pub split : pieces (n - k) (P + 12) rest ≡ front ++ back
     split =
         ap (λ (m : ℕ). pieces m (P + 12) rest) (let e : n - k ≡ b + (n - (k + b)) = omega arith in e)
         ∙ pieces-add b (n - (k + b)) (P + 12) rest

@@ -45,7 +45,7 @@ module _ (sum : List ℕ → ℕ) (P : ℕ) where
   ]
 
   -- the bytes of a value are as many as are told
-  part_size : (page : List ℕ) (slot : Option ActiveChecksum) → active sum P page ≡ slot → length (tip_of (value_and_slot slot page)) ≡ length (take (value_len sum P page) page)
+  pub part_size : (page : List ℕ) (slot : Option ActiveChecksum) → active sum P page ≡ slot → length (tip_of (value_and_slot slot page)) ≡ length (take (value_len sum P page) page)
   part_size page None is = ap (λ (n : ℕ). length (take n page)) (sym (active_none sum P page is))
   part_size page (Some s) is = ap (λ (n : ℕ). length (take n page)) (active_is sum P page s is).len
 

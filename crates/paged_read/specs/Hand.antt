@@ -1,7 +1,7 @@
 -- The bytes that a replay has at hand: the payloads of pages that were read.
 use Rattle.std.specs.Prelude.{◌≡◌, ◌≤◌, ◌<◌, ◌+◌, ◌/◌, ◌^◌, ◌++◌, ℕ, List, [], ◌∷◌, length, take}
 use Rattle.std.specs.Prelude.{drop}
-use Rattle.std.specs.Prelude.{All}
+use Rattle.std.specs.Prelude.{All, Option, Some, None}
 use Rattle.std.specs.List.{flat_map}
 use Rattle.page.specs.Page.{pieces}
 
@@ -39,3 +39,19 @@ pub record IsHand (P : ℕ) (all : List (List ℕ)) (start left remaining : ℕ)
 pub record HandState : Type 0 where
   pub page_size : ℕ
   pub bytes : List ℕ
+
+-- what a caller gives that wants the bytes of pages of this size: nothing yet. One that doesn't
+-- gives None
+abbrev pub IsEmptyHand : (P : ℕ) → Option HandState → Type 0
+IsEmptyHand P None = Unit {0}
+IsEmptyHand P (Some hand) = hand ≡ record { page_size = P; bytes = [] }
+
+-- these bytes more, for a caller that wants them
+abbrev pub kept_with : List ℕ → Option HandState → Option HandState
+kept_with more None = None
+kept_with more (Some hand) = Some (record hand { bytes = hand.bytes ++ more })
+
+-- such a caller has pages of this size, and room for so many bytes more
+abbrev pub HasRoom : (P more : ℕ) → Option HandState → Type 0
+HasRoom P more None = Unit {0}
+HasRoom P more (Some hand) = (hand.page_size ≡ P) × (length hand.bytes + more < 2 ^ 64)

@@ -28,7 +28,7 @@ pub struct TooFew {
 /// The payloads of pages that were read, without the footers between them: runs of physical pages,
 /// taken from the front.
 #[derive(Drop)]
-pub(crate) struct Hand {
+pub struct Hand {
     alloc: Global,
     page_size: NonZeroU16,
     // Whole physical pages each, or the bytes of a page that has no footer; none is empty.

@@ -18,7 +18,7 @@ mod sealed;
 mod search;
 mod view;
 
-pub use hand::TooFew;
+pub use hand::{Hand, TooFew};
 pub use prefix::{Partial, Prefix};
 pub use raw::{read_range, read_tail};
 pub use replay::Replay;

@@ -1,15 +1,18 @@
 // Looking through the pages of a blob.
 ghost use Rattle.std.specs.Prelude.{◌≡◌, ◌==◌, ◌+◌, ◌-◌, ◌*◌, ◌≤◌, ◌<◌, ◌^◌, ℕ, length, take, drop};
-ghost use Rattle.std.specs.Prelude.{slice_index, Ok, IfOk, IsOkUnless, MatchOption, None};
+ghost use Rattle.std.specs.Prelude.{slice_index, Ok, IfOk, IsOkUnless, MatchOption, None, OnOk};
 ghost use Rattle.std.specs.Int.NonZero.{non_zero_u16_get, non_zero_usize_get};
-ghost use Rattle.page.specs.Page.{active, pages, pieces};
+ghost use Rattle.page.specs.Page.{active, pages, pieces, text, text_of_pages};
 ghost use Rattle.crash.specs.Built.{kept_len};
 ghost use Rattle.paged_read.specs.Prefix.{prefix_of, last_prefix, prefix_pages, value_and_slot};
-ghost use Rattle.paged_read.specs.Prefix.{HasBytes, bad_in};
-ghost use Rattle.paged_read.specs.Scans.{LooksThrough, prefix_from, ReadsForward};
+ghost use Rattle.paged_read.specs.Prefix.{HasBytes, bad_in, tip_of};
+ghost use Rattle.paged_read.specs.Hand.{HasRoom, IsEmptyHand, kept_with};
+ghost use Rattle.paged_read.specs.Scans.{LooksThrough, pages_from, prefix_from, ReadsForward};
+ghost use Rattle.paged_read.specs.Scans.{text_of_first};
 ghost use Rattle.paged_read.specs.Searches.{Finds, FindsLast, ReadsWithin, scan_bytes};
 ghost use Rattle.paged_read.specs.Backward.{ReadsBack};
 
+use crate::hand::Hand;
 use crate::prefix::{Partial, Prefix};
 use disk::{Blob, Error, IoBuf, ReadOptions};
 use page::{ActiveChecksum, CHECKSUM_SIZE, Checksum, Slot, Sum};
@@ -89,10 +92,43 @@ pub(crate) fn leading_pages<H: Sum>(page_size: NonZeroU16, bytes: &IoBuf) -> Res
     })
 }
 
+/// How many bytes a value has; none where there is none.
+fn value_len(partial: &Partial) -> usize
+    ensures { result ≡ length (tip_of partial.now) }
+{
+    match partial {
+        None => 0,
+        Some((value, _)) => value.len(),
+    }
+}
+
+/// Adds the values of these pages, whose prefix this is, to the bytes that are kept, where a caller
+/// wants them: shared with what was read. `OutOfMemory` alone.
+fn keep<H: Sum>(
+    kept: &mut Option<Hand>,
+    page_size: NonZeroU16,
+    bytes: &IoBuf,
+    prefix: &Prefix,
+) -> Result<(), Error>
+    requires prefix { let P = non_zero_u16_get page_size in
+        prefix.now ≡ prefix_of H.sum_of P (pages P bytes.now) }
+    requires room { HasRoom (non_zero_u16_get page_size) (length bytes.now) kept.old }
+    ensures kept { let P = non_zero_u16_get page_size in
+        OnOk result (kept.new ≡ kept_with (text H.sum_of P bytes.now) kept.old) }
+    ensures err { IsOkUnless result Error.OutOfMemory }
+{
+    let Some(hand) = kept else {
+        return Ok(());
+    };
+    let full = prefix.full_pages as usize * physical_page_size(page_size) as usize;
+    hand.push(bytes.slice(0, full + value_len(&prefix.partial))?, 0)
+}
+
 /// Looks through the first `pages` pages of a blob, which has them, from the first one on: how many
 /// are full, of `page_size` logical bytes, up to the first that isn't, and the value of that one.
 /// Each read is of at most as many whole pages as fit `buffer_size` bytes, and at least one; pages
-/// after those of the read in which the search ends aren't read.
+/// after those of the read in which the search ends aren't read. Where `kept` is some, it holds
+/// nothing yet, and gets the values, one after the other: they share what was read.
 ///
 /// `ReadFailed` where the device failed, `OutOfMemory`. The blob is only read, also where it fails.
 pub fn scan<B: Blob, H: Sum>(
@@ -101,10 +137,12 @@ pub fn scan<B: Blob, H: Sum>(
     page_size: NonZeroU16,
     pages: u64,
     buffer_size: NonZeroUsize,
+    kept: &mut Option<Hand>,
 ) -> Result<Prefix, Error>
     requires there { let old = B.life blob.old in let P = non_zero_u16_get page_size in
         pages * (P + 12) ≤ length old.present.readable }
     requires fits { pages * (non_zero_u16_get page_size + 12) < 2 ^ 64 }
+    requires empty { IsEmptyHand (non_zero_u16_get page_size) kept.old }
     ensures finds { let old = B.life blob.old in let new = B.life blob.new in
         let P = non_zero_u16_get page_size in
         Finds (prefix_of H.sum_of P (pieces pages (P + 12) old.present.readable)) old new result }
@@ -113,9 +151,12 @@ pub fn scan<B: Blob, H: Sum>(
     ensures reads { let old = B.life blob.old in let new = B.life blob.new in
         let P = non_zero_u16_get page_size in
         ReadsWithin (scan_bytes P (non_zero_usize_get buffer_size)) old new }
+    ensures kept { let old = B.life blob.old in let P = non_zero_u16_get page_size in
+        OnOk result (kept.new
+        ≡ kept_with (text_of_first H.sum_of P pages old.present.readable) kept.old) }
 {
     let options = ReadOptions::default();
-    scan_from::<B, H>(alloc, blob, page_size, 0, pages, buffer_size, options)
+    scan_keeping::<B, H>(alloc, blob, page_size, 0, pages, buffer_size, options, kept)
 }
 
 /// The same from the page `first` on, where those before it count as full, and aren't read; with
@@ -147,6 +188,51 @@ pub fn scan_from<B: Blob, H: Sum>(
         → (result ≡ Ok (record { full_pages = pages; partial = None }))
         × (B.life blob.new ≡ B.life blob.old) }
 {
+    let kept = &mut None;
+    scan_keeping::<B, H>(
+        alloc,
+        blob,
+        page_size,
+        first,
+        pages,
+        buffer_size,
+        options,
+        kept,
+    )
+}
+
+/// The same, and adds the values of the pages that it reads to those that are kept.
+fn scan_keeping<B: Blob, H: Sum>(
+    alloc: Global,
+    blob: &mut B,
+    page_size: NonZeroU16,
+    first: u64,
+    pages: u64,
+    buffer_size: NonZeroUsize,
+    options: ReadOptions,
+    kept: &mut Option<Hand>,
+) -> Result<Prefix, Error>
+    requires order { first ≤ pages }
+    requires fits { pages * (non_zero_u16_get page_size + 12) < 2 ^ 64 }
+    requires empty { IsEmptyHand (non_zero_u16_get page_size) kept.old }
+    ensures finds { let old = B.life blob.old in let new = B.life blob.new in
+        let P = non_zero_u16_get page_size in
+        LooksThrough (pages * (P + 12)) (prefix_from H.sum_of P first pages old.present.readable)
+        old new result }
+    ensures bytes { let old = B.life blob.old in let P = non_zero_u16_get page_size in
+        IfOk result (λ p. HasBytes P p.full_pages old.present.readable p.partial) }
+    ensures reads { let old = B.life blob.old in let new = B.life blob.new in
+        let P = non_zero_u16_get page_size in
+        let most = scan_bytes P (non_zero_usize_get buffer_size) in
+        ReadsForward most (first * (P + 12)) (pages * (P + 12)) old new }
+    ensures idle { first ≡ pages
+        → (result ≡ Ok (record { full_pages = pages; partial = None }))
+        × (B.life blob.new ≡ B.life blob.old) }
+    ensures kept { let old = B.life blob.old in let P = non_zero_u16_get page_size in
+        let more = text_of_pages H.sum_of P (pages_from P (pages - first) first
+        old.present.readable) in
+        OnOk result (kept.new ≡ kept_with more kept.old) }
+{
     let size = physical_page_size(page_size);
     let most = (buffer_size.get() as u64 / size).max(1);
     let mut done = first;
@@ -154,6 +240,7 @@ pub fn scan_from<B: Blob, H: Sum>(
         let batch = most.min(pages - done);
         let bytes = blob.read_at(alloc, done * size, (batch * size) as usize, options)?;
         let prefix = leading_pages::<H>(page_size, &bytes)?;
+        keep::<H>(kept, page_size, &bytes, &prefix)?;
         if prefix.full_pages < batch {
             return Ok(Prefix {
                 full_pages: done + prefix.full_pages,

@@ -16,11 +16,11 @@ returns-clause-finds g c =
     let n = c.args.pages in
     let old = g.B.Blob.life c.args.blob.now in
     let readable = old.present.readable in
-    look_finds (n * (P + 12)) (prefix_from sum P 0 n readable) (prefix_of sum P (pieces n (P + 12) readable)) old (g.B.Blob.life c.scan_from.new.blob) c.scan_from.result
-    c.requires.there (sym (stands_first sum P n readable)) c.scan_from.ensures.finds
+    look_finds (n * (P + 12)) (prefix_from sum P 0 n readable) (prefix_of sum P (pieces n (P + 12) readable)) old (g.B.Blob.life c.scan_keeping.new.blob) c.scan_keeping.result
+    c.requires.there (sym (stands_first sum P n readable)) c.scan_keeping.ensures.finds
 
 pub returns-clause-reads : goal.returns-clause-reads
 returns-clause-reads g c =
     let P = non_zero_u16_get c.args.page_size in
-    forward_is_within (scan_bytes P (non_zero_usize_get c.args.buffer_size)) (0 * (P + 12)) (c.args.pages * (P + 12)) (g.B.Blob.life c.args.blob.now) (g.B.Blob.life c.scan_from.new.blob)
-    c.scan_from.ensures.reads
+    forward_is_within (scan_bytes P (non_zero_usize_get c.args.buffer_size)) (0 * (P + 12)) (c.args.pages * (P + 12)) (g.B.Blob.life c.args.blob.now) (g.B.Blob.life c.scan_keeping.new.blob)
+    c.scan_keeping.ensures.reads

@@ -4,7 +4,8 @@ use Rattle.crash.specs.Looks.{Looked}
 use Rattle.paged_read.specs.Scans.{prefix_from}
 use Rattle.paged_read.proofs.Prefixes.{StandsAt}
 use Rattle.paged_read.proofs.Forward.{ReadsTo}
-use Rattle.paged_read.proofs.search.scan_from.Given as goal
+use Rattle.paged_read.proofs.Keeping.{KeptTo}
+use Rattle.paged_read.proofs.search.scan_keeping.Given as goal
 
 abbrev pub invariant-loop-done : goal.invariant-loop-done
 invariant-loop-done g l =
@@ -19,6 +20,7 @@ invariant-loop-done g l =
       stands : StandsAt sum P (prefix_from sum P l.first l.pages old.present.readable) l.pages l.done old.present.readable;
       looked : Looked old now;
       none : l.done ≡ l.first → now ≡ old;
+      kept : KeptTo sum P l.first l.pages l.done old.present.readable l.initial.kept l.kept;
       reads : ReadsTo (l.most * (P + 12)) (l.first * (P + 12)) (l.done * (P + 12)) old now;
     }
 

@@ -1,6 +1,6 @@
 use Rattle.paged.proofs.OpenedReads.{opened_fits, gives_id, looked_reads, cut_reads, recovered_id, gives_others}
 use Rattle.paged.specs.Caches.{tail_of}
-use Rattle.std.proofs.Common.{◌≡◌, ◌≤◌, ◌+◌, ◌*◌, ℕ, length, ◌∙◌, ap, arith, refl, subst, inr}
+use Rattle.std.proofs.Common.{◌≡◌, ◌≤◌, ◌+◌, ◌*◌, ℕ, List, length, ◌∙◌, ap, arith, refl, subst, sym, inr}
 use Rattle.std.proofs.lemmas.Result.{err_from_is_err_and}
 use Rattle.std.proofs.Math.Nat.{mul-le-mul_left}
 use Rattle.std.specs.Int.NonZero.{non_zero_u16_get, non_zero_usize_get}
@@ -9,16 +9,17 @@ use Rattle.page.specs.Page.{pieces, text}
 use Rattle.paged_read.specs.Prefix.{prefix_of, prefix_pages}
 use Rattle.paged.specs.Recovers.{Recovers}
 use Rattle.paged.proofs.Recoveries.{opened_size_le, finds_cause}
-use Rattle.paged.proofs.Recovered.{counted_length, opened_length, opened_page_size, opened_positive, found_is, found_within, found_short, counted_text, no_work, CutToText, scanned_length, scanned_as_opened, recovers_unfound, recovers_end, recovers_keep}
+use Rattle.paged.proofs.Recovered.{counted_length, kept_is, on_ok, opened_length, opened_page_size, opened_positive, found_is, found_within, found_short, counted_text, no_work, CutToText, scanned_length, scanned_as_opened, recovers_unfound, recovers_end, recovers_keep}
 use Rattle.paged.proofs.MendedTails.{recovers_mended}
 use Rattle.paged.proofs.Trims.{Owes, scanned_owe, recovers_owe, finds_looked}
 use Rattle.paged_read.specs.Searches.{ReadsWithin, scan_bytes}
 use Rattle.paged_read.proofs.Backward.{back_within, scans_within}
 use Rattle.paged_read.proofs.Searching.{page_within, cuts_within}
+use Rattle.paged_read.specs.Hand.{IsEmptyHand, kept_with}
 use Rattle.paged.proofs.There.{recovered_sound}
-use Rattle.paged.proofs.recovery.recover.Given.{Over}
-use Rattle.paged.proofs.recovery.recover.Goals as goal
-use Rattle.paged.proofs.recovery.recover.Goals.{In_err-prefix, After-scan, After-size_of-text_size, After-truncate}
+use Rattle.paged.proofs.recovery.recover_keeping.Given.{Over}
+use Rattle.paged.proofs.recovery.recover_keeping.Goals as goal
+use Rattle.paged.proofs.recovery.recover_keeping.Goals.{In_err-prefix, After-scan, After-size_of-text_size, After-truncate}
 
 pub scan-requires-clause-there : goal.scan-requires-clause-there
 scan-requires-clause-there g c =
@@ -45,6 +46,16 @@ scan-requires-clause-fits g c =
     let Q = non_zero_u16_get c.recovery.inside.page_size in
     let same : Q ≡ cache.page_size = ap (λ (x : WriterState). x.page_size) c.recovery.view_is ∙ opened_page_size sum cache c.args.capacity old mid w opened in
     omega (arith, counted_length sum cache c.args.capacity old mid w opened c.flushed_pages-pages.result Q same c.flushed_pages-pages.ensures, opened_length sum cache c.args.capacity old mid w opened, opened_size_le sum cache.page_size old.present.readable)
+
+pub scan-requires-clause-empty : goal.scan-requires-clause-empty
+scan-requires-clause-empty g c =
+    let life = g.B.Blob.life in
+    let sum = g.H.Sum.sum_of in
+    let cache = c.args.cache.now in
+    let w = c.in_ok-recovery.recovery in
+    let Q = non_zero_u16_get c.recovery.inside.page_size in
+    let same : Q ≡ cache.page_size = ap (λ (x : WriterState). x.page_size) c.recovery.view_is ∙ opened_page_size sum cache c.args.capacity (life c.args.blob.now) (life c.open.new.blob) w c.in_ok-recovery.ensures.opens in
+    subst (λ (n : ℕ). IsEmptyHand n c.args.kept.now) (sym same) c.requires.empty
 
 pub size_of-text_size-requires-clause-fits : goal.size_of-text_size-requires-clause-fits
 size_of-text_size-requires-clause-fits g c =
@@ -287,3 +298,18 @@ returns-clause-can_read g c = λ fresh.
 pub returns-clause-others : goal.returns-clause-others
 returns-clause-others g c =
     gives_others c.truncate.result c.args.cache.now c.truncate.new.cache (returns-clause-ids g c)
+
+pub returns-clause-kept_text : goal.returns-clause-kept_text
+returns-clause-kept_text g c =
+    let life = g.B.Blob.life in
+    let sum = g.H.Sum.sum_of in
+    let cache = c.args.cache.now in
+    let old = life c.args.blob.now in
+    let mid = life c.open.new.blob in
+    let w = c.in_ok-recovery.recovery in
+    let opened = c.in_ok-recovery.ensures.opens in
+    let Q = non_zero_u16_get c.recovery.inside.page_size in
+    let is = ap (λ (x : WriterState). x.page_size) c.recovery.view_is in
+    let same : Q ≡ cache.page_size = is ∙ opened_page_size sum cache c.args.capacity old mid w opened in
+    let some = opened_positive sum cache c.args.capacity old mid w opened Q c.recovery.inside.page_size.ok is in
+    on_ok c.truncate.result (c.in_ok-prefix.ensures.kept ∙ ap (λ (l : List ℕ). kept_with l c.args.kept.now) (kept_is sum cache c.args.capacity old mid w opened c.flushed_pages-pages.result Q some same c.flushed_pages-pages.ensures))

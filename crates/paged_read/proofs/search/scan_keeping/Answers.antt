@@ -9,10 +9,11 @@ use Rattle.crash.proofs.LookLaws.{read_gives}
 use Rattle.paged_read.proofs.Looking.{looked_on, read_there, look_fault, look_memory}
 use Rattle.paged_read.specs.Searches.{scan_bytes}
 use Rattle.paged_read.proofs.Forward.{forward_start, forward_end, forward_batch, next_batch}
+use Rattle.paged_read.proofs.Keeping.{kept_ended, kept_fits, kept_from, kept_on}
 use Rattle.paged_read.proofs.Searching.{scan_bytes_is}
-use Rattle.paged_read.proofs.search.scan_from.Given.{Over}
-use Rattle.paged_read.proofs.search.scan_from.Goals as goal
-use Rattle.paged_read.proofs.search.scan_from.Goals.{After-read_at}
+use Rattle.paged_read.proofs.search.scan_keeping.Given.{Over}
+use Rattle.paged_read.proofs.search.scan_keeping.Goals as goal
+use Rattle.paged_read.proofs.search.scan_keeping.Goals.{After-read_at}
 
 pub returns-in_err-bytes-clause-finds : goal.returns-in_err-bytes-clause-finds
 returns-in_err-bytes-clause-finds g c =
@@ -35,6 +36,54 @@ returns-in_err-prefix-clause-finds g c =
     let looked = looked_on (c.loop-done.done * size) (c.min-batch.result * size) old (life c.loop-done.blob) (life c.read_at.new.self) c.in_ok-bytes.bytes c.loop-done.invariant.looked c.in_ok-bytes.ensures.goes in
     let p = err_from_is_err_and c.from_residual-in_err-prefix.result c.from_residual-in_err-prefix.ensures.1 in
     rw (p.1, p.2) (look_memory (c.args.pages * (P + 12)) (prefix_from g.H.Sum.sum_of P c.args.first c.args.pages old.present.readable) old (life c.read_at.new.self) c.in_err-prefix.field-0.0 looked c.in_err-prefix.ensures.err)
+
+pub keep-requires-clause-room : goal.keep-requires-clause-room
+keep-requires-clause-room g c =
+    let life = g.B.Blob.life in
+    let sum = g.H.Sum.sum_of in
+    let old = life c.args.blob.now in
+    let new = life c.read_at.new.self in
+    let readable = old.present.readable in
+    let size = c.physical_page_size-size.result in
+    let k = c.loop-done.done in
+    let b = c.min-batch.result in
+    let P = non_zero_u16_get c.args.page_size in
+    let q = c.in_ok-prefix.prefix in
+    let bytes = c.in_ok-bytes.bytes in
+    let le : k + b ≤ c.args.pages = omega arith in
+    let read = read_gives (k * size) (b * size) old (life c.loop-done.blob) new bytes c.loop-done.invariant.looked c.in_ok-bytes.ensures.goes in
+    let there = read_there (k * size) (b * size) old (life c.loop-done.blob) new bytes c.loop-done.invariant.looked c.in_ok-bytes.ensures.goes in
+    let batch = batch_read sum P size k b readable bytes q c.physical_page_size-size.ensures there read c.in_ok-prefix.ensures.ok in
+    kept_fits sum P c.args.first c.args.pages k b readable bytes q c.args.kept.now c.loop-done.kept le batch c.loop-done.invariant.kept c.requires.empty c.requires.fits
+
+pub returns-in_err-keep-clause-finds : goal.returns-in_err-keep-clause-finds
+returns-in_err-keep-clause-finds g c =
+    let life = g.B.Blob.life in
+    let old = life c.args.blob.now in
+    let size = c.physical_page_size-size.result in
+    let P = non_zero_u16_get c.args.page_size in
+    let looked = looked_on (c.loop-done.done * size) (c.min-batch.result * size) old (life c.loop-done.blob) (life c.read_at.new.self) c.in_ok-bytes.bytes c.loop-done.invariant.looked c.in_ok-bytes.ensures.goes in
+    let p = err_from_is_err_and c.from_residual-in_err-keep.result c.from_residual-in_err-keep.ensures.1 in
+    rw (p.1, p.2) (look_memory (c.args.pages * (P + 12)) (prefix_from g.H.Sum.sum_of P c.args.first c.args.pages old.present.readable) old (life c.read_at.new.self) c.in_err-keep.field-0.0 looked c.in_err-keep.ensures.err)
+
+pub returns-then-prefix-batch-clause-kept : goal.returns-then-prefix-batch-clause-kept
+returns-then-prefix-batch-clause-kept g c =
+    let life = g.B.Blob.life in
+    let sum = g.H.Sum.sum_of in
+    let old = life c.args.blob.now in
+    let new = life c.read_at.new.self in
+    let readable = old.present.readable in
+    let size = c.physical_page_size-size.result in
+    let k = c.loop-done.done in
+    let b = c.min-batch.result in
+    let P = non_zero_u16_get c.args.page_size in
+    let q = c.in_ok-prefix.prefix in
+    let bytes = c.in_ok-bytes.bytes in
+    let le : k + b ≤ c.args.pages = omega arith in
+    let read = read_gives (k * size) (b * size) old (life c.loop-done.blob) new bytes c.loop-done.invariant.looked c.in_ok-bytes.ensures.goes in
+    let there = read_there (k * size) (b * size) old (life c.loop-done.blob) new bytes c.loop-done.invariant.looked c.in_ok-bytes.ensures.goes in
+    let batch = batch_read sum P size k b readable bytes q c.physical_page_size-size.ensures there read c.in_ok-prefix.ensures.ok in
+    kept_ended sum P c.args.first c.args.pages k b readable bytes q le batch c.args.kept.now c.loop-done.kept c.keep.new.kept c.loop-done.invariant.kept c.in_ok-keep.ensures.kept c.if-prefix-batch.true
 
 pub returns-then-prefix-batch-clause-finds : goal.returns-then-prefix-batch-clause-finds
 returns-then-prefix-batch-clause-finds g c =
@@ -98,6 +147,7 @@ loop-done-preserved g c =
       none = λ still. absurd (omega (arith, still, c.loop-done.invariant.some, c.loop-done.invariant.begun));
       stands = stands_on sum P c.args.pages k b readable bytes q le batch (prefix_from sum P c.args.first c.args.pages readable) c.loop-done.invariant.stands (omega arith);
       looked = looked_on (k * size) (b * size) old (life c.loop-done.blob) new bytes c.loop-done.invariant.looked c.in_ok-bytes.ensures.goes;
+      kept = kept_on sum P c.args.first c.args.pages k b readable bytes q le batch c.args.kept.now c.loop-done.kept c.keep.new.kept c.loop-done.invariant.kept c.in_ok-keep.ensures.kept (omega arith);
       reads = next_batch P size k b c.max-most.result (c.args.first * (P + 12)) old (life c.loop-done.blob) new bytes c.physical_page_size-size.ensures (omega arith) c.loop-done.invariant.reads c.in_ok-bytes.ensures.goes;
     }
 
@@ -125,6 +175,7 @@ loop-done-preserved-else-prefix-batch g c =
       none = λ still. absurd (omega (arith, still, c.loop-done.invariant.some, c.loop-done.invariant.begun));
       stands = stands_on sum P c.args.pages k b readable bytes q le batch (prefix_from sum P c.args.first c.args.pages readable) c.loop-done.invariant.stands (omega arith);
       looked = looked_on (k * size) (b * size) old (life c.loop-done.blob) new bytes c.loop-done.invariant.looked c.in_ok-bytes.ensures.goes;
+      kept = kept_on sum P c.args.first c.args.pages k b readable bytes q le batch c.args.kept.now c.loop-done.kept c.keep.new.kept c.loop-done.invariant.kept c.in_ok-keep.ensures.kept (omega arith);
       reads = next_batch P size k b c.max-most.result (c.args.first * (P + 12)) old (life c.loop-done.blob) new bytes c.physical_page_size-size.ensures (omega arith) c.loop-done.invariant.reads c.in_ok-bytes.ensures.goes;
     }
 
@@ -151,6 +202,9 @@ returns-in_err-bytes-clause-reads g c = reads g (goal.at.returns-in_err-bytes-cl
 pub returns-in_err-prefix-clause-reads : goal.returns-in_err-prefix-clause-reads
 returns-in_err-prefix-clause-reads g c = reads g (goal.at.returns-in_err-prefix-clause-reads g c).After-read_at
 
+pub returns-in_err-keep-clause-reads : goal.returns-in_err-keep-clause-reads
+returns-in_err-keep-clause-reads g c = reads g (goal.at.returns-in_err-keep-clause-reads g c).After-read_at
+
 pub returns-then-prefix-batch-clause-reads : goal.returns-then-prefix-batch-clause-reads
 returns-then-prefix-batch-clause-reads g c = reads g (goal.at.returns-then-prefix-batch-clause-reads g c).After-read_at
 
@@ -165,6 +219,7 @@ loop-done-init g c =
       stands = refl;
       looked = looked_start old;
       none = λ still. refl;
+      kept = kept_from g.H.Sum.sum_of P c.args.first c.args.pages old.present.readable c.args.kept.now;
       reads = forward_start (c.max-most.result * (P + 12)) (c.args.first * (P + 12)) old;
     }
 
