@@ -298,7 +298,7 @@ impl<H: Sum, R: Sum> Journals<H, R> {
     }
 
     // A recovery for each of its device calls, which fails: how many of them are Ok all the same,
-    // with these records, since what wasn't read ahead is read again.
+    // with these records, since what wasn't read is read again.
     fn recover_failing(&mut self, alloc: Global, calls: usize, wanted: &[u8]) -> io::Result<usize> {
         let mut again: usize = 0;
         for index in 0..calls as u64 {

@@ -20,6 +20,7 @@ use Rattle.crash.specs.Looks.{Looked, looked_start, looked_joins}
 use Rattle.writer_state.specs.Sound.{IsSound, LeavesItsContent, content}
 use Rattle.writer_state.specs.WriterState.{WriterState}
 use Rattle.crash.specs.Moments.{through_start, through_then, through_joins, through_end}
+use Rattle.paged_read.specs.Hand.{HandState, kept_with}
 use Rattle.paged_read.specs.Snapshots.{LeavesOthers, LeavesReads}
 use Rattle.paged_read.specs.Tail.{CanRead}
 use Rattle.paged.specs.Caches.{tail_of, KeepsReads}
@@ -345,21 +346,6 @@ reads_start sum w cache life ready =
       only = through_start (AllOnly sum w.page_size held held) life ready.only;
     }
 
--- one after another
-pub reads_join : (sum : List ℕ → ℕ) (w : WriterState) (cache between after : CacheState) (old mid new : Life) → OnlyReads sum w cache between old mid → OnlyReads sum w between after mid new → OnlyReads sum w cache after old new
-reads_join sum w cache between after old mid new first second =
-    let held = content w old.present.readable in
-    record {
-      ready = second.ready;
-      tails = λ t held below stands. second.tails t held below (first.tails t held below stands);
-      others = λ t d apart can. second.others t d apart (first.others t d apart can);
-      holds = second.holds ∙ first.holds;
-      looked = looked_joins old mid new first.looked second.looked;
-      kept = floors_join sum w.page_size old mid new first.kept second.kept;
-      only = through_joins (AllOnly sum w.page_size held held) old mid new first.only
-          (subst (λ (l : List ℕ). LeavesContent sum w.page_size l mid new) first.holds second.only);
-    }
-
 -- where a crash leaves only the content, it leaves that or another
 pub leaves_or : (sum : List ℕ → ℕ) (P : ℕ) (held after : List ℕ) (old new : Life) → LeavesContent sum P held old new → LeavesOnly sum P held after old new
 leaves_or sum P held after old new only =
@@ -370,34 +356,22 @@ leaves_or sum P held after old new only =
 pub floors_within : (sum : List ℕ → ℕ) (n P : ℕ) (old new : Life) → KeepsAllFloors sum P old new → KeepsFloorsWithin n sum P old new
 floors_within sum n P old new keeps = λ content. keeps (take n content)
 
--- floors within the first n bytes are kept by one call after another
-pub within_join : (sum : List ℕ → ℕ) (n P : ℕ) (old mid new : Life) → KeepsFloorsWithin n sum P old mid → KeepsFloorsWithin n sum P mid new → KeepsFloorsWithin n sum P old new
-within_join sum n P old mid new first second = λ content floor enough kept.
-    let begun = first content floor enough kept in
-    through_joins (AllKeep sum P (take n content) floor) old mid new begun (second content floor enough (through_end (AllKeep sum P (take n content) floor) old mid begun))
-
--- a cut after the whole frames, after a read
-pub trim_leaves : (sum : List ℕ → ℕ) (w : WriterState) (cache between : CacheState) (end : ℕ) (old mid new : Life) → OnlyReads sum w cache between old mid → end ≡ length (whole_frames (content w old.present.readable))
-    → LeavesOnly sum w.page_size (content w mid.present.readable) (take end (content w mid.present.readable)) mid new
+-- a cut after the whole frames
+pub trim_leaves : (sum : List ℕ → ℕ) (w : WriterState) (end : ℕ) (old new : Life) → end ≡ length (whole_frames (content w old.present.readable))
+    → LeavesOnly sum w.page_size (content w old.present.readable) (take end (content w old.present.readable)) old new
     → LeavesOnly sum w.page_size (content w old.present.readable) (whole_frames (content w old.present.readable)) old new
-trim_leaves sum w cache between end old mid new left is leaves =
+trim_leaves sum w end old new is leaves =
     let held = content w old.present.readable in
-    let whole = whole_frames held in
-    let first : take end (content w mid.present.readable) ≡ whole = ap₂ (λ n (l : List ℕ). take n l) is left.holds ∙ whole_first held in
-    through_joins (AllOnly sum w.page_size held whole) old mid new (leaves_or sum w.page_size held whole old mid left.only)
-    (subst (λ (l : List ℕ). LeavesOnly sum w.page_size l whole mid new) left.holds
-    (subst (λ (l : List ℕ). LeavesOnly sum w.page_size (content w mid.present.readable) l mid new) first leaves))
+    subst (λ (l : List ℕ). LeavesOnly sum w.page_size held l old new) (ap (λ (n : ℕ). take n held) is ∙ whole_first held) leaves
 
 -- so the whole frames are left
-pub trim_goes : (sum own : List ℕ → ℕ) (w : WriterState) (cache between after : CacheState) (end : ℕ) (found : List (List ℕ)) (old mid new : Life) (now : WriterState) → OnlyReads sum w cache between old mid → found ≡ records own (content w old.present.readable)
-    → end ≡ length (whole_frames (content w old.present.readable)) → Truncates sum end w mid new (Ok now) → IsSound sum now new.present → CanRead (tail_of now) after new.present → IsFresh after
+pub trim_goes : (sum own : List ℕ → ℕ) (w : WriterState) (cache after : CacheState) (end : ℕ) (found : List (List ℕ)) (old new : Life) (now : WriterState) → IsReady sum w cache old → found ≡ records own (content w old.present.readable)
+    → end ≡ length (whole_frames (content w old.present.readable)) → Truncates sum end w old new (Ok now) → IsSound sum now new.present → CanRead (tail_of now) after new.present → IsFresh after
     → LeavesItsContent sum now new.present → IsTrimmed sum own w after old new now found
-trim_goes sum own w cache between after end found old mid new now left given is cut sound can fresh only =
+trim_goes sum own w cache after end found old new now ready given is cut sound can fresh only =
     let held = content w old.present.readable in
-    let whole = whole_frames held in
-    let holds : content now new.present.readable ≡ whole = cut.content ∙ ap₂ (λ n (l : List ℕ). take n l) is left.holds ∙ whole_first held in
-    let size : size_of now ≡ length (content now new.present.readable) =
-    omega (arith, cut.size, is, ap length holds, length-whole held, left.ready.size, ap length left.holds) in
+    let holds : content now new.present.readable ≡ whole_frames held = cut.content ∙ ap (λ (n : ℕ). take n held) is ∙ whole_first held in
+    let size : size_of now ≡ length (content now new.present.readable) = omega (arith, cut.size, is, ap length holds, length-whole held, ready.size) in
     record {
       ready = record { sound = sound; can = can; fresh = fresh; size = size; only = only };
       holds = holds;
@@ -407,30 +381,30 @@ trim_goes sum own w cache between after end found old mid new now left given is 
     }
 
 -- where all frames are whole nothing is to be cut
-pub trim_stays : (sum own : List ℕ → ℕ) (w : WriterState) (cache after : CacheState) (end : ℕ) (found : List (List ℕ)) (old new : Life) → OnlyReads sum w cache after old new → found ≡ records own (content w old.present.readable)
-    → end ≡ length (whole_frames (content w old.present.readable)) → end ≡ size_of w → IsTrimmed sum own w after old new w found
-trim_stays sum own w cache after end found old new left given is all =
-    let held = content w old.present.readable in
-    let long : length held ≤ length (whole_frames held) = omega (arith, is, all, left.ready.size, ap length left.holds) in
+pub trim_stays : (sum own : List ℕ → ℕ) (w : WriterState) (cache : CacheState) (end : ℕ) (found : List (List ℕ)) (life : Life) → IsReady sum w cache life → found ≡ records own (content w life.present.readable)
+    → end ≡ length (whole_frames (content w life.present.readable)) → end ≡ size_of w → IsTrimmed sum own w cache life life w found
+trim_stays sum own w cache end found life ready given is all =
+    let held = content w life.present.readable in
+    let long : length held ≤ length (whole_frames held) = omega (arith, is, all, ready.size) in
     record {
-      ready = left.ready;
-      holds = left.holds ∙ sym (take_all (length (whole_frames held)) held long) ∙ whole_first held;
+      ready = ready;
+      holds = sym (take_all (length (whole_frames held)) held long) ∙ whole_first held;
       given = given;
       page_size = refl;
       id = refl;
     }
 
 -- the cut was refused
-pub trim_refused : (sum own : List ℕ → ℕ) (w : WriterState) (cache between after : CacheState) (end : ℕ) (old mid new : Life) (e : Error) → OnlyReads sum w cache between old mid → end ≡ length (whole_frames (content w old.present.readable)) → (end ≡ size_of w → ⊥)
-    → Truncates sum end w mid new (Err e) → Trims sum own w after old new (Err e)
-trim_refused sum own w cache between after end old mid new e left is more refused =
+pub trim_refused : (sum own : List ℕ → ℕ) (w : WriterState) (cache after : CacheState) (end : ℕ) (old new : Life) (e : Error) → IsReady sum w cache old → end ≡ length (whole_frames (content w old.present.readable)) → (end ≡ size_of w → ⊥)
+    → Truncates sum end w old new (Err e) → Trims sum own w after old new (Err e)
+trim_refused sum own w cache after end old new e ready is more refused =
     let held = content w old.present.readable in
     let whole = length (whole_frames held) in
     let less : whole < size_of w = (elim (cases_lt whole (size_of w)) [
       | inl lt ↦ lt
-      | inr le ↦ absurd (more (omega (arith, is, le, length-whole held, left.ready.size, ap length left.holds)))
+      | inr le ↦ absurd (more (omega (arith, is, le, length-whole held, ready.size)))
     ]) in
-    inr (mid, left.looked, less, subst (λ (n : ℕ). Truncates sum n w mid new (Err e)) is refused)
+    inr (old, looked_start old, less, subst (λ (n : ℕ). Truncates sum n w old new (Err e)) is refused)
 
 -- a floor is one of less, too
 less_kept : (sum : List ℕ → ℕ) (P : ℕ) (content : List ℕ) (floor less : ℕ) (d : Disk) → less ≤ floor → AllKeep sum P content floor d → AllKeep sum P content less d
@@ -569,8 +543,18 @@ commits_left sum own P content n d e is_image at_rest commits = record {
   there = commits.there;
 }
 
--- the content wasn't read, and so the last frame wasn't cut off
+-- no memory was left for the records, and so the last frame wasn't cut off
 pub trim_unread : (sum own : List ℕ → ℕ) (w : WriterState) (after : CacheState) (old new : Life) (e : Error) (result : Result (WriterState × Vec (List ℕ) Global) Error) → IsErrAnd result (λ x. x ≡ e)
-    → ReadRefused old new e → Trims sum own w after old new result
+    → e ≡ OutOfMemory → Trims sum own w after old new result
 trim_unread sum own w after old new e (Ok r) is refused = absurd is
-trim_unread sum own w after old new e (Err x) is refused = inl (subst (λ (y : Error). ReadRefused old new y) (sym is) refused)
+trim_unread sum own w after old new e (Err x) is refused = inl (subst (λ (y : Error). ReadRefused old new y) (sym (is ∙ refused)) tt)
+
+-- ---- what a recovery kept
+
+bytes_of : Option HandState → List ℕ
+bytes_of None = []
+bytes_of (Some hand) = hand.bytes
+
+-- all of the content, for a caller that had nothing yet
+pub kept_held : (start held : HandState) (kept : Option HandState) (all : List ℕ) → kept ≡ Some held → kept ≡ kept_with all (Some start) → start.bytes ≡ [] → held.bytes ≡ all
+kept_held start held kept all is with nothing = ap bytes_of (sym is ∙ with) ∙ ap (λ (l : List ℕ). l ++ all) nothing

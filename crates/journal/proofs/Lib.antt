@@ -1,5 +1,5 @@
 pub mod Frames
 pub mod Journals
 pub mod Readers
-pub mod Replays
+pub mod Walks
 pub mod Examples

@@ -205,15 +205,6 @@ ReadsRecord own content offset old new (Ok None) = length content ≤ offset
 ReadsRecord own content offset old new (Ok (Some f)) = IsFound own content offset f.bytes f.end
 ReadsRecord own content offset old new (Err e) = ReadRefused old new e
 
--- a walk over all records, and over how many bytes the whole frames have: the writer stays as it is
-abbrev pub ReadsAll : (own : List ℕ → ℕ) → WriterState → Life → Life
-    → Result (WriterState × Vec (List ℕ) Global × ℕ) Error → Type 0
-ReadsAll own w old new (Ok r) =
-    (r.0 ≡ w)
-    × (r.1.items ≡ records own (content w old.present.readable))
-    × (r.2 ≡ length (whole_frames (content w old.present.readable)))
-ReadsAll own w old new (Err e) = ReadRefused old new e
-
 -- the whole frames are left of a content; these are the records
 pub record IsTrimmed (sum own : List ℕ → ℕ) (w : WriterState) (after : CacheState)
     (old new : Life) (now : WriterState) (found : List (List ℕ)) : Type 0 where

@@ -1,4 +1,4 @@
 pub mod Frame
 pub mod Journal
 pub mod Reader
-pub mod Replay
+pub mod Walk

@@ -6,7 +6,7 @@ ghost use Rattle.crash.specs.Looks.{Looked};
 ghost use Rattle.writer_state.specs.Sound.{IsSound, content};
 ghost use Rattle.crash.specs.Stays.{KeepsAll, KeepsAllFloors, LeavesOnly};
 ghost use Rattle.page.specs.Page.{text};
-ghost use Rattle.paged.specs.Calls.{Appends, BuffersOver, IsSettled, Syncs, TryAppends};
+ghost use Rattle.paged.specs.Calls.{Appends, BuffersOver, Syncs, TryAppends};
 ghost use Rattle.paged.specs.Reads.{size_of};
 ghost use Rattle.paged.specs.Truncate.{KeepsFloorsWithin};
 ghost use Rattle.journal.specs.Frame.{frame, whole_frames};
@@ -16,7 +16,7 @@ ghost use Rattle.paged_read.specs.Snapshots.{LeavesOthers, LeavesTails, StandsOn
 ghost use Rattle.paged_read.specs.Tail.{CanRead};
 ghost use Rattle.journal.specs.Journal.{IsJournal, IsNewId, OthersStay, AllStay};
 ghost use Rattle.journal.specs.Journal.{AppendsRecord, CommitGoes};
-ghost use Rattle.journal.specs.Journal.{ReadsRecord, ReadsAll, Trims};
+ghost use Rattle.journal.specs.Journal.{ReadsRecord, Trims};
 ghost use Rattle.journal.specs.Journal.{RecoversJournal, IsReady, OnlyReads, KeepsCommitted};
 ghost use Rattle.journal.specs.Journal.{LeavesItsRecords, LeavesOneMore, KeepsAllRecords};
 ghost use Rattle.journal.specs.Journal.{LeavesAllRecords, BringsBack};
@@ -26,12 +26,12 @@ ghost use Rattle.journal.specs.Reader.{OtherReadersStay, ReadersStay};
 use crate::frame::{Found, Framed, frame_of};
 use crate::lookup::frame_at;
 use crate::reader::Reader;
-use crate::replay::records_of;
+use crate::walk::records_of;
 use cache::CacheRef;
-use disk::{Blob, Error, IoBuf, ReadOptions};
+use disk::{Blob, Error, IoBuf};
 use page::Sum;
-use paged::{Recovery, Writer};
-use paged_read::Sealed;
+use paged::{Recovery, Writer, recover_keeping};
+use paged_read::{Hand, Sealed};
 use std::alloc::Global;
 use std::marker::{Model, PhantomData};
 use std::num::NonZeroUsize;
@@ -57,38 +57,17 @@ impl<B, H, R> Model for Journal<B, H, R> {
     ghost view = { λ j. j.writer };
 }
 
-// Goes through the frames of a recovered content by a replay, which reads ahead, and answers their
-// records, and how many bytes the whole ones have.
-fn read_all<B: Blob, H: Sum, R: Sum>(
-    alloc: Global,
-    recovery: Recovery<B, H>,
-    blob: &mut B,
-    cache: &mut CacheRef,
-    buffer_size: NonZeroUsize,
-) -> Result<(Recovery<B, H>, Vec<IoBuf>, u64), Error>
-    requires ready { IsReady H.sum_of recovery cache.old (B.life blob.old) }
-    requires settled { IsSettled recovery }
-    ensures reads { let old = B.life blob.old in let new = B.life blob.new in
-        ReadsAll R.sum_of recovery old new result }
-    ensures leaves { let old = B.life blob.old in let new = B.life blob.new in
-        OnlyReads H.sum_of recovery cache.old cache.new old new }
-{
-    let options = ReadOptions::default();
-    let (recovery, replay) = recovery.replay(blob, cache, buffer_size, options)?;
-    let (found, end) = records_of::<B, H, R>(alloc, replay, blob)?;
-    Ok((recovery, found, end))
-}
-
-// Cuts the last frame off where it is half-written, and answers the records that there are.
+// Cuts the last frame off where it is half-written, and answers the records of the content, which
+// is given.
 fn trim<B: Blob, H: Sum, R: Sum>(
     alloc: Global,
     recovery: Recovery<B, H>,
     blob: &mut B,
     cache: &mut CacheRef,
-    buffer_size: NonZeroUsize,
+    held: Hand,
 ) -> Result<(Recovery<B, H>, Vec<IoBuf>), Error>
     requires ready { IsReady H.sum_of recovery cache.old (B.life blob.old) }
-    requires settled { IsSettled recovery }
+    requires held { held.bytes ≡ content recovery (B.life blob.old).present.readable }
     ensures trims { let old = B.life blob.old in let new = B.life blob.new in
         Trims H.sum_of R.sum_of recovery cache.new old new result }
     ensures fresh { IsFresh cache.new }
@@ -101,7 +80,7 @@ fn trim<B: Blob, H: Sum, R: Sum>(
         let P = recovery.page_size in
         LeavesOnly H.sum_of P held (whole_frames held) old (B.life blob.new) }
 {
-    let (recovery, found, end) = read_all::<B, H, R>(alloc, recovery, blob, cache, buffer_size)?;
+    let (found, end) = records_of::<R>(alloc, held)?;
     if end == recovery.size() {
         return Ok((recovery, found));
     }
@@ -351,8 +330,19 @@ impl<B: Blob, H: Sum, R: Sum> Journal<B, H, R> {
         ensures only { let old = B.life blob.old in let new = B.life blob.new in
             LeavesAllRecords H.sum_of R.sum_of cache.old.page_size old new }
     {
-        let recovery = paged::recover::<B, H>(alloc, blob, size, capacity, cache, buffer_size)?;
-        let (recovery, found) = trim::<B, H, R>(alloc, recovery, blob, cache, buffer_size)?;
+        let nothing = Hand::new(alloc, cache.page_size());
+        let mut kept = Some(nothing);
+        let recovery = recover_keeping::<B, H>(
+            alloc,
+            blob,
+            size,
+            capacity,
+            cache,
+            buffer_size,
+            &mut kept,
+        )?;
+        let Some(held) = kept else { unreachable!() };
+        let (recovery, found) = trim::<B, H, R>(alloc, recovery, blob, cache, held)?;
         Ok((Self::new(alloc, Writer::from(recovery)), found))
     }
 

@@ -7,7 +7,7 @@ mod frame;
 mod journal;
 mod lookup;
 mod reader;
-mod replay;
+mod walk;
 
 pub use crashes::crash_and_recover;
 pub use frame::{Found, MOST_BYTES, frame_of};

@@ -1,10 +1,10 @@
-use Rattle.std.proofs.Common.{◌≡◌, ◌∙◌, sym, subst, refl, length, ℕ, List}
+use Rattle.std.proofs.Common.{◌≡◌, ◌∙◌, sym, subst, refl, ap₂, length, ℕ, List}
 use Rattle.page.specs.Page.{text}
 use Rattle.writer_state.specs.WriterState.{WriterState}
 use Rattle.paged.specs.Truncate.{KeepsFloorsWithin}
 use Rattle.journal.specs.Frame.{records, whole_frames}
 use Rattle.journal.specs.Journal.{AllStay, OthersStay, HasRecovered, KeepsCommitted, KeepsAllRecords, LeavesAllRecords, BringsBack}
-use Rattle.journal.proofs.Journals.{recovery_stays, all_stay, new_id, others_stay, recovery_goes, recovery_refused, recovered_keeps, recovered_leaves, commits_through, keeps_committed, trim_commits, brings_back, leaves_records, prefix_of_itself}
+use Rattle.journal.proofs.Journals.{kept_held, recovery_stays, all_stay, new_id, others_stay, recovery_goes, recovery_refused, recovered_keeps, recovered_leaves, commits_through, keeps_committed, trim_commits, brings_back, leaves_records, prefix_of_itself}
 use Rattle.journal.specs.Reader.{EachReaderStays}
 use Rattle.journal.proofs.Readers.{each_reader_stays, each_reader_still, new_to_readers, other_readers_stay}
 use Rattle.journal.proofs.journal.Journal.recover.Given.{Over}
@@ -15,7 +15,7 @@ pub returns-in_err-recovery-clause-kept : goal.returns-in_err-recovery-clause-ke
 returns-in_err-recovery-clause-kept g c = λ durable.
     let old = g.B.Blob.life c.args.blob.now in
     let P = c.args.cache.now.page_size in
-    commits_through g.H.Sum.sum_of g.R.Sum.sum_of P (text g.H.Sum.sum_of P old.present.readable) old (g.B.Blob.life c.recover.new.blob) (c.recover.ensures.kept durable)
+    commits_through g.H.Sum.sum_of g.R.Sum.sum_of P (text g.H.Sum.sum_of P old.present.readable) old (g.B.Blob.life c.recover_keeping.new.blob) (c.recover_keeping.ensures.kept durable)
 
 pub returns-in_err-recovery-clause-only : goal.returns-in_err-recovery-clause-only
 returns-in_err-recovery-clause-only g c = λ durable.
@@ -23,19 +23,19 @@ returns-in_err-recovery-clause-only g c = λ durable.
     let P = c.args.cache.now.page_size in
     let T = text g.H.Sum.sum_of P old.present.readable in
     let all = records g.R.Sum.sum_of T in
-    leaves_records g.H.Sum.sum_of g.R.Sum.sum_of P T T all old (g.B.Blob.life c.recover.new.blob) (prefix_of_itself all) (prefix_of_itself all) (c.recover.ensures.only durable)
+    leaves_records g.H.Sum.sum_of g.R.Sum.sum_of P T T all old (g.B.Blob.life c.recover_keeping.new.blob) (prefix_of_itself all) (prefix_of_itself all) (c.recover_keeping.ensures.only durable)
 
 pub returns-in_err-recovery-clause-floors : goal.returns-in_err-recovery-clause-floors
 returns-in_err-recovery-clause-floors g c =
-    keeps_committed g.H.Sum.sum_of g.R.Sum.sum_of c.args.cache.now.page_size (g.B.Blob.life c.args.blob.now) (g.B.Blob.life c.recover.new.blob) c.recover.ensures.floors
+    keeps_committed g.H.Sum.sum_of g.R.Sum.sum_of c.args.cache.now.page_size (g.B.Blob.life c.args.blob.now) (g.B.Blob.life c.recover_keeping.new.blob) c.recover_keeping.ensures.floors
 
 -- the trim keeps the floors within the whole frames of the text
 trim-keeps : (g : Over) (c : After-trim g)
     → KeepsFloorsWithin (length (whole_frames (text g.H.Sum.sum_of c.args.cache.now.page_size (g.B.Blob.life c.args.blob.now).present.readable))) g.H.Sum.sum_of c.args.cache.now.page_size
-    (g.B.Blob.life c.recover.new.blob) (g.B.Blob.life c.trim.new.blob)
+    (g.B.Blob.life c.recover_keeping.new.blob) (g.B.Blob.life c.trim.new.blob)
 trim-keeps g c =
     let sum = g.H.Sum.sum_of in
-    let mid = g.B.Blob.life c.recover.new.blob in
+    let mid = g.B.Blob.life c.recover_keeping.new.blob in
     let new = g.B.Blob.life c.trim.new.blob in
     let recovered = c.in_ok-recovery.ensures.recovers in
     let T = text sum c.args.cache.now.page_size (g.B.Blob.life c.args.blob.now).present.readable in
@@ -48,8 +48,8 @@ trim-floors g c =
     let sum = g.H.Sum.sum_of in
     let old = g.B.Blob.life c.args.blob.now in
     let P = c.args.cache.now.page_size in
-    trim_commits sum g.R.Sum.sum_of P (text sum P old.present.readable) old (g.B.Blob.life c.recover.new.blob) (g.B.Blob.life c.trim.new.blob) (g.met.B.Blob.readable_is_image c.args.blob.now) refl
-    c.recover.ensures.floors (trim-keeps g c)
+    trim_commits sum g.R.Sum.sum_of P (text sum P old.present.readable) old (g.B.Blob.life c.recover_keeping.new.blob) (g.B.Blob.life c.trim.new.blob) (g.met.B.Blob.readable_is_image c.args.blob.now) refl
+    c.recover_keeping.ensures.floors (trim-keeps g c)
 
 -- and all records are committed where all was durable
 trim-kept : (g : Over) (c : After-trim g) → KeepsAllRecords g.H.Sum.sum_of g.R.Sum.sum_of c.args.cache.now.page_size (g.B.Blob.life c.args.blob.now) (g.B.Blob.life c.trim.new.blob)
@@ -57,7 +57,7 @@ trim-kept g c = λ durable.
     let sum = g.H.Sum.sum_of in
     let old = g.B.Blob.life c.args.blob.now in
     let P = c.args.cache.now.page_size in
-    recovered_keeps sum g.R.Sum.sum_of P (text sum P old.present.readable) old (g.B.Blob.life c.recover.new.blob) (g.B.Blob.life c.trim.new.blob) (c.recover.ensures.kept durable) (trim-keeps g c)
+    recovered_keeps sum g.R.Sum.sum_of P (text sum P old.present.readable) old (g.B.Blob.life c.recover_keeping.new.blob) (g.B.Blob.life c.trim.new.blob) (c.recover_keeping.ensures.kept durable) (trim-keeps g c)
 
 -- and these alone are left
 trim-only : (g : Over) (c : After-trim g) → LeavesAllRecords g.H.Sum.sum_of g.R.Sum.sum_of c.args.cache.now.page_size (g.B.Blob.life c.args.blob.now) (g.B.Blob.life c.trim.new.blob)
@@ -66,12 +66,12 @@ trim-only g c = λ durable.
     let old = g.B.Blob.life c.args.blob.now in
     let P = c.args.cache.now.page_size in
     let recovered = c.in_ok-recovery.ensures.recovers in
-    recovered_leaves sum g.R.Sum.sum_of P (text sum P old.present.readable) old (g.B.Blob.life c.recover.new.blob) (g.B.Blob.life c.trim.new.blob) c.in_ok-recovery.recovery recovered.page_size recovered.content
-    (c.recover.ensures.only durable) c.trim.ensures.only
+    recovered_leaves sum g.R.Sum.sum_of P (text sum P old.present.readable) old (g.B.Blob.life c.recover_keeping.new.blob) (g.B.Blob.life c.trim.new.blob) c.in_ok-recovery.recovery recovered.page_size recovered.content
+    (c.recover_keeping.ensures.only durable) c.trim.ensures.only
 
 pub returns-in_err-recovery-2-clause-recovers : goal.returns-in_err-recovery-2-clause-recovers
 returns-in_err-recovery-2-clause-recovers g c =
-    recovery_refused g.H.Sum.sum_of g.R.Sum.sum_of c.args.cache.now c.trim.new.cache c.args.capacity (g.B.Blob.life c.args.blob.now) (g.B.Blob.life c.recover.new.blob) (g.B.Blob.life c.trim.new.blob) c.in_ok-recovery.recovery
+    recovery_refused g.H.Sum.sum_of g.R.Sum.sum_of c.args.cache.now c.trim.new.cache c.args.capacity (g.B.Blob.life c.args.blob.now) (g.B.Blob.life c.recover_keeping.new.blob) (g.B.Blob.life c.trim.new.blob) c.in_ok-recovery.recovery
     c.in_err-recovery-2.field-0.0 c.from_residual-in_err-recovery-2.result c.from_residual-in_err-recovery-2.ensures.1 c.in_ok-recovery.ensures.recovers c.in_err-recovery-2.ensures.trims
 
 pub returns-in_err-recovery-2-clause-floors : goal.returns-in_err-recovery-2-clause-floors
@@ -97,7 +97,7 @@ returns-clause-recovers g c =
     let sum = g.H.Sum.sum_of in
     let own = g.R.Sum.sum_of in
     let old = g.B.Blob.life c.args.blob.now in
-    let mid = g.B.Blob.life c.recover.new.blob in
+    let mid = g.B.Blob.life c.recover_keeping.new.blob in
     let new = g.B.Blob.life c.trim.new.blob in
     let now = c.in_ok-recovery-2.recovery in
     let found = c.in_ok-recovery-2.found.items in
@@ -120,10 +120,14 @@ returns-clause-back g c =
 
 pub returns-in_err-recovery-clause-others : goal.returns-in_err-recovery-clause-others
 returns-in_err-recovery-clause-others g c =
-    recovery_stays c.args.cache.now c.recover.new.cache c.recover.ensures.others c.recover.ensures.fresh_ids
+    recovery_stays c.args.cache.now c.recover_keeping.new.cache c.recover_keeping.ensures.others c.recover_keeping.ensures.fresh_ids
 
 pub returns-in_err-recovery-clause-their_readers : goal.returns-in_err-recovery-clause-their_readers
-returns-in_err-recovery-clause-their_readers g c = each_reader_stays c.args.cache.now c.recover.new.cache c.recover.ensures.others
+returns-in_err-recovery-clause-their_readers g c = each_reader_stays c.args.cache.now c.recover_keeping.new.cache c.recover_keeping.ensures.others
+
+pub recover_keeping-requires-clause-empty : goal.recover_keeping-requires-clause-empty
+recover_keeping-requires-clause-empty g c =
+    ap₂ (λ (n : ℕ) (l : List ℕ). record { page_size = n; bytes = l }) (c.new-nothing.ensures.page_size ∙ c.page_size.ensures) c.new-nothing.ensures.bytes
 
 -- the recovered writer is ready to be read
 pub trim-requires : goal.trim-requires
@@ -137,7 +141,7 @@ trim-requires g c =
         size = goes.recovers.size;
         only = goes.recovers.only;
       };
-      settled = goes.recovers.settled;
+      held = kept_held c.new-nothing.result c.in-Some.held c.recover_keeping.new.kept (text g.H.Sum.sum_of c.args.cache.now.page_size (g.B.Blob.life c.args.blob.now).present.readable) c.in-Some.is goes.kept_text c.new-nothing.ensures.bytes ∙ sym goes.recovers.content;
     }
 
 -- the other journals stay, and the readers of other blobs
@@ -145,16 +149,16 @@ trim-others : (g : Over) (c : After-trim g) → AllStay c.args.cache.now c.trim.
 trim-others g c =
     let was = c.args.cache.now in
     let id = c.in_ok-recovery.recovery.id in
-    let first : AllStay was c.recover.new.cache = recovery_stays was c.recover.new.cache c.recover.ensures.others c.recover.ensures.fresh_ids in
-    let then_stays : OthersStay id c.recover.new.cache c.trim.new.cache = others_stay id c.recover.new.cache c.trim.new.cache c.trim.ensures.others (λ fresh. c.trim.ensures.fresh) in
-    all_stay id was c.recover.new.cache c.trim.new.cache (c.in_ok-recovery.ensures.id) first then_stays
+    let first : AllStay was c.recover_keeping.new.cache = recovery_stays was c.recover_keeping.new.cache c.recover_keeping.ensures.others c.recover_keeping.ensures.fresh_ids in
+    let then_stays : OthersStay id c.recover_keeping.new.cache c.trim.new.cache = others_stay id c.recover_keeping.new.cache c.trim.new.cache c.trim.ensures.others (λ fresh. c.trim.ensures.fresh) in
+    all_stay id was c.recover_keeping.new.cache c.trim.new.cache (c.in_ok-recovery.ensures.id) first then_stays
 
 trim-readers : (g : Over) (c : After-trim g) → EachReaderStays c.args.cache.now c.trim.new.cache
 trim-readers g c =
     let was = c.args.cache.now in
     let id = c.in_ok-recovery.recovery.id in
-    let first : EachReaderStays was c.recover.new.cache = each_reader_stays was c.recover.new.cache c.recover.ensures.others in
-    each_reader_still id was c.recover.new.cache c.trim.new.cache (c.in_ok-recovery.ensures.id) first (other_readers_stay id c.recover.new.cache c.trim.new.cache c.trim.ensures.others)
+    let first : EachReaderStays was c.recover_keeping.new.cache = each_reader_stays was c.recover_keeping.new.cache c.recover_keeping.ensures.others in
+    each_reader_still id was c.recover_keeping.new.cache c.trim.new.cache (c.in_ok-recovery.ensures.id) first (other_readers_stay id c.recover_keeping.new.cache c.trim.new.cache c.trim.ensures.others)
 
 pub returns-in_err-recovery-2-clause-others : goal.returns-in_err-recovery-2-clause-others
 returns-in_err-recovery-2-clause-others g c = trim-others g (goal.at.returns-in_err-recovery-2-clause-others g c).After-trim
