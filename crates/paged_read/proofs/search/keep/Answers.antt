@@ -38,4 +38,4 @@ returns-clause-kept g c =
     let hand = c.in-Some.hand in
     let next = c.push.new.self in
     rw c.in-Some.is (on_ok_weaker c.push.result (λ added. values_added sum P bytes c.args.prefix.now c.requires.prefix hand next c.in_ok-slice.field-0 full c.value_len.result
-        (room g (goal.at.returns-clause-kept g c).After-physical_page_size).0 (ends g (goal.at.returns-clause-kept g c).After-value_len) c.in_ok-slice.ensures.ok c.push.ensures.page_size added) c.push.ensures.bytes)
+    (room g (goal.at.returns-clause-kept g c).After-physical_page_size).0 (ends g (goal.at.returns-clause-kept g c).After-value_len) c.in_ok-slice.ensures.ok c.push.ensures.page_size added) c.push.ensures.bytes)
