@@ -2,8 +2,8 @@
 //! was answered and of what stands on the blobs at the end. It prints no times: `bench/run` times
 //! two builds of it.
 //!
-//! `workloads NAME SEED` plays one: `commit`, `open`, `load`, `lookup`, `serve` or `small`. With no
-//! word it plays a little of each, with the seed 1.
+//! `workloads NAME SEED` plays one: `commit`, `open`, `load`, `lookup`, `serve`, `small` or
+//! `reopen`. With no word it plays a little of each, with the seed 1.
 #![tactic(auto)]
 
 mod commit;
@@ -12,6 +12,7 @@ mod load;
 mod lookup;
 mod open;
 mod random;
+mod reopen;
 mod served;
 mod small;
 mod stage;
@@ -21,6 +22,7 @@ use crate::digest::Digest;
 use crate::load::play_loads;
 use crate::lookup::play_lookups;
 use crate::open::play_opens;
+use crate::reopen::play_reopens;
 use crate::served::play_serve;
 use crate::small::play_small;
 use crate::stage::Plan;
@@ -40,16 +42,18 @@ enum Job {
     Lookup,
     Serve,
     Small,
+    Reopen,
 }
 
 /// The jobs by name, each with the content of a blob in bytes, and how often it is played.
-const JOBS: [(&str, Job, u64, u64); 6] = [
+const JOBS: [(&str, Job, u64, u64); 7] = [
     ("commit", Job::Commit, 64 << 20, 12),
     ("open", Job::Open, 48 << 20, 2),
     ("load", Job::Load, 48 << 20, 20),
     ("lookup", Job::Lookup, 32 << 20, 8),
     ("serve", Job::Serve, 16 << 20, 6),
     ("small", Job::Small, 4 << 20, 3),
+    ("reopen", Job::Reopen, 32 << 20, 4),
 ];
 
 /// The content of a blob where no job is named.
@@ -67,6 +71,7 @@ fn play(alloc: Global, job: Job, plan: &Plan, digest: &mut Digest) -> Result<u64
         Job::Lookup => play_lookups::<Crc32c>(alloc, plan, digest),
         Job::Serve => play_serve::<Crc32c>(alloc, plan, digest),
         Job::Small => play_small::<Crc32c>(alloc, plan, digest),
+        Job::Reopen => play_reopens::<Crc32c>(alloc, plan, digest),
     }
 }
 

@@ -47,7 +47,7 @@ pub fn play_opens<H: Sum>(alloc: Global, plan: &Plan, digest: &mut Digest) -> Re
 }
 
 /// A blob with so many bytes of content, durably.
-fn fill<H: Sum>(
+pub fn fill<H: Sum>(
     stage: &mut Stage,
     records: &mut Records,
     bytes: u64,
@@ -98,7 +98,13 @@ fn open_once<H: Sum>(
 {
     let buffer_size = buffer_of(number);
     if number % 2 == 1 {
-        survey_once::<H>(stage, plan.page_size, buffer_size, digest)?;
+        survey_once::<H>(
+            stage.alloc,
+            &mut stage.blob,
+            plan.page_size,
+            buffer_size,
+            digest,
+        )?;
     }
     let writer = stage.recover::<H>(buffer_size)?;
     digest.number(writer.size());
@@ -107,18 +113,15 @@ fn open_once<H: Sum>(
 }
 
 /// Looks at a blob.
-fn survey_once<H: Sum>(
-    stage: &mut Stage,
+pub fn survey_once<H: Sum>(
+    alloc: Global,
+    blob: &mut VecBlob,
     page_size: NonZeroU16,
     buffer_size: NonZeroUsize,
     digest: &mut Digest,
-) -> Result<(), Error>
-    requires { IsFresh stage.old.cache }
-    ensures { OnOk result (IsFresh stage.new.cache) }
-{
-    let size = stage.blob.len();
-    let alloc = stage.alloc;
-    let found = survey::<VecBlob, H>(alloc, &mut stage.blob, size, page_size, buffer_size)?;
+) -> Result<(), Error> {
+    let size = blob.len();
+    let found = survey::<VecBlob, H>(alloc, blob, size, page_size, buffer_size)?;
     digest.number(found.outlook.len);
     digest.number(found.outlook.cut);
     digest.number(found.beyond);
@@ -141,7 +144,12 @@ fn open_journal<H: Sum>(stage: &mut Stage, number: u64, digest: &mut Digest) -> 
 
 /// What a crash leaves: a blob that ends inside a page; one whose last page was torn; one with
 /// pages after the text that have no value; or with some that have a wrong one.
-fn damage(stage: &mut Stage, records: &mut Records, plan: &Plan, number: u64) -> Result<(), Error>
+pub fn damage(
+    stage: &mut Stage,
+    records: &mut Records,
+    plan: &Plan,
+    number: u64,
+) -> Result<(), Error>
     requires { IsFresh stage.old.cache }
     ensures { OnOk result (IsFresh stage.new.cache) }
 {

@@ -1,19 +1,21 @@
 // Serving another program: requests as bytes, and their answers.
 use crate::digest::Digest;
+use crate::open::survey_once;
 use crate::random::{Random, Records};
 use crate::stage::Plan;
 use anyhow::{Result, bail};
 use disk::VecBlob;
 use page::Sum;
-use protocol::{Setting, serve_file};
+use protocol::{Setting, Stop, serve_file};
 use std::alloc::{AllocError, Global};
 use std::io::{BufReader, BufWriter, Read, Write};
 
 /// The requests of a client that goes on over what it has appended.
 #[derive(Drop)]
-struct Client {
-    bytes: Vec<u8>,
-    /// How many bytes it has appended, syncs started, and snapshots and replays begun.
+pub struct Client {
+    pub bytes: Vec<u8>,
+    /// How many bytes are there to be read, as far as it knows, and how many syncs it has started,
+    /// and snapshots and replays begun.
     size: u64,
     starts: u64,
     snapshots: u64,
@@ -50,13 +52,13 @@ const ENSURE: u8 = 13;
 const TAKE: u8 = 14;
 
 impl Client {
-    // One that has sent its version, and ended the recovery.
-    fn new(alloc: Global) -> Result<Self, AllocError> {
+    /// One that has sent its version, and ended the recovery, of a content of so many bytes.
+    pub fn new(alloc: Global, size: u64) -> Result<Self, AllocError> {
         let mut bytes = Vec::new(alloc);
         bytes.push(VERSION)?;
         let mut client = Client {
             bytes,
-            size: 0,
+            size,
             starts: 0,
             snapshots: 0,
             replays: 0,
@@ -127,8 +129,13 @@ impl Client {
         Ok(())
     }
 
-    // Sends the next few requests.
-    fn go_on(&mut self, number: u64, records: &mut Records) -> Result<(), AllocError> {
+    /// Asks for a sync.
+    pub fn sync(&mut self) -> Result<(), AllocError> {
+        self.ask(SYNC, &[])
+    }
+
+    /// Sends the next few requests.
+    pub fn go_on(&mut self, number: u64, records: &mut Records) -> Result<(), AllocError> {
         if number % 1024 == 1023 {
             self.snapshot(&mut records.random)?;
         }
@@ -137,7 +144,7 @@ impl Client {
         }
         match records.random.below(16) {
             0..=6 => self.append(records.next()),
-            7 => self.ask(SYNC, &[]),
+            7 => self.sync(),
             8 => self.start(records.next()),
             9..=13 => self.read(READ, &mut records.random),
             14 => self.read(READ_UP_TO, &mut records.random),
@@ -150,38 +157,43 @@ impl Client {
 pub fn play_serve<H: Sum>(alloc: Global, plan: &Plan, digest: &mut Digest) -> Result<u64> {
     let mut records = Records::new(alloc, plan.seed, 5)?;
     let count = plan.bytes / 250;
+    let setting = setting_of(plan, 0);
     let mut answers = Vec::new(alloc);
     for _ in 0..plan.rounds {
-        let mut client = Client::new(alloc)?;
+        let mut client = Client::new(alloc, 0)?;
         for number in 0..count {
             client.go_on(number, &mut records)?;
         }
-        answers = serve_once::<H>(alloc, plan, &client.bytes, answers, digest)?;
+        let mut blob = VecBlob::new(alloc);
+        answers = serve_once::<H>(alloc, &mut blob, &setting, &client.bytes, answers, digest)?;
+        digest.bytes(blob.bytes());
     }
     Ok(plan.rounds.saturating_mul(count))
 }
 
-// Serves an empty blob, and answers the memory of the answers, for those of the next one. A session
-// that ends before its last request is an error.
-fn serve_once<H: Sum>(
+/// How a blob is served of which so many bytes may go.
+pub fn setting_of(plan: &Plan, allowed: u64) -> Setting {
+    Setting {
+        page_size: plan.page_size,
+        allowed,
+        ..Setting::default()
+    }
+}
+
+/// Serves a blob, and answers the memory of the answers, for those of the next one. A session that
+/// ends before its last request is an error.
+pub fn serve_once<H: Sum>(
     alloc: Global,
-    plan: &Plan,
+    blob: &mut VecBlob,
+    setting: &Setting,
     requests: &[u8],
     mut answers: Vec<u8>,
     digest: &mut Digest,
 ) -> Result<Vec<u8>> {
     answers.clear();
-    let setting = Setting {
-        page_size: plan.page_size,
-        ..Setting::default()
-    };
-    let mut blob = VecBlob::new(alloc);
     let mut input = BufReader::new(alloc, requests)?;
     let mut out = BufWriter::new(alloc, answers)?;
-    let ended = serve_file::<VecBlob, H, _, _>(
-        alloc, &mut blob, &setting, "", &mut input, &mut out,
-    );
-    match ended {
+    match serve_asked::<H, _, _>(alloc, blob, setting, &mut input, &mut out, digest)? {
         Ok(()) => digest.number(0),
         Err(stop) => bail!("the session ended early: {stop}"),
     }
@@ -191,6 +203,28 @@ fn serve_once<H: Sum>(
     out.flush()?;
     let (answers, _) = out.into_parts();
     digest.bytes(&answers);
-    digest.bytes(blob.bytes());
     Ok(answers)
+}
+
+// Serves a blob. Where more would go than the setting allows, that is asked first: the blob is
+// looked at more closely, and then so much may go.
+fn serve_asked<H: Sum, R: Read, W: Write + Drop>(
+    alloc: Global,
+    blob: &mut VecBlob,
+    setting: &Setting,
+    input: &mut BufReader<R>,
+    out: &mut BufWriter<W>,
+    digest: &mut Digest,
+) -> Result<Result<(), Stop>> {
+    let served = serve_file::<VecBlob, H, R, W>(alloc, blob, setting, "", input, out);
+    let Err(Stop::WouldCut(allowed)) = served else {
+        return Ok(served);
+    };
+    digest.number(allowed);
+    survey_once::<H>(alloc, blob, setting.page_size, setting.buffer_size, digest)?;
+    let setting = Setting {
+        allowed,
+        ..*setting
+    };
+    Ok(serve_file::<VecBlob, H, R, W>(alloc, blob, &setting, "", input, out))
 }
