@@ -1,18 +1,11 @@
-// Bytes of the input, read in pieces as they come.
-ghost use Rattle.std.specs.Prelude.{◌≡◌, ◌<◌, ◌≤◌, IfOk, IfErr, OnOk, length, take};
+// Bytes of the input, read as they come.
+ghost use Rattle.std.specs.Prelude.{◌≡◌, ◌<◌, ◌≤◌, ◌+◌, ◌*◌, max, IfOk, IfErr, OnOk, length, take};
+ghost use Rattle.std.specs.Prelude.{vec_capacity};
 ghost use Rattle.protocol.specs.Input.{AreBytes, Came, Gains, IsBroken};
 
 use crate::stop::ReadError;
-use std::alloc::Global;
-use std::io::{ErrorKind, Read};
-
-/// The most bytes that are read at once.
-const PIECE: usize = 4096;
-
-/// The pieces for fewer bytes, by steps of eight.
-const MIDDLE_PIECE: usize = PIECE / 8;
-
-const SHORT_PIECE: usize = MIDDLE_PIECE / 8;
+use std::alloc::{AllocError, Global};
+use std::io::{BufRead, ErrorKind, Read};
 
 /// Reads as many bytes as there is room for, or all that are left where there are fewer, to the
 /// front of the room, and answers how many. It takes no memory.
@@ -39,8 +32,12 @@ pub fn read_front<R: Read>(input: &mut R, room: &mut [u8]) -> Result<usize, Read
 }
 
 /// Reads so many bytes, or all that are left where there are fewer. No more memory is taken than
-/// for twice the bytes that came.
-pub fn read_some<R: Read>(alloc: Global, input: &mut R, count: usize) -> Result<Vec<u8>, ReadError>
+/// for twice the bytes that came: the number is the client's word, and may be far from what comes.
+pub fn read_some<R: BufRead>(
+    alloc: Global,
+    input: &mut R,
+    count: usize,
+) -> Result<Vec<u8>, ReadError>
     ensures came { let old = R.remaining input.old in let new = R.remaining input.new in
         IfOk result (λ bytes. Came count old new bytes.items) }
     ensures bytes { IfOk result (λ bytes. AreBytes bytes.items) }
@@ -59,47 +56,62 @@ pub fn read_some<R: Read>(alloc: Global, input: &mut R, count: usize) -> Result<
     Err(ReadError::Failed)
 }
 
-// One read, of at most so many bytes, after those that are there. Answers false at the end of the
-// input. A piece is zeros first, so it is not much longer than what is asked for.
-fn read_more<R: Read>(input: &mut R, most: usize, bytes: &mut Vec<u8>) -> Result<bool, ReadError>
+// Takes what has come, at most so many bytes, after those that are there, and waits only where
+// nothing has. Answers false at the end of the input.
+fn read_more<R: BufRead>(input: &mut R, most: usize, bytes: &mut Vec<u8>) -> Result<bool, ReadError>
     requires some { 0 < most }
     ensures gains { let old = R.remaining input.old in let new = R.remaining input.new in
         IfOk result (Gains most old new bytes.old.items bytes.new.items) }
     ensures bytes { OnOk result (AreBytes bytes.new.items) }
     ensures broken { IfErr result IsBroken }
 {
-    if most <= SHORT_PIECE {
-        read_piece::<R, SHORT_PIECE>(input, most, bytes)
-    } else if most <= MIDDLE_PIECE {
-        read_piece::<R, MIDDLE_PIECE>(input, most, bytes)
-    } else {
-        read_piece::<R, PIECE>(input, most, bytes)
+    let come = match input.fill_buf() {
+        Ok(come) => come,
+        Err(error) if error.kind() == ErrorKind::Interrupted => return Ok(true),
+        Err(_) => return Err(ReadError::Failed),
+    };
+    if come.is_empty() {
+        return read_byte(input, bytes);
     }
+    let count = most.min(come.len());
+    make_room(bytes, count, most)?;
+    bytes.extend_from_slice(&come[..count])?;
+    input.consume(count);
+    Ok(true)
 }
 
-// The same by a piece of this length.
-fn read_piece<R: Read, const N: usize>(
-    input: &mut R,
-    most: usize,
-    bytes: &mut Vec<u8>,
-) -> Result<bool, ReadError>
-    requires some { 0 < most }
-    requires piece { 0 < N }
-    requires short { N ≤ PIECE }
+// One byte more, by a read: what is empty in a buffer is the end of the input just where its bytes
+// are known. Answers false at the end.
+fn read_byte<R: Read>(input: &mut R, bytes: &mut Vec<u8>) -> Result<bool, ReadError>
     ensures gains { let old = R.remaining input.old in let new = R.remaining input.new in
-        IfOk result (Gains most old new bytes.old.items bytes.new.items) }
+        IfOk result (Gains 1 old new bytes.old.items bytes.new.items) }
     ensures bytes { OnOk result (AreBytes bytes.new.items) }
     ensures broken { IfErr result IsBroken }
 {
-    let mut piece = [0; N];
-    let room = &mut piece[..most.min(N)];
-    match input.read(room) {
+    let mut byte = [0; 1];
+    match input.read(&mut byte) {
         Ok(0) => Ok(false),
         Ok(count) => {
-            bytes.extend_from_slice(&room[..count])?;
+            bytes.extend_from_slice(&byte[..count])?;
             Ok(true)
         }
         Err(error) if error.kind() == ErrorKind::Interrupted => Ok(true),
         Err(_) => Err(ReadError::Failed),
     }
+}
+
+// Makes room for the next bytes, of which at most so many are to come: where there is too little,
+// for twice those that came, so the bytes are seldom moved.
+fn make_room(bytes: &mut Vec<u8>, count: usize, most: usize) -> Result<(), AllocError>
+    requires within { count ≤ most }
+    ensures items { bytes.new.items ≡ bytes.old.items }
+    ensures fits { OnOk result (length bytes.old.items + count ≤ vec_capacity bytes.new) }
+    ensures twice { vec_capacity bytes.new
+        ≤ max (vec_capacity bytes.old) (2 * (length bytes.old.items + count)) }
+{
+    if bytes.capacity() - bytes.len() >= count {
+        return Ok(());
+    }
+    let twice = count.saturating_mul(2).saturating_add(bytes.len());
+    bytes.reserve_exact(twice.min(most))
 }

@@ -9,7 +9,7 @@ use crate::input::{read_front, read_some};
 use crate::stop::{Flaw, ReadError};
 use session::Step;
 use std::alloc::Global;
-use std::io::Read;
+use std::io::BufRead;
 use std::num::NonZeroUsize;
 
 /// The most bytes that one answer may hold after its status.
@@ -29,7 +29,7 @@ pub enum Request {
 }
 
 /// Reads a request; none at the end of the input.
-pub fn read_request<R: Read>(alloc: Global, input: &mut R) -> Result<Option<Request>, ReadError>
+pub fn read_request<R: BufRead>(alloc: Global, input: &mut R) -> Result<Option<Request>, ReadError>
     ensures reads { ReadsRequest (R.remaining input.old) (R.remaining input.new) result }
 {
     let mut head = [0; 4];
@@ -54,7 +54,7 @@ fn length_of(bytes: &[u8; 4]) -> u32
 }
 
 // Reads the rest of a request whose frame has so many bytes after their number.
-fn read_frame<R: Read>(alloc: Global, input: &mut R, length: u32) -> Result<Request, ReadError>
+fn read_frame<R: BufRead>(alloc: Global, input: &mut R, length: u32) -> Result<Request, ReadError>
     requires { length < 2 ^ 32 }
     ensures reads { let old = R.remaining input.old in let new = R.remaining input.new in
         ReadsAfter (length_bytes length) old new result }
@@ -71,7 +71,7 @@ fn read_frame<R: Read>(alloc: Global, input: &mut R, length: u32) -> Result<Requ
 
 // Reads what stands after the kind of a request: so many bytes. A wrong length is told before they
 // are awaited.
-fn read_body<R: Read>(
+fn read_body<R: BufRead>(
     alloc: Global,
     input: &mut R,
     kind: u8,
@@ -103,7 +103,7 @@ fn read_body<R: Read>(
 }
 
 // Reads the bytes of an append: so many, and not fewer.
-fn read_bytes<R: Read>(alloc: Global, input: &mut R, len: usize) -> Result<Vec<u8>, ReadError>
+fn read_bytes<R: BufRead>(alloc: Global, input: &mut R, len: usize) -> Result<Vec<u8>, ReadError>
     ensures reads { ReadsFields len (R.remaining input.old) (R.remaining input.new) result }
     ensures bytes { IfOk result (λ bytes. AreBytes bytes.items) }
 {
