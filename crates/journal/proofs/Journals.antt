@@ -16,7 +16,7 @@ use Rattle.crash.proofs.DistinctLaws.{distinct_is_chance_free}
 use Rattle.crash.proofs.Promise.{keeps_less, keeps_same, keeps_settle}
 use Rattle.crash.specs.Kept.{AllKeep, AllOnly, Through}
 use Rattle.crash.specs.Stays.{KeepsAllFloors, LeavesOnly, KeepsAll}
-use Rattle.crash.specs.Looks.{Looked, looked_start, looked_joins}
+use Rattle.crash.specs.Looks.{Looked, looked_start}
 use Rattle.writer_state.specs.Sound.{IsSound, LeavesItsContent, content}
 use Rattle.writer_state.specs.WriterState.{WriterState}
 use Rattle.crash.specs.Moments.{through_start, through_then, through_joins, through_end}
@@ -551,7 +551,7 @@ trim_unread sum own w after old new e (Err x) is refused = inl (subst (λ (y : E
 
 -- ---- what a recovery kept
 
-bytes_of : Option HandState → List ℕ
+abbrev bytes_of : Option HandState → List ℕ
 bytes_of None = []
 bytes_of (Some hand) = hand.bytes
 

@@ -1,10 +1,13 @@
-use Rattle.std.proofs.Common.{◌≡◌, ◌∙◌, ⊥, Ok, Err, List, length, subst, sym, ap, ℕ, arith}
-use Rattle.std.proofs.lemmas.Result.{err_from_is_err_and}
+use Rattle.std.proofs.Common.{◌≡◌, ◌∙◌, List, length, subst, sym, ap, ℕ}
+use Rattle.disk.specs.Disk.{Life}
+use Rattle.cache.specs.CacheState.{CacheState}
+use Rattle.writer_state.specs.WriterState.{WriterState}
 use Rattle.writer_state.specs.Sound.{content}
 use Rattle.crash.specs.Stays.{LeavesOnly}
 use Rattle.paged.specs.Reads.{size_of}
 use Rattle.paged.specs.Truncate.{KeepsFloorsWithin}
 use Rattle.journal.specs.Frame.{records, whole_frames}
+use Rattle.journal.specs.Journal.{IsReady}
 use Rattle.journal.proofs.Journals.{floors_within, leaves_or, reads_start, trim_leaves, trim_goes, trim_stays, trim_refused, trim_unread}
 use Rattle.journal.proofs.journal.trim.Given.{Over}
 use Rattle.journal.proofs.journal.trim.Goals as goal
@@ -18,18 +21,14 @@ given : (g : Over) (c : In_ok-found g) → c.in_ok-found.found.items ≡ records
 given g c = c.in_ok-found.ensures.records ∙ ap (λ (l : List ℕ). records g.R.Sum.sum_of l) c.requires.held
 
 -- nothing was done to the blob yet
-none_kept : (g : Over) (c : goal.After-records_of g) → KeepsFloorsWithin (length (whole_frames (content c.args.recovery (g.B.Blob.life c.args.blob.now).present.readable))) g.H.Sum.sum_of c.args.recovery.page_size (g.B.Blob.life c.args.blob.now) (g.B.Blob.life c.args.blob.now)
-none_kept g c =
-    let life = g.B.Blob.life c.args.blob.now in
-    floors_within g.H.Sum.sum_of (length (whole_frames (content c.args.recovery life.present.readable))) c.args.recovery.page_size life life (reads_start g.H.Sum.sum_of c.args.recovery c.args.cache.now life c.requires.ready).kept
+none_kept : (sum : List ℕ → ℕ) (w : WriterState) (cache : CacheState) (life : Life) → IsReady sum w cache life → KeepsFloorsWithin (length (whole_frames (content w life.present.readable))) sum w.page_size life life
+none_kept sum w cache life ready = floors_within sum (length (whole_frames (content w life.present.readable))) w.page_size life life (reads_start sum w cache life ready).kept
 
-none_left : (g : Over) (c : goal.After-records_of g) → let held = content c.args.recovery (g.B.Blob.life c.args.blob.now).present.readable in
-    LeavesOnly g.H.Sum.sum_of c.args.recovery.page_size held (whole_frames held) (g.B.Blob.life c.args.blob.now) (g.B.Blob.life c.args.blob.now)
-none_left g c =
-    let sum = g.H.Sum.sum_of in
-    let life = g.B.Blob.life c.args.blob.now in
-    let held = content c.args.recovery life.present.readable in
-    leaves_or sum c.args.recovery.page_size held (whole_frames held) life life (reads_start sum c.args.recovery c.args.cache.now life c.requires.ready).only
+none_left : (sum : List ℕ → ℕ) (w : WriterState) (cache : CacheState) (life : Life) → IsReady sum w cache life → let held = content w life.present.readable in
+    LeavesOnly sum w.page_size held (whole_frames held) life life
+none_left sum w cache life ready =
+    let held = content w life.present.readable in
+    leaves_or sum w.page_size held (whole_frames held) life life (reads_start sum w cache life ready).only
 
 pub returns-in_err-found-clause-trims : goal.returns-in_err-found-clause-trims
 returns-in_err-found-clause-trims g c =
@@ -43,10 +42,10 @@ pub returns-in_err-found-clause-others : goal.returns-in_err-found-clause-others
 returns-in_err-found-clause-others g c = λ t d apart can. can
 
 pub returns-in_err-found-clause-kept : goal.returns-in_err-found-clause-kept
-returns-in_err-found-clause-kept g c = none_kept g (goal.at.returns-in_err-found-clause-kept g c).After-records_of
+returns-in_err-found-clause-kept g c = none_kept g.H.Sum.sum_of c.args.recovery c.args.cache.now (g.B.Blob.life c.args.blob.now) c.requires.ready
 
 pub returns-in_err-found-clause-only : goal.returns-in_err-found-clause-only
-returns-in_err-found-clause-only g c = none_left g (goal.at.returns-in_err-found-clause-only g c).After-records_of
+returns-in_err-found-clause-only g c = none_left g.H.Sum.sum_of c.args.recovery c.args.cache.now (g.B.Blob.life c.args.blob.now) c.requires.ready
 
 pub returns-then-end-size-clause-trims : goal.returns-then-end-size-clause-trims
 returns-then-end-size-clause-trims g c =
@@ -60,21 +59,21 @@ pub returns-then-end-size-clause-others : goal.returns-then-end-size-clause-othe
 returns-then-end-size-clause-others g c = λ t d apart can. can
 
 pub returns-then-end-size-clause-kept : goal.returns-then-end-size-clause-kept
-returns-then-end-size-clause-kept g c = none_kept g (goal.at.returns-then-end-size-clause-kept g c).After-records_of
+returns-then-end-size-clause-kept g c = none_kept g.H.Sum.sum_of c.args.recovery c.args.cache.now (g.B.Blob.life c.args.blob.now) c.requires.ready
 
 pub returns-then-end-size-clause-only : goal.returns-then-end-size-clause-only
-returns-then-end-size-clause-only g c = none_left g (goal.at.returns-then-end-size-clause-only g c).After-records_of
+returns-then-end-size-clause-only g c = none_left g.H.Sum.sum_of c.args.recovery c.args.cache.now (g.B.Blob.life c.args.blob.now) c.requires.ready
 
 -- what the cut keeps of floors
-kept : (g : Over) (c : After-truncate g) → KeepsFloorsWithin (length (whole_frames (content c.args.recovery (g.B.Blob.life c.args.blob.now).present.readable))) g.H.Sum.sum_of c.args.recovery.page_size (g.B.Blob.life c.args.blob.now) (g.B.Blob.life c.truncate.new.blob)
-kept g c =
-    subst (λ (n : ℕ). KeepsFloorsWithin n g.H.Sum.sum_of c.args.recovery.page_size (g.B.Blob.life c.args.blob.now) (g.B.Blob.life c.truncate.new.blob)) (end g c.In_ok-found) c.truncate.ensures.floors
+kept : (g : Over) (c : After-truncate g) → c.in_ok-found.end ≡ length (whole_frames (content c.args.recovery (g.B.Blob.life c.args.blob.now).present.readable)) → KeepsFloorsWithin (length (whole_frames (content c.args.recovery (g.B.Blob.life c.args.blob.now).present.readable))) g.H.Sum.sum_of c.args.recovery.page_size (g.B.Blob.life c.args.blob.now) (g.B.Blob.life c.truncate.new.blob)
+kept g c whole =
+    subst (λ (n : ℕ). KeepsFloorsWithin n g.H.Sum.sum_of c.args.recovery.page_size (g.B.Blob.life c.args.blob.now) (g.B.Blob.life c.truncate.new.blob)) whole c.truncate.ensures.floors
 
 -- and what it leaves
-only : (g : Over) (c : After-truncate g) → let held = content c.args.recovery (g.B.Blob.life c.args.blob.now).present.readable in
+only : (g : Over) (c : After-truncate g) → c.in_ok-found.end ≡ length (whole_frames (content c.args.recovery (g.B.Blob.life c.args.blob.now).present.readable)) → let held = content c.args.recovery (g.B.Blob.life c.args.blob.now).present.readable in
     LeavesOnly g.H.Sum.sum_of c.args.recovery.page_size held (whole_frames held) (g.B.Blob.life c.args.blob.now) (g.B.Blob.life c.truncate.new.blob)
-only g c =
-    trim_leaves g.H.Sum.sum_of c.args.recovery c.in_ok-found.end (g.B.Blob.life c.args.blob.now) (g.B.Blob.life c.truncate.new.blob) (end g c.In_ok-found) (c.truncate.ensures.only c.requires.ready.sound)
+only g c whole =
+    trim_leaves g.H.Sum.sum_of c.args.recovery c.in_ok-found.end (g.B.Blob.life c.args.blob.now) (g.B.Blob.life c.truncate.new.blob) whole (c.truncate.ensures.only c.requires.ready.sound)
 
 pub returns-in-Ok-clause-trims : goal.returns-in-Ok-clause-trims
 returns-in-Ok-clause-trims g c =
@@ -88,10 +87,10 @@ pub returns-in-Ok-clause-fresh : goal.returns-in-Ok-clause-fresh
 returns-in-Ok-clause-fresh g c = c.truncate.ensures.fresh_ids c.requires.ready.can.given c.requires.ready.fresh
 
 pub returns-in-Ok-clause-kept : goal.returns-in-Ok-clause-kept
-returns-in-Ok-clause-kept g c = kept g (goal.at.returns-in-Ok-clause-kept g c).After-truncate
+returns-in-Ok-clause-kept g c = let at = goal.at.returns-in-Ok-clause-kept g c in kept g at.After-truncate (end g at.In_ok-found)
 
 pub returns-in-Ok-clause-only : goal.returns-in-Ok-clause-only
-returns-in-Ok-clause-only g c = only g (goal.at.returns-in-Ok-clause-only g c).After-truncate
+returns-in-Ok-clause-only g c = let at = goal.at.returns-in-Ok-clause-only g c in only g at.After-truncate (end g at.In_ok-found)
 
 pub returns-in-Err-clause-trims : goal.returns-in-Err-clause-trims
 returns-in-Err-clause-trims g c =
@@ -103,7 +102,7 @@ pub returns-in-Err-clause-fresh : goal.returns-in-Err-clause-fresh
 returns-in-Err-clause-fresh g c = c.truncate.ensures.fresh_ids c.requires.ready.can.given c.requires.ready.fresh
 
 pub returns-in-Err-clause-kept : goal.returns-in-Err-clause-kept
-returns-in-Err-clause-kept g c = kept g (goal.at.returns-in-Err-clause-kept g c).After-truncate
+returns-in-Err-clause-kept g c = let at = goal.at.returns-in-Err-clause-kept g c in kept g at.After-truncate (end g at.In_ok-found)
 
 pub returns-in-Err-clause-only : goal.returns-in-Err-clause-only
-returns-in-Err-clause-only g c = only g (goal.at.returns-in-Err-clause-only g c).After-truncate
+returns-in-Err-clause-only g c = let at = goal.at.returns-in-Err-clause-only g c in only g at.After-truncate (end g at.In_ok-found)

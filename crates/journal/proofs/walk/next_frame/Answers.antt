@@ -1,4 +1,4 @@
-use Rattle.std.proofs.Common.{◌≡◌, ◌+◌, ◌-◌, ◌≤◌, ◌++◌, ◌∙◌, ℕ, List, length, length-drop, take, drop, ap, sym, arith}
+use Rattle.std.proofs.Common.{◌≡◌, ◌+◌, ◌≤◌, ◌++◌, ◌∙◌, ℕ, List, length, length-drop, take, drop, ap, sym, arith}
 use Rattle.std.proofs.lemmas.List.{length-take-le}
 use Rattle.journal.specs.Frame.{record_len}
 use Rattle.journal.proofs.Walks.{after, left, parted, said, took}
@@ -25,14 +25,14 @@ taken g c content is within =
       size = omega (arith, ap (λ (l : List ℕ). length l) rest, length-drop (offset + 2) content, within, ap (λ (l : List ℕ). length l) is, length-drop offset content);
     }
 
-pub returns-then-remaining-clause-passes : goal.returns-then-remaining-clause-passes
-returns-then-remaining-clause-passes g c = λ content is within.
-    omega (arith, c.if-remaining.true, c.remaining.ensures, ap (λ (l : List ℕ). length l) is, length-drop c.args.offset content, within)
+pub returns-then-remaining-lt-IN_FRONT-clause-passes : goal.returns-then-remaining-lt-IN_FRONT-clause-passes
+returns-then-remaining-lt-IN_FRONT-clause-passes g c = λ content is within.
+    omega (arith, c.if-remaining-lt-IN_FRONT.true, c.remaining.ensures, ap (λ (l : List ℕ). length l) is, length-drop c.args.offset content, within)
 
-pub returns-then-remaining-2-clause-passes : goal.returns-then-remaining-2-clause-passes
-returns-then-remaining-2-clause-passes g c = λ content is within.
-    let had = taken g (goal.at.returns-then-remaining-2-clause-passes g c).After-record_len_of-len content is within in
-    omega (arith, c.if-remaining-2.true, c.remaining-2.ensures, had.says, had.size)
+pub returns-then-remaining-len-clause-passes : goal.returns-then-remaining-len-clause-passes
+returns-then-remaining-len-clause-passes g c = λ content is within.
+    let had = taken g (goal.at.returns-then-remaining-len-clause-passes g c).After-record_len_of-len content is within in
+    omega (arith, c.if-remaining-len.true, c.remaining-2.ensures, had.says, had.size)
 
 pub returns-clause-passes : goal.returns-clause-passes
 returns-clause-passes g c = λ content is within.
@@ -42,7 +42,7 @@ returns-clause-passes g c = λ content is within.
     let now = c.copy_to_bytes.new.self.bytes in
     let bytes = c.in_ok-bytes.bytes in
     let had = taken g (goal.at.returns-clause-passes g c).After-record_len_of-len content is within in
-    let enough : n + 5 ≤ length hand = omega (arith, c.if-remaining-2.false, c.remaining-2.ensures) in
+    let enough : n + 5 ≤ length hand = omega (arith, c.if-remaining-len.false, c.remaining-2.ensures) in
     let first : bytes ≡ take n (drop (offset + 2) content) = took content hand bytes (offset + 2) n had.rest c.in_ok-bytes.ensures.taken in
     let rest : now ≡ drop (offset + 2 + n) content = left content hand now (offset + 2) n had.rest c.in_ok-bytes.ensures.bytes in
     let second : c.take_into-2.new.out ≡ take 5 (drop (offset + 2 + n) content) = took content now c.take_into-2.new.out (offset + 2 + n) 5 rest c.take_into-2.ensures.bytes in
