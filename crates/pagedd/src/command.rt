@@ -17,6 +17,190 @@ Exit status:
   3    the file isn't whole, or is refused; nothing was cut
   141  the output was closed by its reader";
 
+/// The commands, and what each does.
+const COMMANDS: [(&str, &str); 7] = [
+    ("serve", "serves FILE, and makes it where it is missing"),
+    (
+        "append",
+        "appends standard input to FILE, durably, and makes FILE where it is missing",
+    ),
+    (
+        "check",
+        "tells what a recovery would keep and cut, and which pages don't verify",
+    ),
+    ("map", "draws the pages of FILE, one mark each"),
+    ("cat", "writes the content of FILE to standard output"),
+    (
+        "salvage",
+        "puts all that verifies, also after a bad page, into a new blob OUT",
+    ),
+    ("version", "prints the version"),
+];
+
+/// What follows an option's name. A word that has none stands on the command line by itself.
+#[derive(Clone, Copy)]
+enum Takes {
+    /// It has no name, and is one word.
+    Word,
+    /// It has no name, and is any number of words.
+    Words,
+    /// Nothing.
+    Nothing,
+    /// A number.
+    Number,
+    /// A number of bytes or pages, at least one.
+    Size,
+    /// The content bytes of a page.
+    PageSize,
+    /// The name of a checksum function.
+    Checksum,
+}
+
+/// An option, and the commands that have it. `pagedd` stands for a command line without a command.
+#[derive(Clone, Copy)]
+struct Row {
+    name: &'static str,
+    takes: Takes,
+    default: Option<&'static str>,
+    help: &'static str,
+    commands: &'static [&'static str],
+}
+
+/// The options, in the order in which help has them.
+const ROWS: [Row; 18] = [
+    Row {
+        name: "FILE",
+        takes: Takes::Word,
+        default: None,
+        help: "the file of the blob",
+        commands: &WITH_FILE,
+    },
+    Row {
+        name: "page-size",
+        takes: Takes::PageSize,
+        default: Some("4084"),
+        help: "the content bytes of a page",
+        commands: &WITH_FILE,
+    },
+    Row {
+        name: "checksum",
+        takes: Takes::Checksum,
+        default: Some("crc32c"),
+        help: "the checksum of a page",
+        commands: &WITH_FILE,
+    },
+    Row {
+        name: "buffer",
+        takes: Takes::Size,
+        default: Some("65536"),
+        help: "the bytes that are held back, and those of a read",
+        commands: &WITH_FILE,
+    },
+    Row {
+        name: "OUT",
+        takes: Takes::Word,
+        default: None,
+        help: "a file that isn't there yet",
+        commands: &["salvage"],
+    },
+    Row {
+        name: "CUT",
+        takes: Takes::Words,
+        default: None,
+        help: "files with what was cut from FILE, whose pages follow those of FILE",
+        commands: &["salvage"],
+    },
+    Row {
+        name: "cache",
+        takes: Takes::Size,
+        default: Some("64"),
+        help: "the pages that may be held in memory",
+        commands: &["pagedd", "serve", "append"],
+    },
+    Row {
+        name: "cut",
+        takes: Takes::Nothing,
+        default: None,
+        help: "recovers a file that would be refused; what is cut is kept beside it",
+        commands: &["pagedd", "serve", "append"],
+    },
+    Row {
+        name: "cut-limit",
+        takes: Takes::Number,
+        default: Some("1048576"),
+        help: "how many bytes may go although a page among them has a value",
+        commands: &["pagedd", "serve", "append", "check"],
+    },
+    Row {
+        name: "read-only",
+        takes: Takes::Nothing,
+        default: None,
+        help: "serves a copy in memory as it would be recovered, and changes no file",
+        commands: &["pagedd", "serve"],
+    },
+    Row {
+        name: "create",
+        takes: Takes::Nothing,
+        default: None,
+        help: "makes FILE where it is missing, as pagedd serve does",
+        commands: &["pagedd"],
+    },
+    Row {
+        name: "each-line",
+        takes: Takes::Nothing,
+        default: None,
+        help: "makes each line durable before it waits for the next",
+        commands: &["append"],
+    },
+    Row {
+        name: "from",
+        takes: Takes::Number,
+        default: None,
+        help: "the first page",
+        commands: &["map"],
+    },
+    Row {
+        name: "to",
+        takes: Takes::Number,
+        default: None,
+        help: "the page before which it ends",
+        commands: &["map"],
+    },
+    Row {
+        name: "from",
+        takes: Takes::Number,
+        default: None,
+        help: "the offset of the first byte",
+        commands: &["cat"],
+    },
+    Row {
+        name: "len",
+        takes: Takes::Number,
+        default: None,
+        help: "how many bytes at most",
+        commands: &["cat"],
+    },
+    Row {
+        name: "long",
+        takes: Takes::Nothing,
+        default: None,
+        help: "a line for each page, with what its slots say",
+        commands: &["map"],
+    },
+    Row {
+        name: "json",
+        takes: Takes::Nothing,
+        default: None,
+        help: "prints one JSON object",
+        commands: &["check", "map"],
+    },
+];
+
+/// The commands that are about a file.
+const WITH_FILE: [&str; 7] = [
+    "pagedd", "serve", "append", "check", "map", "cat", "salvage",
+];
+
 /// The command line.
 pub fn command<'a>(alloc: Global) -> Result<Command<'a>, AllocError> {
     let top = Command::new(alloc, "pagedd")
@@ -24,141 +208,54 @@ pub fn command<'a>(alloc: Global) -> Result<Command<'a>, AllocError> {
         .version(VERSION)
         .after_help(STATUSES)
         .args_conflicts_with_subcommands(true);
-    let help = "makes FILE where it is missing, as pagedd serve does";
-    with_serving(alloc, with_shape(alloc, top)?)?
-        .arg(flag(alloc, "create", help))?
-        .subcommand(serve_command(alloc)?)?
-        .subcommand(append_command(alloc)?)?
-        .subcommand(check_command(alloc)?)?
-        .subcommand(map_command(alloc)?)?
-        .subcommand(cat_command(alloc)?)?
-        .subcommand(salvage_command(alloc)?)?
-        .subcommand(Command::new(alloc, "version").about("prints the version"))
+    let mut top = with_options(alloc, top, "pagedd")?;
+    for (name, about) in COMMANDS {
+        let command = Command::new(alloc, name).about(about);
+        top = top.subcommand(with_options(alloc, command, name)?)?;
+    }
+    Ok(top)
 }
 
-fn serve_command<'a>(alloc: Global) -> Result<Command<'a>, AllocError> {
-    let serve = Command::new(alloc, "serve").about("serves FILE, and makes it where it is missing");
-    with_serving(alloc, with_shape(alloc, serve)?)
+// The command with its options.
+fn with_options<'a>(
+    alloc: Global,
+    command: Command<'a>,
+    name: &str,
+) -> Result<Command<'a>, AllocError> {
+    let mut command = command;
+    for row in ROWS {
+        if row.commands.iter().any(|other| *other == name) {
+            command = command.arg(option_of(alloc, row))?;
+        }
+    }
+    Ok(command)
 }
 
-fn append_command<'a>(alloc: Global) -> Result<Command<'a>, AllocError> {
-    let append = Command::new(alloc, "append").about(
-        "appends standard input to FILE, durably, and makes FILE where it is missing",
-    );
-    let help = "makes each line durable before it waits for the next";
-    with_cuts(alloc, with_shape(alloc, append)?)?.arg(flag(alloc, "each-line", help))
-}
-
-fn check_command<'a>(alloc: Global) -> Result<Command<'a>, AllocError> {
-    let check = Command::new(alloc, "check").about(
-        "tells what a recovery would keep and cut, and which pages don't verify",
-    );
-    with_shape(alloc, check)?
-        .arg(cut_limit(alloc))?
-        .arg(json(alloc))
-}
-
-fn map_command<'a>(alloc: Global) -> Result<Command<'a>, AllocError> {
-    let map = Command::new(alloc, "map").about("draws the pages of FILE, one mark each");
-    let help = "a line for each page, with what its slots say";
-    with_shape(alloc, map)?
-        .arg(number(alloc, "from", "the first page"))?
-        .arg(number(alloc, "to", "the page before which it ends"))?
-        .arg(flag(alloc, "long", help))?
-        .arg(json(alloc))
-}
-
-fn cat_command<'a>(alloc: Global) -> Result<Command<'a>, AllocError> {
-    let cat = Command::new(alloc, "cat").about("writes the content of FILE to standard output");
-    with_shape(alloc, cat)?
-        .arg(number(alloc, "from", "the offset of the first byte"))?
-        .arg(number(alloc, "len", "how many bytes at most"))
-}
-
-fn salvage_command<'a>(alloc: Global) -> Result<Command<'a>, AllocError> {
-    let salvage = Command::new(alloc, "salvage").about(
-        "puts all that verifies, also after a bad page, into a new blob OUT",
-    );
-    let out = Arg::new(alloc, "OUT")
-        .help("a file that isn't there yet")
-        .required(true);
-    let set_aside = Arg::new(alloc, "CUT")
-        .help("files with what was cut from FILE, whose pages follow those of FILE")
-        .num_args(0..)
-        .action(ArgAction::Append);
-    with_shape(alloc, salvage)?.arg(out)?.arg(set_aside)
-}
-
-fn flag<'a>(alloc: Global, name: &'a str, help: &'a str) -> Arg<'a> {
-    Arg::new(alloc, name)
-        .long(name)
-        .action(ArgAction::SetTrue)
-        .help(help)
-}
-
-fn number<'a>(alloc: Global, name: &'a str, help: &'a str) -> Arg<'a> {
-    Arg::new(alloc, name)
-        .long(name)
-        .value_name("N")
-        .help(help)
-        .value_parser(value_parser!(u64))
-}
-
-fn json<'a>(alloc: Global) -> Arg<'a> {
-    flag(alloc, "json", "prints one JSON object")
-}
-
-fn cut_limit<'a>(alloc: Global) -> Arg<'a> {
-    let help = "how many bytes may go although a page among them has a value";
-    number(alloc, "cut-limit", help).default_value("1048576")
-}
-
-/// The command with its file, and how that is written.
-fn with_shape<'a>(alloc: Global, command: Command<'a>) -> Result<Command<'a>, AllocError> {
-    let file = Arg::new(alloc, "FILE")
-        .help("the file of the blob")
-        .required(true);
-    let page_size = Arg::new(alloc, "page-size")
-        .long("page-size")
-        .value_name("N")
-        .help("the content bytes of a page")
-        .value_parser(value_parser!(u16).range(1..))
-        .default_value("4084");
-    let checksum = Arg::new(alloc, "checksum")
-        .long("checksum")
-        .help("the checksum of a page")
-        .value_parser(["add", "crc32c"].as_slice())
-        .default_value("crc32c");
-    let buffer = Arg::new(alloc, "buffer")
-        .long("buffer")
-        .value_name("N")
-        .help("the bytes that are held back, and those of a read")
-        .value_parser(value_parser!(usize).range(1..=MOST))
-        .default_value("65536");
-    command
-        .arg(file)?
-        .arg(page_size)?
-        .arg(checksum)?
-        .arg(buffer)
-}
-
-/// The command with what only serving asks for.
-fn with_serving<'a>(alloc: Global, command: Command<'a>) -> Result<Command<'a>, AllocError> {
-    let help = "serves a copy in memory as it would be recovered, and changes no file";
-    with_cuts(alloc, command)?.arg(flag(alloc, "read-only", help))
-}
-
-/// The command with what opening a file for a writer asks for.
-fn with_cuts<'a>(alloc: Global, command: Command<'a>) -> Result<Command<'a>, AllocError> {
-    let cache = Arg::new(alloc, "cache")
-        .long("cache")
-        .value_name("N")
-        .help("the pages that may be held in memory")
-        .value_parser(value_parser!(usize).range(1..=MOST))
-        .default_value("64");
-    let help = "recovers a file that would be refused; what is cut is kept beside it";
-    command
-        .arg(cache)?
-        .arg(flag(alloc, "cut", help))?
-        .arg(cut_limit(alloc))
+// The option of a row.
+fn option_of<'a>(alloc: Global, row: Row) -> Arg<'a> {
+    let option = Arg::new(alloc, row.name).help(row.help);
+    let option = match row.default {
+        Some(default) => option.default_value(default),
+        None => option,
+    };
+    match row.takes {
+        Takes::Word => option.required(true),
+        Takes::Words => option.num_args(0..).action(ArgAction::Append),
+        Takes::Nothing => option.long(row.name).action(ArgAction::SetTrue),
+        Takes::Number => option
+            .long(row.name)
+            .value_name("N")
+            .value_parser(value_parser!(u64)),
+        Takes::Size => option
+            .long(row.name)
+            .value_name("N")
+            .value_parser(value_parser!(usize).range(1..=MOST)),
+        Takes::PageSize => option
+            .long(row.name)
+            .value_name("N")
+            .value_parser(value_parser!(u16).range(1..)),
+        Takes::Checksum => option
+            .long(row.name)
+            .value_parser(["add", "crc32c"].as_slice()),
+    }
 }
