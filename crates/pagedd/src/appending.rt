@@ -1,85 +1,268 @@
 // Appending the program's input to a file.
-use crate::answers::{Answers, Heard};
+ghost use Rattle.std.specs.Prelude.{IfOk};
+ghost use Rattle.session.specs.Run.{IsReady, CacheFits};
+
 use crate::ending::{fail, fail_stop};
-use crate::opening::{open, serve_opened};
+use crate::look::InMemory;
+use crate::opening::{allow, open};
 use crate::request::Request;
-use crate::requests::Requests;
-use crate::serving::flushed;
 use crate::status::Status;
+use crate::streams::Input;
+use cache::CacheRef;
+use disk::{Blob, Error};
 use file::FileBlob;
 use page::Sum;
 use protocol::Stop;
-use std::io::{self, BufReader, BufWriter, ErrorKind};
+use session::{Reply, Session, Step, run};
+use std::alloc::{AllocError, Global};
+use std::io::{ErrorKind, Read};
+use std::slice;
+
+/// So many bytes of the input are appended at once.
+const PIECE: usize = 1 << 16;
+
+/// Standard input, piece by piece.
+#[derive(Drop)]
+struct Pieces {
+    input: Input,
+    piece: Vec<u8>,
+}
+
+impl Pieces {
+    /// Of the running program.
+    fn of(rt: &HostRuntime) -> Result<Self, AllocError> {
+        Ok(Pieces {
+            input: Input::of(rt),
+            piece: vec![in rt.alloc(); 0; PIECE]?,
+        })
+    }
+
+    /// The next piece; no byte at the input's end, or where it failed.
+    fn next(&mut self) -> &[u8] {
+        for _ in 0..u64::MAX {
+            match self.input.read(&mut self.piece) {
+                Ok(count) => return self.piece.get(..count).unwrap_or_default(),
+                Err(error) if error.kind() == ErrorKind::Interrupted => {}
+                Err(_) => break,
+            }
+        }
+        &[]
+    }
+}
 
 /// Appends standard input to a file as it comes, and makes it durable at the end, and where
-/// `each_line` asks after each line too. It serves the file to a client that asks for just that.
-pub fn append<H: Sum>(rt: &HostRuntime, request: &Request, each_line: bool) -> io::Result<Status> {
-    let mut blob = match open(rt, request)? {
-        Ok(blob) => blob,
-        Err(status) => return Ok(status),
+/// `each_line` asks after each line too.
+pub fn append<H: Sum>(
+    rt: &HostRuntime,
+    request: &Request,
+    each_line: bool,
+) -> Result<Status, Status> {
+    let mut blob = open(rt, request.file)?;
+    append_to::<H>(rt, request, each_line, &mut blob)
+}
+
+// Appends it to an opened file.
+fn append_to<H: Sum>(
+    rt: &HostRuntime,
+    request: &Request,
+    each_line: bool,
+    blob: &mut FileBlob,
+) -> Result<Status, Status> {
+    let mut pieces = Pieces::of(rt)?;
+    let (mut session, mut cache) = match begin::<FileBlob, H>(rt, request, blob)? {
+        Ok(begun) => begun,
+        Err(stop) => return Err(tell_refused(rt, request, blob, stop)),
     };
-    let alloc = rt.alloc();
-    let mut input = BufReader::new(alloc, Requests::of(rt, each_line)?)?;
-    let mut out = BufWriter::new(alloc, Answers::new(alloc))?;
-    let served = match serve_opened::<H, _, _>(rt, request, &mut blob, &mut input, &mut out)? {
-        Ok(served) => served,
-        Err(status) => return Ok(status),
-    };
-    let ended = flushed(served, &mut out);
-    let heard = out.get_ref().heard;
-    if let Err(stop) = ended {
-        return tell_stop(rt, request, &blob, stop, &heard);
+    let start = session.size().unwrap_or(0);
+    let mut synced = start;
+    let appended = append_input::<FileBlob, H>(
+        rt.alloc(),
+        &mut pieces,
+        each_line,
+        &mut session,
+        blob,
+        &mut cache,
+        &mut synced,
+    );
+    match appended {
+        Ok(()) => tell_appended(rt, &pieces.input, start, synced),
+        Err(error) => Err(tell_lost(rt, request, blob, error, synced)),
     }
-    let start = heard.start.unwrap_or(0);
-    let end = heard.end;
-    match (
-        println!(rt; "appended {start} to {end}"),
-        input.get_ref().failure(),
-    ) {
-        (Ok(()), None) => Ok(Status::Done),
-        (Ok(()), Some(error)) => fail(
-            rt,
-            "standard input",
-            format_args!("{error}; what came before that is appended and synced"),
-        ),
-        (Err(error), _) if error.kind() == ErrorKind::BrokenPipe => Err(error),
-        (Err(error), _) => fail(
-            rt,
-            "standard output",
-            format_args!("{error}; bytes {start} to {end} are appended and synced"),
-        ),
+}
+
+// Begins a session on a blob that nobody opened. Where something of it would go, it is looked at
+// more closely before anything is changed.
+fn begin<B: Blob + InMemory, H: Sum>(
+    rt: &HostRuntime,
+    request: &Request,
+    blob: &mut B,
+) -> Result<Result<(Session<B, H>, CacheRef), Stop>, Status>
+    ensures ready { let new = B.life blob.new in
+        IfOk result (λ begun. IfOk begun (λ r. IsReady H.sum_of r.0 new.present)) }
+    ensures cached { let new = B.life blob.new in
+        IfOk result (λ begun. IfOk begun (λ r. CacheFits r.0 r.1 new.present)) }
+{
+    let begun = begin_within::<B, H>(rt.alloc(), request, blob, 0);
+    let Err(Stop::WouldCut(_)) = begun else {
+        return Ok(begun);
+    };
+    let allowed = allow::<B, H>(rt, request, blob)?;
+    Ok(begin_within::<B, H>(rt.alloc(), request, blob, allowed))
+}
+
+// Begins a session of which so many bytes may go.
+fn begin_within<B: Blob, H: Sum>(
+    alloc: Global,
+    request: &Request,
+    blob: &mut B,
+    allowed: u64,
+) -> Result<(Session<B, H>, CacheRef), Stop>
+    ensures ready { let new = B.life blob.new in
+        IfOk result (λ r. IsReady H.sum_of r.0 new.present) }
+    ensures cached { let new = B.life blob.new in IfOk result (λ r. CacheFits r.0 r.1 new.present) }
+{
+    let buffer = request.buffer;
+    let mut cache = CacheRef::new(alloc, request.shape.page_size, request.cache)?;
+    let size = blob.len();
+    let session = Session::recover_within(
+        alloc,
+        blob,
+        size,
+        buffer.get(),
+        &mut cache,
+        buffer,
+        allowed,
+    )?;
+    Ok((session, cache))
+}
+
+// Appends the input piece by piece. `synced` is how much of the content is durable.
+fn append_input<B: Blob, H: Sum>(
+    alloc: Global,
+    pieces: &mut Pieces,
+    each_line: bool,
+    session: &mut Session<B, H>,
+    blob: &mut B,
+    cache: &mut CacheRef,
+    synced: &mut u64,
+) -> Result<(), Error>
+    requires ready { IsReady H.sum_of session.old (B.life blob.old).present }
+    requires cached { CacheFits session.old cache.old (B.life blob.old).present }
+{
+    for _ in 0..u64::MAX {
+        let bytes = pieces.next();
+        if bytes.is_empty() {
+            break;
+        }
+        append_piece(alloc, bytes, each_line, session, blob, cache, synced)?;
+    }
+    sync(alloc, session, blob, cache, synced)
+}
+
+// Appends a piece, and syncs where a line ends in it and `each_line` asks.
+fn append_piece<B: Blob, H: Sum>(
+    alloc: Global,
+    bytes: &[u8],
+    each_line: bool,
+    session: &mut Session<B, H>,
+    blob: &mut B,
+    cache: &mut CacheRef,
+    synced: &mut u64,
+) -> Result<(), Error>
+    requires ready { IsReady H.sum_of session.old (B.life blob.old).present }
+    requires cached { CacheFits session.old cache.old (B.life blob.old).present }
+    ensures ready { IsReady H.sum_of session.new (B.life blob.new).present }
+    ensures cached { CacheFits session.new cache.new (B.life blob.new).present }
+{
+    let step = Step::Append(Vec::from_slice(alloc, bytes)?);
+    take(alloc, session, blob, cache, step)?;
+    if each_line && bytes.contains(&b'\n') {
+        return sync(alloc, session, blob, cache, synced);
+    }
+    Ok(())
+}
+
+// Makes all that was appended durable.
+fn sync<B: Blob, H: Sum>(
+    alloc: Global,
+    session: &mut Session<B, H>,
+    blob: &mut B,
+    cache: &mut CacheRef,
+    synced: &mut u64,
+) -> Result<(), Error>
+    requires ready { IsReady H.sum_of session.old (B.life blob.old).present }
+    requires cached { CacheFits session.old cache.old (B.life blob.old).present }
+    ensures ready { IsReady H.sum_of session.new (B.life blob.new).present }
+    ensures cached { CacheFits session.new cache.new (B.life blob.new).present }
+{
+    take(alloc, session, blob, cache, Step::Sync)?;
+    *synced = session.size().unwrap_or(*synced);
+    Ok(())
+}
+
+// Takes a step.
+fn take<B: Blob, H: Sum>(
+    alloc: Global,
+    session: &mut Session<B, H>,
+    blob: &mut B,
+    cache: &mut CacheRef,
+    step: Step,
+) -> Result<(), Error>
+    requires ready { IsReady H.sum_of session.old (B.life blob.old).present }
+    requires cached { CacheFits session.old cache.old (B.life blob.old).present }
+    ensures ready { IsReady H.sum_of session.new (B.life blob.new).present }
+    ensures cached { CacheFits session.new cache.new (B.life blob.new).present }
+{
+    let mut replies = Vec::new(alloc);
+    run(session, blob, cache, slice::from_ref(&step), &mut replies)?;
+    match replies.first() {
+        Some(Reply::Fault(error)) => Err(*error),
+        _ => Ok(()),
+    }
+}
+
+// Says from where to where the input was appended, and whether that is all of it.
+fn tell_appended(rt: &HostRuntime, input: &Input, start: u64, end: u64) -> Result<Status, Status> {
+    if let Err(error) = println!(rt; "appended {start} to {end}") {
+        if error.kind() == ErrorKind::BrokenPipe {
+            return Err(Status::Unread);
+        }
+        let words = format_args!("{error}; bytes {start} to {end} are appended and synced");
+        return Err(fail(rt, "standard output", words));
+    }
+    match input.failure() {
+        None => Ok(Status::Done),
+        Some(error) => {
+            let words = format_args!("{error}; what came before that is appended and synced");
+            Err(fail(rt, "standard input", words))
+        }
+    }
+}
+
+// Says why the file couldn't be recovered.
+fn tell_refused(rt: &HostRuntime, request: &Request, blob: &FileBlob, stop: Stop) -> Status {
+    match blob.failure() {
+        Some(error) => fail(rt, request.file, error),
+        None => fail_stop(rt, request.file, stop),
     }
 }
 
 // Says why not all of the input was appended, and how much of the content is durable.
-fn tell_stop(
+fn tell_lost(
     rt: &HostRuntime,
     request: &Request,
     blob: &FileBlob,
-    stop: Stop,
-    heard: &Heard,
-) -> io::Result<Status> {
-    let file = request.file;
+    error: Error,
+    synced: u64,
+) -> Status {
     let kept = "what was synced is kept: the content up to byte";
-    let synced = heard.synced;
-    match (blob.failure(), heard.start) {
-        (Some(error), Some(_)) => fail(rt, file, format_args!("{error}; {kept} {synced}")),
-        (None, Some(_)) => {
-            let why = why_refused(heard.refused);
-            fail(rt, file, format_args!("{why}; {kept} {synced}"))
-        }
-        // The recovery failed.
-        (Some(error), None) => fail(rt, file, error),
-        (None, None) => fail_stop(rt, file, stop),
+    if let Some(error) = blob.failure() {
+        return fail(rt, request.file, format_args!("{error}; {kept} {synced}"));
     }
-}
-
-// Why appending ended, where no call of the file failed: by the status of the answer that refused
-// a request, if one did. Else there was no memory for the requests.
-fn why_refused(status: Option<u8>) -> &'static str {
-    match status {
-        None | Some(8) => "out of memory",
-        Some(7) => "its content is as long as it can be",
-        Some(_) => "a request was refused",
-    }
+    let why = match error {
+        Error::OutOfMemory => "out of memory",
+        Error::OffsetOverflow => "its content is as long as it can be",
+        _ => "a request was refused",
+    };
+    fail(rt, request.file, format_args!("{why}; {kept} {synced}"))
 }

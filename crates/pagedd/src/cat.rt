@@ -1,62 +1,58 @@
 // Writing the content of a file.
-use crate::ending::{fail, tell};
-use crate::look::{Look, read, surveyed};
-use crate::pages::value_of;
+use crate::ending::{fail, or_end, tell};
+use crate::look::{Look, looked};
 use crate::request::Request;
 use crate::status::Status;
+use disk::VecBlob;
 use page::Sum;
 use paged_read::physical_page_size;
 use std::io::{self, BufWriter, Write};
 
 /// Writes the content of a file to standard output, at most `len` bytes from an offset on. The file
 /// is whole where a recovery would give up none of it.
-pub fn cat<H: Sum>(rt: &HostRuntime, request: &Request, from: u64, len: u64) -> io::Result<Status> {
+pub fn cat<H: Sum>(
+    rt: &HostRuntime,
+    request: &Request,
+    blob: &mut VecBlob,
+    from: u64,
+    len: u64,
+) -> Result<Status, Status> {
     let file = request.file;
-    let mut blob = match read(rt, file)? {
-        Ok(blob) => blob,
-        Err(status) => return Ok(status),
-    };
-    let survey = match surveyed::<_, H>(rt, request, &mut blob) {
-        Ok(survey) => survey,
-        Err(error) => return fail(rt, file, error),
-    };
-    let end = survey.outlook.len;
+    let look = looked::<VecBlob, H>(rt, request, blob)?;
+    let end = look.survey.outlook.len;
     if from > end {
-        return fail(
-            rt,
-            file,
-            format_args!("--from {from} is after the end of its content, {end}"),
-        );
+        let words = "is after the end of its content";
+        return Err(fail(rt, file, format_args!("--from {from} {words}, {end}")));
     }
-    write_content::<H>(rt, request, blob.bytes(), survey.outlook.pages, from, len)?;
-    if survey.outlook.cut == 0 && !survey.torn {
+    let stop = from.saturating_add(len).min(end);
+    or_end(rt, write_content(rt, blob.bytes(), &look, from, stop))?;
+    if look.keeps_all() {
         return Ok(Status::Done);
     }
-    let look = Look::of::<H>(blob.bytes(), request.shape, survey);
     let lost = look.lost("aren't in its content");
     tell(rt, format_args!("{file}: {lost}: see 'pagedd check'"));
     Ok(Status::NotWhole)
 }
 
-// Writes the values of the first so many pages, at most `len` bytes from an offset on.
-fn write_content<H: Sum>(
+// Writes the content from one offset to before another, which is at most its length. Each page of
+// the text is full, except for the last one.
+fn write_content(
     rt: &HostRuntime,
-    request: &Request,
     bytes: &[u8],
-    pages: u64,
+    look: &Look,
     from: u64,
-    len: u64,
+    stop: u64,
 ) -> io::Result<()> {
-    let size = physical_page_size(request.shape.page_size) as usize;
-    let end = from.saturating_add(len);
+    let page_size = u64::from(look.shape.page_size.get());
+    let size = physical_page_size(look.shape.page_size) as usize;
     let mut out = BufWriter::new(rt.alloc(), rt.stdout())?;
     let mut at = 0u64;
-    for page in bytes.chunks_exact(size).take(pages as usize) {
-        let value = value_of::<H>(page);
-        let start = from.saturating_sub(at).min(value.len() as u64) as usize;
-        let stop = end.saturating_sub(at).min(value.len() as u64) as usize;
-        out.write_all(value.get(start..stop).unwrap_or_default())?;
-        at = at.saturating_add(value.len() as u64);
+    let count = look.survey.outlook.pages as usize;
+    for page in bytes.chunks_exact(size).take(count) {
+        let first = from.saturating_sub(at).min(page_size) as usize;
+        let end = stop.saturating_sub(at).min(page_size) as usize;
+        out.write_all(page.get(first..end).unwrap_or_default())?;
+        at = at.saturating_add(page_size);
     }
     out.flush()
 }

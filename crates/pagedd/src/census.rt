@@ -1,45 +1,49 @@
 // The pages of a file that aren't whole.
+use crate::look::Look;
 use crate::pages::{Page, tell_progress};
-use crate::request::Shape;
+use crate::status::Status;
 use page::Sum;
 use paged_read::physical_page_size;
-use std::alloc::{AllocError, Global};
-use std::io;
 
 /// So many pages of a kind are named.
 const MOST: usize = 20;
 
 /// The first pages of a kind by their numbers, and how many there are of it.
-#[derive(Drop)]
+#[derive(Clone, Copy)]
 pub struct Numbers {
-    pub first: Vec<u64>,
+    named: [u64; MOST],
     pub count: u64,
 }
 
 impl Numbers {
-    fn new(alloc: Global) -> Self {
+    fn none() -> Self {
         Numbers {
-            first: Vec::new(alloc),
+            named: [0; MOST],
             count: 0,
         }
     }
 
-    fn add(&mut self, number: u64) -> Result<(), AllocError> {
-        self.count = self.count.saturating_add(1);
-        if self.first.len() < MOST {
-            self.first.push(number)?;
+    fn add(&mut self, number: u64) {
+        if let Some(place) = self.named.get_mut(self.count as usize) {
+            *place = number;
         }
-        Ok(())
+        self.count = self.count.saturating_add(1);
+    }
+
+    /// The first pages.
+    pub fn first(&self) -> &[u64] {
+        let count = self.count.min(MOST as u64) as usize;
+        self.named.get(..count).unwrap_or_default()
     }
 
     /// How many aren't named.
     pub fn others(&self) -> u64 {
-        self.count.saturating_sub(self.first.len() as u64)
+        self.count.saturating_sub(MOST as u64)
     }
 }
 
 /// The pages of a file that aren't whole.
-#[derive(Drop)]
+#[derive(Clone, Copy)]
 pub struct Census {
     /// Those without a value.
     pub bad_pages: Numbers,
@@ -48,28 +52,28 @@ pub struct Census {
 }
 
 impl Census {
-    /// Those of these bytes.
-    pub fn of<H: Sum>(rt: &HostRuntime, bytes: &[u8], shape: Shape) -> io::Result<Self> {
-        let size = physical_page_size(shape.page_size) as usize;
+    /// Those of the file of these bytes, of which this look was taken.
+    pub fn of<H: Sum>(rt: &HostRuntime, bytes: &[u8], look: &Look) -> Result<Self, Status> {
+        let size = physical_page_size(look.shape.page_size) as usize;
         let count = bytes.len() / size;
         let mut census = Census {
-            bad_pages: Numbers::new(rt.alloc()),
-            bad_slots: Numbers::new(rt.alloc()),
+            bad_pages: Numbers::none(),
+            bad_slots: Numbers::none(),
         };
         for (number, page) in bytes.chunks_exact(size).enumerate() {
             tell_progress(rt, number, count)?;
-            census.add(number as u64, &Page::of::<H>(page))?;
+            if !look.knows_whole(number as u64, page) {
+                census.add(number as u64, &Page::of::<H>(page));
+            }
         }
         Ok(census)
     }
 
-    fn add(&mut self, number: u64, page: &Page) -> Result<(), AllocError> {
+    fn add(&mut self, number: u64, page: &Page) {
         if page.len == 0 {
-            self.bad_pages.add(number)
+            self.bad_pages.add(number);
         } else if page.bad.is_some() {
-            self.bad_slots.add(number)
-        } else {
-            Ok(())
+            self.bad_slots.add(number);
         }
     }
 

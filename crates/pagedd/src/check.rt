@@ -1,58 +1,57 @@
 // Telling what a file holds.
 use crate::census::{Census, Numbers};
-use crate::ending::fail;
-use crate::look::{Look, read, surveyed};
+use crate::ending::or_end;
+use crate::look::{Look, looked};
 use crate::pages::Page;
 use crate::refusing::Causes;
-use crate::report::{print_json, report_check, report_fits};
+use crate::report::print_check;
 use crate::request::Request;
 use crate::status::Status;
+use disk::VecBlob;
 use page::Sum;
 use paged::Verdict;
 use std::io;
 
 /// Tells what a recovery would make of a file, and which of its pages aren't whole. It is whole where
 /// nothing would be cut, each page has a value, and no slot is bad.
-pub fn check<H: Sum>(rt: &HostRuntime, request: &Request) -> io::Result<Status> {
-    let mut blob = match read(rt, request.file)? {
-        Ok(blob) => blob,
-        Err(status) => return Ok(status),
-    };
-    let survey = match surveyed::<_, H>(rt, request, &mut blob) {
-        Ok(survey) => survey,
-        Err(error) => return fail(rt, request.file, error),
-    };
-    let look = Look::of::<H>(blob.bytes(), request.shape, survey);
+pub fn check<H: Sum>(
+    rt: &HostRuntime,
+    request: &Request,
+    blob: &mut VecBlob,
+) -> Result<Status, Status> {
+    let look = looked::<VecBlob, H>(rt, request, blob)?;
+    let census = Census::of::<H>(rt, blob.bytes(), &look)?;
     let causes = Causes::of(rt.alloc(), blob.bytes(), look)?;
-    let census = Census::of::<H>(rt, blob.bytes(), request.shape)?;
-    let is_whole = survey.outlook.cut == 0 && census.is_empty();
     if request.json {
-        let fits = report_fits(rt.alloc(), causes.fits())?;
-        let report = report_check(rt.alloc(), request, &look, census, fits)?;
-        print_json(rt, &report)?;
-        return Ok(Status::of_file(is_whole));
+        print_check(rt, request, &look, &census, causes.fits())?;
+    } else {
+        or_end(
+            rt,
+            tell_check::<H>(rt, request, blob.bytes(), &causes, &census),
+        )?;
     }
-    println!(rt; "{} {look}", request.file)?;
-    tell_outlook(rt, request, &look, &causes)?;
-    tell_pages::<H>(rt, blob.bytes(), &look, &census.bad_pages, "have no value")?;
-    tell_pages::<H>(
-        rt,
-        blob.bytes(),
-        &look,
-        &census.bad_slots,
-        "have a bad slot",
-    )?;
-    tell_tail(rt, &look)?;
+    let is_whole = look.survey.outlook.cut == 0 && census.is_empty();
     Ok(Status::of_file(is_whole))
 }
 
-// What a recovery would do.
-fn tell_outlook(
+fn tell_check<H: Sum>(
     rt: &HostRuntime,
     request: &Request,
-    look: &Look,
+    bytes: &[u8],
     causes: &Causes,
+    census: &Census,
 ) -> io::Result<()> {
+    let look = causes.look();
+    println!(rt; "{} {look}", request.file)?;
+    tell_outlook(rt, request, causes)?;
+    tell_pages::<H>(rt, bytes, look, &census.bad_pages, "have no value")?;
+    tell_pages::<H>(rt, bytes, look, &census.bad_slots, "have a bad slot")?;
+    tell_tail(rt, look)
+}
+
+// What a recovery would do.
+fn tell_outlook(rt: &HostRuntime, request: &Request, causes: &Causes) -> io::Result<()> {
+    let look = causes.look();
     let outlook = look.survey.outlook;
     println!(rt;
         "a recovery keeps {} content bytes in {} pages, and cuts {} bytes",
@@ -71,10 +70,7 @@ fn tell_outlook(
             "they are whole pages of zeros: 'pagedd serve' cuts them, and makes no copy"
         ),
         Verdict::Keep => tell_keep(rt, look),
-        Verdict::Refuse => {
-            println!(rt; "{causes}")?;
-            println!(rt; "'pagedd serve' refuses it, except with --cut")
-        }
+        Verdict::Refuse => println!(rt; "{causes}\n'pagedd serve' refuses it, except with --cut"),
     }
 }
 
@@ -82,10 +78,8 @@ fn tell_outlook(
 fn tell_keep(rt: &HostRuntime, look: &Look) -> io::Result<()> {
     println!(rt;
         "this is either a write that a crash tore, and then nothing that was synced is lost, or what \
-         was synced and is damaged since; nothing tells which"
-    )?;
-    println!(rt;
-        "'pagedd serve' first makes a copy of the file from byte {} on, beside it",
+         was synced and is damaged since; nothing tells which\n\
+         'pagedd serve' first makes a copy of the file from byte {} on, beside it",
         look.set_aside_start()
     )
 }
@@ -98,7 +92,7 @@ fn tell_pages<H: Sum>(
     numbers: &Numbers,
     kind: &str,
 ) -> io::Result<()> {
-    for number in &numbers.first {
+    for number in numbers.first() {
         if let Some(page) = Page::at::<H>(bytes, look.shape.page_size, *number) {
             println!(rt; "page {number}: {page}")?;
         }

@@ -11,13 +11,13 @@ pub fn tell<E: fmt::Display + Drop>(rt: &HostRuntime, words: E) {
 }
 
 /// Says in a line why a file can't be used, and answers the status.
-pub fn fail<E: fmt::Display + Drop>(rt: &HostRuntime, path: &str, error: E) -> io::Result<Status> {
+pub fn fail<E: fmt::Display + Drop>(rt: &HostRuntime, path: &str, error: E) -> Status {
     tell(rt, format_args!("{path}: {error}"));
-    Ok(Status::Failed)
+    Status::Failed
 }
 
 /// Says in a line why a session ended, and answers the status.
-pub fn fail_stop(rt: &HostRuntime, path: &str, stop: Stop) -> io::Result<Status> {
+pub fn fail_stop(rt: &HostRuntime, path: &str, stop: Stop) -> Status {
     if stop == Stop::Refused(Error::OutOfMemory) {
         return fail(
             rt,
@@ -26,21 +26,33 @@ pub fn fail_stop(rt: &HostRuntime, path: &str, stop: Stop) -> io::Result<Status>
         );
     }
     let _ = eprintln!(rt; "{stop}");
-    Ok(Status::from(stop))
+    Status::from(stop)
 }
 
-/// The status with which the program ends. Why a file failed was said with its name. So an error
-/// that comes here is one of standard output, or want of memory, and a line says so, except where
-/// the output was closed by its reader.
-pub fn end(rt: &HostRuntime, ended: io::Result<Status>) -> Status {
-    let error = match ended {
-        Ok(status) => return status,
-        Err(error) => error,
-    };
-    match error.kind() {
-        ErrorKind::BrokenPipe => return Status::Unread,
-        ErrorKind::OutOfMemory => tell(rt, "out of memory"),
-        _ => tell(rt, format_args!("standard output: {error}")),
+/// What standard output, or a buffer for a stream, answered. After an error of standard output a
+/// line says why, except where it was closed by its reader.
+pub fn or_end<T>(rt: &HostRuntime, answer: io::Result<T>) -> Result<T, Status> {
+    match answer {
+        Ok(value) => Ok(value),
+        Err(error) => Err(fail_output(rt, &error)),
     }
-    Status::Failed
+}
+
+/// Says in a line why standard output failed, except where it was closed by its reader, and answers
+/// the status.
+pub fn fail_output(rt: &HostRuntime, error: &io::Error) -> Status {
+    match error.kind() {
+        ErrorKind::BrokenPipe => Status::Unread,
+        ErrorKind::OutOfMemory => Status::OutOfMemory,
+        _ => fail(rt, "standard output", error),
+    }
+}
+
+/// The status with which the program ends. Where memory was refused a line says so.
+pub fn end(rt: &HostRuntime, ended: Result<Status, Status>) -> Status {
+    let (Ok(status) | Err(status)) = ended;
+    if status == Status::OutOfMemory {
+        tell(rt, "out of memory");
+    }
+    status
 }

@@ -38,8 +38,11 @@ pub fn other_fits(alloc: Global, bytes: &[u8], asked: Shape) -> Result<Vec<Fit>,
                 page_size: NonZeroU16::new(size).unwrap_or(NonZeroU16::MIN),
                 checksum,
             };
+            if shape == asked {
+                continue;
+            }
             let fit = fit_of(bytes, shape);
-            if shape == asked || fit.pages == 0 {
+            if fit.pages == 0 {
                 continue;
             }
             if fits.first().is_some_and(|best| best.len >= fit.len) {

@@ -1,13 +1,14 @@
 // A look at a file before anything is done with it.
 use crate::ending::fail;
-use crate::pages::{Page, Pages};
+use crate::pages::{Page, Pages, says_full};
 use crate::request::{Request, Shape};
 use crate::status::Status;
-use disk::{Blob, Error, VecBlob};
+use disk::{Blob, VecBlob};
+use file::FileBlob;
 use page::Sum;
 use paged::{Outlook, Survey, Verdict, survey};
 use paged_read::physical_page_size;
-use std::{fmt, io};
+use std::fmt;
 
 /// What a survey found in a file, and the two pages that its words are about.
 #[derive(Clone, Copy)]
@@ -22,28 +23,49 @@ pub struct Look {
     next: Option<Page>,
 }
 
-/// Reads a file into memory. Where that fails, a line says why, and the status is answered.
-pub fn read(rt: &HostRuntime, path: &str) -> io::Result<Result<VecBlob, Status>> {
-    match file::read(rt, path) {
-        Ok(blob) => Ok(Ok(blob)),
-        Err(error) => Ok(Err(fail(rt, path, error)?)),
+/// A blob whose bytes stand in memory.
+pub trait InMemory {
+    /// All of them.
+    fn image(&self) -> &[u8];
+}
+
+impl InMemory for FileBlob {
+    fn image(&self) -> &[u8] {
+        self.bytes()
     }
 }
 
-/// Surveys a blob that nobody opened.
-pub fn surveyed<B: Blob, H: Sum>(
+impl InMemory for VecBlob {
+    fn image(&self) -> &[u8] {
+        self.bytes()
+    }
+}
+
+/// Reads a file into memory. Where that fails, a line says why.
+pub fn read(rt: &HostRuntime, path: &str) -> Result<VecBlob, Status> {
+    match file::read(rt, path) {
+        Ok(blob) => Ok(blob),
+        Err(error) => Err(fail(rt, path, error)),
+    }
+}
+
+/// Looks at a blob that nobody opened. Where there is no memory for that, a line says so.
+pub fn looked<B: Blob + InMemory, H: Sum>(
     rt: &HostRuntime,
     request: &Request,
     blob: &mut B,
-) -> Result<Survey, Error> {
+) -> Result<Look, Status> {
     let size = blob.len();
-    let page_size = request.shape.page_size;
-    survey::<B, H>(rt.alloc(), blob, size, page_size, request.buffer)
+    let shape = request.shape;
+    match survey::<B, H>(rt.alloc(), blob, size, shape.page_size, request.buffer) {
+        Ok(survey) => Ok(Look::of::<H>(blob.image(), shape, survey)),
+        Err(error) => Err(fail(rt, request.file, error)),
+    }
 }
 
 impl Look {
-    /// What this survey says of the file of these bytes.
-    pub fn of<H: Sum>(bytes: &[u8], shape: Shape, survey: Survey) -> Self {
+    // What this survey says of the file of these bytes.
+    fn of<H: Sum>(bytes: &[u8], shape: Shape, survey: Survey) -> Self {
         let pages = survey.outlook.pages;
         let last = pages.saturating_sub(1);
         Look {
@@ -92,6 +114,24 @@ impl Look {
     /// The first of the bytes that are to be set aside.
     pub fn set_aside_start(&self) -> u64 {
         self.size.saturating_sub(self.set_aside_len())
+    }
+
+    /// Whether all that the file holds is in its text.
+    pub fn keeps_all(&self) -> bool {
+        self.survey.outlook.cut == 0 && !self.survey.torn
+    }
+
+    /// Whether the survey already shows that the page of this number, which has these bytes, has a
+    /// value and no bad slot. Nothing is summed for that: each page of the text is full, except for
+    /// the last one, and an empty slot isn't bad.
+    pub fn knows_whole(&self, number: u64, page: &[u8]) -> bool {
+        let Outlook { pages, len, .. } = self.survey.outlook;
+        let page_size = self.shape.page_size;
+        if number.saturating_add(1) == pages && len % u64::from(page_size.get()) > 0 {
+            !self.survey.torn
+        } else {
+            number < pages && says_full(page, page_size)
+        }
     }
 
     /// What a recovery gives up, in words. `verb` says what becomes of the bytes after the text.

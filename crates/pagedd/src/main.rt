@@ -13,7 +13,6 @@
 //! error says why; for `check`, its own output does.
 #![tactic(auto)]
 
-mod answers;
 mod appending;
 mod cat;
 mod census;
@@ -28,7 +27,6 @@ mod pages;
 mod refusing;
 mod report;
 mod request;
-mod requests;
 mod salvage;
 mod salvaged;
 mod serving;
@@ -40,61 +38,73 @@ use crate::appending::append;
 use crate::cat::cat;
 use crate::check::check;
 use crate::command::{VERSION, command};
-use crate::ending::end;
+use crate::ending::{end, or_end};
+use crate::look::read;
 use crate::map::map;
 use crate::request::{Checksum, Request, Task, set_aside_in};
 use crate::salvage::salvage;
 use crate::serving::serve;
 use crate::status::Status;
-use crate::words::{command_first, read_words, tell_unknown, unknown_name};
+use crate::words::{put_command_first, read_words, tell_unknown, unknown_name};
+use clap::ArgMatches;
 use crc32c::Crc32c;
 use page::{AddSum, Sum};
-use std::io;
 use std::process::ExitCode;
 
 // Does what is asked for, with this checksum function.
-fn perform<H: Sum>(rt: &HostRuntime, request: &Request, set_aside: &[&str]) -> io::Result<Status> {
+fn perform<H: Sum>(
+    rt: &HostRuntime,
+    request: &Request,
+    set_aside: &[&str],
+) -> Result<Status, Status> {
     match request.task {
         Task::Serve { create } => serve::<H>(rt, request, create),
         Task::Append { each_line } => append::<H>(rt, request, each_line),
-        Task::Check => check::<H>(rt, request),
-        Task::Map { from, to, long } => map::<H>(rt, request, from, to, long),
-        Task::Cat { from, len } => cat::<H>(rt, request, from, len),
+        Task::Check => check::<H>(rt, request, &mut read(rt, request.file)?),
+        Task::Map { from, to, long } => map::<H>(
+            rt,
+            request,
+            &read(rt, request.file)?,
+            from,
+            to,
+            long,
+        ),
+        Task::Cat { from, len } => cat::<H>(rt, request, &mut read(rt, request.file)?, from, len),
         Task::Salvage { out } => salvage::<H>(rt, request, set_aside, out),
         Task::Version => {
-            println!(rt; "pagedd {VERSION}")?;
+            or_end(rt, println!(rt; "pagedd {VERSION}"))?;
             Ok(Status::Done)
         }
     }
 }
 
-// Does what the command line asks for.
-fn run(rt: &HostRuntime) -> io::Result<Status> {
-    let alloc = rt.alloc();
-    let words = match read_words(rt)? {
-        Ok(words) => words,
-        Err(status) => return Ok(status),
-    };
-    if let Some(name) = unknown_name(rt, &words) {
-        return tell_unknown(rt, name);
-    }
-    let arranged = command_first(alloc, &words)?;
-    let matches = match command(alloc)?.try_get_matches_from(arranged.as_slice()) {
-        Ok(matches) => matches,
-        Err(error) => {
-            error.print(rt)?;
-            return Ok(if error.use_stderr() {
-                Status::Failed
-            } else {
-                Status::Done
-            });
-        }
-    };
-    let request = Request::of(&matches);
-    let set_aside = set_aside_in(&matches).unwrap_or_default();
+// Does what these matches ask for.
+fn perform_matched(rt: &HostRuntime, matches: &ArgMatches<'_>) -> Result<Status, Status> {
+    let request = Request::of(matches);
+    let set_aside = set_aside_in(matches).unwrap_or_default();
     match request.shape.checksum {
         Checksum::Add => perform::<AddSum>(rt, &request, set_aside),
         Checksum::Crc32c => perform::<Crc32c>(rt, &request, set_aside),
+    }
+}
+
+// Does what the command line asks for.
+fn run(rt: &HostRuntime) -> Result<Status, Status> {
+    let mut words = read_words(rt)?;
+    if let Some(name) = unknown_name(rt, &words) {
+        return Ok(tell_unknown(rt, name)?);
+    }
+    put_command_first(&mut words);
+    match command(rt.alloc())?.try_get_matches_from(words.as_slice()) {
+        Ok(matches) => perform_matched(rt, &matches),
+        Err(error) => {
+            or_end(rt, error.print(rt))?;
+            Ok(if error.use_stderr() {
+                Status::Failed
+            } else {
+                Status::Done
+            })
+        }
     }
 }
 

@@ -1,10 +1,10 @@
 // A picture of a file's pages.
-use crate::ending::fail;
-use crate::look::read;
+use crate::ending::{fail, or_end};
 use crate::pages::Page;
-use crate::report::{MapReport, Pages, print_json};
+use crate::report::print_map;
 use crate::request::{Request, Shape};
 use crate::status::Status;
+use disk::VecBlob;
 use page::Sum;
 use paged_read::physical_page_size;
 use std::alloc::{AllocError, Global};
@@ -22,14 +22,11 @@ const LEGEND: &str =
 pub fn map<H: Sum>(
     rt: &HostRuntime,
     request: &Request,
+    blob: &VecBlob,
     from: u64,
     to: u64,
     long: bool,
-) -> io::Result<Status> {
-    let blob = match read(rt, request.file)? {
-        Ok(blob) => blob,
-        Err(status) => return Ok(status),
-    };
+) -> Result<Status, Status> {
     let bytes = blob.bytes();
     let size = physical_page_size(request.shape.page_size) as usize;
     let places = bytes.len().div_ceil(size);
@@ -37,33 +34,20 @@ pub fn map<H: Sum>(
     let end = (to as usize).min(places);
     if from >= to || from > 0 && first == places {
         let words = "--from and --to leave none of its pages";
-        return fail(
-            rt,
-            request.file,
-            format_args!("{words}: it has {}", bytes.len() / size),
-        );
+        let count = bytes.len() / size;
+        return Err(fail(rt, request.file, format_args!("{words}: it has {count}")));
+    }
+    if long && !request.json {
+        or_end(rt, draw_long::<H>(rt, bytes, request.shape, first, end))?;
+        return Ok(Status::Done);
     }
     let marks = marks_of::<H>(rt.alloc(), bytes, request.shape, first, end)?;
     if request.json {
-        let report = report(rt.alloc(), request, bytes, first, end, marks)?;
-        print_json(rt, &report)?;
-        return Ok(Status::Done);
-    }
-    if long {
-        draw_long::<H>(rt, bytes, request.shape, first, end)?;
+        print_map(rt, request, first, end, &marks, bytes.len() % size)?;
     } else {
-        draw(rt, first, &marks)?;
+        or_end(rt, draw(rt, first, &marks))?;
     }
     Ok(Status::Done)
-}
-
-// The mark of these bytes: a page, or what is left after the last one.
-fn mark_of<H: Sum>(bytes: &[u8], shape: Shape) -> char {
-    if (bytes.len() as u64) < physical_page_size(shape.page_size) {
-        '<'
-    } else {
-        Page::of::<H>(bytes).mark(shape.page_size)
-    }
 }
 
 fn marks_of<H: Sum>(
@@ -76,33 +60,15 @@ fn marks_of<H: Sum>(
     let size = physical_page_size(shape.page_size) as usize;
     let count = end.saturating_sub(first);
     let mut marks = String::new(alloc);
-    for page in bytes.chunks(size).skip(first).take(count) {
-        marks.push(mark_of::<H>(page, shape))?;
+    for bytes in bytes.chunks(size).skip(first).take(count) {
+        let mark = if bytes.len() < size {
+            '<'
+        } else {
+            Page::of::<H>(bytes).mark(shape.page_size)
+        };
+        marks.push(mark)?;
     }
     Ok(marks)
-}
-
-fn report(
-    alloc: Global,
-    request: &Request,
-    bytes: &[u8],
-    first: usize,
-    end: usize,
-    marks: String,
-) -> Result<MapReport, AllocError> {
-    let file = String::from_str(alloc, request.file)?;
-    let size = physical_page_size(request.shape.page_size) as usize;
-    Ok(MapReport {
-        file,
-        page_size: request.shape.page_size.get(),
-        checksum: request.shape.checksum,
-        pages: Pages {
-            from: first as u64,
-            to: end as u64,
-        },
-        marks,
-        tail_bytes: (bytes.len() % size) as u64,
-    })
 }
 
 // Draws rows of marks, each after the number of its first page.
@@ -128,12 +94,12 @@ fn draw_long<H: Sum>(
     println!(rt; "{LEGEND}")?;
     let size = physical_page_size(shape.page_size) as usize;
     let count = end.saturating_sub(first);
-    for (number, page) in bytes.chunks(size).enumerate().skip(first).take(count) {
-        let mark = mark_of::<H>(page, shape);
-        if page.len() < size {
-            println!(rt; "{number:>10} {mark} {} bytes", page.len())?;
+    for (number, bytes) in bytes.chunks(size).enumerate().skip(first).take(count) {
+        if bytes.len() < size {
+            println!(rt; "{number:>10} < {} bytes", bytes.len())?;
         } else {
-            println!(rt; "{number:>10} {mark} {}", Page::of::<H>(page))?;
+            let page = Page::of::<H>(bytes);
+            println!(rt; "{number:>10} {} {page}", page.mark(shape.page_size))?;
         }
     }
     Ok(())

@@ -1,12 +1,14 @@
 // What a physical page holds.
+use crate::ending::or_end;
+use crate::status::Status;
 use page::{Checksum, Slot, Sum};
 use paged_read::physical_page_size;
 use std::fmt;
-use std::io::{self, IsTerminal};
+use std::io::IsTerminal;
 use std::num::NonZeroU16;
 
 /// What a slot of a page says. Lengths are bytes.
-#[derive(Clone, Copy, PartialEq, Eq)]
+#[derive(Clone, Copy)]
 pub enum SlotState {
     /// It is all zero.
     Empty,
@@ -44,7 +46,7 @@ impl fmt::Display for SlotState {
 }
 
 /// What a page holds.
-#[derive(Clone, Copy, PartialEq, Eq)]
+#[derive(Clone, Copy)]
 pub struct Page {
     /// How many bytes its value has; 0 where it has none.
     pub len: u16,
@@ -56,22 +58,25 @@ pub struct Page {
 }
 
 impl Page {
-    /// What these bytes hold, which are a whole page.
+    /// What these bytes hold, which are a whole page. Each slot that isn't empty is summed once.
     pub fn of<H: Sum>(bytes: &[u8]) -> Self {
-        let len = Checksum::validate_page::<H>(bytes).map_or(0, |slot| slot.len);
-        let blank = bytes.iter().all(|byte| *byte == 0);
         let slots = slots_of::<H>(bytes);
-        let [first, second] = slots;
-        let bad = match Checksum::bad_slot::<H>(bytes) {
-            Some(Slot::First) => Some(first),
-            Some(Slot::Second) => Some(second),
-            None => None,
+        let (len, beside) = match slots {
+            [SlotState::Verifies(first), SlotState::Verifies(second)] => (first.max(second), None),
+            [SlotState::Verifies(len), beside] | [beside, SlotState::Verifies(len)] => {
+                (len, Some(beside))
+            }
+            _ => (0, None),
+        };
+        let bad = match beside {
+            Some(SlotState::Fails(_) | SlotState::NoLength(_)) => beside,
+            _ => None,
         };
         Page {
             len,
             slots,
             bad,
-            blank,
+            blank: matches!(slots, [SlotState::Empty, SlotState::Empty]) && are_zeros(bytes),
         }
     }
 
@@ -109,6 +114,25 @@ impl Page {
             '!'
         }
     }
+}
+
+fn are_zeros(bytes: &[u8]) -> bool {
+    bytes.iter().all(|byte| *byte == 0)
+}
+
+/// Whether one slot of a page says that it is full, and the other is empty. Nothing is summed.
+pub fn says_full(bytes: &[u8], page_size: NonZeroU16) -> bool {
+    let Some(footer) = bytes.last_chunk::<12>() else {
+        return false;
+    };
+    let full = page_size.get();
+    let Checksum {
+        len1,
+        crc1,
+        len2,
+        crc2,
+    } = Checksum::from_bytes(*footer);
+    len1 == full && len2 == 0 && crc2 == 0 || len2 == full && len1 == 0 && crc1 == 0
 }
 
 // What the slots of these bytes say, which are a whole page.
@@ -159,9 +183,9 @@ impl fmt::Display for Pages {
 const STEP: usize = 1 << 16;
 
 /// Tells a terminal how many pages of a large file were gone through.
-pub fn tell_progress(rt: &HostRuntime, done: usize, count: usize) -> io::Result<()> {
+pub fn tell_progress(rt: &HostRuntime, done: usize, count: usize) -> Result<(), Status> {
     if count < STEP || done % STEP != 0 || !rt.stderr().is_terminal() {
         return Ok(());
     }
-    eprintln!(rt; "pagedd: {done} of {count} pages")
+    or_end(rt, eprintln!(rt; "pagedd: {done} of {count} pages"))
 }

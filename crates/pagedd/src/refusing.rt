@@ -7,7 +7,7 @@ use crate::request::Request;
 use crate::status::Status;
 use paged::Outlook;
 use std::alloc::{AllocError, Global};
-use std::{fmt, io};
+use std::fmt;
 
 /// Why a file may look as it does, the likeliest first.
 #[derive(Drop)]
@@ -21,6 +21,11 @@ impl Causes {
     pub fn of(alloc: Global, bytes: &[u8], look: Look) -> Result<Self, AllocError> {
         let fits = other_fits(alloc, bytes, look.shape)?;
         Ok(Causes { look, fits })
+    }
+
+    /// What the file looks like.
+    pub fn look(&self) -> &Look {
+        &self.look
     }
 
     /// The page size and checksum function with which more of the file verifies than with those
@@ -66,7 +71,7 @@ pub fn refuse(
     request: &Request,
     bytes: &[u8],
     look: &Look,
-) -> io::Result<Status> {
+) -> Result<Status, AllocError> {
     let causes = Causes::of(rt.alloc(), bytes, *look)?;
     let shape = look.shape;
     let file = request.file;

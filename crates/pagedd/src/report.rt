@@ -1,142 +1,134 @@
-// What check and map answer in JSON.
-use crate::census::Census;
+// What check and map answer in JSON: one line, whose members stand in a fixed order.
+use crate::census::{Census, Numbers};
+use crate::ending::or_end;
 use crate::fits::Fit;
 use crate::look::Look;
-use crate::request::{Checksum, Request};
-use paged::{Outlook, Survey, Verdict};
-use serde::Serialize;
-use std::alloc::{AllocError, Global};
-use std::io::{self, ErrorKind};
+use crate::request::Request;
+use crate::status::Status;
+use paged::{Outlook, Verdict};
+use std::fmt;
 
-/// What check says of a file.
-#[derive(Drop, Serialize)]
-pub struct CheckReport {
-    file: String,
-    bytes: u64,
-    page_size: u16,
-    checksum: Checksum,
-    pages: u64,
-    kept_pages: u64,
-    kept_bytes: u64,
-    cut_bytes: u64,
-    beyond: u64,
-    blank: bool,
-    torn: bool,
-    tail_bytes: u64,
-    set_aside_bytes: u64,
-    verdict: VerdictReport,
-    bad_page_count: u64,
-    bad_pages: Vec<u64>,
-    bad_slot_count: u64,
-    bad_slots: Vec<u64>,
-    fits: Vec<FitReport>,
+/// What a look says of a file, as members of an object.
+#[derive(Clone, Copy)]
+struct LookMembers<'a>(&'a Look);
+
+impl fmt::Display for LookMembers<'_> {
+    fn fmt<W: fmt::Write>(&self, f: &mut fmt::Formatter<W>) -> fmt::Result {
+        let look = self.0;
+        let Outlook { pages, len, cut } = look.survey.outlook;
+        write!(
+            f,
+            "\"pages\":{},\"kept_pages\":{pages},\"kept_bytes\":{len},\"cut_bytes\":{cut},",
+            look.pages()
+        )?;
+        write!(
+            f,
+            "\"beyond\":{},\"blank\":{},\"torn\":{},\"tail_bytes\":{},\"set_aside_bytes\":{}",
+            look.survey.beyond,
+            look.survey.blank,
+            look.survey.torn,
+            look.tail_len(),
+            look.set_aside_len()
+        )
+    }
 }
 
-/// A verdict by its name.
-#[derive(Clone, Copy, Serialize)]
-#[serde(rename_all = "lowercase")]
-enum VerdictReport {
-    Whole,
-    Cut,
-    Keep,
-    Refuse,
+/// The first of some numbers, as a list.
+#[derive(Clone, Copy)]
+struct List<'a>(&'a Numbers);
+
+impl fmt::Display for List<'_> {
+    fn fmt<W: fmt::Write>(&self, f: &mut fmt::Formatter<W>) -> fmt::Result {
+        let mut mark = "";
+        for number in self.0.first() {
+            write!(f, "{mark}{number}")?;
+            mark = ",";
+        }
+        Ok(())
+    }
 }
 
-/// A page size and a checksum function with which the first pages of a file verify.
-#[derive(Clone, Copy, Serialize)]
-pub struct FitReport {
-    page_size: u16,
-    checksum: Checksum,
-    pages: u64,
+/// The page sizes and checksum functions with which the first pages of a file verify, as a list.
+#[derive(Clone, Copy)]
+struct FitList<'a>(&'a [Fit]);
+
+impl fmt::Display for FitList<'_> {
+    fn fmt<W: fmt::Write>(&self, f: &mut fmt::Formatter<W>) -> fmt::Result {
+        let mut mark = "";
+        for fit in self.0 {
+            let Fit { shape, pages, .. } = fit;
+            let checksum = shape.checksum.name();
+            let page_size = shape.page_size;
+            write!(
+                f,
+                "{mark}{{\"page_size\":{page_size},\"checksum\":\"{checksum}\",\"pages\":{pages}}}"
+            )?;
+            mark = ",";
+        }
+        Ok(())
+    }
 }
 
-/// What map says of a file.
-#[derive(Drop, Serialize)]
-pub struct MapReport {
-    pub file: String,
-    pub page_size: u16,
-    pub checksum: Checksum,
-    pub pages: Pages,
-    pub marks: String,
-    pub tail_bytes: u64,
+fn name_of(verdict: Verdict) -> &'static str {
+    match verdict {
+        Verdict::Whole => "whole",
+        Verdict::Cut => "cut",
+        Verdict::Keep => "keep",
+        Verdict::Refuse => "refuse",
+    }
 }
 
-/// The pages that are drawn, from one to before another.
-#[derive(Clone, Copy, Serialize)]
-pub struct Pages {
-    pub from: u64,
-    pub to: u64,
+// A name as a text of JSON.
+fn quoted(rt: &HostRuntime, name: &str) -> Result<String, Status> {
+    match serde_json::to_string(rt.alloc(), &name) {
+        Ok(text) => Ok(text),
+        Err(_) => Err(Status::OutOfMemory),
+    }
 }
 
-/// What check says of a file.
-pub fn report_check(
-    alloc: Global,
+/// Prints what check says of a file.
+pub fn print_check(
+    rt: &HostRuntime,
     request: &Request,
     look: &Look,
-    census: Census,
-    fits: Vec<FitReport>,
-) -> Result<CheckReport, AllocError> {
-    let file = String::from_str(alloc, request.file)?;
-    let Census {
-        bad_pages,
-        bad_slots,
-    } = census;
-    let Survey {
-        outlook,
-        beyond,
-        blank,
-        torn,
-    } = look.survey;
-    let Outlook { pages, len, cut } = outlook;
-    Ok(CheckReport {
-        file,
-        bytes: look.size,
-        page_size: request.shape.page_size.get(),
-        checksum: request.shape.checksum,
-        pages: look.pages(),
-        kept_pages: pages,
-        kept_bytes: len,
-        cut_bytes: cut,
-        beyond,
-        blank,
-        torn,
-        tail_bytes: look.tail_len(),
-        set_aside_bytes: look.set_aside_len(),
-        verdict: name_of(look.verdict(request.cut_limit)),
-        bad_page_count: bad_pages.count,
-        bad_pages: bad_pages.first,
-        bad_slot_count: bad_slots.count,
-        bad_slots: bad_slots.first,
-        fits,
-    })
+    census: &Census,
+    fits: &[Fit],
+) -> Result<(), Status> {
+    let file = quoted(rt, request.file)?;
+    let printed = println!(rt;
+        "{{\"file\":{file},\"bytes\":{},\"page_size\":{},\"checksum\":\"{}\",{},\"verdict\":\"{}\",\
+         \"bad_page_count\":{},\"bad_pages\":[{}],\"bad_slot_count\":{},\"bad_slots\":[{}],\
+         \"fits\":[{}]}}",
+        look.size,
+        look.shape.page_size,
+        look.shape.checksum.name(),
+        LookMembers(look),
+        name_of(look.verdict(request.cut_limit)),
+        census.bad_pages.count,
+        List(&census.bad_pages),
+        census.bad_slots.count,
+        List(&census.bad_slots),
+        FitList(fits)
+    );
+    or_end(rt, printed)
 }
 
-fn name_of(verdict: Verdict) -> VerdictReport {
-    match verdict {
-        Verdict::Whole => VerdictReport::Whole,
-        Verdict::Cut => VerdictReport::Cut,
-        Verdict::Keep => VerdictReport::Keep,
-        Verdict::Refuse => VerdictReport::Refuse,
-    }
-}
-
-/// What check says of the page sizes and checksum functions that fit.
-pub fn report_fits(alloc: Global, fits: &[Fit]) -> Result<Vec<FitReport>, AllocError> {
-    let mut reports = Vec::new(alloc);
-    for fit in fits {
-        reports.push(FitReport {
-            page_size: fit.shape.page_size.get(),
-            checksum: fit.shape.checksum,
-            pages: fit.pages,
-        })?;
-    }
-    Ok(reports)
-}
-
-/// Prints a value as one line of JSON. Only memory can be wanting for it.
-pub fn print_json<T: Serialize>(rt: &HostRuntime, value: &T) -> io::Result<()> {
-    match serde_json::to_string(rt.alloc(), value) {
-        Ok(text) => println!(rt; "{text}"),
-        Err(_) => Err(ErrorKind::OutOfMemory.into()),
-    }
+/// Prints what map says of a file, with the marks of its pages from one to before another, and how
+/// many bytes follow the last page.
+pub fn print_map(
+    rt: &HostRuntime,
+    request: &Request,
+    from: usize,
+    to: usize,
+    marks: &str,
+    tail: usize,
+) -> Result<(), Status> {
+    let file = quoted(rt, request.file)?;
+    let page_size = request.shape.page_size;
+    let checksum = request.shape.checksum.name();
+    let printed = println!(rt;
+        "{{\"file\":{file},\"page_size\":{page_size},\"checksum\":\"{checksum}\",\
+         \"pages\":{{\"from\":{from},\"to\":{to}}},\"marks\":\"{marks}\",\"tail_bytes\":{tail}}}"
+    );
+    or_end(rt, printed)
 }

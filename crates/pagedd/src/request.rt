@@ -1,12 +1,10 @@
 // What the command line asks for.
 use clap::ArgMatches;
-use serde::Serialize;
 use std::fmt;
 use std::num::{NonZeroU16, NonZeroUsize};
 
 /// A checksum function by its name.
-#[derive(Clone, Copy, PartialEq, Eq, Serialize)]
-#[serde(rename_all = "lowercase")]
+#[derive(Clone, Copy, PartialEq, Eq)]
 pub enum Checksum {
     /// The sum of the bytes.
     Add,

@@ -1,6 +1,7 @@
 // Putting all that verifies into a new file.
-use crate::ending::{fail, tell};
-use crate::look::{Look, read, surveyed};
+use crate::ending::{fail, or_end, tell};
+use crate::look::{looked, read};
+use crate::opening::{fail_blob, open};
 use crate::pages::Pages;
 use crate::refusing::Causes;
 use crate::request::Request;
@@ -25,37 +26,68 @@ pub fn salvage<H: Sum>(
     request: &Request,
     set_aside: &[&str],
     out: &str,
-) -> io::Result<Status> {
+) -> Result<Status, Status> {
     if let Some(name) = named_twice(request.file, set_aside) {
-        return fail(
-            rt,
-            name,
-            "it is named twice, and would stand twice in the new blob",
-        );
+        let words = "it is named twice, and would stand twice in the new blob";
+        return Err(fail(rt, name, words));
     }
+    let mut blob = read(rt, request.file)?;
+    salvage_of::<H>(rt, request, &mut blob, set_aside, out)
+}
+
+// Does it for a file that was read.
+fn salvage_of<H: Sum>(
+    rt: &HostRuntime,
+    request: &Request,
+    blob: &mut VecBlob,
+    set_aside: &[&str],
+    out: &str,
+) -> Result<Status, Status> {
     let mut content = Content::new(rt.alloc());
     let mut parts = Vec::new(rt.alloc());
-    let mut blob = match read(rt, request.file)? {
-        Ok(blob) => blob,
-        Err(status) => return Ok(status),
-    };
-    let mut given = blob.len();
-    parts.push(Salvaged::gather::<H>(rt, request.shape, blob.bytes(), &mut content)?)?;
-    for name in set_aside {
-        let part = match read(rt, name)? {
-            Ok(part) => part,
-            Err(status) => return Ok(status),
-        };
-        given = given.saturating_add(part.len());
-        parts.push(Salvaged::gather::<H>(rt, request.shape, part.bytes(), &mut content)?)?;
-    }
+    let given = gather_all::<H>(rt, request, blob, set_aside, &mut content, &mut parts)?;
     if given > 0 && content.bytes.is_empty() {
-        return refuse::<H>(rt, request, &mut blob);
+        return refuse::<H>(rt, request, blob);
     }
-    match make::<H>(rt, request, out, &content.bytes)? {
-        Status::Done => tell_made(rt, request, set_aside, out, &content, &parts),
-        status => Ok(status),
+    make::<H>(rt, request, out, &content.bytes)?;
+    or_end(
+        rt,
+        tell_made(rt, set_aside, out, content.bytes.len(), &parts),
+    )?;
+    Ok(tell_all_missing(rt, request, set_aside, out, &parts))
+}
+
+// Gathers the values of a file and of what was set aside of it, and answers how many bytes these
+// files have.
+fn gather_all<H: Sum>(
+    rt: &HostRuntime,
+    request: &Request,
+    blob: &VecBlob,
+    set_aside: &[&str],
+    content: &mut Content,
+    parts: &mut Vec<Salvaged>,
+) -> Result<u64, Status> {
+    let mut given = blob.len();
+    gather::<H>(rt, request, blob, content, parts)?;
+    for name in set_aside {
+        let part = read(rt, name)?;
+        given = given.saturating_add(part.len());
+        gather::<H>(rt, request, &part, content, parts)?;
     }
+    Ok(given)
+}
+
+// Gathers the values of one file.
+fn gather<H: Sum>(
+    rt: &HostRuntime,
+    request: &Request,
+    blob: &VecBlob,
+    content: &mut Content,
+    parts: &mut Vec<Salvaged>,
+) -> Result<(), Status> {
+    let part = Salvaged::gather::<H>(rt, request.shape, blob.bytes(), content)?;
+    parts.push(part)?;
+    Ok(())
 }
 
 // A file that is named twice, if one is.
@@ -70,12 +102,12 @@ fn named_twice<'a>(file: &'a str, set_aside: &[&'a str]) -> Option<&'a str> {
 }
 
 // Says that nothing verifies.
-fn refuse<H: Sum>(rt: &HostRuntime, request: &Request, blob: &mut VecBlob) -> io::Result<Status> {
-    let survey = match surveyed::<_, H>(rt, request, blob) {
-        Ok(survey) => survey,
-        Err(error) => return fail(rt, request.file, error),
-    };
-    let look = Look::of::<H>(blob.bytes(), request.shape, survey);
+fn refuse<H: Sum>(
+    rt: &HostRuntime,
+    request: &Request,
+    blob: &mut VecBlob,
+) -> Result<Status, Status> {
+    let look = looked::<VecBlob, H>(rt, request, blob)?;
     let causes = Causes::of(rt.alloc(), blob.bytes(), look)?;
     let file = request.file;
     tell(
@@ -92,15 +124,15 @@ fn make<H: Sum>(
     request: &Request,
     out: &str,
     content: &[u8],
-) -> io::Result<Status> {
+) -> Result<(), Status> {
     if let Err(error) = File::create_new(rt, out) {
-        return fail(rt, out, error);
+        return Err(fail(rt, out, error));
     }
-    let made = fill::<H>(rt, request, out, content)?;
-    if made != Status::Done {
+    let made = fill::<H>(rt, request, out, content);
+    if made.is_err() {
         let _ = fs::remove_file(rt, out);
     }
-    Ok(made)
+    made
 }
 
 // Opens a new file, and makes it a blob with this content.
@@ -109,16 +141,11 @@ fn fill<H: Sum>(
     request: &Request,
     out: &str,
     content: &[u8],
-) -> io::Result<Status> {
-    let mut blob = match file::open(rt, out) {
-        Ok(blob) => blob,
-        Err(error) => return fail(rt, out, error),
-    };
-    let kept = keep::<H>(rt, request, &mut blob, content);
-    match (blob.failure(), kept) {
-        (_, Ok(())) => Ok(Status::Done),
-        (Some(error), _) => fail(rt, out, error),
-        (None, Err(error)) => fail(rt, out, error),
+) -> Result<(), Status> {
+    let mut blob = open(rt, out)?;
+    match keep::<H>(rt, request, &mut blob, content) {
+        Ok(()) => Ok(()),
+        Err(error) => Err(fail_blob(rt, out, &blob, error)),
     }
 }
 
@@ -146,26 +173,19 @@ fn keep<H: Sum>(
     Ok(())
 }
 
-// Says what is in the new blob, and what is missing.
+// Says what is in the new blob.
 fn tell_made(
     rt: &HostRuntime,
-    request: &Request,
     set_aside: &[&str],
     out: &str,
-    content: &Content,
+    len: usize,
     parts: &[Salvaged],
-) -> io::Result<Status> {
+) -> io::Result<()> {
     let mut pages = 0u64;
-    let mut is_whole = true;
     for part in parts {
         pages = pages.saturating_add(part.pages);
-        is_whole = is_whole && part.is_whole();
     }
-    println!(rt;
-        "{out} has {} bytes, of {}",
-        content.bytes.len(),
-        Pages(pages)
-    )?;
+    println!(rt; "{out} has {len} bytes, of {}", Pages(pages))?;
     for (name, part) in set_aside.iter().zip(parts.iter().skip(1)) {
         if let Some(at) = part.repeats {
             println!(rt;
@@ -173,19 +193,30 @@ fn tell_made(
                  there twice"
             )?;
         }
+        let Salvaged { begin, pages, .. } = part;
         println!(rt;
-            "{name} begins at byte {} of {out}, with {}",
-            part.begin,
-            Pages(part.pages)
+            "{name} begins at byte {begin} of {out}, with {}",
+            Pages(*pages)
         )?;
     }
+    Ok(())
+}
+
+// Says what of each file is missing, and answers whether nothing is.
+fn tell_all_missing(
+    rt: &HostRuntime,
+    request: &Request,
+    set_aside: &[&str],
+    out: &str,
+    parts: &[Salvaged],
+) -> Status {
     if let Some(part) = parts.first() {
         tell_missing(rt, request.file, out, part);
     }
     for (name, part) in set_aside.iter().zip(parts.iter().skip(1)) {
         tell_missing(rt, name, out, part);
     }
-    Ok(Status::of_file(is_whole))
+    Status::of_file(parts.iter().all(|part| part.is_whole()))
 }
 
 // Says what of a file is missing.

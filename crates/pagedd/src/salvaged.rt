@@ -1,10 +1,11 @@
 // The values of all pages that have one, and what is missing among them.
-use crate::pages::{Page, tell_progress, value_of};
+use crate::pages::{Page, tell_progress};
 use crate::request::Shape;
+use crate::status::Status;
 use page::Sum;
 use paged_read::physical_page_size;
 use std::alloc::{AllocError, Global};
-use std::{fmt, io};
+use std::fmt;
 
 /// Values of pages, one after the other.
 #[derive(Drop)]
@@ -120,7 +121,7 @@ impl Salvaged {
         shape: Shape,
         bytes: &[u8],
         content: &mut Content,
-    ) -> io::Result<Self> {
+    ) -> Result<Self, Status> {
         let size = physical_page_size(shape.page_size) as usize;
         let mut salvaged = Salvaged {
             begin: content.bytes.len(),
@@ -147,12 +148,12 @@ impl Salvaged {
         content: &mut Content,
     ) -> Result<(), AllocError> {
         let page_size = usize::from(shape.page_size.get());
-        let value = value_of::<H>(bytes);
+        let page = Page::of::<H>(bytes);
+        let value = bytes.get(..usize::from(page.len)).unwrap_or_default();
         if value.is_empty() {
             self.rest = self.rest.and_page(number, page_size);
             return Ok(());
         }
-        let page = Page::of::<H>(bytes);
         if page.bad.is_some() && value.len() < page_size {
             self.short.push(number)?;
         }

@@ -1,101 +1,104 @@
 // Serving a file to the program's input and output.
-use crate::ending::{fail, fail_stop, tell};
-use crate::look::{Look, read, surveyed};
-use crate::opening::{open, serve_opened, setting_of};
-use crate::refusing::refuse;
+use crate::ending::{fail, fail_output, fail_stop, or_end};
+use crate::look::{InMemory, read};
+use crate::opening::{allow, open};
 use crate::request::Request;
 use crate::status::Status;
 use crate::streams::{Input, Output};
 use crate::words::tell_unknown;
-use disk::VecBlob;
+use disk::{Blob, VecBlob};
+use file::FileBlob;
 use page::Sum;
-use paged::Verdict;
-use protocol::{Cause, Stop, serve_file};
+use protocol::{Cause, Setting, Stop, serve_file};
 use std::fs;
-use std::io::{self, BufReader, BufWriter, Write};
+use std::io::{BufReader, BufWriter, Write};
 
 /// So many bytes of requests are taken by one call of the system, and so many of answers are given.
 const PIECE: usize = 1 << 16;
 
 /// Serves a file, or for reading alone a copy of it in memory. A file that is missing is made where
 /// `create` asks.
-pub fn serve<H: Sum>(rt: &HostRuntime, request: &Request, create: bool) -> io::Result<Status> {
-    if request.read_only {
-        return serve_copy::<H>(rt, request);
-    }
-    if !create && !fs::exists(rt, request.file).unwrap_or(true) {
-        return tell_unknown(rt, request.file);
-    }
-    let mut blob = match open(rt, request)? {
-        Ok(blob) => blob,
-        Err(status) => return Ok(status),
-    };
-    let mut input = BufReader::with_capacity(rt.alloc(), PIECE, Input::of(rt))?;
-    let mut out = BufWriter::with_capacity(rt.alloc(), PIECE, Output::of(rt))?;
-    match serve_opened::<H, _, _>(rt, request, &mut blob, &mut input, &mut out)? {
-        Ok(served) => tell_end(rt, request, &blob, served, input, out),
-        Err(status) => Ok(status),
-    }
-}
-
-// Serves a copy in memory as a recovery would leave it, and says what it hides.
-fn serve_copy<H: Sum>(rt: &HostRuntime, request: &Request) -> io::Result<Status> {
+pub fn serve<H: Sum>(rt: &HostRuntime, request: &Request, create: bool) -> Result<Status, Status> {
     let file = request.file;
-    let mut blob = match read(rt, file)? {
-        Ok(blob) => blob,
-        Err(status) => return Ok(status),
-    };
-    let survey = match surveyed::<_, H>(rt, request, &mut blob) {
-        Ok(survey) => survey,
-        Err(error) => return fail(rt, file, error),
-    };
-    let look = Look::of::<H>(blob.bytes(), request.shape, survey);
-    match look.verdict(request.cut_limit) {
-        Verdict::Whole => {}
-        Verdict::Refuse if !request.cut => return refuse(rt, request, blob.bytes(), &look),
-        _ => tell(rt, format_args!("{file}: {}", look.lost("aren't served"))),
+    if request.read_only {
+        return serve_blob::<VecBlob, H>(rt, request, &mut read(rt, file)?);
     }
-    let alloc = rt.alloc();
-    let setting = setting_of(request, look.at_stake());
-    let mut input = BufReader::with_capacity(alloc, PIECE, Input::of(rt))?;
-    let mut out = BufWriter::with_capacity(alloc, PIECE, Output::of(rt))?;
-    let served = serve_file::<VecBlob, H, _, _>(
-        alloc, &mut blob, &setting, "", &mut input, &mut out,
-    );
-    tell_end(rt, request, &blob, served, input, out)
+    if !create && !fs::exists(rt, file).unwrap_or(true) {
+        return Ok(tell_unknown(rt, file)?);
+    }
+    serve_blob::<FileBlob, H>(rt, request, &mut open(rt, file)?)
 }
 
-// The status with which a session ends, whose last answers are sent now. Where it isn't `Done`, one
-// line says why.
-fn tell_end<B: Cause>(
+// Serves a blob that nobody opened.
+fn serve_blob<B: Blob + Cause + InMemory, H: Sum>(
     rt: &HostRuntime,
     request: &Request,
-    blob: &B,
-    served: Result<(), Stop>,
-    input: BufReader<Input>,
-    mut out: BufWriter<Output>,
-) -> io::Result<Status> {
+    blob: &mut B,
+) -> Result<Status, Status> {
+    let mut input = or_end(
+        rt,
+        BufReader::with_capacity(rt.alloc(), PIECE, Input::of(rt)),
+    )?;
+    let mut out = or_end(
+        rt,
+        BufWriter::with_capacity(rt.alloc(), PIECE, Output::of(rt)),
+    )?;
+    let served = serve_streams::<B, H>(rt, request, blob, &mut input, &mut out)?;
     let ended = flushed(served, &mut out);
     // Why the file failed says more than the answer that a request got.
     if let Some(error) = blob.cause() {
-        return fail(rt, request.file, error);
+        return Err(fail(rt, request.file, error));
     }
-    let stop = match ended {
-        Ok(()) => return Ok(Status::Done),
-        Err(stop) => stop,
+    match ended {
+        Ok(()) => Ok(Status::Done),
+        Err(stop) => Err(tell_stop(rt, request, stop, input.get_ref(), out.get_ref())),
+    }
+}
+
+// Serves a blob. Where nothing of it would go, as of a file in order, its pages are gone through
+// once. Else it is looked at more closely before anything is changed.
+fn serve_streams<B: Blob + Cause + InMemory, H: Sum>(
+    rt: &HostRuntime,
+    request: &Request,
+    blob: &mut B,
+    input: &mut BufReader<Input>,
+    out: &mut BufWriter<Output>,
+) -> Result<Result<(), Stop>, Status> {
+    let mut setting = Setting {
+        page_size: request.shape.page_size,
+        capacity: request.buffer.get(),
+        buffer_size: request.buffer,
+        pages: request.cache,
+        read_only: request.read_only,
+        allowed: 0,
     };
-    let (output, _) = out.into_parts();
-    if let Some(error) = output.into_failure() {
-        return Err(error);
+    let served = serve_file::<B, H, _, _>(rt.alloc(), blob, &setting, "", input, out);
+    let Err(Stop::WouldCut(_)) = served else {
+        return Ok(served);
+    };
+    setting.allowed = allow::<B, H>(rt, request, blob)?;
+    Ok(serve_file::<B, H, _, _>(rt.alloc(), blob, &setting, "", input, out))
+}
+
+// Says in a line why a session ended.
+fn tell_stop(
+    rt: &HostRuntime,
+    request: &Request,
+    stop: Stop,
+    input: &Input,
+    output: &Output,
+) -> Status {
+    if let Some(error) = output.failure() {
+        return fail_output(rt, error);
     }
-    match input.get_ref().failure() {
+    match input.failure() {
         Some(error) if stop == Stop::Failed => fail(rt, "standard input", error),
         _ => fail_stop(rt, request.file, stop),
     }
 }
 
-/// How a session ends whose last answers are sent now.
-pub fn flushed<W: Write>(served: Result<(), Stop>, out: &mut W) -> Result<(), Stop> {
+// How a session ends whose last answers are sent now.
+fn flushed<W: Write>(served: Result<(), Stop>, out: &mut W) -> Result<(), Stop> {
     let sent = out.flush();
     served?;
     sent?;

@@ -1,15 +1,20 @@
 // How a command ends.
 use protocol::Stop;
+use std::alloc::{AllocError, AllocFailed};
 use std::process::ExitCode;
 
-/// How a command ends. Each end has one exit status, whichever command it is.
+/// How a command ends. Each end has one exit status, whichever command it is. A function that ends
+/// its command early returns it as its error, after a line on standard error has said why. There is
+/// no such line for `Unread`, and for `OutOfMemory` only the program's end prints it.
 #[derive(Clone, Copy, PartialEq, Eq)]
 pub enum Status {
     /// 0: it is done. All that the file holds is whole, and in what was answered.
     Done,
-    /// 1: it couldn't be done. The file, the input, the output or memory failed, the command line
-    /// isn't understood, or a session ended after its writer was lost.
+    /// 1: it couldn't be done. The file, the input or the output failed, the command line isn't
+    /// understood, or a session ended after its writer was lost.
     Failed,
+    /// 1: memory was refused.
+    OutOfMemory,
     /// 2: the input of `serve` isn't requests.
     Malformed,
     /// 3: the file isn't whole. `serve` and `append` refuse it, and change nothing. `check` found a
@@ -26,7 +31,7 @@ impl Status {
     fn code(self) -> u8 {
         match self {
             Status::Done => 0,
-            Status::Failed => 1,
+            Status::Failed | Status::OutOfMemory => 1,
             Status::Malformed => 2,
             Status::NotWhole => 3,
             Status::Unread => 141,
@@ -40,6 +45,18 @@ impl Status {
         } else {
             Status::NotWhole
         }
+    }
+}
+
+impl From<AllocError> for Status {
+    fn from(_: AllocError) -> Self {
+        Status::OutOfMemory
+    }
+}
+
+impl<T: Drop> From<AllocFailed<T>> for Status {
+    fn from(_: AllocFailed<T>) -> Self {
+        Status::OutOfMemory
     }
 }
 

@@ -56,9 +56,8 @@ impl Output {
     }
 
     /// Why the last write failed, if it did.
-    pub fn into_failure(self) -> Option<io::Error> {
-        let Output { failure, .. } = self;
-        failure
+    pub fn failure(&self) -> Option<&io::Error> {
+        self.failure.as_ref()
     }
 }
 

@@ -1,9 +1,9 @@
 // The words of the command line, before they are parsed.
-use crate::ending::tell;
+use crate::ending::{fail_output, tell};
 use crate::status::Status;
 use std::alloc::{AllocError, Global};
 use std::env::{Env, FillError};
-use std::io::{self, ErrorKind};
+use std::io::ErrorKind;
 use std::{env, fs, str};
 use strsim::levenshtein;
 
@@ -45,16 +45,16 @@ const NEAR: usize = 2;
 const LONGEST: usize = 1 << 17;
 
 /// All words, the program's name first. Where one isn't UTF-8, a line says which.
-pub fn read_words(rt: &HostRuntime) -> io::Result<Result<Vec<String>, Status>> {
+pub fn read_words(rt: &HostRuntime) -> Result<Vec<String>, Status> {
     match env::args(rt) {
-        Ok(words) => Ok(Ok(words.collect(rt.alloc())?)),
-        Err(error) if error.kind() == ErrorKind::InvalidData => Ok(Err(tell_no_text(rt)?)),
-        Err(error) => Err(error),
+        Ok(words) => Ok(words.collect(rt.alloc())?),
+        Err(error) if error.kind() == ErrorKind::InvalidData => Err(tell_no_text(rt)?),
+        Err(error) => Err(fail_output(rt, &error)),
     }
 }
 
 // Says which word isn't UTF-8.
-fn tell_no_text(rt: &HostRuntime) -> io::Result<Status> {
+fn tell_no_text(rt: &HostRuntime) -> Result<Status, AllocError> {
     let mut room = vec![in rt.alloc(); 0u8; LONGEST]?;
     for number in 0..LONGEST {
         let len = match rt.arg(number, &mut room) {
@@ -117,7 +117,7 @@ pub fn unknown_name<'a>(rt: &HostRuntime, words: &'a [String]) -> Option<&'a str
 }
 
 /// Says that a word names neither a file nor a command, and which command it may mean.
-pub fn tell_unknown(rt: &HostRuntime, name: &str) -> io::Result<Status> {
+pub fn tell_unknown(rt: &HostRuntime, name: &str) -> Result<Status, AllocError> {
     let hint = "'pagedd serve FILE' makes a new blob";
     match nearest_command(rt.alloc(), name)? {
         Some(command) => tell(
@@ -147,22 +147,14 @@ fn nearest_command(alloc: Global, name: &str) -> Result<Option<&'static str>, Al
     Ok(nearest)
 }
 
-/// The same words, with the command, if there is one, before the options.
-pub fn command_first(alloc: Global, words: &[String]) -> Result<Vec<String>, AllocError> {
-    let place = place_of_command(words);
-    let mut arranged = Vec::new(alloc);
-    if let Some(program) = words.first() {
-        arranged.push(program.clone()?)?;
+/// Puts the command, if there is one, before the options.
+pub fn put_command_first(words: &mut [String]) {
+    if let Some(place) = place_of_command(words)
+        && let Some(front) = words.get_mut(1..=place)
+        && !front.is_empty()
+    {
+        front.rotate_right(1);
     }
-    if let Some(name) = place.and_then(|at| words.get(at)) {
-        arranged.push(name.clone()?)?;
-    }
-    for (at, word) in words.iter().enumerate().skip(1) {
-        if Some(at) != place {
-            arranged.push(word.clone()?)?;
-        }
-    }
-    Ok(arranged)
 }
 
 fn place_of_command(words: &[String]) -> Option<usize> {
