@@ -208,24 +208,25 @@ pub fn command<'a>(alloc: Global) -> Result<Command<'a>, AllocError> {
         .version(VERSION)
         .after_help(STATUSES)
         .args_conflicts_with_subcommands(true);
-    let mut top = with_options(alloc, top, "pagedd")?;
+    let mut top = with_options(alloc, top, &ROWS, "pagedd")?;
     for (name, about) in COMMANDS {
         let command = Command::new(alloc, name).about(about);
-        top = top.subcommand(with_options(alloc, command, name)?)?;
+        top = top.subcommand(with_options(alloc, command, &ROWS, name)?)?;
     }
     Ok(top)
 }
 
-// The command with its options.
+// The command with its options, which are those of the rows that name it.
 fn with_options<'a>(
     alloc: Global,
     command: Command<'a>,
+    rows: &[Row],
     name: &str,
 ) -> Result<Command<'a>, AllocError> {
     let mut command = command;
-    for row in ROWS {
+    for row in rows {
         if row.commands.iter().any(|other| *other == name) {
-            command = command.arg(option_of(alloc, row))?;
+            command = command.arg(option_of(alloc, *row))?;
         }
     }
     Ok(command)

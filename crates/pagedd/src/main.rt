@@ -41,13 +41,14 @@ use crate::command::{VERSION, command};
 use crate::ending::{end, or_end};
 use crate::look::read;
 use crate::map::map;
-use crate::request::{Checksum, Request, Task, set_aside_in};
+use crate::request::{Checksum, Request, Task, Told, set_aside_in};
 use crate::salvage::salvage;
 use crate::serving::serve;
 use crate::status::Status;
 use crate::words::{put_command_first, read_words, tell_unknown, unknown_name};
 use clap::ArgMatches;
 use crc32c::Crc32c;
+use disk::VecBlob;
 use page::{AddSum, Sum};
 use std::process::ExitCode;
 
@@ -60,21 +61,26 @@ fn perform<H: Sum>(
     match request.task {
         Task::Serve { create } => serve::<H>(rt, request, create),
         Task::Append { each_line } => append::<H>(rt, request, each_line),
-        Task::Check => check::<H>(rt, request, &mut read(rt, request.file)?),
-        Task::Map { from, to, long } => map::<H>(
-            rt,
-            request,
-            &read(rt, request.file)?,
-            from,
-            to,
-            long,
-        ),
-        Task::Cat { from, len } => cat::<H>(rt, request, &mut read(rt, request.file)?, from, len),
+        Task::Tell(told) => tell_of::<H>(rt, request, told, &mut read(rt, request.file)?),
         Task::Salvage { out } => salvage::<H>(rt, request, set_aside, out),
         Task::Version => {
             or_end(rt, println!(rt; "pagedd {VERSION}"))?;
             Ok(Status::Done)
         }
+    }
+}
+
+// Tells what is asked of a file that was read.
+fn tell_of<H: Sum>(
+    rt: &HostRuntime,
+    request: &Request,
+    told: Told,
+    blob: &mut VecBlob,
+) -> Result<Status, Status> {
+    match told {
+        Told::Check => check::<H>(rt, request, blob),
+        Told::Map { from, to, long } => map::<H>(rt, request, blob, from, to, long),
+        Told::Cat { from, len } => cat::<H>(rt, request, blob, from, len),
     }
 }
 

@@ -45,16 +45,23 @@ pub enum Task<'a> {
     Serve { create: bool },
     /// Append the program's input to it, with a sync after each line, if `each_line`.
     Append { each_line: bool },
-    /// Tell what a recovery would make of it.
-    Check,
-    /// Draw its pages from one to before another; of each what its slots say, where `long` asks.
-    Map { from: u64, to: u64, long: bool },
-    /// Write so many content bytes from an offset on.
-    Cat { from: u64, len: u64 },
+    /// Read it into memory, and tell this of it.
+    Tell(Told),
     /// Put all that verifies into a new file of this name.
     Salvage { out: &'a str },
     /// Print the program's version.
     Version,
+}
+
+/// What can be told of a file.
+#[derive(Clone, Copy)]
+pub enum Told {
+    /// What a recovery would make of it.
+    Check,
+    /// Its pages from one to before another, drawn; of each what its slots say, where `long` asks.
+    Map { from: u64, to: u64, long: bool },
+    /// So many content bytes from an offset on.
+    Cat { from: u64, len: u64 },
 }
 
 /// What the words of the command line ask for. Sizes are bytes, except for the cache's: pages.
@@ -106,16 +113,16 @@ fn task_of<'a>(name: &str, words: &ArgMatches<'a>) -> Task<'a> {
         "append" => Task::Append {
             each_line: words.get_flag("each-line"),
         },
-        "check" => Task::Check,
-        "map" => Task::Map {
+        "check" => Task::Tell(Told::Check),
+        "map" => Task::Tell(Told::Map {
             from: words.get_one::<u64>("from").unwrap_or(0),
             to: words.get_one::<u64>("to").unwrap_or(u64::MAX),
             long: words.get_flag("long"),
-        },
-        "cat" => Task::Cat {
+        }),
+        "cat" => Task::Tell(Told::Cat {
             from: words.get_one::<u64>("from").unwrap_or(0),
             len: words.get_one::<u64>("len").unwrap_or(u64::MAX),
-        },
+        }),
         "salvage" => Task::Salvage {
             out: words.get_str("OUT").unwrap_or_default(),
         },
