@@ -290,10 +290,11 @@ impl<B: Blob, H: Sum, R: Sum> Journal<B, H, R> {
     /// Recovers the journal of a blob of `size` physical bytes, whatever they are, and answers its
     /// records: those of the blob's text, in order, which begin with all that were committed. Where
     /// the last frame is half-written it is cut off, so that what is appended stands after whole
-    /// frames. A whole frame that is no record stays, and is passed over. The frames are found by a
-    /// replay of the blob, which reads batches of a quarter of `buffer_size` ahead. The other
-    /// arguments are those of [`paged::recover`]. The cache is a new one, or one that other
-    /// journals have, or had until a call of theirs failed.
+    /// frames. A whole frame that is no record stays, and is passed over. The content is read once: a
+    /// record that lies in one page shares what the recovery read, up to `buffer_size` bytes, which
+    /// stay in memory as long as it does; any other is a copy. The other arguments are those of
+    /// [`paged::recover`]. The cache is a new one, or one that other journals have, or had until a
+    /// call of theirs failed.
     ///
     /// The errors are those of [`paged::recover`]. What was committed then still is.
     pub fn recover(
