@@ -23,3 +23,14 @@ pub trait Write: EncodeSize {
             (O.written out.new ≡ O.written out.old ++ Self.encoded self.now) }
         ensures room { length (Self.encoded self.now) ≤ O.spare out.old → IsOk result };
 }
+
+/// A value whose encoding has the same size as that of each other value of its type.
+pub trait FixedSize: EncodeSize {
+    ghost SIZE: { ℕ };
+
+    /// That size in bytes.
+    const SIZE: usize;
+
+    /// Each value is encoded as so many bytes.
+    ghost sized: { (v : Self) → length (Self.encoded v) ≡ SIZE };
+}

@@ -16,7 +16,7 @@ mod tail;
 
 pub use buffer::Buffer;
 pub use checksum::Checksum;
-pub use encode::{EncodeSize, Write};
+pub use encode::{EncodeSize, FixedSize, Write};
 pub use geometry::{
     CHECKSUM_SIZE, adjusted_capacity, page_size, physical_page, too_big_for_buffer,
     validate_read_ranges,

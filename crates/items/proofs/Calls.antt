@@ -1,0 +1,256 @@
+-- What the calls of items do that take them, from what the writer's do.
+use Rattle.std.proofs.Common.{◌≡◌, ◌≢◌, ℕ, ◌+◌, ◌*◌, ◌/◌, ◌<◌, ◌≤◌, List, [], ◌∷◌, ◌++◌, length, Some, None, Ok, Err, Result, refl, sym, ap, ap₂, ◌∙◌, subst, arith, length-append, append-nil}
+use Rattle.std.specs.Prelude.{Option}
+use Rattle.std.proofs.Math.Nat.{mul-div_cancel}
+use Rattle.disk.specs.Disk.{Disk, Life}
+use Rattle.disk.specs.declared.error.Error.{Error}
+use Rattle.disk.specs.declared.error.Error.TheVariants.{ReadFailed, WriteFailed, ResizeFailed, SyncFailed, InvalidChecksum, BlobInsufficientLength, OffsetOverflow, OutOfMemory, IdsExhausted}
+use Rattle.disk.specs.declared.started_sync.StartedSync.{StartedSync}
+use Rattle.disk.specs.declared.started_sync.StartedSync.TheVariants.{Done, Named}
+use Rattle.cache.specs.CacheState.{CacheState}
+use Rattle.cache.specs.Pages.{IsFresh}
+use Rattle.crash.specs.Kept.{AllKeep}
+use Rattle.crash.specs.Started.{CoversThrough, WouldKeep}
+use Rattle.crash.specs.Stays.{KeepsAll, KeepsAllFloors, LeavesOnly}
+use Rattle.crash.proofs.Promise.{keeps_less}
+use Rattle.writer_state.specs.WriterState.{WriterState}
+use Rattle.writer_state.specs.declared.sync_state.SyncState.{SyncState}
+use Rattle.writer_state.specs.declared.sync_state.SyncState.TheVariants.{Clean, Dirty, Pending}
+use Rattle.paged_read.specs.Replay.{LeavesReplays}
+use Rattle.paged_read.specs.Snapshots.{LeavesOthers, LeavesTails}
+use Rattle.paged_read.specs.Tail.{CanRead}
+use Rattle.paged.specs.Caches.{tail_of, KeepsReads}
+use Rattle.paged.specs.Calls.{Appends, BuffersOver, Completed, Completes, GoesOn, Starts, StartsSync, Syncs, TryAppends, WaitsForSync, waited_state}
+use Rattle.items.specs.Items.{items, AreDurable, AreFirst, WouldBeDurable}
+use Rattle.items.specs.State.{ItemsState}
+use Rattle.items.specs.Standing.{AreItems, CallLeaves, StandAsItems, bytes_of, count, items_of}
+use Rattle.items.specs.Calls.{AllDurable, AreReady, AreStarted, AreSynced, CompletesItems, GoOn, HaveWaited, IsPushed, Pushes, StartedFor, TriesPush}
+use Rattle.items.proofs.Laws.{durable_longer, durable_of, first_of_itself, first_of_more, items_more, would_longer}
+use Rattle.items.proofs.Standing.{are_items, call_leaves, stand}
+
+-- what a client hands on
+pub ready : (sum : List ℕ → ℕ) (s : ItemsState) (more : List ℕ) (after : CacheState) (old new : Life) (now : ItemsState) → GoOn sum s more after old new now → AreReady sum s now after new
+ready sum s more after old new now goes = (goes.stand, goes.size, goes.same.page_size, goes.same.id, goes.same.full_pages)
+
+-- a sync that was completed, by whichever call
+pub completes : (sum : List ℕ → ℕ) (s : ItemsState) (before after : SyncState) (old new : Life) → 0 < s.size → Completed sum s.writer.page_size (bytes_of s old) before after old new → CompletesItems sum s before after old new
+completes sum s Clean after old new some completed = tt
+completes sum s Dirty after old new some completed = tt
+completes sum s (Pending name) after old new some completed = λ apart n would.
+    durable_of sum s.writer.page_size s.size (bytes_of s old) n new.present some would.within (completed apart (n * s.size) would.within would.keeps)
+
+-- by a wait
+pub completed_by_wait : (sum : List ℕ → ℕ) (P : ℕ) (held : List ℕ) (before after : SyncState) (old new : Life) → Completes sum P before old new → Completed sum P held before after old new
+completed_by_wait sum P held Clean after old new completes = tt
+completed_by_wait sum P held Dirty after old new completes = tt
+completed_by_wait sum P held (Pending name) after old new completes = λ apart cover within would. completes held cover would
+
+-- by a sync
+pub completed_by_sync : (sum : List ℕ → ℕ) (P : ℕ) (held : List ℕ) (before after : SyncState) (old new : Life) → KeepsAll sum P held new → Completed sum P held before after old new
+completed_by_sync sum P held Clean after old new keeps = tt
+completed_by_sync sum P held Dirty after old new keeps = tt
+completed_by_sync sum P held (Pending name) after old new keeps = λ apart cover within would. keeps_less sum P held (length held) cover new.present within keeps
+
+-- by no call
+pub completed_by_none : (sum : List ℕ → ℕ) (P : ℕ) (held : List ℕ) (before after : SyncState) (old new : Life) → after ≡ before → Completed sum P held before after old new
+completed_by_none sum P held Clean after old new same = tt
+completed_by_none sum P held Dirty after old new same = tt
+completed_by_none sum P held (Pending name) after old new same = λ apart cover within would. absurd (apart same)
+
+-- ---- going on
+
+-- the writer went on, so the items did
+pub go_on : (sum : List ℕ → ℕ) (s : ItemsState) (more : List ℕ) (cache after : CacheState) (old new : Life) (w : WriterState) (now : ItemsState) → StandAsItems sum s cache old → GoesOn sum s.writer old more w new → now.writer ≡ w → now.size ≡ s.size
+    → length (bytes_of s old ++ more) ≡ length (bytes_of s old ++ more) / s.size * s.size → CanRead (tail_of w) after new.present → IsFresh after → Completed sum s.writer.page_size (bytes_of s old) s.writer.sync w.sync old new → GoOn sum s more after old new now
+go_on sum s more cache after old new w now stood goes_on is size whole can_read fresh completed =
+    let goes = subst (λ (v : WriterState). GoesOn sum s.writer old more v new) (sym is) goes_on in
+    let can = subst (λ (v : WriterState). CanRead (tail_of v) after new.present) (sym is) can_read in
+    let P = s.writer.page_size in
+    record {
+      stand = are_items sum now after new (record {
+        some = subst (λ (n : ℕ). 0 < n) (sym size) stood.some;
+        sound = goes.sound;
+        can = can;
+        fresh = fresh;
+        size = goes.size;
+        whole = subst (λ (n : ℕ). length (bytes_of now new) ≡ length (bytes_of now new) / n * n) (sym size)
+            (subst (λ (l : List ℕ). length l ≡ length l / s.size * s.size) (sym goes.content) whole);
+        only = goes.only;
+      });
+      holds = goes.content;
+      size = size;
+      same = goes.same;
+      completed = subst (λ (v : WriterState). CompletesItems sum s s.writer.sync v.sync old new) (sym is) (completes sum s s.writer.sync w.sync old new stood.some completed);
+      durable = λ n d durable.
+          subst (λ (p : ℕ). AreDurable sum p now.size (bytes_of now new) n d) (sym goes.same.page_size)
+          (subst (λ (k : ℕ). AreDurable sum P k (bytes_of now new) n d) (sym size)
+          (subst (λ (l : List ℕ). AreDurable sum P s.size l n d) (sym goes.content) (durable_longer sum P s.size (bytes_of s old) more n d stood.some durable)));
+      started = λ n name d would.
+          subst (λ (p : ℕ). WouldBeDurable sum p now.size (bytes_of now new) n name d) (sym goes.same.page_size)
+          (subst (λ (k : ℕ). WouldBeDurable sum P k (bytes_of now new) n name d) (sym size)
+          (subst (λ (l : List ℕ). WouldBeDurable sum P s.size l n name d) (sym goes.content) (would_longer sum P s.size (bytes_of s old) more n name d would)));
+    }
+
+-- so they did by a call that pushes nothing
+pub goes_same : (sum : List ℕ → ℕ) (s : ItemsState) (cache after : CacheState) (old new : Life) (w : WriterState) (now : ItemsState) → AreItems sum s cache old → GoesOn sum s.writer old [] w new → now.writer ≡ w → now.size ≡ s.size
+    → CanRead (tail_of w) after new.present → IsFresh after → Completed sum s.writer.page_size (bytes_of s old) s.writer.sync w.sync old new → GoOn sum s [] after old new now × (items_of now new ≡ items_of s old)
+goes_same sum s cache after old new w now stood goes is size can fresh completed =
+    let was = stand sum s cache old stood in
+    let nil : bytes_of s old ++ [] ≡ bytes_of s old = append-nil (bytes_of s old) in
+    let gone = go_on sum s [] cache after old new w now was goes is size (subst (λ (l : List ℕ). length l ≡ length l / s.size * s.size) (sym nil) was.whole) can fresh completed in
+    (gone, ap₂ (λ (k : ℕ) (l : List ℕ). items k l) size (gone.holds ∙ nil))
+
+-- ---- pushes
+
+-- whole items and one more are whole
+one_more : (s : ℕ) (content item : List ℕ) → 0 < s → length content ≡ length content / s * s → length item ≡ s → length (content ++ item) ≡ length (content ++ item) / s * s
+one_more s content item some whole size =
+    let n = length content / s in
+    let long : length (content ++ item) ≡ (n + 1) * s = omega (arith, length-append content item, whole, size) in
+    let count : length (content ++ item) / s ≡ n + 1 = ap (λ (k : ℕ). k / s) long ∙ mul-div_cancel (n + 1) some in
+    long ∙ ap (λ (k : ℕ). k * s) (sym count)
+
+-- an append of an item, by its answer
+pub pushed : (sum : List ℕ → ℕ) (s : ItemsState) (item : List ℕ) (cache after : CacheState) (old new : Life) (w : WriterState) (now : ItemsState) (at i : ℕ) → AreItems sum s cache old → length item ≡ s.size → i ≡ count s
+    → Appends sum s.writer item old new (Ok (w, at)) → now.writer ≡ w → now.size ≡ s.size → CanRead (tail_of w) after new.present → IsFresh after → Completed sum s.writer.page_size (bytes_of s old) s.writer.sync w.sync old new → IsPushed sum s item after old new now i
+pushed sum s item cache after old new w now at i items long number (_, goes) is size can fresh completed =
+    let stood = stand sum s cache old items in
+    let gone = go_on sum s item cache after old new w now stood goes is size (one_more s.size (bytes_of s old) item stood.some stood.whole long) can fresh completed in
+    record {
+      goes = gone;
+      at = number;
+      added = ap₂ (λ (k : ℕ) (l : List ℕ). Rattle.items.specs.Items.items k l) size gone.holds ∙ items_more s.size (bytes_of s old) item stood.some stood.whole long;
+    }
+
+pub not_pushed : (sum : List ℕ → ℕ) (s : ItemsState) (item : List ℕ) (after : CacheState) (old new : Life) (e : Error) → Appends sum s.writer item old new (Err e) → Pushes sum s item after old new (Err e)
+not_pushed sum s item after old new OffsetOverflow refused = refused
+not_pushed sum s item after old new ReadFailed refused = refused.cause
+not_pushed sum s item after old new WriteFailed refused = refused.cause
+not_pushed sum s item after old new ResizeFailed refused = refused.cause
+not_pushed sum s item after old new SyncFailed refused = refused.cause
+not_pushed sum s item after old new InvalidChecksum refused = refused.cause
+not_pushed sum s item after old new BlobInsufficientLength refused = refused.cause
+not_pushed sum s item after old new OutOfMemory refused = refused.cause
+not_pushed sum s item after old new IdsExhausted refused = refused.cause
+
+-- what a push leaves: the items, or one more
+pub push_leaves : (sum : List ℕ → ℕ) (s : ItemsState) (item : List ℕ) (cache after : CacheState) (old new : Life) → AreItems sum s cache old → length item ≡ s.size → IsFresh after → LeavesOthers s.writer.id cache after → KeepsAllFloors sum s.writer.page_size old new
+    → CoversThrough sum s.writer.page_size (bytes_of s old) old new → LeavesOnly sum s.writer.page_size (bytes_of s old) (bytes_of s old ++ item) old new → LeavesTails sum s.writer.full_pages cache after old new → LeavesReplays s.writer.page_size s.writer.full_pages old new
+    → CallLeaves sum s (items_of s old ++ item ∷ []) cache after old new
+push_leaves sum s item cache after old new items long fresh others kept covers only tails replays =
+    let stood = stand sum s cache old items in
+    let held = bytes_of s old in
+    let all = items_of s old ++ item ∷ [] in
+    call_leaves sum s all held (held ++ item) cache after old new stood.some fresh others kept covers only (first_of_more (items_of s old) (item ∷ []))
+    (subst (λ (l : List (List ℕ)). AreFirst l all) (sym (items_more s.size held item stood.some stood.whole long)) (first_of_itself all)) tails replays
+
+-- a push that asks no device
+pub tried_some : (sum : List ℕ → ℕ) (s : ItemsState) (bytes : List ℕ) (v : WriterState) (at i : ℕ) → TryAppends s.writer bytes v (Ok (Some at)) → BuffersOver sum s.writer bytes v (Ok (Some at)) → KeepsReads s.writer v → length bytes ≡ s.size → i ≡ count s
+    → TriesPush sum s bytes (record { writer = v; size = s.size }) (Ok (Some i))
+tried_some sum s bytes v at i tries appends reads long number = (
+  tries.1,
+  number,
+  λ cache life items.
+      let stood = stand sum s cache life items in
+      pushed sum s bytes cache cache life life v (record { writer = v; size = s.size }) at i items long number (appends life stood.sound) refl refl (reads cache life.present stood.can) stood.fresh
+      (completed_by_none sum s.writer.page_size (bytes_of s life) s.writer.sync v.sync life life (ap (λ (w : WriterState). w.sync) tries.3)),
+)
+
+pub tried_none : (sum : List ℕ → ℕ) (s : ItemsState) (bytes : List ℕ) (v : WriterState) → TryAppends s.writer bytes v (Ok None) → TriesPush sum s bytes (record { writer = v; size = s.size }) (Ok None)
+tried_none sum s bytes v tries = (tries.1, ap (λ (w : WriterState). record { writer = w; size = s.size }) tries.2)
+
+pub not_tried : (sum : List ℕ → ℕ) (s : ItemsState) (bytes : List ℕ) (v : WriterState) (e : Error) → TryAppends s.writer bytes v (Err e) → TriesPush sum s bytes (record { writer = v; size = s.size }) (Err e)
+not_tried sum s bytes v OffsetOverflow tries = (tries.0, ap (λ (w : WriterState). record { writer = w; size = s.size }) tries.1)
+not_tried sum s bytes v OutOfMemory tries = ap (λ (w : WriterState). record { writer = w; size = s.size }) tries.2
+not_tried sum s bytes v ReadFailed tries = absurd tries
+not_tried sum s bytes v WriteFailed tries = absurd tries
+not_tried sum s bytes v ResizeFailed tries = absurd tries
+not_tried sum s bytes v SyncFailed tries = absurd tries
+not_tried sum s bytes v InvalidChecksum tries = absurd tries
+not_tried sum s bytes v BlobInsufficientLength tries = absurd tries
+not_tried sum s bytes v IdsExhausted tries = absurd tries
+
+-- after it items are such, whatever it answered
+same_ready : (sum : List ℕ → ℕ) (s now : ItemsState) → now ≡ s → (cache : CacheState) (life : Life) → AreItems sum s cache life → AreReady sum s now cache life
+same_ready sum s now same cache life items = subst (λ (t : ItemsState). AreReady sum s t cache life) (sym same) (items, refl, refl, refl, omega arith)
+
+pub tries_ready : (sum : List ℕ → ℕ) (s : ItemsState) (item : List ℕ) (now : ItemsState) (result : Result (Option ℕ) Error) → TriesPush sum s item now result → (cache : CacheState) (life : Life) → AreItems sum s cache life → AreReady sum s now cache life
+tries_ready sum s item now (Ok (Some i)) tries cache life items = ready sum s item cache life life now (tries.2 cache life items).goes
+tries_ready sum s item now (Ok None) tries cache life items = same_ready sum s now tries.1 cache life items
+tries_ready sum s item now (Err OffsetOverflow) tries cache life items = same_ready sum s now tries.1 cache life items
+tries_ready sum s item now (Err OutOfMemory) tries cache life items = same_ready sum s now tries cache life items
+tries_ready sum s item now (Err ReadFailed) tries cache life items = absurd tries
+tries_ready sum s item now (Err WriteFailed) tries cache life items = absurd tries
+tries_ready sum s item now (Err ResizeFailed) tries cache life items = absurd tries
+tries_ready sum s item now (Err SyncFailed) tries cache life items = absurd tries
+tries_ready sum s item now (Err InvalidChecksum) tries cache life items = absurd tries
+tries_ready sum s item now (Err BlobInsufficientLength) tries cache life items = absurd tries
+tries_ready sum s item now (Err IdsExhausted) tries cache life items = absurd tries
+
+-- ---- syncs
+
+-- where all bytes are kept all items are durable
+pub all_durable : (sum : List ℕ → ℕ) (s : ItemsState) (cache : CacheState) (life : Life) → StandAsItems sum s cache life → KeepsAll sum s.writer.page_size (bytes_of s life) life → AllDurable sum s life
+all_durable sum s cache life stood keeps =
+    let n = count s in
+    let long : n * s.size ≡ length (bytes_of s life) = ap (λ (k : ℕ). k / s.size * s.size) stood.size ∙ sym stood.whole in
+    durable_of sum s.writer.page_size s.size (bytes_of s life) n life.present stood.some (omega (arith, long))
+    (subst (λ (k : ℕ). AllKeep sum s.writer.page_size (bytes_of s life) k life.present) (sym long) keeps)
+
+-- a sync
+pub synced : (sum : List ℕ → ℕ) (s : ItemsState) (cache after : CacheState) (old new : Life) (w : WriterState) (now : ItemsState) → AreItems sum s cache old → Syncs sum s.writer old new (Ok w) → now.writer ≡ w → now.size ≡ s.size
+    → CanRead (tail_of w) after new.present → IsFresh after → KeepsAll sum s.writer.page_size (bytes_of s old) new → AreSynced sum s after old new now
+synced sum s cache after old new w now stood (goes, settled) is size can fresh keeps =
+    let P = s.writer.page_size in
+    let gone = goes_same sum s cache after old new w now stood goes is size can fresh (completed_by_sync sum P (bytes_of s old) s.writer.sync w.sync old new keeps) in
+    let same : bytes_of now new ≡ bytes_of s old = gone.0.holds ∙ append-nil (bytes_of s old) in
+    record {
+      goes = gone.0;
+      same = gone.1;
+      durable = all_durable sum now after new (stand sum now after new gone.0.stand)
+          (subst (λ (p : ℕ). KeepsAll sum p (bytes_of now new) new) (sym gone.0.same.page_size) (subst (λ (l : List ℕ). KeepsAll sum P l new) (sym same) keeps));
+    }
+
+-- all bytes are durable, or are once the sync completed: so are all items
+started_for : (sum : List ℕ → ℕ) (s : ItemsState) (cache : CacheState) (life : Life) (started : StartedSync) → AreItems sum s cache life → Starts sum s.writer.page_size (bytes_of s life) life started → StartedFor sum s life started
+started_for sum s cache life Done items starts = all_durable sum s cache life (stand sum s cache life items) starts
+started_for sum s cache life (Named name) items starts =
+    let stood = stand sum s cache life items in
+    let long : count s * s.size ≡ length (bytes_of s life) = ap (λ (k : ℕ). k / s.size * s.size) stood.size ∙ sym stood.whole in
+    record {
+      within = omega (arith, long);
+      keeps = subst (λ (k : ℕ). WouldKeep sum s.writer.page_size (bytes_of s life) name k life.present) (sym long) starts;
+    }
+
+-- a sync that was started
+pub begun : (sum : List ℕ → ℕ) (s : ItemsState) (cache after : CacheState) (old new : Life) (w : WriterState) (started : StartedSync) (now : ItemsState) → AreItems sum s cache old → StartsSync sum s.writer old new (Ok (w, started)) → now.writer ≡ w → now.size ≡ s.size
+    → CanRead (tail_of w) after new.present → IsFresh after → Completed sum s.writer.page_size (bytes_of s old) s.writer.sync w.sync old new → AreStarted sum s after old new now started
+begun sum s cache after old new w started now items (goes, written, sync, starts) is size can fresh completed =
+    let gone = goes_same sum s cache after old new w now items goes is size can fresh completed in
+    let same : bytes_of now new ≡ bytes_of s old = gone.0.holds ∙ append-nil (bytes_of s old) in
+    record {
+      goes = gone.0;
+      same = gone.1;
+      sync = ap (λ (v : WriterState). v.sync) is ∙ sync;
+      covers = started_for sum now after new started gone.0.stand
+          (subst (λ (P : ℕ). Starts sum P (bytes_of now new) new started) (sym gone.0.same.page_size) (subst (λ (l : List ℕ). Starts sum s.writer.page_size l new started) (sym same) starts));
+    }
+
+-- nothing is pending once it was waited for
+never_pending : (sync : SyncState) (name : ℕ) → waited_state sync ≢ Pending name
+never_pending Clean name = λ same. cc
+never_pending Dirty name = λ same. cc
+never_pending (Pending other) name = λ same. cc
+
+-- a wait
+pub waited : (sum : List ℕ → ℕ) (s : ItemsState) (cache : CacheState) (old new : Life) (w : WriterState) (now : ItemsState) → AreItems sum s cache old → WaitsForSync sum s.writer old new (Ok w) → now.writer ≡ w → now.size ≡ s.size
+    → CanRead (tail_of w) cache new.present → Completes sum s.writer.page_size s.writer.sync old new → HaveWaited sum s cache old new now
+waited sum s cache old new w now items (goes, state) is size can completes =
+    let stood = stand sum s cache old items in
+    let gone = goes_same sum s cache cache old new w now items goes is size can stood.fresh (completed_by_wait sum s.writer.page_size (bytes_of s old) s.writer.sync w.sync old new completes) in
+    let sync : now.writer.sync ≡ waited_state s.writer.sync = ap (λ (v : WriterState). v.sync) (is ∙ state) in
+    record {
+      goes = gone.0;
+      same = gone.1;
+      sync = λ name pending. never_pending s.writer.sync name (sym sync ∙ pending);
+    }

@@ -1,0 +1,108 @@
+use Rattle.std.proofs.Common.{◌≡◌, ◌∙◌, ◌*◌, ◌/◌, ℕ, List, length, map, Ok, Err, refl, ap, subst, sym}
+use Rattle.std.specs.Int.NonZero.{non_zero_usize_get}
+use Rattle.page.specs.Geometry.{AreInOrder}
+use Rattle.crash.specs.Looks.{looked_start}
+use Rattle.paged_read.specs.Batch.{ranges_of}
+use Rattle.paged_read.specs.Ranges.{AsksOnce}
+use Rattle.paged_read.specs.Tail.{CanRead}
+use Rattle.paged.specs.Caches.{tail_of}
+use Rattle.paged.specs.Reads.{size_of}
+use Rattle.items.specs.State.{ItemsState}
+use Rattle.items.specs.Standing.{AreItems, CallLeaves, bytes_of, count, items_of}
+use Rattle.items.specs.Calls.{FindsItems, GetsMany, item_ranges}
+use Rattle.items.proofs.Laws.{first_of_itself}
+use Rattle.items.proofs.Standing.{nothing_leaves, read_items, read_leaves, stand}
+use Rattle.items.proofs.Reading.{are_in_order, asks_items, asks_no_items, got_many, many_not_got}
+use Rattle.items.proofs.items.Items.get_many.Given.{Over}
+use Rattle.items.proofs.items.Items.get_many.Goals as goal
+use Rattle.items.proofs.items.Items.get_many.Goals.{After-read_many_into}
+
+pub read_many_into-requires-clause-can : goal.read_many_into-requires-clause-can
+read_many_into-requires-clause-can g c =
+    subst (λ (v : ItemsState). CanRead (tail_of v.writer) c.args.cache.now (g.B.Blob.life c.args.blob.now).present) (sym c.self.view_is)
+    (stand g.H.Sum.sum_of c.args.self.now c.args.cache.now (g.B.Blob.life c.args.blob.now) c.requires.items).can
+
+pub read_many_into-requires-clause-in_order : goal.read_many_into-requires-clause-in_order
+read_many_into-requires-clause-in_order g c =
+    let size = non_zero_usize_get c.self.inside.size in
+    let is : c.deref.result.now ≡ map (λ i. i * size) c.args.indices.now = c.deref.ensures.value ∙ c.in-Ok.ensures.0 in
+    subst (λ (l : List ℕ). AreInOrder (ranges_of size l)) (sym is) (are_in_order size c.args.indices.now c.requires.rising)
+
+pub returns-in-Ok-clause-gets : goal.returns-in-Ok-clause-gets
+returns-in-Ok-clause-gets g c =
+    let sum = g.H.Sum.sum_of in
+    let s : ItemsState = record { writer = c.self.inside.writer; size = non_zero_usize_get c.self.inside.size } in
+    let cache = c.args.cache.now in
+    let old = g.B.Blob.life c.args.blob.now in
+    let new = g.B.Blob.life c.read_many_into.new.blob in
+    let buf = c.read_many_into.new.buf in
+    let indices = c.args.indices.now in
+    let goes = c.read_many_into.ensures in
+    subst (λ (v : ItemsState). AreItems sum v cache old → c.len.result ≡ count v → GetsMany v.size (tail_of v.writer) (bytes_of v old) indices cache buf old new c.read_many_into.result) c.self.view_is
+    (λ items is.
+    let stood = stand sum s cache old items in
+    let finds : FindsItems s.size (count s) indices (Ok c.in-Ok.offsets) = subst (λ (n : ℕ). FindsItems s.size n indices (Ok c.in-Ok.offsets)) is c.in-Ok.ensures in
+    got_many sum s.size (tail_of s.writer) cache indices c.deref.result.now buf old new c.read_many_into.result stood.size stood.whole (c.deref.ensures.value ∙ finds.0) finds.1 (goes.never stood.sound) goes.reads)
+    c.requires.items c.len.ensures.count
+
+pub returns-in-Ok-clause-costs : goal.returns-in-Ok-clause-costs
+returns-in-Ok-clause-costs g c =
+    let s : ItemsState = record { writer = c.self.inside.writer; size = non_zero_usize_get c.self.inside.size } in
+    let cache = c.args.cache.now in
+    let old = g.B.Blob.life c.args.blob.now in
+    let new = g.B.Blob.life c.read_many_into.new.blob in
+    let indices = c.args.indices.now in
+    subst (λ (v : ItemsState). AsksOnce cache (tail_of v.writer) (item_ranges v.size indices) old new) c.self.view_is
+    (asks_items s.size (tail_of s.writer) cache indices c.deref.result.now old new (c.deref.ensures.value ∙ c.in-Ok.ensures.0) c.read_many_into.ensures.asks)
+
+-- what the read leaves
+left : (g : Over) (c : After-read_many_into g)
+    → (AreItems g.H.Sum.sum_of c.args.self.now c.read_many_into.new.cache (g.B.Blob.life c.read_many_into.new.blob) × (bytes_of c.args.self.now (g.B.Blob.life c.read_many_into.new.blob) ≡ bytes_of c.args.self.now (g.B.Blob.life c.args.blob.now)))
+    × CallLeaves g.H.Sum.sum_of c.args.self.now (items_of c.args.self.now (g.B.Blob.life c.args.blob.now)) c.args.cache.now c.read_many_into.new.cache (g.B.Blob.life c.args.blob.now) (g.B.Blob.life c.read_many_into.new.blob)
+left g c =
+    let sum = g.H.Sum.sum_of in
+    let s : ItemsState = record { writer = c.self.inside.writer; size = non_zero_usize_get c.self.inside.size } in
+    let cache = c.args.cache.now in
+    let after = c.read_many_into.new.cache in
+    let old = g.B.Blob.life c.args.blob.now in
+    let new = g.B.Blob.life c.read_many_into.new.blob in
+    let goes = c.read_many_into.ensures in
+    subst (λ (v : ItemsState). AreItems sum v cache old → (AreItems sum v after new × (bytes_of v new ≡ bytes_of v old)) × CallLeaves sum v (items_of v old) cache after old new) c.self.view_is
+    (λ items.
+    let fresh = goes.leaves.fresh (stand sum s cache old items).fresh in
+    (read_items sum s cache after old new items goes.looked fresh goes.leaves.can, read_leaves sum s cache after old new items goes.looked fresh goes.others goes.tails goes.replays)) c.requires.items
+
+pub returns-in-Ok-clause-ready : goal.returns-in-Ok-clause-ready
+returns-in-Ok-clause-ready g c = (left g (goal.at.returns-in-Ok-clause-ready g c).After-read_many_into).0
+
+pub returns-in-Ok-clause-leaves : goal.returns-in-Ok-clause-leaves
+returns-in-Ok-clause-leaves g c = (c.read_many_into.ensures.looked, (left g (goal.at.returns-in-Ok-clause-leaves g c).After-read_many_into).1)
+
+pub returns-in-Ok-clause-fresh : goal.returns-in-Ok-clause-fresh
+returns-in-Ok-clause-fresh g c = (left g (goal.at.returns-in-Ok-clause-fresh g c).After-read_many_into).1.fresh
+
+pub returns-in-Err-clause-gets : goal.returns-in-Err-clause-gets
+returns-in-Err-clause-gets g c =
+    let sum = g.H.Sum.sum_of in
+    let s : ItemsState = record { writer = c.self.inside.writer; size = non_zero_usize_get c.self.inside.size } in
+    let cache = c.args.cache.now in
+    let life = g.B.Blob.life c.args.blob.now in
+    let e = c.in-Err.error in
+    let indices = c.args.indices.now in
+    subst (λ (v : ItemsState). AreItems sum v cache life → c.len.result ≡ count v → GetsMany v.size (tail_of v.writer) (bytes_of v life) indices cache c.args.buf.now life life (Err e)) c.self.view_is
+    (λ items is. many_not_got s.size (size_of s.writer) (tail_of s.writer) (bytes_of s life) indices cache c.args.buf.now life e (stand sum s cache life items).size (subst (λ (n : ℕ). FindsItems s.size n indices (Err e)) is c.in-Err.ensures))
+    c.requires.items c.len.ensures.count
+
+pub returns-in-Err-clause-costs : goal.returns-in-Err-clause-costs
+returns-in-Err-clause-costs g c = asks_no_items (tail_of c.args.self.now.writer) c.args.cache.now (item_ranges c.args.self.now.size c.args.indices.now) (g.B.Blob.life c.args.blob.now)
+
+pub returns-in-Err-clause-ready : goal.returns-in-Err-clause-ready
+returns-in-Err-clause-ready g c = (c.requires.items, refl)
+
+pub returns-in-Err-clause-leaves : goal.returns-in-Err-clause-leaves
+returns-in-Err-clause-leaves g c =
+    let life = g.B.Blob.life c.args.blob.now in
+    (looked_start life, nothing_leaves g.H.Sum.sum_of c.args.self.now (items_of c.args.self.now life) c.args.cache.now life (first_of_itself (items_of c.args.self.now life)) c.requires.items)
+
+pub returns-in-Err-clause-fresh : goal.returns-in-Err-clause-fresh
+returns-in-Err-clause-fresh g c = (stand g.H.Sum.sum_of c.args.self.now c.args.cache.now (g.B.Blob.life c.args.blob.now) c.requires.items).fresh

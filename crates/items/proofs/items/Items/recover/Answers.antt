@@ -1,0 +1,82 @@
+use Rattle.std.proofs.Common.{◌≡◌, ◌*◌, ◌/◌, ℕ, List, subst, sym, ap₂, ◌∙◌}
+use Rattle.std.specs.Int.NonZero.{non_zero_usize_get}
+use Rattle.cache.specs.Pages.{IsFresh}
+use Rattle.paged.specs.Reads.{size_of}
+use Rattle.items.specs.Items.{BringsBack, BringsOnly}
+use Rattle.items.specs.Standing.{RecoveryLeaves}
+use Rattle.items.proofs.Laws.{brings_back, brings_only}
+use Rattle.items.proofs.Recovery.{begun, cut_leaves, cut_refused, recovered_items}
+use Rattle.items.proofs.items.Items.recover.Given.{Over}
+use Rattle.items.proofs.items.Items.recover.Goals as goal
+use Rattle.items.proofs.items.Items.recover.Goals.{After-truncate}
+
+pub returns-in_err-recovery-clause-leaves : goal.returns-in_err-recovery-clause-leaves
+returns-in_err-recovery-clause-leaves g c =
+    let goes = c.recover.ensures in
+    begun g.H.Sum.sum_of (non_zero_usize_get c.args.size) c.args.cache.now c.recover.new.cache (g.B.Blob.life c.args.blob.now) (g.B.Blob.life c.recover.new.blob) c.args.size.ok (goes.fresh_ids c.requires.fresh) goes.others goes.floors goes.kept goes.only
+
+-- where the cut is
+cut : (g : Over) (c : After-truncate g) → c.size.result / c.get-len.result * c.get-len.result ≡ size_of c.in_ok-recovery.recovery / non_zero_usize_get c.args.size * non_zero_usize_get c.args.size
+cut g c = ap₂ (λ (n k : ℕ). n / k * k) c.size.ensures c.get-len.ensures.value
+
+-- the cache holds nothing of blobs that are to come
+fresh : (g : Over) (c : After-truncate g) → IsFresh c.truncate.new.cache
+fresh g c =
+    let was = c.in_ok-recovery.ensures in
+    c.truncate.ensures.fresh_ids (was.can_read c.requires.fresh).given (was.fresh_ids c.requires.fresh)
+
+left : (g : Over) (c : After-truncate g) → RecoveryLeaves g.H.Sum.sum_of (non_zero_usize_get c.args.size) c.args.cache.now c.truncate.new.cache (g.B.Blob.life c.args.blob.now) (g.B.Blob.life c.truncate.new.blob)
+left g c =
+    let was = c.in_ok-recovery.ensures in
+    let goes = c.truncate.ensures in
+    cut_leaves g.H.Sum.sum_of (non_zero_usize_get c.args.size) (c.size.result / c.get-len.result * c.get-len.result) c.args.capacity c.args.cache.now c.recover.new.cache c.truncate.new.cache (g.B.Blob.life c.args.blob.now) (g.B.Blob.life c.recover.new.blob) (g.B.Blob.life c.truncate.new.blob) c.in_ok-recovery.recovery
+    c.args.size.ok (g.met.B.Blob.readable_is_image c.args.blob.now) was.recovers was.id (cut g c) was.others was.floors was.kept was.only
+    (fresh g c) goes.others goes.floors (goes.only was.sound)
+
+pub returns-in-Ok-clause-recovers : goal.returns-in-Ok-clause-recovers
+returns-in-Ok-clause-recovers g c =
+    let at = (goal.at.returns-in-Ok-clause-recovers g c).After-truncate in
+    let was = c.in_ok-recovery.ensures in
+    let goes = c.in-Ok.ensures in
+    recovered_items g.H.Sum.sum_of (non_zero_usize_get c.args.size) (c.size.result / c.get-len.result * c.get-len.result) c.args.capacity c.args.cache.now c.truncate.new.cache (g.B.Blob.life c.args.blob.now) (g.B.Blob.life c.recover.new.blob) (g.B.Blob.life c.truncate.new.blob)
+    c.in_ok-recovery.recovery c.in-Ok.recovery c.new.result c.args.size.ok was.recovers was.id (cut g at) (c.new.ensures.writer ∙ c.from.ensures) c.new.ensures.size goes.truncates (goes.sound was.sound)
+    (goes.can_read (was.can_read c.requires.fresh)) (fresh g at) (goes.left was.sound) (goes.durable was.sound)
+
+pub returns-in-Ok-clause-leaves : goal.returns-in-Ok-clause-leaves
+returns-in-Ok-clause-leaves g c = left g (goal.at.returns-in-Ok-clause-leaves g c).After-truncate
+
+pub returns-in-Ok-clause-back : goal.returns-in-Ok-clause-back
+returns-in-Ok-clause-back g c =
+    let sum = g.H.Sum.sum_of in
+    let s = non_zero_usize_get c.args.size in
+    let d = (g.B.Blob.life c.args.blob.now).present in
+    let P = c.args.cache.now.page_size in
+    subst (λ (found : List (List ℕ)). BringsBack sum P s d found) (sym (returns-in-Ok-clause-recovers g c).same) (brings_back sum P s d d.readable c.args.size.ok (g.met.B.Blob.readable_is_image c.args.blob.now))
+
+pub returns-in-Ok-clause-only : goal.returns-in-Ok-clause-only
+returns-in-Ok-clause-only g c =
+    let sum = g.H.Sum.sum_of in
+    let s = non_zero_usize_get c.args.size in
+    let d = (g.B.Blob.life c.args.blob.now).present in
+    let P = c.args.cache.now.page_size in
+    subst (λ (found : List (List ℕ)). BringsOnly sum P s d d.readable found) (sym (returns-in-Ok-clause-recovers g c).same) (brings_only sum P s d d.readable (g.met.B.Blob.readable_is_image c.args.blob.now))
+
+pub returns-in-Err-clause-recovers : goal.returns-in-Err-clause-recovers
+returns-in-Err-clause-recovers g c =
+    cut_refused g.H.Sum.sum_of (c.size.result / c.get-len.result * c.get-len.result) c.args.capacity c.args.cache.now (g.B.Blob.life c.args.blob.now) (g.B.Blob.life c.recover.new.blob) (g.B.Blob.life c.truncate.new.blob) c.in_ok-recovery.recovery c.in-Err.error
+    c.in_ok-recovery.ensures.recovers c.in-Err.ensures.truncates
+
+pub returns-in-Err-clause-leaves : goal.returns-in-Err-clause-leaves
+returns-in-Err-clause-leaves g c = left g (goal.at.returns-in-Err-clause-leaves g c).After-truncate
+
+pub returns-in_err-recovery-clause-fresh : goal.returns-in_err-recovery-clause-fresh
+returns-in_err-recovery-clause-fresh g c = c.recover.ensures.fresh_ids c.requires.fresh
+
+pub returns-in-Ok-clause-fresh : goal.returns-in-Ok-clause-fresh
+returns-in-Ok-clause-fresh g c = fresh g (goal.at.returns-in-Ok-clause-fresh g c).After-truncate
+
+pub returns-in-Err-clause-fresh : goal.returns-in-Err-clause-fresh
+returns-in-Err-clause-fresh g c = fresh g (goal.at.returns-in-Err-clause-fresh g c).After-truncate
+
+pub returns-in-Ok-clause-ready : goal.returns-in-Ok-clause-ready
+returns-in-Ok-clause-ready g c = let has = returns-in-Ok-clause-recovers g c in (has.stand, has.size)

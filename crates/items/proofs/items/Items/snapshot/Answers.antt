@@ -1,0 +1,76 @@
+use Rattle.std.proofs.Common.{subst, sym, ap, ◌∙◌, []}
+use Rattle.std.specs.Int.NonZero.{non_zero_usize_get}
+use Rattle.writer_state.specs.Sound.{IsSound}
+use Rattle.items.specs.State.{ItemsState}
+use Rattle.items.specs.Standing.{AreItems, CallLeaves, items_of}
+use Rattle.items.specs.State.{ItemsSnapshotState}
+use Rattle.items.specs.Readers.{HasSnapshot}
+use Rattle.items.proofs.Standing.{same_leaves, stand}
+use Rattle.items.proofs.Calls.{ready}
+use Rattle.items.proofs.Readers.{made}
+use Rattle.items.proofs.items.Items.snapshot.Given.{Over}
+use Rattle.items.proofs.items.Items.snapshot.Goals as goal
+use Rattle.items.proofs.items.Items.snapshot.Goals.{After-snapshot}
+
+pub snapshot-requires-clause-cached : goal.snapshot-requires-clause-cached
+snapshot-requires-clause-cached g c =
+    (stand g.H.Sum.sum_of c.args.self c.args.cache.now (g.B.Blob.life c.args.blob.now) c.requires.items).can.page_size ∙ sym (ap (λ (v : ItemsState). v.writer.page_size) c.self.view_is)
+
+pub snapshot-requires-clause-sound : goal.snapshot-requires-clause-sound
+snapshot-requires-clause-sound g c =
+    subst (λ (v : ItemsState). IsSound g.H.Sum.sum_of v.writer (g.B.Blob.life c.args.blob.now).present) (sym c.self.view_is)
+    (stand g.H.Sum.sum_of c.args.self c.args.cache.now (g.B.Blob.life c.args.blob.now) c.requires.items).sound
+
+pub returns-in-Ok-clause-makes : goal.returns-in-Ok-clause-makes
+returns-in-Ok-clause-makes g c =
+    let sum = g.H.Sum.sum_of in
+    let s : ItemsState = record { writer = c.self.inside.writer; size = non_zero_usize_get c.self.inside.size } in
+    let cache = c.args.cache.now in
+    let after = c.snapshot.new.cache in
+    let old = g.B.Blob.life c.args.blob.now in
+    let new = g.B.Blob.life c.snapshot.new.blob in
+    let goes = c.in-Ok.ensures in
+    let now = c.new-items.result in
+    subst (λ (r : ItemsSnapshotState). HasSnapshot sum c.args.self after old new now r) (sym c.new.ensures)
+    (subst (λ (v : ItemsState). AreItems sum v cache old → HasSnapshot sum v after old new now (record { tail = c.in-Ok.snapshot; size = non_zero_usize_get c.self.inside.size })) c.self.view_is
+    (λ items.
+    let stood = stand sum s cache old items in
+    made sum s cache after old new c.in-Ok.writer c.in-Ok.snapshot now items goes.makes c.new-items.ensures.writer c.new-items.ensures.size (goes.can_read stood.can) (goes.fresh_ids stood.can.given stood.fresh) goes.completed (goes.stands stood.can))
+    c.requires.items)
+
+pub returns-in-Ok-clause-ready : goal.returns-in-Ok-clause-ready
+returns-in-Ok-clause-ready g c =
+    let has = returns-in-Ok-clause-makes g c in (
+      ready g.H.Sum.sum_of c.args.self [] c.snapshot.new.cache (g.B.Blob.life c.args.blob.now) (g.B.Blob.life c.snapshot.new.blob) c.new-items.result has.goes,
+      has.snapshot,
+      has.size,
+      has.id,
+      has.below,
+    )
+
+left : (g : Over) (c : After-snapshot g) → CallLeaves g.H.Sum.sum_of c.args.self (items_of c.args.self (g.B.Blob.life c.args.blob.now)) c.args.cache.now c.snapshot.new.cache (g.B.Blob.life c.args.blob.now) (g.B.Blob.life c.snapshot.new.blob)
+left g c =
+    let sum = g.H.Sum.sum_of in
+    let s : ItemsState = record { writer = c.self.inside.writer; size = non_zero_usize_get c.self.inside.size } in
+    let cache = c.args.cache.now in
+    let after = c.snapshot.new.cache in
+    let old = g.B.Blob.life c.args.blob.now in
+    let new = g.B.Blob.life c.snapshot.new.blob in
+    let goes = c.snapshot.ensures in
+    subst (λ (v : ItemsState). AreItems sum v cache old → CallLeaves sum v (items_of v old) cache after old new) c.self.view_is
+    (λ items.
+    let stood = stand sum s cache old items in
+    same_leaves sum s cache after old new stood.some (goes.fresh_ids stood.can.given stood.fresh) goes.others goes.kept goes.covers goes.only goes.tails goes.replays)
+    c.requires.items
+
+pub returns-in-Ok-clause-leaves : goal.returns-in-Ok-clause-leaves
+returns-in-Ok-clause-leaves g c = left g (goal.at.returns-in-Ok-clause-leaves g c).After-snapshot
+
+pub returns-in-Ok-clause-fresh : goal.returns-in-Ok-clause-fresh
+returns-in-Ok-clause-fresh g c = (left g (goal.at.returns-in-Ok-clause-fresh g c).After-snapshot).fresh
+
+pub returns-in-Err-clause-leaves : goal.returns-in-Err-clause-leaves
+returns-in-Err-clause-leaves g c = left g (goal.at.returns-in-Err-clause-leaves g c).After-snapshot
+
+pub returns-in-Err-clause-fresh : goal.returns-in-Err-clause-fresh
+returns-in-Err-clause-fresh g c = (left g (goal.at.returns-in-Err-clause-fresh g c).After-snapshot).fresh

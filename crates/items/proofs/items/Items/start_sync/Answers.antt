@@ -1,0 +1,67 @@
+use Rattle.std.proofs.Common.{subst, sym, ap, ◌∙◌, []}
+use Rattle.std.specs.Int.NonZero.{non_zero_usize_get}
+use Rattle.writer_state.specs.Sound.{IsSound}
+use Rattle.items.specs.State.{ItemsState}
+use Rattle.items.specs.Standing.{AreItems, CallLeaves, items_of}
+use Rattle.items.specs.Calls.{AreStarted}
+use Rattle.items.proofs.Standing.{same_leaves, stand}
+use Rattle.items.proofs.Calls.{begun, ready}
+use Rattle.items.proofs.items.Items.start_sync.Given.{Over}
+use Rattle.items.proofs.items.Items.start_sync.Goals as goal
+use Rattle.items.proofs.items.Items.start_sync.Goals.{After-start_sync}
+
+pub start_sync-requires-clause-cached : goal.start_sync-requires-clause-cached
+start_sync-requires-clause-cached g c =
+    (stand g.H.Sum.sum_of c.args.self c.args.cache.now (g.B.Blob.life c.args.blob.now) c.requires.items).can.page_size ∙ sym (ap (λ (v : ItemsState). v.writer.page_size) c.self.view_is)
+
+pub start_sync-requires-clause-sound : goal.start_sync-requires-clause-sound
+start_sync-requires-clause-sound g c =
+    subst (λ (v : ItemsState). IsSound g.H.Sum.sum_of v.writer (g.B.Blob.life c.args.blob.now).present) (sym c.self.view_is)
+    (stand g.H.Sum.sum_of c.args.self c.args.cache.now (g.B.Blob.life c.args.blob.now) c.requires.items).sound
+
+pub returns-in-Ok-clause-starts : goal.returns-in-Ok-clause-starts
+returns-in-Ok-clause-starts g c =
+    let sum = g.H.Sum.sum_of in
+    let s : ItemsState = record { writer = c.self.inside.writer; size = non_zero_usize_get c.self.inside.size } in
+    let cache = c.args.cache.now in
+    let after = c.start_sync.new.cache in
+    let old = g.B.Blob.life c.args.blob.now in
+    let new = g.B.Blob.life c.start_sync.new.blob in
+    let goes = c.in-Ok.ensures in
+    let now = c.new.result in
+    subst (λ (v : ItemsState). AreItems sum v cache old → AreStarted sum v after old new now c.in-Ok.started) c.self.view_is
+    (λ items.
+    let stood = stand sum s cache old items in
+    begun sum s cache after old new c.in-Ok.writer c.in-Ok.started now items goes.starts_sync c.new.ensures.writer c.new.ensures.size (goes.can_read stood.can) (goes.fresh_ids stood.can.given stood.fresh) goes.completed)
+    c.requires.items
+
+pub returns-in-Ok-clause-ready : goal.returns-in-Ok-clause-ready
+returns-in-Ok-clause-ready g c =
+    ready g.H.Sum.sum_of c.args.self [] c.start_sync.new.cache (g.B.Blob.life c.args.blob.now) (g.B.Blob.life c.start_sync.new.blob) c.new.result (returns-in-Ok-clause-starts g c).goes
+
+left : (g : Over) (c : After-start_sync g) → CallLeaves g.H.Sum.sum_of c.args.self (items_of c.args.self (g.B.Blob.life c.args.blob.now)) c.args.cache.now c.start_sync.new.cache (g.B.Blob.life c.args.blob.now) (g.B.Blob.life c.start_sync.new.blob)
+left g c =
+    let sum = g.H.Sum.sum_of in
+    let s : ItemsState = record { writer = c.self.inside.writer; size = non_zero_usize_get c.self.inside.size } in
+    let cache = c.args.cache.now in
+    let after = c.start_sync.new.cache in
+    let old = g.B.Blob.life c.args.blob.now in
+    let new = g.B.Blob.life c.start_sync.new.blob in
+    let goes = c.start_sync.ensures in
+    subst (λ (v : ItemsState). AreItems sum v cache old → CallLeaves sum v (items_of v old) cache after old new) c.self.view_is
+    (λ items.
+    let stood = stand sum s cache old items in
+    same_leaves sum s cache after old new stood.some (goes.fresh_ids stood.can.given stood.fresh) goes.others goes.kept goes.covers goes.only goes.tails goes.replays)
+    c.requires.items
+
+pub returns-in-Ok-clause-leaves : goal.returns-in-Ok-clause-leaves
+returns-in-Ok-clause-leaves g c = left g (goal.at.returns-in-Ok-clause-leaves g c).After-start_sync
+
+pub returns-in-Ok-clause-fresh : goal.returns-in-Ok-clause-fresh
+returns-in-Ok-clause-fresh g c = (left g (goal.at.returns-in-Ok-clause-fresh g c).After-start_sync).fresh
+
+pub returns-in-Err-clause-leaves : goal.returns-in-Err-clause-leaves
+returns-in-Err-clause-leaves g c = left g (goal.at.returns-in-Err-clause-leaves g c).After-start_sync
+
+pub returns-in-Err-clause-fresh : goal.returns-in-Err-clause-fresh
+returns-in-Err-clause-fresh g c = (left g (goal.at.returns-in-Err-clause-fresh g c).After-start_sync).fresh

@@ -1,0 +1,52 @@
+use Rattle.std.proofs.Common.{[], subst, sym, ap, ◌∙◌}
+use Rattle.std.specs.Int.NonZero.{non_zero_usize_get}
+use Rattle.cache.specs.CacheState.{CacheState}
+use Rattle.writer_state.specs.Sound.{IsSound}
+use Rattle.items.specs.State.{ItemsState}
+use Rattle.items.specs.Standing.{AreItems, CallLeaves, items_of}
+use Rattle.items.specs.Calls.{HaveWaited}
+use Rattle.items.proofs.Standing.{same_leaves, stand}
+use Rattle.items.proofs.Calls.{ready, waited}
+use Rattle.items.proofs.items.Items.wait_for_sync.Given.{Over}
+use Rattle.items.proofs.items.Items.wait_for_sync.Goals as goal
+use Rattle.items.proofs.items.Items.wait_for_sync.Goals.{After-wait_for_sync}
+
+pub wait_for_sync-requires : goal.wait_for_sync-requires
+wait_for_sync-requires g c = record {
+  sound = subst (λ (v : ItemsState). IsSound g.H.Sum.sum_of v.writer (g.B.Blob.life c.args.blob.now).present) (sym c.self.view_is)
+      (stand g.H.Sum.sum_of c.args.self c.requires.items.0 (g.B.Blob.life c.args.blob.now) c.requires.items.1).sound;
+}
+
+pub returns-in-Ok-clause-waits : goal.returns-in-Ok-clause-waits
+returns-in-Ok-clause-waits g c = λ cache.
+    let sum = g.H.Sum.sum_of in
+    let s : ItemsState = record { writer = c.self.inside.writer; size = non_zero_usize_get c.self.inside.size } in
+    let old = g.B.Blob.life c.args.blob.now in
+    let new = g.B.Blob.life c.wait_for_sync.new.blob in
+    let goes = c.in-Ok.ensures in
+    let now = c.new.result in
+    subst (λ (v : ItemsState). AreItems sum v cache old → HaveWaited sum v cache old new now) c.self.view_is
+    (λ items. waited sum s cache old new c.in-Ok.writer now items goes.waits c.new.ensures.writer c.new.ensures.size (goes.can_read cache (stand sum s cache old items).can) goes.durable)
+
+pub returns-in-Ok-clause-ready : goal.returns-in-Ok-clause-ready
+returns-in-Ok-clause-ready g c = λ cache items.
+    ready g.H.Sum.sum_of c.args.self [] cache (g.B.Blob.life c.args.blob.now) (g.B.Blob.life c.wait_for_sync.new.blob) c.new.result (returns-in-Ok-clause-waits g c cache items).goes
+
+left : (g : Over) (c : After-wait_for_sync g) (cache : CacheState) → AreItems g.H.Sum.sum_of c.args.self cache (g.B.Blob.life c.args.blob.now)
+    → CallLeaves g.H.Sum.sum_of c.args.self (items_of c.args.self (g.B.Blob.life c.args.blob.now)) cache cache (g.B.Blob.life c.args.blob.now) (g.B.Blob.life c.wait_for_sync.new.blob)
+left g c cache =
+    let sum = g.H.Sum.sum_of in
+    let s : ItemsState = record { writer = c.self.inside.writer; size = non_zero_usize_get c.self.inside.size } in
+    let old = g.B.Blob.life c.args.blob.now in
+    let new = g.B.Blob.life c.wait_for_sync.new.blob in
+    let goes = c.wait_for_sync.ensures in
+    subst (λ (v : ItemsState). AreItems sum v cache old → CallLeaves sum v (items_of v old) cache cache old new) c.self.view_is
+    (λ items.
+    let stood = stand sum s cache old items in
+    same_leaves sum s cache cache old new stood.some stood.fresh (λ t d apart can. can) goes.kept goes.covers goes.only (goes.tails cache stood.can.page_size) goes.replays)
+
+pub returns-in-Ok-clause-leaves : goal.returns-in-Ok-clause-leaves
+returns-in-Ok-clause-leaves g c = left g (goal.at.returns-in-Ok-clause-leaves g c).After-wait_for_sync
+
+pub returns-in-Err-clause-leaves : goal.returns-in-Err-clause-leaves
+returns-in-Err-clause-leaves g c = left g (goal.at.returns-in-Err-clause-leaves g c).After-wait_for_sync

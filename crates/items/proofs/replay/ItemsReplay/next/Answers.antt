@@ -1,0 +1,157 @@
+use Rattle.std.proofs.Common.{◌≡◌, ◌∙◌, ◌+◌, ◌<◌, ◌≤◌, ◌∷◌, ℕ, List, [], true, false, take, drop, length, Ok, Err, Some, None, ap, ap₂, refl, subst, sym, arith}
+use Rattle.std.specs.Int.NonZero.{non_zero_usize_get}
+use Rattle.std.proofs.lemmas.Bool.{leb-true}
+use Rattle.std.proofs.lemmas.Result.{err_from_is_err_and}
+use Rattle.std.proofs.Math.Nat.{min-eq_left}
+use Rattle.disk.specs.Disk.{Life}
+use Rattle.cache.specs.CacheState.{CacheState}
+use Rattle.paged_read.specs.Replay.{IsReplayOf, ReplayState}
+use Rattle.paged_read.specs.Tail.{Tail, size_of}
+use Rattle.items.specs.State.{ItemsReplayState}
+use Rattle.items.specs.Standing.{IsItemsReplay, OnlyReads, ReplaysItems, bytes_along, items_left}
+use Rattle.items.specs.Readers.{GivesNext}
+use Rattle.items.proofs.Standing.{along, only_reads}
+use Rattle.items.proofs.Readers.{fill_refused, gave, had_none, not_there, stays_there}
+use Rattle.items.proofs.replay.ItemsReplay.next.Given.{Over}
+use Rattle.items.proofs.replay.ItemsReplay.next.Goals as goal
+use Rattle.items.proofs.replay.ItemsReplay.next.Goals.{After-ensure, After-ensure-arg-2-1}
+
+-- the replay inside
+abbrev inside : (g : Over) (c : After-ensure g) → ItemsReplayState
+inside g c = record { replay = c.self.inside.replay; size = non_zero_usize_get c.self.inside.size }
+
+was : (g : Over) (c : After-ensure g) → ReplaysItems g.H.Sum.sum_of (inside g c) (g.B.Blob.life c.args.blob.now)
+was g c =
+    let sum = g.H.Sum.sum_of in
+    let old = g.B.Blob.life c.args.blob.now in
+    along sum (inside g c) old (subst (λ (v : ItemsReplayState). IsItemsReplay sum v old) (sym c.self.view_is) c.requires.replay)
+
+pub ensure-requires : goal.ensure-requires
+ensure-requires g c =
+    let sum = g.H.Sum.sum_of in
+    let old = g.B.Blob.life c.args.blob.now in
+    let r : ItemsReplayState = record { replay = c.self.inside.replay; size = non_zero_usize_get c.self.inside.size } in
+    record { can = (along sum r old (subst (λ (v : ItemsReplayState). IsItemsReplay sum v old) (sym c.self.view_is) c.requires.replay)).gives.can }
+
+-- what the fill leaves
+left : (g : Over) (c : After-ensure g) (id : ℕ) (cache : CacheState) → OnlyReads g.H.Sum.sum_of id cache cache (g.B.Blob.life c.args.blob.now) (g.B.Blob.life c.ensure.new.blob)
+left g c id cache =
+    let goes = c.ensure.ensures in
+    only_reads g.H.Sum.sum_of id cache cache (g.B.Blob.life c.args.blob.now) (g.B.Blob.life c.ensure.new.blob) goes.looked (λ fresh. fresh) (λ t d apart can. can) (goes.tails cache) goes.others
+
+-- it gives what it gave
+gives : (g : Over) (c : After-ensure g) → IsReplayOf g.H.Sum.sum_of c.ensure.new.self (bytes_along (inside g c) (g.B.Blob.life c.args.blob.now)) (g.B.Blob.life c.ensure.new.blob).present
+gives g c = c.ensure.ensures.replays g.H.Sum.sum_of (bytes_along (inside g c) (g.B.Blob.life c.args.blob.now)) (was g c).gives
+
+-- where it stands as it stood
+still : (g : Over) (c : After-ensure g) → c.ensure.new.self.tail ≡ c.self.inside.replay.tail → c.ensure.new.self.position ≡ c.self.inside.replay.position
+    → IsItemsReplay g.H.Sum.sum_of (record { replay = c.ensure.new.self; size = non_zero_usize_get c.self.inside.size }) (g.B.Blob.life c.ensure.new.blob)
+    × (items_left (record { replay = c.ensure.new.self; size = non_zero_usize_get c.self.inside.size }) (g.B.Blob.life c.ensure.new.blob) ≡ items_left (inside g c) (g.B.Blob.life c.args.blob.now))
+still g c tail position =
+    stays_there g.H.Sum.sum_of (inside g c) (g.B.Blob.life c.args.blob.now) (g.B.Blob.life c.ensure.new.blob) (was g c) (record { replay = c.ensure.new.self; size = non_zero_usize_get c.self.inside.size }) refl tail position (gives g c)
+
+-- ---- a fill that is refused
+
+pub returns-in_err-ensure-clause-gives : goal.returns-in_err-ensure-clause-gives
+returns-in_err-ensure-clause-gives g c =
+    let at = (goal.at.returns-in_err-ensure-clause-gives g c).After-ensure in
+    let old = g.B.Blob.life c.args.blob.now in
+    let new = g.B.Blob.life c.ensure.new.blob in
+    let now : ItemsReplayState = record { replay = c.ensure.new.self; size = non_zero_usize_get c.self.inside.size } in
+    let e = c.in_err-ensure.field-0.0 in
+    let fetches = c.in_err-ensure.ensures.fetches in
+    let error = err_from_is_err_and c.from_residual.result c.from_residual.ensures.1 in
+    rw (error.1, error.2) (subst (λ (v : ItemsReplayState). GivesNext v now old new (Err e)) c.self.view_is
+    ((still g at fetches.0.tail fetches.0.position).1, fill_refused g.H.Sum.sum_of (inside g at) old new (was g at) e fetches.1))
+
+pub returns-in_err-ensure-clause-ready : goal.returns-in_err-ensure-clause-ready
+returns-in_err-ensure-clause-ready g c =
+    let fills = c.in_err-ensure.ensures.fetches.0 in (
+      (still g (goal.at.returns-in_err-ensure-clause-ready g c).After-ensure fills.tail fills.position).0,
+      ap (λ (v : ItemsReplayState). v.size) c.self.view_is,
+      fills.tail ∙ ap (λ (v : ItemsReplayState). v.replay.tail) c.self.view_is,
+    )
+
+pub returns-in_err-ensure-clause-leaves : goal.returns-in_err-ensure-clause-leaves
+returns-in_err-ensure-clause-leaves g c = left g (goal.at.returns-in_err-ensure-clause-leaves g c).After-ensure
+
+-- ---- no item is left
+
+pub returns-then-not-branch-clause-gives : goal.returns-then-not-branch-clause-gives
+returns-then-not-branch-clause-gives g c =
+    let at = (goal.at.returns-then-not-branch-clause-gives g c).After-ensure in
+    let old = g.B.Blob.life c.args.blob.now in
+    let new = g.B.Blob.life c.ensure.new.blob in
+    let now : ItemsReplayState = record { replay = c.ensure.new.self; size = non_zero_usize_get c.self.inside.size } in
+    let fetches = c.in_ok-ensure.ensures.fetches in
+    let past = not_there c.self.inside.replay.position c.get-size.result (size_of c.self.inside.replay.tail) (sym c.if-not-branch.true ∙ fetches.1) in
+    let none = had_none g.H.Sum.sum_of (inside g at) old new (was g at) (omega (arith, past, c.get-size.ensures.value)) in
+    subst (λ (v : ItemsReplayState). GivesNext v now old new (Ok None)) c.self.view_is (none, (still g at fetches.0.tail fetches.0.position).1 ∙ none)
+
+pub returns-then-not-branch-clause-ready : goal.returns-then-not-branch-clause-ready
+returns-then-not-branch-clause-ready g c =
+    let fills = c.in_ok-ensure.ensures.fetches.0 in (
+      (still g (goal.at.returns-then-not-branch-clause-ready g c).After-ensure fills.tail fills.position).0,
+      ap (λ (v : ItemsReplayState). v.size) c.self.view_is,
+      fills.tail ∙ ap (λ (v : ItemsReplayState). v.replay.tail) c.self.view_is,
+    )
+
+pub returns-then-not-branch-clause-leaves : goal.returns-then-not-branch-clause-leaves
+returns-then-not-branch-clause-leaves g c = left g (goal.at.returns-then-not-branch-clause-leaves g c).After-ensure
+
+-- ---- memory for the item is refused
+
+pub returns-in_err-item-clause-ready : goal.returns-in_err-item-clause-ready
+returns-in_err-item-clause-ready g c =
+    let fills = c.in_ok-ensure.ensures.fetches.0 in
+    let same = c.in_err-item.ensures.same in (
+      subst (λ (x : ReplayState). IsItemsReplay g.H.Sum.sum_of (record { replay = x; size = non_zero_usize_get c.self.inside.size }) (g.B.Blob.life c.ensure.new.blob)) (sym same)
+          (still g (goal.at.returns-in_err-item-clause-ready g c).After-ensure fills.tail fills.position).0,
+      ap (λ (v : ItemsReplayState). v.size) c.self.view_is,
+      ap (λ (x : ReplayState). x.tail) same ∙ fills.tail ∙ ap (λ (v : ItemsReplayState). v.replay.tail) c.self.view_is,
+    )
+
+pub returns-in_err-item-clause-leaves : goal.returns-in_err-item-clause-leaves
+returns-in_err-item-clause-leaves g c = left g (goal.at.returns-in_err-item-clause-leaves g c).After-ensure
+
+-- ---- the item
+
+-- it is given, and the replay goes on after it
+given : (g : Over) (c : goal.In_ok-item g) → IsItemsReplay g.H.Sum.sum_of (record { replay = c.copy_to_bytes.new.self; size = non_zero_usize_get c.self.inside.size }) (g.B.Blob.life c.ensure.new.blob)
+    × (items_left (record { replay = c.self.inside.replay; size = non_zero_usize_get c.self.inside.size }) (g.B.Blob.life c.args.blob.now)
+    ≡ c.in_ok-item.item ∷ items_left (record { replay = c.copy_to_bytes.new.self; size = non_zero_usize_get c.self.inside.size }) (g.B.Blob.life c.ensure.new.blob))
+given g c =
+    let at = (goal.at.returns-clause-gives g c).After-ensure in
+    let sum = g.H.Sum.sum_of in
+    let old = g.B.Blob.life c.args.blob.now in
+    let new = g.B.Blob.life c.ensure.new.blob in
+    let r = inside g at in
+    let now : ItemsReplayState = record { replay = c.copy_to_bytes.new.self; size = non_zero_usize_get c.self.inside.size } in
+    let fetches = c.in_ok-ensure.ensures.fetches in
+    let fills = fetches.0 in
+    let copied = c.in_ok-item.ensures in
+    let held = bytes_along r old in
+    let answered : c.in_ok-ensure.field-0 ≡ true = c.if-not-branch.false in
+    let value : c.get-size.result ≡ r.size = c.get-size.ensures.value in
+    let least = min-eq_left (fetches.2 answered) in
+    let at_item : c.ensure.new.self.position ≡ r.replay.position = fills.position in
+    let after : now.replay.position ≡ r.replay.position + r.size = ap (λ (x : ReplayState). x.position) copied.taken ∙ ap₂ (λ (p n : ℕ). p + n) at_item (least ∙ value) in
+    let there = leb-true (r.replay.position + c.get-size.result) (size_of r.replay.tail) (sym fetches.1 ∙ answered) in
+    gave sum r old new (was g at) now c.in_ok-item.item refl
+    (ap (λ (x : ReplayState). x.tail) copied.taken ∙ fills.tail) after (copied.replays.1 sum held new.present (gives g at)) (omega (arith, there, value))
+    (copied.gives.1 sum held new.present (gives g at) ∙ ap₂ (λ (n p : ℕ). take n (drop p held)) (copied.gives.0 ∙ value) at_item)
+
+pub returns-clause-gives : goal.returns-clause-gives
+returns-clause-gives g c =
+    let now : ItemsReplayState = record { replay = c.copy_to_bytes.new.self; size = non_zero_usize_get c.self.inside.size } in
+    subst (λ (v : ItemsReplayState). GivesNext v now (g.B.Blob.life c.args.blob.now) (g.B.Blob.life c.ensure.new.blob) (Ok (Some c.in_ok-item.item))) c.self.view_is (given g c).1
+
+pub returns-clause-ready : goal.returns-clause-ready
+returns-clause-ready g c = (
+  (given g c).0,
+  ap (λ (v : ItemsReplayState). v.size) c.self.view_is,
+  ap (λ (x : ReplayState). x.tail) c.in_ok-item.ensures.taken ∙ c.in_ok-ensure.ensures.fetches.0.tail ∙ ap (λ (v : ItemsReplayState). v.replay.tail) c.self.view_is,
+)
+
+pub returns-clause-leaves : goal.returns-clause-leaves
+returns-clause-leaves g c = left g (goal.at.returns-clause-leaves g c).After-ensure

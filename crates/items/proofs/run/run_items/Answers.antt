@@ -1,0 +1,31 @@
+use Rattle.std.proofs.Common.{rules, ◌≡◌, ◌+◌, List, [], ◌∷◌, ◌++◌, take, ap, sym, ◌∙◌, subst, arith}
+use Rattle.std.proofs.lemmas.List.{take_more}
+use Rattle.items.specs.declared.run.ItemStep.{ItemStep}
+use Rattle.items.specs.Run.{Ran}
+use Rattle.items.proofs.Runs.{ran_none, ran_more, opened}
+use Rattle.items.proofs.run.run_items.Goals as goal
+
+pub loop-step-init : goal.loop-step-init
+loop-step-init g c = record {
+  room = search rules;
+  stands = c.requires.open;
+  ran = ran_none g.H.Sum.sum_of c.args.session.now c.args.cache.now (g.B.Blob.life c.args.blob.now) c.try_reserve.new.self.items c.requires.open;
+}
+
+pub loop-step-preserved : goal.loop-step-preserved
+loop-step-preserved g c =
+    let sum = g.H.Sum.sum_of in
+    let old = g.B.Blob.life c.args.blob.now in
+    let between = g.B.Blob.life c.loop-step.blob in
+    let new = g.B.Blob.life c.step-reply.new.blob in
+    let steps = c.args.steps.now in
+    let before = take c.loop-step.step-index steps in
+    let one : take (c.loop-step.step-index + 1) steps ≡ before ++ c.step-item.result ∷ [] =
+    take_more steps c.loop-step.step-index c.step-item.result c.loop-step-test.true ∙ ap (λ (s : ItemStep). before ++ s ∷ []) (sym c.step-item.is) in
+    record {
+      room = omega (arith, c.loop-step.invariant.room, c.push_reserved.ensures.len, c.push_reserved.ensures.capacity, c.loop-step-test.true);
+      stands = opened sum c.step-item.result c.loop-step.session c.step-reply.new.self c.loop-step.cache c.step-reply.new.cache between new c.step-reply.result c.step-reply.ensures.did;
+      ran = subst (λ (taken : List ItemStep). Ran sum taken c.args.session.now c.step-reply.new.self c.args.cache.now c.step-reply.new.cache old new c.try_reserve.new.self.items c.push_reserved.new.self.items) (sym one)
+          (ran_more sum before c.step-item.result c.step-reply.result c.args.session.now c.loop-step.session c.step-reply.new.self c.args.cache.now c.loop-step.cache c.step-reply.new.cache old between new c.try_reserve.new.self.items c.loop-step.replies.items c.push_reserved.new.self.items
+          c.loop-step.invariant.ran c.step-reply.ensures.did c.push_reserved.ensures.items);
+    }

@@ -1,0 +1,243 @@
+-- What the calls of items do.
+use Rattle.std.specs.Prelude.{◌≡◌, ◌≢◌, ◌≤◌, ◌<◌, ◌+◌, ◌*◌, ◌/◌, ◌^◌, ◌++◌, ℕ, List, [], ◌∷◌, length}
+use Rattle.std.specs.Prelude.{take, map, slice_get, get_or, All, Option, Some, None, Result, Ok, Err}
+use Rattle.std.specs.Prelude.{Vec}
+use Rattle.std.specs.List.{flat_map}
+use Rattle.std.specs.declared.alloc.Global.{Global}
+use Rattle.disk.specs.declared.started_sync.StartedSync.{StartedSync}
+use Rattle.disk.specs.declared.started_sync.StartedSync.TheVariants.{Done, Named}
+use Rattle.disk.specs.Disk.{Disk, Life, HasFailed}
+use Rattle.disk.specs.declared.error.Error.{Error}
+use Rattle.disk.specs.declared.error.Error.TheVariants.{ReadFailed, OffsetOverflow, OutOfMemory}
+use Rattle.disk.specs.declared.error.Error.TheVariants.{BlobInsufficientLength}
+use Rattle.page.specs.Page.{text}
+use Rattle.cache.specs.CacheState.{CacheState}
+use Rattle.writer_state.specs.WriterState.{started_state}
+use Rattle.writer_state.specs.declared.sync_state.SyncState.{SyncState}
+use Rattle.writer_state.specs.declared.sync_state.SyncState.TheVariants.{Clean, Dirty, Pending}
+use Rattle.paged_read.specs.Batch.{ranges_of}
+use Rattle.paged_read.specs.Ranges.{served}
+use Rattle.paged_read.specs.Tail.{Tail}
+use Rattle.paged.specs.Calls.{IsSameWriter, CallCause}
+use Rattle.paged.specs.Recovers.{Recovers}
+use Rattle.paged.specs.Writer.{physical_blob_size}
+use Rattle.items.specs.Items.{items, item, AreDurable, WouldBeDurable}
+use Rattle.items.specs.State.{ItemsState}
+use Rattle.items.specs.Standing.{AreItems, IsNewId, IsNewToSnapshots, bytes_of, count, items_of}
+
+-- ---- calls that take the items
+
+-- where items wait no more for the sync that they waited for, whichever call waited, what it covers
+-- of them is durable
+abbrev pub CompletesItems : (List ℕ → ℕ) → ItemsState → (before after : SyncState) → Life → Life
+    → Type 0
+CompletesItems sum s Clean after old new = Unit {0}
+CompletesItems sum s Dirty after old new = Unit {0}
+CompletesItems sum s (Pending name) after old new =
+    after ≢ Pending name → (n : ℕ)
+    → WouldBeDurable sum s.writer.page_size s.size (bytes_of s old) n name old.present
+    → AreDurable sum s.writer.page_size s.size (bytes_of s old) n new.present
+
+-- the items go on, with these bytes after theirs
+pub record GoOn (sum : List ℕ → ℕ) (s : ItemsState) (more : List ℕ) (after : CacheState)
+    (old new : Life) (now : ItemsState) : Type 0 where
+  pub stand : AreItems sum now after new
+  pub holds : bytes_of now new ≡ bytes_of s old ++ more
+  pub size : now.size ≡ s.size
+  pub same : IsSameWriter s.writer now.writer
+  pub completed : CompletesItems sum s s.writer.sync now.writer.sync old new
+  -- what is durable of the items before, or is once a sync completed, is of the items now
+  pub durable : (n : ℕ) (d : Disk)
+      → AreDurable sum s.writer.page_size s.size (bytes_of s old) n d
+      → AreDurable sum now.writer.page_size now.size (bytes_of now new) n d
+  pub started : (n name : ℕ) (d : Disk)
+      → WouldBeDurable sum s.writer.page_size s.size (bytes_of s old) n name d
+      → WouldBeDurable sum now.writer.page_size now.size (bytes_of now new) n name d
+
+-- what a client hands on: they are items, of the size that they had, and the full pages of their
+-- blob are no fewer
+abbrev pub AreReady : (List ℕ → ℕ) → ItemsState → ItemsState → CacheState → Life → Type 0
+AreReady sum s now after new =
+    AreItems sum now after new × (now.size ≡ s.size)
+    × (now.writer.page_size ≡ s.writer.page_size) × (now.writer.id ≡ s.writer.id)
+    × (s.writer.full_pages ≤ now.writer.full_pages)
+
+-- an item was pushed: under this number, after those that there were
+pub record IsPushed (sum : List ℕ → ℕ) (s : ItemsState) (item : List ℕ) (after : CacheState)
+    (old new : Life) (now : ItemsState) (i : ℕ) : Type 0 where
+  pub goes : GoOn sum s item after old new now
+  pub at : i ≡ count s
+  pub added : items_of now new ≡ items_of s old ++ item ∷ []
+
+abbrev pub Pushes : (List ℕ → ℕ) → ItemsState → List ℕ → CacheState → Life → Life
+    → Result (ItemsState × ℕ) Error → Type 0
+Pushes sum s item after old new (Ok r) = IsPushed sum s item after old new r.0 r.1
+Pushes sum s item after old new (Err OffsetOverflow) =
+    let w = s.writer in
+    (new ≡ old)
+    × (2 ^ 64 ≤ physical_blob_size w.page_size w.full_pages (length w.tip + length item))
+Pushes sum s item after old new (Err e) = CallCause s.writer.sync old new e
+
+-- all items are durable
+abbrev pub AllDurable : (List ℕ → ℕ) → ItemsState → Life → Type 0
+AllDurable sum s life =
+    AreDurable sum s.writer.page_size s.size (bytes_of s life) (count s) life.present
+
+-- a sync
+pub record AreSynced (sum : List ℕ → ℕ) (s : ItemsState) (after : CacheState) (old new : Life)
+    (now : ItemsState) : Type 0 where
+  pub goes : GoOn sum s [] after old new now
+  pub same : items_of now new ≡ items_of s old
+  pub durable : AllDurable sum now new
+
+abbrev pub SyncsItems : (List ℕ → ℕ) → ItemsState → CacheState → Life → Life
+    → Result ItemsState Error → Type 0
+SyncsItems sum s after old new (Ok now) = AreSynced sum s after old new now
+SyncsItems sum s after old new (Err e) = CallCause s.writer.sync old new e
+
+-- what a started sync stands for: all items are durable already, or are once it completed
+abbrev pub StartedFor : (List ℕ → ℕ) → ItemsState → Life → StartedSync → Type 0
+StartedFor sum s life Done = AllDurable sum s life
+StartedFor sum s life (Named name) =
+    WouldBeDurable sum s.writer.page_size s.size (bytes_of s life) (count s) name life.present
+
+-- a sync was started
+pub record AreStarted (sum : List ℕ → ℕ) (s : ItemsState) (after : CacheState) (old new : Life)
+    (now : ItemsState) (started : StartedSync) : Type 0 where
+  pub goes : GoOn sum s [] after old new now
+  pub same : items_of now new ≡ items_of s old
+  pub sync : now.writer.sync ≡ started_state started
+  pub covers : StartedFor sum now new started
+
+abbrev pub StartsItems : (List ℕ → ℕ) → ItemsState → CacheState → Life → Life
+    → Result (ItemsState × StartedSync) Error → Type 0
+StartsItems sum s after old new (Ok r) = AreStarted sum s after old new r.0 r.1
+StartsItems sum s after old new (Err e) = CallCause s.writer.sync old new e
+
+-- a wait: no sync is pending then
+pub record HaveWaited (sum : List ℕ → ℕ) (s : ItemsState) (cache : CacheState) (old new : Life)
+    (now : ItemsState) : Type 0 where
+  pub goes : GoOn sum s [] cache old new now
+  pub same : items_of now new ≡ items_of s old
+  pub sync : (name : ℕ) → now.writer.sync ≢ Pending name
+
+abbrev pub WaitsForItems : (List ℕ → ℕ) → ItemsState → CacheState → Life → Life
+    → Result ItemsState Error → Type 0
+WaitsForItems sum s cache old new (Ok now) = HaveWaited sum s cache old new now
+WaitsForItems sum s cache old new (Err e) = CallCause s.writer.sync old new e
+
+-- a push of an item that fits what is buffered: over whatever blob
+abbrev pub TriesPush : (List ℕ → ℕ) → ItemsState → List ℕ → ItemsState → Result (Option ℕ) Error
+    → Type 0
+TriesPush sum s item now (Ok (Some i)) =
+    let w = s.writer in
+    (length w.tip + length item ≤ w.capacity) × (i ≡ count s)
+    × ((cache : CacheState) (life : Life) → AreItems sum s cache life
+    → IsPushed sum s item cache life life now i)
+TriesPush sum s item now (Ok None) =
+    let w = s.writer in (w.capacity < length w.tip + length item) × (now ≡ s)
+TriesPush sum s item now (Err OffsetOverflow) =
+    let w = s.writer in
+    (2 ^ 64 ≤ physical_blob_size w.page_size w.full_pages (length w.tip + length item)) × (now ≡ s)
+TriesPush sum s item now (Err OutOfMemory) = now ≡ s
+TriesPush sum s item now (Err _) = ⊥
+
+-- ---- recovery
+
+-- items were recovered, under the cache's next id: the whole ones of the text that was readable,
+-- and all of them are durable
+pub record HasRecovered (sum : List ℕ → ℕ) (s : ℕ) (cache after : CacheState) (old new : Life)
+    (now : ItemsState) : Type 0 where
+  pub size : now.size ≡ s
+  pub page_size : now.writer.page_size ≡ cache.page_size
+  pub id : now.writer.id ≡ cache.ids_given
+  pub apart : IsNewId now.writer.id cache
+  pub snapshots_apart : IsNewToSnapshots now.writer.id cache
+  pub stand : AreItems sum now after new
+  pub holds : let T = text sum cache.page_size old.present.readable in
+      bytes_of now new ≡ take (length T / s * s) T
+  pub same : items_of now new ≡ items s (text sum cache.page_size old.present.readable)
+  pub durable : AllDurable sum now new
+
+-- a recovery is refused as that of a blob is
+abbrev pub RecoversItems : (List ℕ → ℕ) → (s : ℕ) → (cache after : CacheState) → (capacity : ℕ)
+    → Life → Life → Result ItemsState Error → Type 0
+RecoversItems sum s cache after capacity old new (Ok now) = HasRecovered sum s cache after old new now
+RecoversItems sum s cache after capacity old new (Err e) = Recovers sum cache capacity old new (Err e)
+
+-- ---- reads
+
+-- why a read of items that there are may answer this error: the device failed in the call, or
+-- memory was refused
+abbrev pub ReadRefused : Life → Life → Error → Type 0
+ReadRefused old new ReadFailed = HasFailed ReadFailed old.present new.present
+ReadRefused old new OutOfMemory = Unit {0}
+ReadRefused old new _ = ⊥
+
+-- where the item of this number begins, of n items of s bytes; a number whose bytes have no offsets
+-- comes before another that is no item's
+abbrev pub FindsItem : (s n : ℕ) → (i : ℕ) → Result ℕ Error → Type 0
+FindsItem s n i (Ok offset) = (offset ≡ i * s) × (i * s + s < 2 ^ 64) × (i < n)
+FindsItem s n i (Err OffsetOverflow) = (2 ^ 64 ≤ i * s + s) × (n ≤ i)
+FindsItem s n i (Err BlobInsufficientLength) = (i * s + s < 2 ^ 64) × (n ≤ i)
+FindsItem s n i (Err _) = ⊥
+
+-- the item of this number; where there is none this is told before anything is asked for
+abbrev pub GetsItem : (s : ℕ) → List ℕ → (i : ℕ) → List ℕ → Life → Life → Result (Unit {0}) Error
+    → Type 0
+GetsItem s content i buf old new (Ok u) = slice_get (items s content) i ≡ Some buf
+GetsItem s content i buf old new (Err OffsetOverflow) =
+    (new ≡ old) × (2 ^ 64 ≤ i * s + s) × (length content / s ≤ i)
+GetsItem s content i buf old new (Err BlobInsufficientLength) =
+    (new ≡ old) × (i * s + s < 2 ^ 64) × (length content / s ≤ i)
+GetsItem s content i buf old new (Err e) = (i < length content / s) × ReadRefused old new e
+
+-- each number is greater than the one before; the first is at least this
+abbrev pub AreRisingFrom : ℕ → List ℕ → Type 0
+AreRisingFrom n [] = Unit {0}
+AreRisingFrom n (i ∷ indices) = (n ≤ i) × AreRisingFrom (i + 1) indices
+
+abbrev pub AreRising : List ℕ → Type 0
+AreRising indices = AreRisingFrom 0 indices
+
+-- there is an item of this number, and it has offsets
+abbrev pub IsThere : (s n : ℕ) → (i : ℕ) → Type 0
+IsThere s n i = (i * s + s < 2 ^ 64) × (i < n)
+
+-- the first of these numbers that is no item's is refused so
+pub record FirstRefused (s n : ℕ) (indices : List ℕ) (e : Error) : Type 0 where
+  pub at : ℕ
+  pub there : at < length indices
+  pub before : All (IsThere s n) (take at indices)
+  pub refused : FindsItem s n (get_or indices at 0) (Err e)
+
+-- whether all these numbers are items'
+abbrev pub FindsAll : (s n : ℕ) → List ℕ → Result (Unit {0}) Error → Type 0
+FindsAll s n indices (Ok u) = All (IsThere s n) indices
+FindsAll s n indices (Err e) = FirstRefused s n indices e
+
+-- where items of these numbers begin
+abbrev pub FindsItems : (s n : ℕ) → List ℕ → Result (Vec ℕ Global) Error → Type 0
+FindsItems s n indices (Ok offsets) =
+    (offsets.items ≡ map (λ i. i * s) indices) × All (IsThere s n) indices
+FindsItems s n indices (Err OutOfMemory) = All (IsThere s n) indices
+FindsItems s n indices (Err e) = FirstRefused s n indices e
+
+-- where the items of these numbers are
+abbrev pub item_ranges : (s : ℕ) → List ℕ → List (ℕ × ℕ)
+item_ranges s indices = ranges_of s (map (λ i. i * s) indices)
+
+-- the items of these numbers, joined, and of how many the cache and the buffer had all; the first
+-- number that is refused decides, before anything is asked for
+abbrev pub GetsMany : (s : ℕ) → Tail → List ℕ → (indices : List ℕ) → CacheState → List ℕ → Life
+    → Life → Result ℕ Error → Type 0
+GetsMany s t content indices cache buf old new (Ok n) =
+    All (λ i. i < length content / s) indices
+    × (buf ≡ flat_map (item s content) indices)
+    × (n ≡ served cache t (item_ranges s indices))
+GetsMany s t content indices cache buf old new (Err OffsetOverflow) =
+    (new ≡ old) × FirstRefused s (length content / s) indices OffsetOverflow
+GetsMany s t content indices cache buf old new (Err BlobInsufficientLength) =
+    (new ≡ old) × FirstRefused s (length content / s) indices BlobInsufficientLength
+GetsMany s t content indices cache buf old new (Err e) =
+    All (λ i. i < length content / s) indices × ReadRefused old new e

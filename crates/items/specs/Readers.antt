@@ -1,0 +1,86 @@
+-- What the calls do that make snapshots and replays of items, and what a replay's do.
+use Rattle.std.specs.Prelude.{◌≡◌, ◌≤◌, ◌<◌, ◌*◌, ◌/◌, ◌^◌, ℕ, List, [], ◌∷◌, length, drop}
+use Rattle.std.specs.Prelude.{Option, Some, None, Result, Ok, Err}
+use Rattle.disk.specs.Disk.{Life}
+use Rattle.disk.specs.declared.error.Error.{Error}
+use Rattle.disk.specs.declared.error.Error.TheVariants.{OffsetOverflow, OutOfMemory}
+use Rattle.disk.specs.declared.error.Error.TheVariants.{BlobInsufficientLength}
+use Rattle.cache.specs.CacheState.{CacheState}
+use Rattle.paged.specs.Calls.{CallCause}
+use Rattle.items.specs.Items.{items}
+use Rattle.items.specs.State.{ItemsReplayState, ItemsSnapshotState, ItemsState}
+use Rattle.items.specs.Standing.{AreItems, IsItemsReplay, IsItemsSnapshot, bytes_along, items_left}
+use Rattle.items.specs.Standing.{items_of, items_over}
+use Rattle.items.specs.Calls.{GoOn, ReadRefused}
+
+-- a snapshot was made of all items, which go on: its pages lie below their tip
+pub record HasSnapshot (sum : List ℕ → ℕ) (s : ItemsState) (after : CacheState) (old new : Life)
+    (now : ItemsState) (r : ItemsSnapshotState) : Type 0 where
+  pub goes : GoOn sum s [] after old new now
+  pub same : items_of now new ≡ items_of s old
+  pub snapshot : IsItemsSnapshot sum r after new
+  pub over : items_over r new ≡ items_of s old
+  pub size : r.size ≡ s.size
+  pub id : r.tail.id ≡ s.writer.id
+  pub below : r.tail.full_pages ≤ now.writer.full_pages
+
+abbrev pub MakesItemsSnapshot : (List ℕ → ℕ) → ItemsState → CacheState → Life → Life
+    → Result (ItemsState × ItemsSnapshotState) Error → Type 0
+MakesItemsSnapshot sum s after old new (Ok r) = HasSnapshot sum s after old new r.0 r.1
+MakesItemsSnapshot sum s after old new (Err e) = CallCause s.writer.sync old new e
+
+-- a snapshot for which nothing is written, of items over whatever blob: none while a full page is
+-- buffered
+abbrev pub TriesItemsSnapshot : (List ℕ → ℕ) → ItemsState
+    → Result (Option ItemsSnapshotState) Error → Type 0
+TriesItemsSnapshot sum s (Ok (Some r)) =
+    (length s.writer.tip < s.writer.page_size) × (r.size ≡ s.size)
+    × (r.tail.id ≡ s.writer.id) × (r.tail.full_pages ≡ s.writer.full_pages)
+    × ((cache : CacheState) (life : Life) → AreItems sum s cache life
+    → IsItemsSnapshot sum r cache life × (items_over r life ≡ items_of s life))
+TriesItemsSnapshot sum s (Ok None) = s.writer.page_size ≤ length s.writer.tip
+TriesItemsSnapshot sum s (Err OutOfMemory) = length s.writer.tip < s.writer.page_size
+TriesItemsSnapshot sum s (Err _) = ⊥
+
+-- a replay began of all items, which go on: its pages lie below their tip
+pub record HasReplay (sum : List ℕ → ℕ) (s : ItemsState) (after : CacheState) (old new : Life)
+    (now : ItemsState) (r : ItemsReplayState) : Type 0 where
+  pub goes : GoOn sum s [] after old new now
+  pub same : items_of now new ≡ items_of s old
+  pub replay : IsItemsReplay sum r new
+  pub left : items_left r new ≡ items_of s old
+  pub size : r.size ≡ s.size
+  pub page_size : r.replay.tail.page_size ≡ now.writer.page_size
+  pub below : r.replay.tail.full_pages ≤ now.writer.full_pages
+
+abbrev pub BeginsItemsReplay : (List ℕ → ℕ) → ItemsState → CacheState → Life → Life
+    → Result (ItemsState × ItemsReplayState) Error → Type 0
+BeginsItemsReplay sum s after old new (Ok r) = HasReplay sum s after old new r.0 r.1
+BeginsItemsReplay sum s after old new (Err e) = CallCause s.writer.sync old new e
+
+-- a replay gives the next item, or none where none is left; where it is refused, the items that it
+-- is to give are those that it was to give
+abbrev pub GivesNext : (r now : ItemsReplayState) → Life → Life → Result (Option (List ℕ)) Error
+    → Type 0
+GivesNext r now old new (Ok (Some item)) = items_left r old ≡ item ∷ items_left now new
+GivesNext r now old new (Ok None) = (items_left r old ≡ []) × (items_left now new ≡ [])
+GivesNext r now old new (Err e) = (items_left now new ≡ items_left r old) × ReadRefused old new e
+
+-- what a replay is to give after a call of its own: it stays one, of the same items
+abbrev pub StaysReplay : (List ℕ → ℕ) → (r now : ItemsReplayState) → Life → Life → Type 0
+StaysReplay sum r now old new =
+    IsItemsReplay sum r old → IsItemsReplay sum now new × (now.size ≡ r.size)
+    × (now.replay.tail ≡ r.replay.tail)
+
+-- a replay goes to the item of this number, or to the end: over whatever blob
+abbrev pub SeeksItem : (List ℕ → ℕ) → (r : ItemsReplayState) → (i : ℕ) → (now : ItemsReplayState)
+    → Result (Unit {0}) Error → Type 0
+SeeksItem sum r i now (Ok u) =
+    (life : Life) → IsItemsReplay sum r life
+    → IsItemsReplay sum now life
+    × (items_left now life ≡ drop i (items r.size (bytes_along r life)))
+SeeksItem sum r i now (Err OffsetOverflow) = (2 ^ 64 ≤ i * r.size) × (now ≡ r)
+SeeksItem sum r i now (Err BlobInsufficientLength) =
+    (i * r.size < 2 ^ 64) × (now ≡ r)
+    × ((life : Life) → IsItemsReplay sum r life → length (bytes_along r life) / r.size < i)
+SeeksItem sum r i now (Err _) = ⊥

@@ -1,0 +1,432 @@
+// Items over a paged blob.
+ghost use Rattle.std.specs.Prelude.{◌≡◌, ◌+◌, ◌*◌, ◌/◌, ◌^◌, ◌≤◌, ◌<◌, ◌++◌, ◌∷◌, [], length, Err};
+ghost use Rattle.std.specs.Prelude.{ℕ, IfOk};
+ghost use Rattle.std.specs.Int.NonZero.{non_zero_usize_get};
+ghost use Rattle.cache.specs.CacheState.{CacheState};
+ghost use Rattle.cache.specs.Pages.{IsFresh};
+ghost use Rattle.crash.specs.Looks.{Looked};
+ghost use Rattle.disk.specs.Disk.{Life};
+ghost use Rattle.paged_read.specs.Ranges.{AsksForMissing, AsksOnce};
+ghost use Rattle.paged.specs.Caches.{tail_of};
+ghost use Rattle.paged.specs.Calls.{AsksAtMost, start_calls, sync_calls, wait_calls};
+ghost use Rattle.paged.specs.Replays.{replay_calls};
+ghost use Rattle.paged.specs.Snapshots.{snapshot_calls};
+ghost use Rattle.items.specs.Calls.{AreReady, AreRising, FindsItem, GetsItem, GetsMany, Pushes};
+ghost use Rattle.items.specs.Calls.{RecoversItems};
+ghost use Rattle.items.specs.Calls.{StartsItems, SyncsItems, TriesPush, WaitsForItems, item_ranges};
+ghost use Rattle.items.specs.Items.{BringsBack, BringsOnly};
+ghost use Rattle.items.specs.Readers.{BeginsItemsReplay, MakesItemsSnapshot, TriesItemsSnapshot};
+ghost use Rattle.items.specs.Standing.{AreItems, CallLeaves, IsItemsReplay, IsItemsSnapshot};
+ghost use Rattle.items.specs.Standing.{RecoveryLeaves, bytes_of, count, items_of};
+
+use crate::locate::{offset_of, offsets_of};
+use crate::replay::ItemsReplay;
+use crate::snapshot::ItemsSnapshot;
+use cache::CacheRef;
+use disk::{Blob, Error, ReadOptions, StartedSync};
+use page::{FixedSize, Sum, Write};
+use paged::Writer;
+use std::alloc::Global;
+use std::marker::Model;
+use std::num::NonZeroUsize;
+
+/// Items of one size, one after another, in a blob of the type `B` with pages under the checksum
+/// function `H`.
+///
+/// The blob and the cache are lent to each call, as a writer's are: always the same ones, and many
+/// values of items may share a cache. A call that takes the items gives them back only on success;
+/// after an error they are to be recovered, and the cache serves for that.
+#[derive(Drop)]
+pub struct Items<B, H> {
+    alloc: Global,
+    writer: Writer<B, H>,
+    size: NonZeroUsize,
+}
+
+impl<B, H> Model for Items<B, H> {
+    ghost use Rattle.std.specs.Int.NonZero.{non_zero_usize_get};
+    ghost use Rattle.items.specs.State.{ItemsState};
+
+    ghost Value = { ItemsState };
+
+    ghost view = { λ s. record { writer = s.writer; size = non_zero_usize_get s.size } };
+}
+
+impl<B, H> Items<B, H> {
+    fn new(alloc: Global, writer: Writer<B, H>, size: NonZeroUsize) -> Self
+        ensures writer { result.writer ≡ writer }
+        ensures size { result.size ≡ non_zero_usize_get size }
+    {
+        Items {
+            alloc,
+            writer,
+            size,
+        }
+    }
+
+    /// How many items there are.
+    pub fn len(&self) -> u64
+        ensures count { result ≡ count self.now }
+        ensures fits { count self.now * self.now.size < 2 ^ 64 }
+    {
+        self.writer.size() / self.size.get() as u64
+    }
+
+    /// How many bytes each item has.
+    pub fn item_size(&self) -> usize
+        ensures { result ≡ self.now.size }
+    {
+        self.size.get()
+    }
+
+    /// Where the item of a number begins. The errors are those that [`Items::get`] answers before
+    /// anything is asked for.
+    pub(crate) fn find(&self, i: u64) -> Result<u64, Error>
+        ensures { FindsItem self.now.size (count self.now) i result }
+    {
+        offset_of(i, self.len(), self.size)
+    }
+}
+
+impl<B: Blob, H: Sum> Items<B, H> {
+    /// Recovers the items of a blob of `blob_size` physical bytes, whatever they are: those of the
+    /// blob's text, which begin with all that were durable. A rest of it that is no whole item is
+    /// cut off. The other arguments are those of [`paged::recover`], and the items' size. The cache
+    /// is a new one, or one that other items have, or had until a call of theirs failed.
+    ///
+    /// The errors are those of [`paged::recover`]. What was durable then still is.
+    pub fn recover(
+        alloc: Global,
+        blob: &mut B,
+        blob_size: u64,
+        capacity: usize,
+        cache: &mut CacheRef,
+        buffer_size: NonZeroUsize,
+        size: NonZeroUsize,
+    ) -> Result<Self, Error>
+        requires length { blob_size ≡ length (B.life blob.old).present.readable }
+        requires fresh { IsFresh cache.old }
+        ensures recovers { let old = B.life blob.old in let new = B.life blob.new in
+            let s = non_zero_usize_get size in
+            RecoversItems H.sum_of s cache.old cache.new capacity old new result }
+        ensures ready { let s = non_zero_usize_get size in IfOk result (λ r.
+            AreItems H.sum_of r cache.new (B.life blob.new) × (r.size ≡ s)) }
+        ensures leaves { let old = B.life blob.old in let new = B.life blob.new in
+            let s = non_zero_usize_get size in
+            RecoveryLeaves H.sum_of s cache.old cache.new old new }
+        ensures fresh { IsFresh cache.new }
+
+        // The items begin with those that were durable; and where no checksum collides, they are
+        // the first of those that a crash was to leave.
+        ensures back { let was = (B.life blob.old).present in
+            let P = cache.old.page_size in let s = non_zero_usize_get size in
+            IfOk result (λ r. BringsBack H.sum_of P s was (items_of r (B.life blob.new))) }
+        ensures only { let was = (B.life blob.old).present in
+            let P = cache.old.page_size in let s = non_zero_usize_get size in
+            IfOk result (λ r.
+            BringsOnly H.sum_of P s was was.readable (items_of r (B.life blob.new))) }
+    {
+        let recovery = paged::recover::<B, H>(
+            alloc,
+            blob,
+            blob_size,
+            capacity,
+            cache,
+            buffer_size,
+        )?;
+        let len = size.get() as u64;
+        let whole = recovery.size() / len * len;
+        match recovery.truncate(blob, cache, whole) {
+            Ok(recovery) => Ok(Items::new(alloc, Writer::from(recovery), size)),
+            Err(error) => Err(error),
+        }
+    }
+
+    /// Pushes an item of the items' size, and answers its number: how many there were. It is durable
+    /// once the next [`Items::sync`] has answered.
+    ///
+    /// It makes no device call where the item fits what is buffered, and at most three else.
+    ///
+    /// `OffsetOverflow` where the blob has no room for the item, `WriteFailed` and `SyncFailed`
+    /// where the device failed, `OutOfMemory`. The items are gone then.
+    pub fn push(self, blob: &mut B, cache: &mut CacheRef, item: &[u8]) -> Result<(Self, u64), Error>
+        requires items { AreItems H.sum_of self cache.old (B.life blob.old) }
+        requires size { length item.now ≡ self.size }
+        ensures pushes { let old = B.life blob.old in let new = B.life blob.new in
+            Pushes H.sum_of self item.now cache.new old new result }
+        ensures ready { IfOk result (λ r.
+            AreReady H.sum_of self r.0 cache.new (B.life blob.new)) }
+        ensures leaves { let old = B.life blob.old in let new = B.life blob.new in
+            let all = items_of self old ++ item.now ∷ [] in
+            CallLeaves H.sum_of self all cache.old cache.new old new }
+        ensures fresh { IsFresh cache.new }
+        ensures costs { let old = B.life blob.old in let new = B.life blob.new in
+            AsksAtMost (wait_calls self.writer.sync + 2) old new
+            × (length self.writer.tip + length item.now ≤ self.writer.capacity → new ≡ old) }
+    {
+        let at = self.len();
+        let (alloc, size) = (self.alloc, self.size);
+        match self.writer.append(blob, cache, item) {
+            Ok((writer, _)) => Ok((Items::new(alloc, writer, size), at)),
+            Err(error) => Err(error),
+        }
+    }
+
+    /// Pushes a value of the items' size where it fits what is buffered, and answers its number:
+    /// how many there were. `None` exactly where what is buffered would then hold more than its
+    /// capacity. No device is asked.
+    ///
+    /// `OffsetOverflow` where the blob has no room for the value, `OutOfMemory`. After `None` or an
+    /// error the items are as they were.
+    pub fn try_push_value<T: FixedSize + Write>(&mut self, value: &T) -> Result<Option<u64>, Error>
+        requires size { T.SIZE ≡ self.old.size }
+        ensures tries { TriesPush H.sum_of self.old (T.encoded value.now) self.new result }
+        ensures ready { (cache : CacheState) (life : Life) → AreItems H.sum_of self.old cache life
+            → AreReady H.sum_of self.old self.new cache life }
+    {
+        let at = self.len();
+        match self.writer.try_append_value(value) {
+            Ok(Some(_)) => Ok(Some(at)),
+            Ok(None) => Ok(None),
+            Err(error) => Err(error),
+        }
+    }
+
+    /// Makes all items durable. It makes two device calls at most.
+    ///
+    /// `WriteFailed` and `SyncFailed` where the device failed, `OutOfMemory`. The items are gone
+    /// then.
+    pub fn sync(self, blob: &mut B, cache: &mut CacheRef) -> Result<Self, Error>
+        requires items { AreItems H.sum_of self cache.old (B.life blob.old) }
+        ensures syncs { let old = B.life blob.old in let new = B.life blob.new in
+            SyncsItems H.sum_of self cache.new old new result }
+        ensures ready { IfOk result (λ r. AreReady H.sum_of self r cache.new (B.life blob.new)) }
+        ensures leaves { let old = B.life blob.old in let new = B.life blob.new in
+            CallLeaves H.sum_of self (items_of self old) cache.old cache.new old new }
+        ensures fresh { IsFresh cache.new }
+        ensures costs { AsksAtMost (sync_calls self.writer) (B.life blob.old) (B.life blob.new) }
+    {
+        let (alloc, size) = (self.alloc, self.size);
+        match self.writer.sync(blob, cache) {
+            Ok(writer) => Ok(Items::new(alloc, writer, size)),
+            Err(error) => Err(error),
+        }
+    }
+
+    /// Writes all items, and starts to make them durable. It answers the name to wait for, or
+    /// `Done` where all are durable already. A wait for it that answers `Ok` makes all items that
+    /// there are now durable. It makes at most three device calls.
+    ///
+    /// `WriteFailed` and `SyncFailed` where the device failed, `OutOfMemory`. The items are gone
+    /// then.
+    pub fn start_sync(
+        self,
+        blob: &mut B,
+        cache: &mut CacheRef,
+    ) -> Result<(Self, StartedSync), Error>
+        requires items { AreItems H.sum_of self cache.old (B.life blob.old) }
+        ensures starts { let old = B.life blob.old in let new = B.life blob.new in
+            StartsItems H.sum_of self cache.new old new result }
+        ensures ready { IfOk result (λ r.
+            AreReady H.sum_of self r.0 cache.new (B.life blob.new)) }
+        ensures leaves { let old = B.life blob.old in let new = B.life blob.new in
+            CallLeaves H.sum_of self (items_of self old) cache.old cache.new old new }
+        ensures fresh { IsFresh cache.new }
+        ensures costs { AsksAtMost (start_calls self.writer) (B.life blob.old) (B.life blob.new) }
+    {
+        let (alloc, size) = (self.alloc, self.size);
+        match self.writer.start_sync(blob, cache) {
+            Ok((writer, started)) => Ok((Items::new(alloc, writer, size), started)),
+            Err(error) => Err(error),
+        }
+    }
+
+    /// Waits until what the sync that was started last covers is durable; where none is pending it
+    /// does nothing. It makes one device call at most.
+    ///
+    /// `SyncFailed` where the device failed, `OutOfMemory`. The items are gone then.
+    pub fn wait_for_sync(self, blob: &mut B) -> Result<Self, Error>
+        requires items { (cache : CacheState) × AreItems H.sum_of self cache (B.life blob.old) }
+        ensures waits { let old = B.life blob.old in let new = B.life blob.new in
+            (cache : CacheState) → AreItems H.sum_of self cache old
+            → WaitsForItems H.sum_of self cache old new result }
+        ensures ready { let old = B.life blob.old in let new = B.life blob.new in
+            (cache : CacheState) → AreItems H.sum_of self cache old
+            → IfOk result (λ r. AreReady H.sum_of self r cache new) }
+        ensures leaves { let old = B.life blob.old in let new = B.life blob.new in
+            (cache : CacheState) → AreItems H.sum_of self cache old
+            → CallLeaves H.sum_of self (items_of self old) cache cache old new }
+        ensures costs { AsksAtMost (wait_calls self.writer.sync) (B.life blob.old) (B.life blob.new) }
+    {
+        let (alloc, size) = (self.alloc, self.size);
+        match self.writer.wait_for_sync(blob) {
+            Ok(writer) => Ok(Items::new(alloc, writer, size)),
+            Err(error) => Err(error),
+        }
+    }
+
+    /// A snapshot of all items, for which nothing is written: `None` exactly while a full page is
+    /// buffered. It copies less than a page, and makes no device call. `OutOfMemory` alone; the
+    /// items stay as they are.
+    pub fn try_snapshot(&self) -> Result<Option<ItemsSnapshot<B, H>>, Error>
+        ensures { TriesItemsSnapshot H.sum_of self.now result }
+    {
+        match self.writer.try_snapshot() {
+            Ok(Some(snapshot)) => Ok(Some(ItemsSnapshot::new(self.alloc, snapshot, self.size))),
+            Ok(None) => Ok(None),
+            Err(error) => Err(error),
+        }
+    }
+
+    /// A snapshot of all items that there are now, and the items, which go on. Full pages that are
+    /// buffered are written first, without a sync; the bytes after them, less than a page, are
+    /// copied. So nothing is made durable by it, and a crash ends it. It makes at most two device
+    /// calls, a wait for the sync that was started before and a write, and none where no full page
+    /// is buffered.
+    ///
+    /// `WriteFailed` and `SyncFailed` where the device failed, `OutOfMemory`. The items are gone
+    /// then.
+    pub fn snapshot(
+        self,
+        blob: &mut B,
+        cache: &mut CacheRef,
+    ) -> Result<(Self, ItemsSnapshot<B, H>), Error>
+        requires items { AreItems H.sum_of self cache.old (B.life blob.old) }
+        ensures makes { let old = B.life blob.old in let new = B.life blob.new in
+            MakesItemsSnapshot H.sum_of self cache.new old new result }
+        ensures ready { let new = B.life blob.new in IfOk result (λ r.
+            AreReady H.sum_of self r.0 cache.new new
+            × IsItemsSnapshot H.sum_of r.1 cache.new new × (r.1.size ≡ self.size)
+            × (r.1.tail.id ≡ self.writer.id)
+            × (r.1.tail.full_pages ≤ r.0.writer.full_pages)) }
+        ensures leaves { let old = B.life blob.old in let new = B.life blob.new in
+            CallLeaves H.sum_of self (items_of self old) cache.old cache.new old new }
+        ensures fresh { IsFresh cache.new }
+        ensures costs { AsksAtMost (snapshot_calls self.writer) (B.life blob.old)
+            (B.life blob.new) }
+    {
+        let (alloc, size) = (self.alloc, self.size);
+        match self.writer.snapshot(blob, cache) {
+            Ok((writer, snapshot)) => {
+                let items = Items::new(alloc, writer, size);
+                Ok((items, ItemsSnapshot::new(alloc, snapshot, size)))
+            }
+            Err(error) => Err(error),
+        }
+    }
+
+    /// A replay of all items that there are now, from the first on, and the items, which go on. What
+    /// isn't written is written first, without a sync. So nothing is made durable by it, and a crash
+    /// or a recovery of the blob ends it. It makes at most two device calls, a wait for the sync
+    /// that was started before and a write, and none where all is written. The replay reads nothing
+    /// yet: it reads batches of a quarter of the pages that fit `buffer_size` bytes, and at least
+    /// one, three batches ahead.
+    ///
+    /// `WriteFailed` and `SyncFailed` where the device failed, `OutOfMemory`. The items are gone
+    /// then.
+    pub fn replay(
+        self,
+        blob: &mut B,
+        cache: &mut CacheRef,
+        buffer_size: NonZeroUsize,
+        options: ReadOptions,
+    ) -> Result<(Self, ItemsReplay<B, H>), Error>
+        requires items { AreItems H.sum_of self cache.old (B.life blob.old) }
+        ensures begins { let old = B.life blob.old in let new = B.life blob.new in
+            BeginsItemsReplay H.sum_of self cache.new old new result }
+        ensures ready { let new = B.life blob.new in IfOk result (λ r.
+            AreReady H.sum_of self r.0 cache.new new
+            × IsItemsReplay H.sum_of r.1 new × (r.1.size ≡ self.size)
+            × (r.1.replay.tail.page_size ≡ r.0.writer.page_size)
+            × (r.1.replay.tail.full_pages ≤ r.0.writer.full_pages)) }
+        ensures leaves { let old = B.life blob.old in let new = B.life blob.new in
+            CallLeaves H.sum_of self (items_of self old) cache.old cache.new old new }
+        ensures fresh { IsFresh cache.new }
+        ensures costs { AsksAtMost (replay_calls self.writer) (B.life blob.old) (B.life blob.new) }
+    {
+        let (alloc, size) = (self.alloc, self.size);
+        match self.writer.replay(blob, cache, buffer_size, options) {
+            Ok((writer, replay)) => {
+                let items = Items::new(alloc, writer, size);
+                Ok((items, ItemsReplay::new(replay, size)))
+            }
+            Err(error) => Err(error),
+        }
+    }
+
+    /// Copies the item of this number into `buf`, which has the items' size. Each page that the
+    /// cache lacks of it is read by one device call.
+    ///
+    /// `OffsetOverflow` where an item of this number would begin or end past the greatest `u64`,
+    /// else `BlobInsufficientLength` where there is none: both before anything is asked for.
+    /// `ReadFailed` where the device failed, `OutOfMemory`; then what `buf` holds says nothing. An
+    /// error leaves all else as it was, apart from pages that the cache may hold now.
+    pub fn get(
+        &self,
+        blob: &mut B,
+        cache: &mut CacheRef,
+        i: u64,
+        buf: &mut [u8],
+    ) -> Result<(), Error>
+        requires items { AreItems H.sum_of self.now cache.old (B.life blob.old) }
+        requires size { length buf.old ≡ self.now.size }
+        ensures gets { let old = B.life blob.old in let new = B.life blob.new in
+            GetsItem self.now.size (bytes_of self.now old) i buf.new old new result }
+        ensures length { length buf.new ≡ length buf.old }
+        ensures ready { let old = B.life blob.old in let new = B.life blob.new in
+            AreItems H.sum_of self.now cache.new new
+            × (bytes_of self.now new ≡ bytes_of self.now old) }
+        ensures leaves { let old = B.life blob.old in let new = B.life blob.new in
+            Looked old new
+            × CallLeaves H.sum_of self.now (items_of self.now old) cache.old cache.new old new }
+        ensures fresh { IsFresh cache.new }
+        ensures costs { let old = B.life blob.old in let new = B.life blob.new in
+            let range : ℕ × ℕ = (i * self.now.size, self.now.size) in
+            AsksForMissing cache.old (tail_of self.now.writer) range old new }
+    {
+        match self.find(i) {
+            Ok(offset) => self.writer.read_into(blob, cache, buf, offset),
+            Err(error) => Err(error),
+        }
+    }
+
+    /// Copies the items of these numbers, which rise, into `buf`, one after another, and answers
+    /// how many of them needed no device. The pages that the cache lacks are read by one device
+    /// call, each once.
+    ///
+    /// The first number that [`Items::get`] would refuse decides, before anything is asked for. The
+    /// other errors are those of [`Items::get`].
+    pub fn get_many(
+        &self,
+        blob: &mut B,
+        cache: &mut CacheRef,
+        buf: &mut [u8],
+        indices: &[u64],
+    ) -> Result<usize, Error>
+        requires items { AreItems H.sum_of self.now cache.old (B.life blob.old) }
+        requires rising { AreRising indices.now }
+        requires size { length buf.old ≡ length indices.now * self.now.size }
+        ensures gets { let old = B.life blob.old in let new = B.life blob.new in
+            let t = tail_of self.now.writer in let bytes = bytes_of self.now old in
+            GetsMany self.now.size t bytes indices.now cache.old buf.new old new result }
+        ensures length { length buf.new ≡ length buf.old }
+        ensures ready { let old = B.life blob.old in let new = B.life blob.new in
+            AreItems H.sum_of self.now cache.new new
+            × (bytes_of self.now new ≡ bytes_of self.now old) }
+        ensures leaves { let old = B.life blob.old in let new = B.life blob.new in
+            Looked old new
+            × CallLeaves H.sum_of self.now (items_of self.now old) cache.old cache.new old new }
+        ensures fresh { IsFresh cache.new }
+        ensures costs { let t = tail_of self.now.writer in
+            let ranges = item_ranges self.now.size indices.now in
+            AsksOnce cache.old t ranges (B.life blob.old) (B.life blob.new) }
+    {
+        match offsets_of(self.alloc, indices, self.len(), self.size) {
+            Ok(offsets) => {
+                self.writer
+                    .read_many_into(blob, cache, buf, &offsets, self.size)
+            }
+            Err(error) => Err(error),
+        }
+    }
+}

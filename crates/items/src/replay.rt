@@ -1,0 +1,102 @@
+// Replays of items.
+ghost use Rattle.std.specs.Prelude.{◌≡◌, ◌*◌, ℕ};
+ghost use Rattle.std.specs.Int.NonZero.{non_zero_usize_get};
+ghost use Rattle.cache.specs.CacheState.{CacheState};
+ghost use Rattle.paged_read.specs.Replay.{IsHad};
+ghost use Rattle.items.specs.Readers.{GivesNext, SeeksItem};
+ghost use Rattle.items.specs.Standing.{IsItemsReplay, OnlyReads, count_along};
+
+use disk::{Blob, Error, IoBuf};
+use page::Sum;
+use paged_read::Replay;
+use std::marker::Model;
+use std::num::NonZeroUsize;
+
+/// The items that there were when the replay began, by
+/// [`Items::replay`](crate::items::Items::replay): one by one, in order, by [`ItemsReplay::next`],
+/// with pages read ahead of where it stands.
+///
+/// It gives just those items, whatever is pushed and synced meanwhile, and whatever is refused,
+/// until the blob crashes or is recovered. Items that weren't durable by then aren't by being read.
+/// The blob is lent to each call that may read; no cache is asked.
+#[derive(Drop)]
+pub struct ItemsReplay<B, H> {
+    replay: Replay<B, H>,
+    size: NonZeroUsize,
+}
+
+impl<B, H> Model for ItemsReplay<B, H> {
+    ghost use Rattle.std.specs.Int.NonZero.{non_zero_usize_get};
+    ghost use Rattle.items.specs.State.{ItemsReplayState};
+
+    ghost Value = { ItemsReplayState };
+
+    ghost view = { λ r. record { replay = r.replay; size = non_zero_usize_get r.size } };
+}
+
+impl<B, H> ItemsReplay<B, H> {
+    pub(crate) fn new(replay: Replay<B, H>, size: NonZeroUsize) -> Self
+        ensures { result ≡ record { replay = replay; size = non_zero_usize_get size } }
+    {
+        ItemsReplay { replay, size }
+    }
+
+    /// How many items it goes over, from the first on.
+    pub fn len(&self) -> u64
+        ensures { result ≡ count_along self.now }
+    {
+        self.replay.blob_size() / self.size.get() as u64
+    }
+
+    /// How many bytes each item has.
+    pub fn item_size(&self) -> usize
+        ensures { result ≡ self.now.size }
+    {
+        self.size.get()
+    }
+}
+
+impl<B: Blob, H: Sum> ItemsReplay<B, H> {
+    /// The next item, or `None` after the last. This isn't `Iterator::next`, since the blob is lent
+    /// to each call. The bytes of an item that lies in one page are shared with what was read of
+    /// the page; those of another item are copied. Where the item is at hand already the device
+    /// isn't asked.
+    ///
+    /// `ReadFailed` where the device failed, `OutOfMemory`. An error leaves the replay where it
+    /// was, so that the call can be made again.
+    pub fn next(&mut self, blob: &mut B) -> Result<Option<IoBuf>, Error>
+        requires replay { IsItemsReplay H.sum_of self.old (B.life blob.old) }
+        ensures gives { let old = B.life blob.old in let new = B.life blob.new in
+            GivesNext self.old self.new old new result }
+        ensures ready { IsItemsReplay H.sum_of self.new (B.life blob.new)
+            × (self.new.size ≡ self.old.size)
+            × (self.new.replay.tail ≡ self.old.replay.tail) }
+        ensures leaves { let old = B.life blob.old in let new = B.life blob.new in
+            (id : ℕ) (cache : CacheState) → OnlyReads H.sum_of id cache cache old new }
+        ensures costs { IsHad self.old.replay self.old.size
+            → B.life blob.new ≡ B.life blob.old }
+    {
+        let size = self.size.get();
+        if !self.replay.ensure(blob, size)? {
+            return Ok(None);
+        }
+        let item = self.replay.copy_to_bytes(size)?;
+        Ok(Some(item))
+    }
+
+    /// Goes to the item of this number, which [`ItemsReplay::next`] then gives, or to the end. What
+    /// is read ahead stays, for where it is needed.
+    ///
+    /// `OffsetOverflow` where an item of this number would begin past the greatest `u64`, else
+    /// `BlobInsufficientLength` where there are fewer items. An error changes nothing.
+    pub fn seek_to(&mut self, i: u64) -> Result<(), Error>
+        ensures seeks { SeeksItem H.sum_of self.old i self.new result }
+        ensures same { (self.new.size ≡ self.old.size)
+            × (self.new.replay.tail ≡ self.old.replay.tail) }
+    {
+        let Some(offset) = i.checked_mul(self.size.get() as u64) else {
+            return Err(Error::OffsetOverflow);
+        };
+        self.replay.seek_to(offset)
+    }
+}
