@@ -1,5 +1,5 @@
 -- Snapshots and replays of items, from those of their bytes.
-use Rattle.std.proofs.Common.{◌≡◌, inl, inr, ℕ, suc, ◌+◌, ◌-◌, ◌*◌, ◌/◌, ◌^◌, ◌<◌, ◌≤◌, List, [], ◌∷◌, ◌++◌, length, take, drop, Some, None, Ok, Err, Result, refl, sym, ap, ap₂, ◌∙◌, subst, arith, append-nil, length-drop, add-one}
+use Rattle.std.proofs.Common.{max, le_trans, ◌≡◌, inl, inr, ℕ, suc, ◌+◌, ◌-◌, ◌*◌, ◌/◌, ◌^◌, ◌<◌, ◌≤◌, List, [], ◌∷◌, ◌++◌, length, take, drop, Some, None, Ok, Err, Result, refl, sym, ap, ap₂, ◌∙◌, subst, arith, append-nil, length-drop, add-one}
 use Rattle.std.specs.Prelude.{Option, Bool, true, false, nat_le}
 use Rattle.std.proofs.lemmas.Bool.{cases_lt, leb-false}
 use Rattle.std.proofs.lemmas.List.{drop_all, drop-drop, nil_from_length}
@@ -23,7 +23,7 @@ use Rattle.items.specs.Items.{items}
 use Rattle.items.specs.State.{ItemsReplayState, ItemsSnapshotState, ItemsState}
 use Rattle.items.specs.Standing.{AreItems, IsItemsReplay, IsItemsSnapshot, ReplaysItems, bytes_along, bytes_of, bytes_over, items_left, items_of, items_over}
 use Rattle.items.specs.Calls.{ReadRefused}
-use Rattle.items.specs.Readers.{GivesNext, HasReplay, HasSnapshot, SeeksItem, TriesItemsSnapshot}
+use Rattle.items.specs.Readers.{GivesNext, HoldsAlong, HasReplay, HasSnapshot, SeeksItem, TriesItemsSnapshot}
 use Rattle.items.proofs.Laws.{items_within, length-items}
 use Rattle.items.proofs.Standing.{along, is_replay, is_snapshot, stand, stands_on}
 use Rattle.items.proofs.Calls.{goes_same}
@@ -195,6 +195,14 @@ module _ (sum : List ℕ → ℕ) (r : ItemsReplayState) (old new : Life) (was :
   fill_refused BlobInsufficientLength fault = fault
   fill_refused OffsetOverflow fault = fault
   fill_refused IdsExhausted fault = fault
+
+-- what is at hand after a fill, and after the item is taken
+pub holds_along : (r : ItemsReplayState) (mid now : ReplayState) (count : ℕ) → count ≡ r.size → mid.batch ≡ r.replay.batch → length mid.hand ≤ max (length r.replay.hand) (count + r.replay.batch * r.replay.tail.page_size) → now.batch ≡ mid.batch → length now.hand ≤ length mid.hand
+    → HoldsAlong r (record { replay = now; size = r.size })
+holds_along r mid now count value filled most taken less = (
+  taken ∙ filled,
+  le_trans less (subst (λ (n : ℕ). length mid.hand ≤ max (length r.replay.hand) (n + r.replay.batch * r.replay.tail.page_size)) value most),
+)
 
 -- whether so many bytes are there
 pub not_there : (position count size : ℕ) → false ≡ nat_le (position + count) size → size < position + count

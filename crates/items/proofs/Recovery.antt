@@ -1,9 +1,11 @@
 -- What a recovery of items does, from what that of the blob and the cut after it do.
-use Rattle.std.specs.Prelude.{IfOk, Result}
+use Rattle.std.specs.Prelude.{Bool, IfOk, Result}
 use Rattle.std.proofs.Common.{◌≡◌, inl, inr, ℕ, ◌*◌, ◌/◌, ◌<◌, ◌≤◌, List, [], ◌∷◌, ◌++◌, length, take, refl, sym, ap, ap₂, ◌∙◌, subst, arith, length-take, Ok, Err}
 use Rattle.std.proofs.lemmas.List.{take-take, append_assoc}
 use Rattle.std.proofs.Math.Nat.{div-mul-le_self, mul-div_cancel, mul-le-mul_right}
 use Rattle.disk.specs.Disk.{Disk, Life, IsImage, Entry, SomeFailed, HasFailed, LogGrows}
+use Rattle.disk.specs.History.{begun}
+use Rattle.disk.specs.Torn.{torn}
 use Rattle.disk.specs.declared.error.Error.{Error}
 use Rattle.disk.specs.declared.error.Error.TheVariants.{ReadFailed, WriteFailed, ResizeFailed, SyncFailed, InvalidChecksum, BlobInsufficientLength, OffsetOverflow, OutOfMemory, IdsExhausted}
 use Rattle.page.specs.Page.{text}
@@ -29,15 +31,15 @@ use Rattle.paged.specs.Truncate.{Truncates, KeepsFloorsWithin}
 use Rattle.items.specs.Items.{items, BringsBack, BringsOnly, AreDurable, AreFirst, AreOnly, KeepsItems}
 use Rattle.items.specs.State.{ItemsState}
 use Rattle.items.specs.Standing.{AreItems, RecoveryLeaves, bytes_of, items_of}
-use Rattle.items.specs.Calls.{HasRecovered, RecoversItems}
+use Rattle.items.specs.Calls.{CrashesAndRecovers, HasRecovered, RecoversItems}
 use Rattle.items.proofs.Laws.{brings_back, brings_only, items_within, items_whole, durable_of, floor_durable, keeps_items, leaves_items, first_of_itself}
 use Rattle.items.proofs.Standing.{are_items, each_snapshot_stays, each_snapshot_still, new_id, new_to_snapshots, other_snapshots_stay, stand, stay_items}
 use Rattle.items.proofs.Calls.{all_durable}
 
 -- a recovery that was refused as it began
-pub begun : (sum : List ℕ → ℕ) (s : ℕ) (cache after : CacheState) (old new : Life) → 0 < s → IsFresh after → LeavesReads cache after → KeepsAllFloors sum cache.page_size old new → KeepsText sum cache.page_size old new → LeavesText sum cache.page_size old new
+pub refused_at_first : (sum : List ℕ → ℕ) (s : ℕ) (cache after : CacheState) (old new : Life) → 0 < s → IsFresh after → LeavesReads cache after → KeepsAllFloors sum cache.page_size old new → KeepsText sum cache.page_size old new → LeavesText sum cache.page_size old new
     → RecoveryLeaves sum s cache after old new
-begun sum s cache after old new some fresh reads floors kept only =
+refused_at_first sum s cache after old new some fresh reads floors kept only =
     let P = cache.page_size in
     let T = text sum P old.present.readable in
     let first = first_of_itself (items s T) in
@@ -196,3 +198,17 @@ pub brought_only : (sum : List ℕ → ℕ) (s : ℕ) (cache after : CacheState)
 brought_only sum s cache after capacity d image old new (Ok r) is_image is recovered =
     subst (λ (found : List (List ℕ)). BringsOnly sum cache.page_size s d image found) (sym (recovered.same ∙ ap (λ (l : List ℕ). items s (text sum cache.page_size l)) is)) (brings_only sum cache.page_size s d image is_image)
 brought_only sum s cache after capacity d image old new (Err e) is_image is recovered = tt
+
+-- a crash, and a recovery of what it left
+pub crash_recovers : (sum : List ℕ → ℕ) (s : ℕ) (cache after : CacheState) (capacity : ℕ) (keep : List Bool) (old new : Life) (result : Result ItemsState Error) → RecoversItems sum s cache after capacity (begun (torn keep old.present.since old.present.base) old.present.log) new result
+    → CrashesAndRecovers sum s cache after capacity keep old new result
+crash_recovers sum s cache after capacity keep old new (Ok r) recovers = recovers
+crash_recovers sum s cache after capacity keep old new (Err OutOfMemory) recovers = tt
+crash_recovers sum s cache after capacity keep old new (Err ReadFailed) recovers = recovers
+crash_recovers sum s cache after capacity keep old new (Err WriteFailed) recovers = recovers
+crash_recovers sum s cache after capacity keep old new (Err ResizeFailed) recovers = recovers
+crash_recovers sum s cache after capacity keep old new (Err SyncFailed) recovers = recovers
+crash_recovers sum s cache after capacity keep old new (Err InvalidChecksum) recovers = recovers
+crash_recovers sum s cache after capacity keep old new (Err BlobInsufficientLength) recovers = recovers
+crash_recovers sum s cache after capacity keep old new (Err OffsetOverflow) recovers = recovers
+crash_recovers sum s cache after capacity keep old new (Err IdsExhausted) recovers = recovers

@@ -1,12 +1,14 @@
 -- What the calls of items do.
 use Rattle.std.specs.Prelude.{◌≡◌, ◌≢◌, ◌≤◌, ◌<◌, ◌+◌, ◌*◌, ◌/◌, ◌^◌, ◌++◌, ℕ, List, [], ◌∷◌, length}
 use Rattle.std.specs.Prelude.{take, map, slice_get, get_or, All, Option, Some, None, Result, Ok, Err}
-use Rattle.std.specs.Prelude.{Vec}
+use Rattle.std.specs.Prelude.{Bool, Vec}
 use Rattle.std.specs.List.{flat_map}
 use Rattle.std.specs.declared.alloc.Global.{Global}
 use Rattle.disk.specs.declared.started_sync.StartedSync.{StartedSync}
 use Rattle.disk.specs.declared.started_sync.StartedSync.TheVariants.{Done, Named}
 use Rattle.disk.specs.Disk.{Disk, Life, HasFailed}
+use Rattle.disk.specs.History.{begun}
+use Rattle.disk.specs.Torn.{torn}
 use Rattle.disk.specs.declared.error.Error.{Error}
 use Rattle.disk.specs.declared.error.Error.TheVariants.{ReadFailed, OffsetOverflow, OutOfMemory}
 use Rattle.disk.specs.declared.error.Error.TheVariants.{BlobInsufficientLength}
@@ -164,6 +166,18 @@ abbrev pub RecoversItems : (List ℕ → ℕ) → (s : ℕ) → (cache after : C
     → Life → Life → Result ItemsState Error → Type 0
 RecoversItems sum s cache after capacity old new (Ok now) = HasRecovered sum s cache after old new now
 RecoversItems sum s cache after capacity old new (Err e) = Recovers sum cache capacity old new (Err e)
+
+-- a blob in memory crashed, which kept what these flags say, and its items were recovered; memory may
+-- be refused as it crashes
+abbrev pub CrashesAndRecovers : (List ℕ → ℕ) → (s : ℕ) → (cache after : CacheState)
+    → (capacity : ℕ) → List Bool → Life → Life → Result ItemsState Error → Type 0
+CrashesAndRecovers sum s cache after capacity keep old new (Ok now) =
+    let d = old.present in
+    HasRecovered sum s cache after (begun (torn keep d.since d.base) d.log) new now
+CrashesAndRecovers sum s cache after capacity keep old new (Err OutOfMemory) = Unit {0}
+CrashesAndRecovers sum s cache after capacity keep old new (Err e) =
+    let d = old.present in
+    RecoversItems sum s cache after capacity (begun (torn keep d.since d.base) d.log) new (Err e)
 
 -- ---- reads
 

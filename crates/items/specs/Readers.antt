@@ -1,5 +1,6 @@
 -- What the calls do that make snapshots and replays of items, and what a replay's do.
-use Rattle.std.specs.Prelude.{◌≡◌, ◌≤◌, ◌<◌, ◌*◌, ◌/◌, ◌^◌, ℕ, List, [], ◌∷◌, length, drop}
+use Rattle.std.specs.Prelude.{◌≡◌, ◌≤◌, ◌<◌, ◌+◌, ◌*◌, ◌/◌, ◌^◌, ℕ, List, [], ◌∷◌, length, drop}
+use Rattle.std.specs.Prelude.{max}
 use Rattle.std.specs.Prelude.{Option, Some, None, Result, Ok, Err}
 use Rattle.disk.specs.Disk.{Life}
 use Rattle.disk.specs.declared.error.Error.{Error}
@@ -66,11 +67,12 @@ GivesNext r now old new (Ok (Some item)) = items_left r old ≡ item ∷ items_l
 GivesNext r now old new (Ok None) = (items_left r old ≡ []) × (items_left now new ≡ [])
 GivesNext r now old new (Err e) = (items_left now new ≡ items_left r old) × ReadRefused old new e
 
--- what a replay is to give after a call of its own: it stays one, of the same items
-abbrev pub StaysReplay : (List ℕ → ℕ) → (r now : ItemsReplayState) → Life → Life → Type 0
-StaysReplay sum r now old new =
-    IsItemsReplay sum r old → IsItemsReplay sum now new × (now.size ≡ r.size)
-    × (now.replay.tail ≡ r.replay.tail)
+-- at hand is no more than what was there, or an item and a batch of pages
+abbrev pub HoldsAlong : (r now : ItemsReplayState) → Type 0
+HoldsAlong r now =
+    (now.replay.batch ≡ r.replay.batch)
+    × (length now.replay.hand
+    ≤ max (length r.replay.hand) (r.size + r.replay.batch * r.replay.tail.page_size))
 
 -- a replay goes to the item of this number, or to the end: over whatever blob
 abbrev pub SeeksItem : (List ℕ → ℕ) → (r : ItemsReplayState) → (i : ℕ) → (now : ItemsReplayState)

@@ -5,6 +5,7 @@ ghost use Rattle.disk.specs.History.{life_of};
 ghost use Rattle.disk.specs.Torn.{torn};
 ghost use Rattle.cache.specs.Pages.{IsFresh};
 ghost use Rattle.items.specs.Standing.{AllStay, AreItems, EachSnapshotStays, items_of};
+ghost use Rattle.items.specs.Calls.{CrashesAndRecovers};
 ghost use Rattle.items.specs.Items.{BringsBack, BringsOnly, StaysDurable};
 
 use crate::items::Items;
@@ -31,6 +32,9 @@ pub fn crash_and_recover<H: Sum>(
     size: NonZeroUsize,
 ) -> Result<Items<MemBlob, H>, Error>
     requires fresh { IsFresh cache.old }
+    ensures recovers { let s = non_zero_usize_get size in
+        CrashesAndRecovers H.sum_of s cache.old cache.new capacity keep.now (life_of blob.old)
+        (life_of blob.new) result }
     ensures ready { let s = non_zero_usize_get size in IfOk result (λ r.
         AreItems H.sum_of r cache.new (life_of blob.new) × (r.size ≡ s)) }
     ensures fresh { IsFresh cache.new }

@@ -1,9 +1,9 @@
 // Replays of items.
-ghost use Rattle.std.specs.Prelude.{◌≡◌, ◌*◌, ℕ};
+ghost use Rattle.std.specs.Prelude.{◌≡◌, ℕ, OnOk};
 ghost use Rattle.std.specs.Int.NonZero.{non_zero_usize_get};
 ghost use Rattle.cache.specs.CacheState.{CacheState};
 ghost use Rattle.paged_read.specs.Replay.{IsHad};
-ghost use Rattle.items.specs.Readers.{GivesNext, SeeksItem};
+ghost use Rattle.items.specs.Readers.{GivesNext, HoldsAlong, SeeksItem};
 ghost use Rattle.items.specs.Standing.{IsItemsReplay, OnlyReads, count_along};
 
 use disk::{Blob, Error, IoBuf};
@@ -60,7 +60,7 @@ impl<B: Blob, H: Sum> ItemsReplay<B, H> {
     /// The next item, or `None` after the last. This isn't `Iterator::next`, since the blob is lent
     /// to each call. The bytes of an item that lies in one page are shared with what was read of
     /// the page; those of another item are copied. Where the item is at hand already the device
-    /// isn't asked.
+    /// isn't asked. At hand is no more than an item and a batch of pages, or what was there.
     ///
     /// `ReadFailed` where the device failed, `OutOfMemory`. An error leaves the replay where it
     /// was, so that the call can be made again.
@@ -75,6 +75,7 @@ impl<B: Blob, H: Sum> ItemsReplay<B, H> {
             (id : ℕ) (cache : CacheState) → OnlyReads H.sum_of id cache cache old new }
         ensures costs { IsHad self.old.replay self.old.size
             → B.life blob.new ≡ B.life blob.old }
+        ensures held { OnOk result (HoldsAlong self.old self.new) }
     {
         let size = self.size.get();
         if !self.replay.ensure(blob, size)? {

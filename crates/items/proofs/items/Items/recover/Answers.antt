@@ -5,7 +5,7 @@ use Rattle.paged.specs.Reads.{size_of}
 use Rattle.items.specs.Items.{BringsBack, BringsOnly}
 use Rattle.items.specs.Standing.{RecoveryLeaves}
 use Rattle.items.proofs.Laws.{brings_back, brings_only}
-use Rattle.items.proofs.Recovery.{begun, cut_leaves, cut_refused, recovered_items}
+use Rattle.items.proofs.Recovery.{refused_at_first, cut_leaves, cut_refused, recovered_items}
 use Rattle.items.proofs.items.Items.recover.Given.{Over}
 use Rattle.items.proofs.items.Items.recover.Goals as goal
 use Rattle.items.proofs.items.Items.recover.Goals.{After-truncate}
@@ -13,7 +13,7 @@ use Rattle.items.proofs.items.Items.recover.Goals.{After-truncate}
 pub returns-in_err-recovery-clause-leaves : goal.returns-in_err-recovery-clause-leaves
 returns-in_err-recovery-clause-leaves g c =
     let goes = c.recover.ensures in
-    begun g.H.Sum.sum_of (non_zero_usize_get c.args.size) c.args.cache.now c.recover.new.cache (g.B.Blob.life c.args.blob.now) (g.B.Blob.life c.recover.new.blob) c.args.size.ok (goes.fresh_ids c.requires.fresh) goes.others goes.floors goes.kept goes.only
+    refused_at_first g.H.Sum.sum_of (non_zero_usize_get c.args.size) c.args.cache.now c.recover.new.cache (g.B.Blob.life c.args.blob.now) (g.B.Blob.life c.recover.new.blob) c.args.size.ok (goes.fresh_ids c.requires.fresh) goes.others goes.floors goes.kept goes.only
 
 -- where the cut is
 cut : (g : Over) (c : After-truncate g) → c.size.result / c.get-len.result * c.get-len.result ≡ size_of c.in_ok-recovery.recovery / non_zero_usize_get c.args.size * non_zero_usize_get c.args.size

@@ -1,4 +1,4 @@
-use Rattle.std.proofs.Common.{◌≡◌, ◌∙◌, ◌+◌, ◌<◌, ◌≤◌, ◌∷◌, ℕ, List, [], true, false, take, drop, length, Ok, Err, Some, None, ap, ap₂, refl, subst, sym, arith}
+use Rattle.std.proofs.Common.{length-drop, ◌≡◌, ◌∙◌, ◌+◌, ◌<◌, ◌≤◌, ◌∷◌, ℕ, List, [], true, false, take, drop, length, Ok, Err, Some, None, ap, ap₂, refl, subst, sym, arith}
 use Rattle.std.specs.Int.NonZero.{non_zero_usize_get}
 use Rattle.std.proofs.lemmas.Bool.{leb-true}
 use Rattle.std.proofs.lemmas.Result.{err_from_is_err_and}
@@ -9,9 +9,9 @@ use Rattle.paged_read.specs.Replay.{IsReplayOf, ReplayState}
 use Rattle.paged_read.specs.Tail.{Tail, size_of}
 use Rattle.items.specs.State.{ItemsReplayState}
 use Rattle.items.specs.Standing.{IsItemsReplay, OnlyReads, ReplaysItems, bytes_along, items_left}
-use Rattle.items.specs.Readers.{GivesNext}
+use Rattle.items.specs.Readers.{GivesNext, HoldsAlong}
 use Rattle.items.proofs.Standing.{along, only_reads}
-use Rattle.items.proofs.Readers.{fill_refused, gave, had_none, not_there, stays_there}
+use Rattle.items.proofs.Readers.{fill_refused, holds_along, gave, had_none, not_there, stays_there}
 use Rattle.items.proofs.replay.ItemsReplay.next.Given.{Over}
 use Rattle.items.proofs.replay.ItemsReplay.next.Goals as goal
 use Rattle.items.proofs.replay.ItemsReplay.next.Goals.{After-ensure, After-ensure-arg-2-1}
@@ -155,3 +155,21 @@ returns-clause-ready g c = (
 
 pub returns-clause-leaves : goal.returns-clause-leaves
 returns-clause-leaves g c = left g (goal.at.returns-clause-leaves g c).After-ensure
+
+-- ---- what is at hand
+
+pub returns-then-not-branch-clause-held : goal.returns-then-not-branch-clause-held
+returns-then-not-branch-clause-held g c =
+    let r = inside g (goal.at.returns-then-not-branch-clause-held g c).After-ensure in
+    let fetches = c.in_ok-ensure.ensures.fetches in
+    subst (λ (v : ItemsReplayState). HoldsAlong v (record { replay = c.ensure.new.self; size = r.size })) c.self.view_is
+    (holds_along r c.ensure.new.self c.ensure.new.self c.get-size.result c.get-size.ensures.value fetches.0.batch fetches.4 refl (omega arith))
+
+pub returns-clause-held : goal.returns-clause-held
+returns-clause-held g c =
+    let r = inside g (goal.at.returns-clause-held g c).After-ensure in
+    let fetches = c.in_ok-ensure.ensures.fetches in
+    let taken = c.in_ok-item.ensures.taken in
+    let hand = ap (λ (x : ReplayState). length x.hand) taken in
+    subst (λ (v : ItemsReplayState). HoldsAlong v (record { replay = c.copy_to_bytes.new.self; size = r.size })) c.self.view_is
+    (holds_along r c.ensure.new.self c.copy_to_bytes.new.self c.get-size.result c.get-size.ensures.value fetches.0.batch fetches.4 (ap (λ (x : ReplayState). x.batch) taken) (omega (arith, hand, length-drop c.get-size.result c.ensure.new.self.hand)))
