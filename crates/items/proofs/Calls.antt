@@ -10,8 +10,9 @@ use Rattle.disk.specs.declared.started_sync.StartedSync.TheVariants.{Done, Named
 use Rattle.cache.specs.CacheState.{CacheState}
 use Rattle.cache.specs.Pages.{IsFresh}
 use Rattle.crash.specs.Kept.{AllKeep}
-use Rattle.crash.specs.Started.{CoversThrough, WouldKeep}
-use Rattle.crash.specs.Stays.{KeepsAll, KeepsAllFloors, LeavesOnly}
+use Rattle.crash.specs.Moments.{through_end}
+use Rattle.crash.specs.Started.{CoversStay, CoversThrough, WouldKeep}
+use Rattle.crash.specs.Stays.{KeepsAll, KeepsAllFloors, LeavesOnly, Stays}
 use Rattle.crash.proofs.Promise.{keeps_less}
 use Rattle.writer_state.specs.WriterState.{WriterState}
 use Rattle.writer_state.specs.declared.sync_state.SyncState.{SyncState}
@@ -61,8 +62,8 @@ completed_by_none sum P held (Pending name) after old new same = λ apart cover 
 
 -- the writer went on, so the items did
 pub go_on : (sum : List ℕ → ℕ) (s : ItemsState) (more : List ℕ) (cache after : CacheState) (old new : Life) (w : WriterState) (now : ItemsState) → StandAsItems sum s cache old → GoesOn sum s.writer old more w new → now.writer ≡ w → now.size ≡ s.size
-    → length (bytes_of s old ++ more) ≡ length (bytes_of s old ++ more) / s.size * s.size → CanRead (tail_of w) after new.present → IsFresh after → Completed sum s.writer.page_size (bytes_of s old) s.writer.sync w.sync old new → GoOn sum s more after old new now
-go_on sum s more cache after old new w now stood goes_on is size whole can_read fresh completed =
+    → length (bytes_of s old ++ more) ≡ length (bytes_of s old ++ more) / s.size * s.size → CanRead (tail_of w) after new.present → IsFresh after → Completed sum s.writer.page_size (bytes_of s old) s.writer.sync w.sync old new → CoversStay sum s.writer.page_size (bytes_of s old) old.present new.present → GoOn sum s more after old new now
+go_on sum s more cache after old new w now stood goes_on is size whole can_read fresh completed covers =
     let goes = subst (λ (v : WriterState). GoesOn sum s.writer old more v new) (sym is) goes_on in
     let can = subst (λ (v : WriterState). CanRead (tail_of v) after new.present) (sym is) can_read in
     let P = s.writer.page_size in
@@ -81,23 +82,29 @@ go_on sum s more cache after old new w now stood goes_on is size whole can_read 
       size = size;
       same = goes.same;
       completed = subst (λ (v : WriterState). CompletesItems sum s s.writer.sync v.sync old new) (sym is) (completes sum s s.writer.sync w.sync old new stood.some completed);
-      durable = λ n d durable.
+      durable = λ n durable.
+          let d = new.present in
+          let longer = durable_longer sum P s.size (bytes_of s old) more n old.present stood.some durable in
+          let stays = through_end (Stays sum P (bytes_of s old ++ more) old.present) old new goes.stays in
+          let still = durable_of sum P s.size (bytes_of s old ++ more) n d stood.some longer.within (stays.kept (n * s.size) longer.within longer.bytes) in
           subst (λ (p : ℕ). AreDurable sum p now.size (bytes_of now new) n d) (sym goes.same.page_size)
           (subst (λ (k : ℕ). AreDurable sum P k (bytes_of now new) n d) (sym size)
-          (subst (λ (l : List ℕ). AreDurable sum P s.size l n d) (sym goes.content) (durable_longer sum P s.size (bytes_of s old) more n d stood.some durable)));
-      started = λ n name d would.
+          (subst (λ (l : List ℕ). AreDurable sum P s.size l n d) (sym goes.content) still));
+      started = λ n name would.
+          let d = new.present in
+          let still : WouldBeDurable sum P s.size (bytes_of s old) n name d = record { within = would.within; keeps = covers name (n * s.size) would.within would.keeps } in
           subst (λ (p : ℕ). WouldBeDurable sum p now.size (bytes_of now new) n name d) (sym goes.same.page_size)
           (subst (λ (k : ℕ). WouldBeDurable sum P k (bytes_of now new) n name d) (sym size)
-          (subst (λ (l : List ℕ). WouldBeDurable sum P s.size l n name d) (sym goes.content) (would_longer sum P s.size (bytes_of s old) more n name d would)));
+          (subst (λ (l : List ℕ). WouldBeDurable sum P s.size l n name d) (sym goes.content) (would_longer sum P s.size (bytes_of s old) more n name d still)));
     }
 
 -- so they did by a call that pushes nothing
 pub goes_same : (sum : List ℕ → ℕ) (s : ItemsState) (cache after : CacheState) (old new : Life) (w : WriterState) (now : ItemsState) → AreItems sum s cache old → GoesOn sum s.writer old [] w new → now.writer ≡ w → now.size ≡ s.size
-    → CanRead (tail_of w) after new.present → IsFresh after → Completed sum s.writer.page_size (bytes_of s old) s.writer.sync w.sync old new → GoOn sum s [] after old new now × (items_of now new ≡ items_of s old)
-goes_same sum s cache after old new w now stood goes is size can fresh completed =
+    → CanRead (tail_of w) after new.present → IsFresh after → Completed sum s.writer.page_size (bytes_of s old) s.writer.sync w.sync old new → CoversThrough sum s.writer.page_size (bytes_of s old) old new → GoOn sum s [] after old new now × (items_of now new ≡ items_of s old)
+goes_same sum s cache after old new w now stood goes is size can fresh completed covers =
     let was = stand sum s cache old stood in
     let nil : bytes_of s old ++ [] ≡ bytes_of s old = append-nil (bytes_of s old) in
-    let gone = go_on sum s [] cache after old new w now was goes is size (subst (λ (l : List ℕ). length l ≡ length l / s.size * s.size) (sym nil) was.whole) can fresh completed in
+    let gone = go_on sum s [] cache after old new w now was goes is size (subst (λ (l : List ℕ). length l ≡ length l / s.size * s.size) (sym nil) was.whole) can fresh completed (through_end (CoversStay sum s.writer.page_size (bytes_of s old) old.present) old new covers) in
     (gone, ap₂ (λ (k : ℕ) (l : List ℕ). items k l) size (gone.holds ∙ nil))
 
 -- ---- pushes
@@ -112,10 +119,10 @@ one_more s content item some whole size =
 
 -- an append of an item, by its answer
 pub pushed : (sum : List ℕ → ℕ) (s : ItemsState) (item : List ℕ) (cache after : CacheState) (old new : Life) (w : WriterState) (now : ItemsState) (at i : ℕ) → AreItems sum s cache old → length item ≡ s.size → i ≡ count s
-    → Appends sum s.writer item old new (Ok (w, at)) → now.writer ≡ w → now.size ≡ s.size → CanRead (tail_of w) after new.present → IsFresh after → Completed sum s.writer.page_size (bytes_of s old) s.writer.sync w.sync old new → IsPushed sum s item after old new now i
-pushed sum s item cache after old new w now at i items long number (_, goes) is size can fresh completed =
+    → Appends sum s.writer item old new (Ok (w, at)) → now.writer ≡ w → now.size ≡ s.size → CanRead (tail_of w) after new.present → IsFresh after → Completed sum s.writer.page_size (bytes_of s old) s.writer.sync w.sync old new → CoversStay sum s.writer.page_size (bytes_of s old) old.present new.present → IsPushed sum s item after old new now i
+pushed sum s item cache after old new w now at i items long number (_, goes) is size can fresh completed covers =
     let stood = stand sum s cache old items in
-    let gone = go_on sum s item cache after old new w now stood goes is size (one_more s.size (bytes_of s old) item stood.some stood.whole long) can fresh completed in
+    let gone = go_on sum s item cache after old new w now stood goes is size (one_more s.size (bytes_of s old) item stood.some stood.whole long) can fresh completed covers in
     record {
       goes = gone;
       at = number;
@@ -153,7 +160,7 @@ tried_some sum s bytes v at i tries appends reads long number = (
   λ cache life items.
       let stood = stand sum s cache life items in
       pushed sum s bytes cache cache life life v (record { writer = v; size = s.size }) at i items long number (appends life stood.sound) refl refl (reads cache life.present stood.can) stood.fresh
-      (completed_by_none sum s.writer.page_size (bytes_of s life) s.writer.sync v.sync life life (ap (λ (w : WriterState). w.sync) tries.3)),
+      (completed_by_none sum s.writer.page_size (bytes_of s life) s.writer.sync v.sync life life (ap (λ (w : WriterState). w.sync) tries.3)) (λ name cover within would. would),
 )
 
 pub tried_none : (sum : List ℕ → ℕ) (s : ItemsState) (bytes : List ℕ) (v : WriterState) → TryAppends s.writer bytes v (Ok None) → TriesPush sum s bytes (record { writer = v; size = s.size }) (Ok None)
@@ -199,10 +206,10 @@ all_durable sum s cache life stood keeps =
 
 -- a sync
 pub synced : (sum : List ℕ → ℕ) (s : ItemsState) (cache after : CacheState) (old new : Life) (w : WriterState) (now : ItemsState) → AreItems sum s cache old → Syncs sum s.writer old new (Ok w) → now.writer ≡ w → now.size ≡ s.size
-    → CanRead (tail_of w) after new.present → IsFresh after → KeepsAll sum s.writer.page_size (bytes_of s old) new → AreSynced sum s after old new now
-synced sum s cache after old new w now stood (goes, settled) is size can fresh keeps =
+    → CanRead (tail_of w) after new.present → IsFresh after → KeepsAll sum s.writer.page_size (bytes_of s old) new → CoversThrough sum s.writer.page_size (bytes_of s old) old new → AreSynced sum s after old new now
+synced sum s cache after old new w now stood (goes, settled) is size can fresh keeps covers =
     let P = s.writer.page_size in
-    let gone = goes_same sum s cache after old new w now stood goes is size can fresh (completed_by_sync sum P (bytes_of s old) s.writer.sync w.sync old new keeps) in
+    let gone = goes_same sum s cache after old new w now stood goes is size can fresh (completed_by_sync sum P (bytes_of s old) s.writer.sync w.sync old new keeps) covers in
     let same : bytes_of now new ≡ bytes_of s old = gone.0.holds ∙ append-nil (bytes_of s old) in
     record {
       goes = gone.0;
@@ -224,9 +231,9 @@ started_for sum s cache life (Named name) items starts =
 
 -- a sync that was started
 pub begun : (sum : List ℕ → ℕ) (s : ItemsState) (cache after : CacheState) (old new : Life) (w : WriterState) (started : StartedSync) (now : ItemsState) → AreItems sum s cache old → StartsSync sum s.writer old new (Ok (w, started)) → now.writer ≡ w → now.size ≡ s.size
-    → CanRead (tail_of w) after new.present → IsFresh after → Completed sum s.writer.page_size (bytes_of s old) s.writer.sync w.sync old new → AreStarted sum s after old new now started
-begun sum s cache after old new w started now items (goes, written, sync, starts) is size can fresh completed =
-    let gone = goes_same sum s cache after old new w now items goes is size can fresh completed in
+    → CanRead (tail_of w) after new.present → IsFresh after → Completed sum s.writer.page_size (bytes_of s old) s.writer.sync w.sync old new → CoversThrough sum s.writer.page_size (bytes_of s old) old new → AreStarted sum s after old new now started
+begun sum s cache after old new w started now items (goes, written, sync, starts) is size can fresh completed covers =
+    let gone = goes_same sum s cache after old new w now items goes is size can fresh completed covers in
     let same : bytes_of now new ≡ bytes_of s old = gone.0.holds ∙ append-nil (bytes_of s old) in
     record {
       goes = gone.0;
@@ -244,10 +251,10 @@ never_pending (Pending other) name = λ same. cc
 
 -- a wait
 pub waited : (sum : List ℕ → ℕ) (s : ItemsState) (cache : CacheState) (old new : Life) (w : WriterState) (now : ItemsState) → AreItems sum s cache old → WaitsForSync sum s.writer old new (Ok w) → now.writer ≡ w → now.size ≡ s.size
-    → CanRead (tail_of w) cache new.present → Completes sum s.writer.page_size s.writer.sync old new → HaveWaited sum s cache old new now
-waited sum s cache old new w now items (goes, state) is size can completes =
+    → CanRead (tail_of w) cache new.present → Completes sum s.writer.page_size s.writer.sync old new → CoversThrough sum s.writer.page_size (bytes_of s old) old new → HaveWaited sum s cache old new now
+waited sum s cache old new w now items (goes, state) is size can completes covers =
     let stood = stand sum s cache old items in
-    let gone = goes_same sum s cache cache old new w now items goes is size can stood.fresh (completed_by_wait sum s.writer.page_size (bytes_of s old) s.writer.sync w.sync old new completes) in
+    let gone = goes_same sum s cache cache old new w now items goes is size can stood.fresh (completed_by_wait sum s.writer.page_size (bytes_of s old) s.writer.sync w.sync old new completes) covers in
     let sync : now.writer.sync ≡ waited_state s.writer.sync = ap (λ (v : WriterState). v.sync) (is ∙ state) in
     record {
       goes = gone.0;

@@ -48,13 +48,14 @@ pub record GoOn (sum : List ℕ → ℕ) (s : ItemsState) (more : List ℕ) (aft
   pub size : now.size ≡ s.size
   pub same : IsSameWriter s.writer now.writer
   pub completed : CompletesItems sum s s.writer.sync now.writer.sync old new
-  -- what is durable of the items before, or is once a sync completed, is of the items now
-  pub durable : (n : ℕ) (d : Disk)
-      → AreDurable sum s.writer.page_size s.size (bytes_of s old) n d
-      → AreDurable sum now.writer.page_size now.size (bytes_of now new) n d
-  pub started : (n name : ℕ) (d : Disk)
-      → WouldBeDurable sum s.writer.page_size s.size (bytes_of s old) n name d
-      → WouldBeDurable sum now.writer.page_size now.size (bytes_of now new) n name d
+  -- what was durable of the items before, or would be once a sync completed, is or would be of the
+  -- items now
+  pub durable : (n : ℕ)
+      → AreDurable sum s.writer.page_size s.size (bytes_of s old) n old.present
+      → AreDurable sum now.writer.page_size now.size (bytes_of now new) n new.present
+  pub started : (n name : ℕ)
+      → WouldBeDurable sum s.writer.page_size s.size (bytes_of s old) n name old.present
+      → WouldBeDurable sum now.writer.page_size now.size (bytes_of now new) n name new.present
 
 -- what a client hands on: they are items, of the size that they had, and the full pages of their
 -- blob are no fewer

@@ -1,5 +1,6 @@
 //! Plays a script of steps over a blob in memory, with failing device calls and crashes, and writes
-//! one line a reply.
+//! one line a reply. The steps append and read bytes, or push and get items of one size: the
+//! script's first line says which.
 //!
 //! The script comes on standard input. The exit status is 0 where it was played to its end (a fault
 //! is a reply), 2 where a line can't be read (then nothing was played), and 1 where the input or
@@ -19,8 +20,9 @@ Plays a script over a paged blob in memory, whose device calls can be made to fa
 crash. The script comes on standard input, and each of its lines gets one line of standard output.
 
 The first line is `start P C N S`: the page size, the capacity of the writer's buffer in bytes, how
-many pages the cache may hold, and the checksum function: add, const or crc32c. docs/SCRIPT.md has
-the others.
+many pages the cache may hold, and the checksum function: add, const or crc32c. A first line
+`start-items P C N S Z` begins a script of items of Z bytes each, which has lines of its own.
+docs/SCRIPT.md has the other lines of both.
 
 Exit status: 0 the script was played to its end; 1 the input or the output failed, there was no
 memory for the script, or the command line isn't understood; 2 a line can't be read.";

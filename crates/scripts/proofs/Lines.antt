@@ -3,50 +3,10 @@ use Rattle.std.proofs.Common.{◌≡◌, ◌≢◌, ◌<◌, ◌==◌, ℕ, List
 use Rattle.std.specs.Prelude.{IfOk}
 use Rattle.std.proofs.lemmas.List.{length-map}
 use Rattle.std.proofs.lemmas.List.Splits.{length-slice_split}
-use Rattle.std.specs.Fmt.{decimal}
-use Rattle.std.specs.Int.NonZero.{non_zero_u64_get}
-use Rattle.std.proofs.lemmas.Fmt.{decimal_injective}
 use Rattle.scripts.specs.declared.script.Line.{Line}
 use Rattle.scripts.specs.declared.script.Line.TheVariants.{Step, Fail, Crash, Recover, Dump}
 use Rattle.session.specs.declared.steps.Step.TheVariants.{Append, Owned, TryAppend, Sync, StartSync, Wait, WaitSync, Needs, Size, Read, ReadUpTo, TryRead, ReadRanges, TryReadRanges, Begin, Truncate, Snapshot, TrySnapshot, Snap, Replay, Ensure, Take, Seek, DropSnapshot, DropReplay, Scan, Seal}
 use Rattle.scripts.specs.Script.{IsLine, AreRanges, line_words, parts_of, ranges_words}
-
--- no line fails the call of number 0
-pub no_fail_zero : (word : List ℕ) (n : ℕ) → word ≡ decimal n → n ≡ 0 → (v : Line) → IsLine v → codes "fail" ∷ word ∷ [] ≢ line_words v
-no_fail_zero word n written zero (Step (Append bytes)) is same = cc
-no_fail_zero word n written zero (Step (Owned bytes)) is same = cc
-no_fail_zero word n written zero (Step (TryAppend bytes)) is same = cc
-no_fail_zero word n written zero (Step Sync) is same = cc
-no_fail_zero word n written zero (Step StartSync) is same = cc
-no_fail_zero word n written zero (Step Wait) is same = cc
-no_fail_zero word n written zero (Step (WaitSync name)) is same = cc
-no_fail_zero word n written zero (Step Needs) is same = cc
-no_fail_zero word n written zero (Step Begin) is same = cc
-no_fail_zero word n written zero (Step (Truncate size)) is same = cc
-no_fail_zero word n written zero (Step Size) is same = cc
-no_fail_zero word n written zero (Step (Read offset len)) is same = cc
-no_fail_zero word n written zero (Step (ReadUpTo offset len)) is same = cc
-no_fail_zero word n written zero (Step (TryRead offset len)) is same = cc
-no_fail_zero word n written zero (Step (ReadRanges ranges)) is same = cc
-no_fail_zero word n written zero (Step (TryReadRanges ranges)) is same = cc
-no_fail_zero word n written zero (Step Snapshot) is same = cc
-no_fail_zero word n written zero (Step TrySnapshot) is same = cc
-no_fail_zero word n written zero (Step (Snap index offset len)) is same = cc
-no_fail_zero word n written zero (Step (Replay size)) is same = cc
-no_fail_zero word n written zero (Step (Ensure index count)) is same = cc
-no_fail_zero word n written zero (Step (Take index count)) is same = cc
-no_fail_zero word n written zero (Step (Seek index offset)) is same = cc
-no_fail_zero word n written zero (Step (Scan proven most size)) is same = cc
-no_fail_zero word n written zero (Step Seal) is same = cc
-no_fail_zero word n written zero (Step (DropSnapshot index)) is same = absurd is
-no_fail_zero word n written zero (Step (DropReplay index)) is same = absurd is
-no_fail_zero word n written zero (Fail number) is same =
-    let e : decimal n ≡ decimal (non_zero_u64_get number) = cc in
-    let same_number = decimal_injective n (non_zero_u64_get number) (omega arith) is.1 e in
-    omega arith
-no_fail_zero word n written zero (Crash keep) is same = cc
-no_fail_zero word n written zero Recover is same = cc
-no_fail_zero word n written zero Dump is same = cc
 
 -- the name of ranges isn't all of a line
 no_name_alone : (ranges : List (ℕ × ℕ)) (name other : List ℕ) → AreRanges ranges → name ∷ [] ≢ other ∷ ranges_words ranges

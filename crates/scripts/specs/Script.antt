@@ -12,11 +12,17 @@ use Rattle.scripts.specs.declared.word.ReadError.TheVariants.{Unreadable, OutOfM
 use Rattle.scripts.specs.declared.script.Line.{Line}
 use Rattle.scripts.specs.declared.script.Line.TheVariants.{Step, Fail, Crash, Recover, Dump}
 use Rattle.scripts.specs.declared.script.Script.{Script}
+use Rattle.scripts.specs.declared.script.Script.TheVariants as script
+use Rattle.scripts.specs.declared.item_line.ItemLine.{ItemLine}
+use Rattle.scripts.specs.declared.item_line.ItemLine.TheVariants as line
 use Rattle.scripts.specs.declared.stop.Stop.{Stop}
 use Rattle.scripts.specs.declared.stop.Stop.TheVariants as stop
-use Rattle.scripts.specs.declared.script.Start.{Start}
-use Rattle.scripts.specs.declared.script.SumName.{SumName}
-use Rattle.scripts.specs.declared.script.SumName.TheVariants.{Add, Const, Crc32c}
+use Rattle.scripts.specs.declared.start.First.{First}
+use Rattle.scripts.specs.declared.start.First.TheVariants as first
+use Rattle.scripts.specs.declared.start.Start.{Start}
+use Rattle.scripts.specs.declared.start.ItemStart.{ItemStart}
+use Rattle.scripts.specs.declared.start.SumName.{SumName}
+use Rattle.scripts.specs.declared.start.SumName.TheVariants.{Add, Const, Crc32c}
 use Rattle.session.specs.declared.steps.Step as step
 use Rattle.session.specs.declared.steps.Step.TheVariants.{Append, Owned, TryAppend, Sync, StartSync}
 use Rattle.session.specs.declared.steps.Step.TheVariants.{Wait, WaitSync, Needs, Size, Read, Begin}
@@ -25,6 +31,10 @@ use Rattle.session.specs.declared.steps.Step.TheVariants.{ReadRanges, TryReadRan
 use Rattle.session.specs.declared.steps.Step.TheVariants.{Snapshot, TrySnapshot, Snap, Seal}
 use Rattle.session.specs.declared.steps.Step.TheVariants.{Replay, Ensure, Take, Seek, Scan}
 use Rattle.session.specs.declared.steps.Step.TheVariants.{DropReplay, DropSnapshot}
+use Rattle.items.specs.declared.run.ItemStep.{ItemStep}
+use Rattle.items.specs.declared.run.ItemStep.TheVariants as item
+use Rattle.std.specs.Prelude.{Vec}
+use Rattle.std.specs.declared.alloc.Global.{Global}
 use Rattle.scripts.specs.Text.{hex_of}
 
 -- what reading answers, where each value has a text: the value of which this is the text, or that
@@ -85,11 +95,26 @@ sum_word Add = codes "add"
 sum_word Const = codes "const"
 sum_word Crc32c = codes "crc32c"
 
--- the words of a script's first line
-abbrev pub start_words : Start → List (List ℕ)
-start_words start =
-    codes "start" ∷ decimal (non_zero_u16_get start.page_size) ∷ decimal start.capacity
+-- the words of what a script runs over
+abbrev pub settings_words : Start → List (List ℕ)
+settings_words start =
+    decimal (non_zero_u16_get start.page_size) ∷ decimal start.capacity
     ∷ decimal (non_zero_usize_get start.pages) ∷ sum_word start.sum ∷ []
+
+-- the words of a script's first line, where the script is of a session
+abbrev pub start_words : Start → List (List ℕ)
+start_words start = codes "start" ∷ settings_words start
+
+-- where it is of items
+abbrev pub item_start_words : ItemStart → List (List ℕ)
+item_start_words start =
+    codes "start-items" ∷ settings_words start.settings
+    ++ decimal (non_zero_usize_get start.size) ∷ []
+
+-- the words of a first line
+abbrev pub first_words : First → List (List ℕ)
+first_words (first.Session start) = start_words start
+first_words (first.Items start) = item_start_words start
 
 -- a range of bytes as a word: its index, a colon and its length
 abbrev pub range_word : ℕ × ℕ → List ℕ
@@ -131,13 +156,28 @@ step_words Seal = codes "seal" ∷ []
 step_words (DropSnapshot index) = []
 step_words (DropReplay index) = []
 
--- the words of a line after the first
+-- the words of a line after the first, in a script of a session
 abbrev pub line_words : Line → List (List ℕ)
 line_words (Step step) = step_words step
 line_words (Fail number) = codes "fail" ∷ decimal (non_zero_u64_get number) ∷ []
 line_words (Crash keep) = codes "crash" ∷ flags_text keep.items ∷ []
 line_words Recover = codes "recover" ∷ []
 line_words Dump = codes "dump" ∷ []
+
+-- the words of a step of items
+abbrev pub item_step_words : ItemStep → List (List ℕ)
+item_step_words (item.Push bytes) = codes "push" ∷ hex_of bytes.items ∷ []
+item_step_words (item.Get i) = codes "get" ∷ decimal i ∷ []
+item_step_words item.Len = codes "len" ∷ []
+item_step_words item.Sync = codes "sync" ∷ []
+
+-- the words of a line after the first, in a script of items
+abbrev pub item_line_words : ItemLine → List (List ℕ)
+item_line_words (line.Step step) = item_step_words step
+item_line_words (line.Fail number) = codes "fail" ∷ decimal (non_zero_u64_get number) ∷ []
+item_line_words (line.Crash keep) = codes "crash" ∷ flags_text keep.items ∷ []
+item_line_words line.Recover = codes "recover" ∷ []
+item_line_words line.Dump = codes "dump" ∷ []
 
 -- the numbers of a range are of 64 bits
 abbrev pub IsRange : ℕ × ℕ → Type 0
@@ -150,6 +190,10 @@ AreRanges ranges = (0 < length ranges) × All IsRange ranges
 -- a buffer's size in bytes
 abbrev pub IsBufferSize : ℕ → Type 0
 IsBufferSize n = (0 < n) × IsU64 n
+
+-- a device call's number
+abbrev pub IsCallNumber : ℕ → Type 0
+IsCallNumber n = (0 < n) × IsU64 n
 
 -- the step of a line has words, its numbers and bytes are in range, and no list of ranges is empty
 abbrev pub IsLine : Line → Type 0
@@ -172,8 +216,15 @@ IsLine (Step (Scan proven most size)) =
     IsU64 proven × IsU64 most × IsBufferSize (non_zero_usize_get size)
 IsLine (Step (DropSnapshot index)) = ⊥
 IsLine (Step (DropReplay index)) = ⊥
-IsLine (Fail number) = (0 < non_zero_u64_get number) × IsU64 (non_zero_u64_get number)
+IsLine (Fail number) = IsCallNumber (non_zero_u64_get number)
 IsLine _ = Unit {0}
+
+-- the numbers and bytes of a line of items are in range
+abbrev pub IsItemLine : ItemLine → Type 0
+IsItemLine (line.Step (item.Push bytes)) = AreBytes bytes.items
+IsItemLine (line.Step (item.Get i)) = IsU64 i
+IsItemLine (line.Fail number) = IsCallNumber (non_zero_u64_get number)
+IsItemLine _ = Unit {0}
 
 -- a size of pages in bytes
 abbrev pub IsPageSize : ℕ → Type 0
@@ -189,24 +240,64 @@ IsStart start =
     IsPageSize (non_zero_u16_get start.page_size) × IsU64 start.capacity
     × IsPages (non_zero_usize_get start.pages)
 
--- the line at this index can be read: index 0 has the first line
-abbrev pub IsReadable : ℕ → List ℕ → Type 0
-IsReadable zero line = (start : Start) × (words_of line ≡ start_words start) × IsStart start
-IsReadable (suc index) line = (read : Line) × (words_of line ≡ line_words read)
+-- an item's size in bytes
+abbrev pub IsItemSize : ℕ → Type 0
+IsItemSize n = (0 < n) × (n ≤ 65535)
 
--- the line at this index is one of no script
-abbrev pub IsUnreadable : ℕ → List ℕ → Type 0
-IsUnreadable zero line = (start : Start) → IsStart start → words_of line ≢ start_words start
-IsUnreadable (suc index) line = (read : Line) → IsLine read → words_of line ≢ line_words read
+-- the numbers of a first line are in range, where the script is of items
+abbrev pub IsItemStart : ItemStart → Type 0
+IsItemStart start = IsStart start.settings × IsItemSize (non_zero_usize_get start.size)
+
+-- the numbers of a first line of either form are in range
+abbrev pub IsFirst : First → Type 0
+IsFirst (first.Session start) = IsStart start
+IsFirst (first.Items start) = IsItemStart start
+
+-- the form of a script: the lines after its first are steps of a session, or of items
+pub data Form : Type 0 where
+  of_session : Form
+  of_items : Form
+
+-- the line at this index of a script of this form can be read: index 0 has the first line, which
+-- tells the form
+abbrev pub IsReadable : Form → ℕ → List ℕ → Type 0
+IsReadable of_session zero line =
+    (start : Start) × (words_of line ≡ start_words start) × IsStart start
+IsReadable of_items zero line =
+    (start : ItemStart) × (words_of line ≡ item_start_words start) × IsItemStart start
+IsReadable of_session (suc index) line = (read : Line) × (words_of line ≡ line_words read)
+IsReadable of_items (suc index) line = (read : ItemLine) × (words_of line ≡ item_line_words read)
+
+-- the line at this index is one of no script of this form; the first line, of no script at all
+abbrev pub IsUnreadable : Form → ℕ → List ℕ → Type 0
+IsUnreadable form zero line = (first : First) → IsFirst first → words_of line ≢ first_words first
+IsUnreadable of_session (suc index) line =
+    (read : Line) → IsLine read → words_of line ≢ line_words read
+IsUnreadable of_items (suc index) line =
+    (read : ItemLine) → IsItemLine read → words_of line ≢ item_line_words read
 
 -- what reading these lines answers: the script whose lines they are, or the number of the first
--- that can't be read, from 1
+-- that can't be read, from 1, in a script of the form that the first line tells
 abbrev pub ReadsScript : List (List ℕ) → Result Script Stop → Type 0
-ReadsScript lines (Ok script) =
-    (map words_of lines ≡ start_words script.start ∷ map line_words script.lines.items)
-    × IsStart script.start
+ReadsScript lines (Ok (script.Session start read)) =
+    (map words_of lines ≡ start_words start ∷ map line_words read.items) × IsStart start
+ReadsScript lines (Ok (script.Items start read)) =
+    (map words_of lines ≡ item_start_words start ∷ map item_line_words read.items)
+    × IsItemStart start
 ReadsScript lines (Err (stop.Unreadable number)) =
     (0 < number) × (number ≤ length lines)
-    × IsUnreadable (number - 1) (slice_index_or lines (number - 1) [])
-    × ((index : ℕ) → index + 1 < number → IsReadable index (slice_index_or lines index []))
+    × (form : Form) × IsUnreadable form (number - 1) (slice_index_or lines (number - 1) [])
+    × ((index : ℕ) → index + 1 < number → IsReadable form index (slice_index_or lines index []))
 ReadsScript lines (Err stop.Failed) = Unit {0}
+
+-- what reading the lines after the first answers, for a kind of line with these words, of which
+-- these are in range: what the lines ask for, or the number of the first that can't be read, from 2
+abbrev pub ReadsLines : {V : Type 0} → (V → List (List ℕ)) → (V → Type 0) → List (List ℕ)
+    → Result (Vec V Global) Stop → Type 0
+ReadsLines words IsOne lines (Ok read) = map words_of lines ≡ map words read.items
+ReadsLines {V} words IsOne lines (Err (stop.Unreadable number)) =
+    (1 < number) × (number < length lines + 2)
+    × ((v : V) → IsOne v → words_of (slice_index_or lines (number - 2) []) ≢ words v)
+    × ((index : ℕ) → index + 2 < number
+    → (v : V) × (words_of (slice_index_or lines index []) ≡ words v))
+ReadsLines words IsOne lines (Err stop.Failed) = Unit {0}

@@ -1,10 +1,12 @@
 -- What a script runs over, between two lines.
 use Rattle.std.specs.Prelude.{◌≡◌, ℕ, List, Bool, true, Option, Some, None}
-use Rattle.disk.specs.Disk.{Disk}
+use Rattle.disk.specs.Disk.{Disk, Life}
 use Rattle.cache.specs.CacheState.{CacheState}
 use Rattle.cache.specs.Pages.{IsFresh}
 use Rattle.paged.specs.Recovery.{IsDurable}
 use Rattle.session.specs.Run.{SessionState, IsReady, CacheFits}
+use Rattle.items.specs.State.{ItemsState}
+use Rattle.items.specs.Run.{IsOpen}
 
 -- the session, the cache, if there is one, whether a recovery may follow, and the disk
 pub record StageState : Type 0 where
@@ -23,3 +25,9 @@ pub record IsSet (sum : List ℕ → ℕ) (s : StageState) : Type 0 where
   pub ready : IsReady sum s.session s.disk
   pub cached : IsCacheSet s.cache s.session s.disk
   pub rests : s.crashed ≡ true → IsDurable s.disk
+
+-- a script of items between two lines: without a cache there are none; with one it holds nothing
+-- under an id that is still to be given, and the items, where there are such, stand with it
+abbrev pub AreItemsSet : (List ℕ → ℕ) → Option ItemsState → Option CacheState → Life → Type 0
+AreItemsSet sum session None life = session ≡ None
+AreItemsSet sum session (Some cache) life = IsFresh cache × IsOpen sum session cache life

@@ -10,6 +10,8 @@ use Rattle.session.specs.declared.steps.Reply.TheVariants.{At, Nothing, Done, St
 use Rattle.session.specs.declared.steps.Reply.TheVariants.{Length, Bytes, Fault, Closed, NoSuch}
 use Rattle.session.specs.declared.steps.Reply.TheVariants.{NotRecovering, Served, Missed, BadRanges}
 use Rattle.session.specs.declared.steps.Reply.TheVariants.{Taken, Replaying, Sealed, NotAppending}
+use Rattle.items.specs.declared.run.ItemReply.{ItemReply}
+use Rattle.items.specs.declared.run.ItemReply.TheVariants as item
 
 -- a byte as two hexadecimal digits
 abbrev pub hex_digits : ℕ → List ℕ
@@ -54,3 +56,14 @@ reply_text (Sealed index AllDone) = codes "sealed " ++ decimal index ++ codes " 
 reply_text (Sealed index (Named name)) =
     codes "sealed " ++ decimal index ++ codes " named " ++ decimal name
 reply_text NotAppending = codes "not-appending"
+
+-- a reply of items as it is printed
+abbrev pub item_reply_text : ItemReply → List ℕ
+item_reply_text (item.Item i) = codes "item " ++ decimal i
+item_reply_text item.BadItem = codes "bad-item"
+item_reply_text (item.Bytes bytes) = codes "bytes " ++ hex_of bytes.items
+item_reply_text (item.Length count) = codes "len " ++ decimal count
+item_reply_text item.Done = codes "ok"
+item_reply_text (item.Fault error) =
+    codes "fault E" ++ decimal (number_of error) ++ codes " " ++ name_of error
+item_reply_text item.Closed = codes "closed"

@@ -1,11 +1,12 @@
 // What is wrong with a line that can't be read.
-use crate::script::{parse_page_size, parse_pages, parse_sum, parts, without_last_feed};
-use crate::word::{ReadError, parse_flags, parse_hex, parse_number, parse_range};
+use crate::script::without_last_feed;
+use crate::start::{parse_item_size, parse_page_size, parse_pages, parse_sum};
+use crate::word::{ReadError, parse_flags, parse_hex, parse_number, parse_range, parts};
 use std::alloc::Global;
 use std::io::Write;
 use std::{fmt, io};
 
-/// The names of the lines after the first.
+/// The names of the lines after the first in a script of a session.
 const NAMES: [&str; 29] = [
     "append",
     "owned",
@@ -38,20 +39,46 @@ const NAMES: [&str; 29] = [
     "dump",
 ];
 
+/// The names of those in a script of items.
+const ITEM_NAMES: [&str; 8] = [
+    "push", "get", "len", "sync", "fail", "crash", "recover", "dump",
+];
+
 /// How many bytes of a text are shown at most.
 const MOST_SHOWN: usize = 60;
+
+/// Which line of a script a line is.
+#[derive(Clone, Copy)]
+enum Place {
+    First,
+    OfSession,
+    OfItems,
+}
+
+impl Place {
+    /// That of the line of this number, in a script whose first line has these words.
+    fn of(number: u64, first: &[&[u8]]) -> Self {
+        match first {
+            _ if number == 1 => Place::First,
+            [b"start-items", ..] => Place::OfItems,
+            _ => Place::OfSession,
+        }
+    }
+}
 
 /// What a word is to be.
 #[derive(Clone, Copy)]
 enum Form {
     Start,
     Name,
+    ItemName,
     Hex,
     Number,
     Count,
     PageSize,
     Pages,
     Sum,
+    ItemSize,
     Flags,
     Range,
     RangeOrEnd,
@@ -59,14 +86,15 @@ enum Form {
 }
 
 impl Form {
-    /// What the word at an index of the first line is to be.
-    fn at_start(index: usize) -> Self {
+    /// What the word at an index of a first line of this name is to be.
+    fn at_start(name: &[u8], index: usize) -> Self {
         match index {
             0 => Form::Start,
             1 => Form::PageSize,
             2 => Form::Number,
             3 => Form::Pages,
             4 => Form::Sum,
+            5 if name == b"start-items".as_slice() => Form::ItemSize,
             _ => Form::End,
         }
     }
@@ -74,8 +102,8 @@ impl Form {
     /// What the word after the name of another line is to be, the first one at index 1.
     fn after(name: &[u8], index: usize) -> Self {
         match name {
-            b"append" | b"owned" | b"try" if index == 1 => Form::Hex,
-            b"wait-sync" | b"truncate" if index == 1 => Form::Number,
+            b"append" | b"owned" | b"try" | b"push" if index == 1 => Form::Hex,
+            b"wait-sync" | b"truncate" | b"get" if index == 1 => Form::Number,
             b"replay" | b"fail" if index == 1 => Form::Count,
             b"crash" if index == 1 => Form::Flags,
             b"read" | b"upto" | b"cached" | b"ensure" | b"take" | b"seek" if index < 3 => {
@@ -93,14 +121,16 @@ impl Form {
     /// Whether a word is of this form. Where there is no memory to find out it counts as one.
     fn fits(self, alloc: Global, word: &[u8]) -> bool {
         match self {
-            Form::Start => word == b"start".as_slice(),
-            Form::Name => NAMES.iter().any(|name| name.as_bytes() == word),
+            Form::Start => matches!(word, b"start" | b"start-items"),
+            Form::Name => is_one_of(&NAMES, word),
+            Form::ItemName => is_one_of(&ITEM_NAMES, word),
             Form::Hex => is_read(parse_hex(alloc, word)),
             Form::Number => is_read(parse_number(word)),
             Form::Count => word != b"0".as_slice() && is_read(parse_number(word)),
             Form::PageSize => is_read(parse_page_size(word)),
             Form::Pages => is_read(parse_pages(word)),
             Form::Sum => is_read(parse_sum(word)),
+            Form::ItemSize => is_read(parse_item_size(word)),
             Form::Flags => is_read(parse_flags(alloc, word)),
             Form::Range | Form::RangeOrEnd => is_read(parse_range(word)),
             Form::End => false,
@@ -111,20 +141,16 @@ impl Form {
 impl fmt::Display for Form {
     fn fmt<W: fmt::Write>(&self, f: &mut fmt::Formatter<W>) -> fmt::Result {
         match self {
-            Form::Start => write!(f, "start"),
-            Form::Name => {
-                write!(f, "one of")?;
-                for name in NAMES {
-                    write!(f, " {name}")?;
-                }
-                Ok(())
-            }
+            Form::Start => write!(f, "start or start-items"),
+            Form::Name => write_names(f, &NAMES),
+            Form::ItemName => write_names(f, &ITEM_NAMES),
             Form::Hex => write!(f, "pairs of the digits 0-9 and a-f, or -"),
             Form::Number => write!(f, "a number below 2^64, with no 0 in front"),
             Form::Count => write!(f, "a number from 1 to 2^64 - 1, with no 0 in front"),
             Form::PageSize => write!(f, "a page size, 1 to 65535"),
             Form::Pages => write!(f, "a number of pages, 1 to 4096"),
             Form::Sum => write!(f, "add, const or crc32c"),
+            Form::ItemSize => write!(f, "an item size, 1 to 65535"),
             Form::Flags => write!(f, "the digits 0 and 1, or -"),
             Form::Range => write!(f, "a range, as 0:4"),
             Form::RangeOrEnd => write!(f, "a range, as 0:4, or the end of the line"),
@@ -133,30 +159,44 @@ impl fmt::Display for Form {
     }
 }
 
+fn is_one_of(names: &[&str], word: &[u8]) -> bool {
+    names.iter().any(|name| name.as_bytes() == word)
+}
+
+fn write_names<W: fmt::Write>(f: &mut fmt::Formatter<W>, names: &[&str]) -> fmt::Result {
+    write!(f, "one of")?;
+    for name in names {
+        write!(f, " {name}")?;
+    }
+    Ok(())
+}
+
 // Whether a text was read, or there was no memory to find out.
 fn is_read<T: Drop>(read: Result<T, ReadError>) -> bool {
     !matches!(read, Err(ReadError::Unreadable))
 }
 
 /// What the word at this index of a line is to be.
-fn form_at(number: u64, words: &[&[u8]], index: usize) -> Form {
-    match words {
-        _ if number == 1 => Form::at_start(index),
-        [name, ..] if index > 0 => Form::after(name, index),
-        _ => Form::Name,
+fn form_at(place: Place, words: &[&[u8]], index: usize) -> Form {
+    match (place, words) {
+        (Place::First, [name, ..]) => Form::at_start(name, index),
+        (_, [name, ..]) if index > 0 => Form::after(name, index),
+        (Place::First, []) => Form::Start,
+        (Place::OfSession, _) => Form::Name,
+        (Place::OfItems, _) => Form::ItemName,
     }
 }
 
 /// The first word of a line that isn't what it is to be, by its index, and what it is to be; the
 /// index after the last word where one is missing.
-fn first_fault(alloc: Global, number: u64, words: &[&[u8]]) -> Option<(usize, Form)> {
+fn first_fault(alloc: Global, place: Place, words: &[&[u8]]) -> Option<(usize, Form)> {
     for (index, word) in words.iter().enumerate() {
-        let form = form_at(number, words, index);
+        let form = form_at(place, words, index);
         if !form.fits(alloc, word) {
             return Some((index, form));
         }
     }
-    match form_at(number, words, words.len()) {
+    match form_at(place, words, words.len()) {
         Form::End | Form::RangeOrEnd => None,
         form => Some((words.len(), form)),
     }
@@ -184,11 +224,13 @@ impl fmt::Display for Shown<'_> {
 /// Says which word of the line of this number is wrong, and what it is to be.
 pub fn explain<E: Write>(alloc: Global, text: &[u8], number: u64, err: &mut E) -> io::Result<()> {
     let lines = parts(alloc, without_last_feed(text), b'\n')?;
-    let Some(line) = lines.get(number.saturating_sub(1) as usize) else {
+    let at = number.saturating_sub(1) as usize;
+    let (Some(first), Some(line)) = (lines.first(), lines.get(at)) else {
         return Ok(());
     };
+    let place = Place::of(number, &parts(alloc, first, b' ')?);
     let words = parts(alloc, line, b' ')?;
-    let Some((index, form)) = first_fault(alloc, number, &words) else {
+    let Some((index, form)) = first_fault(alloc, place, &words) else {
         return Ok(());
     };
     let line = Shown(line);

@@ -4,8 +4,11 @@ ghost use Rattle.std.specs.Io.KnownBytes.{Keeps};
 ghost use Rattle.scripts.specs.Play.{Plays, IsScript, IsNoScript};
 
 use crate::explain::explain;
-use crate::script::{Script, SumName, parse};
+use crate::item_line::ItemLine;
+use crate::items_stage::ItemStage;
+use crate::script::{Line, Script, parse};
 use crate::stage::Stage;
+use crate::start::{ItemStart, Start, SumName};
 use crate::stop::Stop;
 use crc32c::Crc32c;
 use page::{AddSum, ConstSum, Sum};
@@ -81,19 +84,48 @@ fn play_input<R: Read, W: Write>(
 
 fn play_script<W: Write>(alloc: Global, script: Script, out: &mut W) -> io::Result<()> {
     let mut out = BufWriter::new(alloc, out)?;
-    match script.start.sum {
+    match script.sum() {
         SumName::Add => play_over::<AddSum, _>(alloc, script, &mut out),
         SumName::Const => play_over::<ConstSum, _>(alloc, script, &mut out),
         SumName::Crc32c => play_over::<Crc32c, _>(alloc, script, &mut out),
     }
 }
 
-// Each line's reply is out before the next line is played.
 fn play_over<H: Sum, W: Write>(alloc: Global, script: Script, out: &mut W) -> io::Result<()> {
-    let mut stage = Stage::<H>::new(alloc, script.start);
+    match script {
+        Script::Session(start, lines) => play_session::<H, W>(alloc, start, lines, out),
+        Script::Items(start, lines) => play_items::<H, W>(alloc, start, lines, out),
+    }
+}
+
+// Each line's reply is out before the next line is played.
+fn play_session<H: Sum, W: Write>(
+    alloc: Global,
+    start: Start,
+    lines: Vec<Line>,
+    out: &mut W,
+) -> io::Result<()> {
+    let mut stage = Stage::<H>::new(alloc, start);
     stage.open(out)?;
     out.flush()?;
-    for line in script.lines {
+    for line in lines {
+        stage.play(line, out)?;
+        out.flush()?;
+    }
+    Ok(())
+}
+
+// The same of items.
+fn play_items<H: Sum, W: Write>(
+    alloc: Global,
+    start: ItemStart,
+    lines: Vec<ItemLine>,
+    out: &mut W,
+) -> io::Result<()> {
+    let mut stage = ItemStage::<H>::new(alloc, start);
+    stage.open(out)?;
+    out.flush()?;
+    for line in lines {
         stage.play(line, out)?;
         out.flush()?;
     }

@@ -1,56 +1,41 @@
 // Scripts: what each line asks for.
-ghost use Rattle.std.specs.Prelude.{◌≡◌, ◌≢◌, ◌<◌, [], ◌∷◌, vec_len, codes, map, IfOk, ⊤};
+ghost use Rattle.std.specs.Prelude.{◌≡◌, ◌≢◌, [], ◌∷◌, ℕ, List, codes, map};
 ghost use Rattle.std.specs.Fmt.{decimal};
-ghost use Rattle.std.specs.Int.NonZero.{non_zero_u16_get, non_zero_usize_get};
-ghost use Rattle.scripts.specs.Script.{IsReadAs, ReadsScript, IsLine, IsStart, IsPageSize};
-ghost use Rattle.scripts.specs.Script.{IsPages};
-ghost use Rattle.scripts.specs.Script.{IsBufferSize};
-ghost use Rattle.scripts.specs.Script.{parts_of, lines_of, words_of, without_last_feed};
-ghost use Rattle.scripts.specs.Script.{line_words, start_words, sum_word};
+ghost use Rattle.std.specs.Int.NonZero.{non_zero_usize_get};
+ghost use Rattle.scripts.specs.Script.{IsBufferSize, IsItemLine, IsLine, IsReadAs, ReadsLines};
+ghost use Rattle.scripts.specs.Script.{ReadsScript, item_line_words, line_words, lines_of};
+ghost use Rattle.scripts.specs.Script.{without_last_feed, words_of};
 
+use crate::item_line::{ItemLine, parse_item_line};
+use crate::start::{First, ItemStart, Start, SumName, parse_first};
 use crate::stop::Stop;
-use crate::word::{ReadError, parse_flags, parse_hex, parse_number, parse_ranges};
+use crate::word::{
+    ReadError, parse_call_number, parse_flags, parse_hex, parse_number, parse_ranges, parts,
+};
 use session::Step;
-use std::alloc::{AllocError, Global};
-use std::num::{NonZeroU16, NonZeroU64, NonZeroUsize};
+use std::alloc::Global;
+use std::num::{NonZeroU64, NonZeroUsize};
 
-/// The most pages that the cache of a script may hold.
-const MOST_PAGES: u64 = 4096;
-
-/// A whole script.
+/// A whole script, of one of two forms: what it runs over, and the lines after the first.
 #[derive(Drop)]
-pub struct Script {
-    /// Its first line.
-    pub start: Start,
-    /// The lines after it.
-    pub lines: Vec<Line>,
+pub enum Script {
+    /// Steps of a session.
+    Session(Start, Vec<Line>),
+    /// Steps of items.
+    Items(ItemStart, Vec<ItemLine>),
 }
 
-/// What a script runs over.
-#[derive(Clone, Copy)]
-pub struct Start {
-    /// The logical bytes of a page.
-    pub page_size: NonZeroU16,
-    /// The bytes that the writer may hold back.
-    pub capacity: usize,
-    /// The pages that the cache may hold.
-    pub pages: NonZeroUsize,
-    /// The checksum function of the pages.
-    pub sum: SumName,
+impl Script {
+    /// The name of its checksum function.
+    pub fn sum(&self) -> SumName {
+        match self {
+            Script::Session(start, _) => start.sum,
+            Script::Items(start, _) => start.settings.sum,
+        }
+    }
 }
 
-/// A checksum function.
-#[derive(Clone, Copy)]
-pub enum SumName {
-    /// `AddSum`.
-    Add,
-    /// `ConstSum`.
-    Const,
-    /// `Crc32c`.
-    Crc32c,
-}
-
-/// A line after the first.
+/// A line after the first in a script of a session.
 #[derive(Drop)]
 pub enum Line {
     /// A step of the session.
@@ -65,6 +50,39 @@ pub enum Line {
     Dump,
 }
 
+/// A line after the first, of one of the forms.
+trait AnyLine: Drop + Sized {
+    /// The words of one.
+    ghost words: { Self → List (List ℕ) };
+
+    /// One has words, and its numbers and bytes are in range.
+    ghost is_line: { Self → Type 0 };
+
+    /// Reads one.
+    fn parse(alloc: Global, line: &[u8]) -> Result<Self, ReadError>
+        ensures reads { IsReadAs words is_line (words_of line.now) result };
+}
+
+impl AnyLine for Line {
+    ghost words = { line_words };
+
+    ghost is_line = { IsLine };
+
+    fn parse(alloc: Global, line: &[u8]) -> Result<Self, ReadError> {
+        parse_line(alloc, line)
+    }
+}
+
+impl AnyLine for ItemLine {
+    ghost words = { item_line_words };
+
+    ghost is_line = { IsItemLine };
+
+    fn parse(alloc: Global, line: &[u8]) -> Result<Self, ReadError> {
+        parse_item_line(alloc, line)
+    }
+}
+
 /// Reads a whole script. Its lines end in a line feed, which the last may lack.
 pub fn parse(alloc: Global, input: &[u8]) -> Result<Script, Stop>
     ensures reads { ReadsScript (lines_of input.now) result }
@@ -72,7 +90,7 @@ pub fn parse(alloc: Global, input: &[u8]) -> Result<Script, Stop>
     let text = without_last_feed(input);
     let lines = parts(alloc, text, b'\n')?;
     match lines.as_slice() {
-        [first, others @ ..] => parse_lines(alloc, first, others),
+        [first, others @ ..] => parse_script(alloc, first, others),
         [] => unreachable!(),
     }
 }
@@ -83,104 +101,38 @@ pub fn without_last_feed(input: &[u8]) -> &[u8]
     input.strip_suffix(b"\n").unwrap_or(input)
 }
 
-// The parts of some bytes between those that are this one.
-pub fn parts<'a>(alloc: Global, bytes: &'a [u8], at: u8) -> Result<Vec<&'a [u8]>, AllocError>
-    ensures parts { IfOk result (λ parts.
-        map (λ part. part.now) parts.items ≡ parts_of at bytes.now) }
-    ensures some { IfOk result (λ parts. 0 < vec_len parts) }
-{
-    bytes.split(|byte| *byte == at).collect(alloc)
-}
-
-fn parse_lines(alloc: Global, first: &[u8], others: &[&[u8]]) -> Result<Script, Stop>
+// The first line tells the form of the others.
+fn parse_script(alloc: Global, first: &[u8], others: &[&[u8]]) -> Result<Script, Stop>
     ensures reads { ReadsScript (first.now ∷ map (λ line. line.now) others.now) result }
 {
-    let start = match parse_start(alloc, first) {
-        Ok(start) => start,
-        Err(error) => return Err(Stop::at(1, error)),
-    };
+    match parse_first(alloc, first) {
+        Ok(First::Session(start)) => {
+            let lines = parse_lines(alloc, others)?;
+            Ok(Script::Session(start, lines))
+        }
+        Ok(First::Items(start)) => {
+            let lines = parse_lines(alloc, others)?;
+            Ok(Script::Items(start, lines))
+        }
+        Err(error) => Err(Stop::at(1, error)),
+    }
+}
+
+// The lines after the first, all of one form.
+fn parse_lines<L: AnyLine>(alloc: Global, others: &[&[u8]]) -> Result<Vec<L>, Stop>
+    ensures reads { ReadsLines L.words L.is_line (map (λ line. line.now) others.now) result }
+{
     let mut lines = Vec::with_capacity(alloc, others.len())?;
     for (index, line) in others.iter().enumerate() {
-        match parse_line(alloc, line) {
+        match L::parse(alloc, line) {
             Ok(line) => lines.push(line)?,
             Err(error) => return Err(Stop::at(index as u64 + 2, error)),
         }
     }
-    Ok(Script { start, lines })
+    Ok(lines)
 }
 
-fn parse_start(alloc: Global, line: &[u8]) -> Result<Start, ReadError>
-    ensures reads { IsReadAs start_words IsStart (words_of line.now) result }
-{
-    let words = parts(alloc, line, b' ')?;
-    match words.as_slice() {
-        [b"start", page_size, capacity, pages, sum] => {
-            parse_settings(page_size, capacity, pages, sum)
-        }
-        _ => Err(ReadError::Unreadable),
-    }
-}
-
-// What a script runs over, by the words after the name of its first line.
-fn parse_settings(
-    page_size: &[u8],
-    capacity: &[u8],
-    pages: &[u8],
-    sum: &[u8],
-) -> Result<Start, ReadError>
-    ensures reads { IsReadAs start_words IsStart
-        (codes "start" ∷ page_size.now ∷ capacity.now ∷ pages.now ∷ sum.now ∷ []) result }
-{
-    let page_size = parse_page_size(page_size)?;
-    let capacity = parse_number(capacity)? as usize;
-    let pages = parse_pages(pages)?;
-    let sum = parse_sum(sum)?;
-    Ok(Start {
-        page_size,
-        capacity,
-        pages,
-        sum,
-    })
-}
-
-pub fn parse_page_size(word: &[u8]) -> Result<NonZeroU16, ReadError>
-    ensures reads { IsReadAs (λ size. decimal (non_zero_u16_get size))
-        (λ size. IsPageSize (non_zero_u16_get size)) word.now result }
-{
-    let Ok(size) = u16::try_from(parse_number(word)?) else {
-        return Err(ReadError::Unreadable);
-    };
-    match NonZeroU16::new(size) {
-        Some(size) => Ok(size),
-        None => Err(ReadError::Unreadable),
-    }
-}
-
-pub fn parse_pages(word: &[u8]) -> Result<NonZeroUsize, ReadError>
-    ensures reads { IsReadAs (λ pages. decimal (non_zero_usize_get pages))
-        (λ pages. IsPages (non_zero_usize_get pages)) word.now result }
-{
-    let pages = parse_number(word)?;
-    if MOST_PAGES < pages {
-        return Err(ReadError::Unreadable);
-    }
-    match NonZeroUsize::new(pages as usize) {
-        Some(pages) => Ok(pages),
-        None => Err(ReadError::Unreadable),
-    }
-}
-
-pub fn parse_sum(word: &[u8]) -> Result<SumName, ReadError>
-    ensures reads { IsReadAs sum_word (λ _. ⊤) word.now result }
-{
-    match word {
-        b"add" => Ok(SumName::Add),
-        b"const" => Ok(SumName::Const),
-        b"crc32c" => Ok(SumName::Crc32c),
-        _ => Err(ReadError::Unreadable),
-    }
-}
-
+/// Reads a line after the first of a script of a session.
 pub fn parse_line(alloc: Global, line: &[u8]) -> Result<Line, ReadError>
     ensures reads { IsReadAs line_words IsLine (words_of line.now) result }
 {
@@ -355,10 +307,8 @@ fn parse_try(alloc: Global, word: &[u8]) -> Result<Line, ReadError>
 fn parse_fail(word: &[u8]) -> Result<Line, ReadError>
     ensures reads { IsReadAs line_words IsLine (codes "fail" ∷ word.now ∷ []) result }
 {
-    match NonZeroU64::new(parse_number(word)?) {
-        Some(number) => Ok(Line::Fail(number)),
-        None => Err(ReadError::Unreadable),
-    }
+    let number = parse_call_number(word)?;
+    Ok(Line::Fail(number))
 }
 
 fn parse_crash(alloc: Global, word: &[u8]) -> Result<Line, ReadError>

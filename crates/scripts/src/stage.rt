@@ -2,7 +2,8 @@
 ghost use Rattle.std.specs.Prelude.{◌≡◌};
 ghost use Rattle.paged.specs.Recovery.{IsDurable};
 
-use crate::script::{Line, Start};
+use crate::script::Line;
+use crate::start::Start;
 use crate::text::{Hex, Said};
 use cache::CacheRef;
 use disk::{Blob, Error, MemBlob};
@@ -12,7 +13,6 @@ use std::alloc::Global;
 use std::io;
 use std::io::Write;
 use std::marker::Model;
-use std::num::NonZeroUsize;
 
 /// A blob in memory with its cache, and the session on it.
 #[derive(Drop)]
@@ -79,20 +79,15 @@ impl<H: Sum> Stage<H> {
     {
         self.crashed = false;
         self.session = Session::closed(self.alloc);
-        let mut cache = match self.cache.take() {
-            Some(cache) => cache,
-            None => CacheRef::new(self.alloc, self.start.page_size, self.start.pages)?,
-        };
+        let mut cache = self.start.cache(self.alloc, self.cache.take())?;
         let size = self.blob.len();
-        let capacity = self.start.capacity;
-        let buffer_size = NonZeroUsize::new(capacity).unwrap_or(NonZeroUsize::MIN);
         let recovered = Session::recover(
             self.alloc,
             &mut self.blob,
             size,
-            capacity,
+            self.start.capacity,
             &mut cache,
-            buffer_size,
+            self.start.buffer_size(),
         );
         self.cache = Some(cache);
         self.session = recovered?;

@@ -1,8 +1,9 @@
 // The printed text of replies.
 ghost use Rattle.std.specs.Prelude.{Some};
-ghost use Rattle.scripts.specs.Text.{hex_of, numbers_text, reply_text};
+ghost use Rattle.scripts.specs.Text.{hex_of, item_reply_text, numbers_text, reply_text};
 
 use disk::StartedSync;
+use items::ItemReply;
 use session::Reply;
 use std::fmt;
 
@@ -74,6 +75,26 @@ impl fmt::Display for Said<'_> {
                 write!(f, "sealed {index} named {name}")
             }
             Reply::NotAppending => write!(f, "not-appending"),
+        }
+    }
+}
+
+/// A reply of items as a line of the output says it.
+#[derive(Clone, Copy)]
+pub struct SaidItem<'a>(pub &'a ItemReply);
+
+impl fmt::Display for SaidItem<'_> {
+    ghost output = { λ said. Some (item_reply_text said.0.now) };
+
+    fn fmt<W: fmt::Write>(&self, f: &mut fmt::Formatter<W>) -> fmt::Result {
+        match self.0 {
+            ItemReply::Item(i) => write!(f, "item {i}"),
+            ItemReply::BadItem => write!(f, "bad-item"),
+            ItemReply::Bytes(bytes) => write!(f, "bytes {}", Hex(bytes)),
+            ItemReply::Length(count) => write!(f, "len {count}"),
+            ItemReply::Done => write!(f, "ok"),
+            ItemReply::Fault(error) => write!(f, "fault E{} {}", error.number(), error.name()),
+            ItemReply::Closed => write!(f, "closed"),
         }
     }
 }

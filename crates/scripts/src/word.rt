@@ -1,15 +1,18 @@
 // The words of a line.
 ghost use Rattle.std.specs.Prelude.{◌≡◌, ◌≢◌, ◌<◌, ◌^◌, ◌↔◌, ℕ, codes, IsTrue, IfSome, IfNone};
-ghost use Rattle.std.specs.Prelude.{MatchOption, ⊤, map};
+ghost use Rattle.std.specs.Prelude.{IfOk, MatchOption, ⊤, map, vec_len};
 ghost use Rattle.std.specs.Fmt.{decimal};
+ghost use Rattle.std.specs.Int.NonZero.{non_zero_u64_get};
 ghost use Rattle.std.specs.List.{list_any};
 ghost use Rattle.std.specs.Char.{is_ascii_uppercase};
 ghost use Rattle.scripts.specs.Text.{hex_of};
 ghost use Rattle.scripts.specs.Script.{IsReadAs, IsU64, HasLead, AreBytes, flag_digit, flags_text};
 ghost use Rattle.scripts.specs.Script.{IsRange, AreRanges, range_word, ranges_words};
+ghost use Rattle.scripts.specs.Script.{IsCallNumber, parts_of};
 
 use hex::FromHexError;
 use std::alloc::{AllocError, AllocFailed, Global};
+use std::num::NonZeroU64;
 
 /// Why a word or a line can't be read.
 #[derive(Clone, Copy, Debug, PartialEq, Eq)]
@@ -56,6 +59,15 @@ impl From<FromHexError> for ReadError {
     }
 }
 
+// The parts of some bytes between those that are this one.
+pub fn parts<'a>(alloc: Global, bytes: &'a [u8], at: u8) -> Result<Vec<&'a [u8]>, AllocError>
+    ensures parts { IfOk result (λ parts.
+        map (λ part. part.now) parts.items ≡ parts_of at bytes.now) }
+    ensures some { IfOk result (λ parts. 0 < vec_len parts) }
+{
+    bytes.split(|byte| *byte == at).collect(alloc)
+}
+
 /// A number in decimal digits, with no zero in front of another digit.
 pub fn parse_number(word: &[u8]) -> Result<u64, ReadError>
     ensures reads { IsReadAs decimal IsU64 word.now result }
@@ -73,6 +85,17 @@ fn number(word: &[u8]) -> Option<u64>
     match str::from_utf8(word) {
         Ok(digits) => digits.parse().ok(),
         Err(_) => None,
+    }
+}
+
+// The number of a device call, from 1 on.
+pub fn parse_call_number(word: &[u8]) -> Result<NonZeroU64, ReadError>
+    ensures reads { IsReadAs (λ number. decimal (non_zero_u64_get number))
+        (λ number. IsCallNumber (non_zero_u64_get number)) word.now result }
+{
+    match NonZeroU64::new(parse_number(word)?) {
+        Some(number) => Ok(number),
+        None => Err(ReadError::Unreadable),
     }
 }
 

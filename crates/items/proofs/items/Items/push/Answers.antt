@@ -2,7 +2,9 @@ use Rattle.std.proofs.Common.{◌≡◌, ◌∷◌, ◌++◌, [], length, subst,
 use Rattle.std.specs.Int.NonZero.{non_zero_usize_get}
 use Rattle.writer_state.specs.Sound.{IsSound}
 use Rattle.items.specs.State.{ItemsState}
-use Rattle.items.specs.Standing.{AreItems, CallLeaves, count, items_of}
+use Rattle.crash.specs.Moments.{through_end}
+use Rattle.crash.specs.Started.{CoversStay}
+use Rattle.items.specs.Standing.{AreItems, CallLeaves, bytes_of, count, items_of}
 use Rattle.items.specs.Calls.{IsPushed}
 use Rattle.items.proofs.Standing.{stand}
 use Rattle.items.proofs.Calls.{push_leaves, pushed, ready}
@@ -34,7 +36,7 @@ returns-in-Ok-clause-pushes g c =
     subst (λ (v : ItemsState). AreItems sum v cache old → length item ≡ v.size → i ≡ count v → IsPushed sum v item after old new now i) c.self.view_is
     (λ items long number.
     let stood = stand sum s cache old items in
-    pushed sum s item cache after old new c.in-Ok.writer now c.in-Ok.field-0-1 i items long number goes.appends c.new.ensures.writer c.new.ensures.size (goes.can_read stood.can) (goes.fresh_ids stood.can.given stood.fresh) goes.completed)
+    pushed sum s item cache after old new c.in-Ok.writer now c.in-Ok.field-0-1 i items long number goes.appends c.new.ensures.writer c.new.ensures.size (goes.can_read stood.can) (goes.fresh_ids stood.can.given stood.fresh) goes.completed (through_end (CoversStay sum s.writer.page_size (bytes_of s old) old.present) old new goes.covers))
     c.requires.items c.requires.size c.len-at.ensures.count
 
 pub returns-in-Ok-clause-ready : goal.returns-in-Ok-clause-ready

@@ -35,7 +35,7 @@ returns-in-Ok-clause-begins g c =
     (subst (λ (v : ItemsState). AreItems sum v cache old → HasReplay sum v after old new now (record { replay = c.in-Ok.replay; size = non_zero_usize_get c.self.inside.size })) c.self.view_is
     (λ items.
     let stood = stand sum s cache old items in
-    began sum s (non_zero_usize_get c.args.buffer_size) cache after old new c.in-Ok.writer c.in-Ok.replay now items goes.begins c.new-items.ensures.writer c.new-items.ensures.size (goes.can_read stood.can) (goes.fresh_ids stood.can.given stood.fresh) goes.completed goes.gives goes.below)
+    began sum s (non_zero_usize_get c.args.buffer_size) cache after old new c.in-Ok.writer c.in-Ok.replay now items goes.begins c.new-items.ensures.writer c.new-items.ensures.size (goes.can_read stood.can) (goes.fresh_ids stood.can.given stood.fresh) goes.completed goes.covers goes.gives goes.below)
     c.requires.items)
 
 pub returns-in-Ok-clause-ready : goal.returns-in-Ok-clause-ready

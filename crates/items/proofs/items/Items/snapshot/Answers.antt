@@ -35,7 +35,7 @@ returns-in-Ok-clause-makes g c =
     (subst (λ (v : ItemsState). AreItems sum v cache old → HasSnapshot sum v after old new now (record { tail = c.in-Ok.snapshot; size = non_zero_usize_get c.self.inside.size })) c.self.view_is
     (λ items.
     let stood = stand sum s cache old items in
-    made sum s cache after old new c.in-Ok.writer c.in-Ok.snapshot now items goes.makes c.new-items.ensures.writer c.new-items.ensures.size (goes.can_read stood.can) (goes.fresh_ids stood.can.given stood.fresh) goes.completed (goes.stands stood.can))
+    made sum s cache after old new c.in-Ok.writer c.in-Ok.snapshot now items goes.makes c.new-items.ensures.writer c.new-items.ensures.size (goes.can_read stood.can) (goes.fresh_ids stood.can.given stood.fresh) goes.completed goes.covers (goes.stands stood.can))
     c.requires.items)
 
 pub returns-in-Ok-clause-ready : goal.returns-in-Ok-clause-ready

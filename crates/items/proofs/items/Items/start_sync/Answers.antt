@@ -32,7 +32,7 @@ returns-in-Ok-clause-starts g c =
     subst (λ (v : ItemsState). AreItems sum v cache old → AreStarted sum v after old new now c.in-Ok.started) c.self.view_is
     (λ items.
     let stood = stand sum s cache old items in
-    begun sum s cache after old new c.in-Ok.writer c.in-Ok.started now items goes.starts_sync c.new.ensures.writer c.new.ensures.size (goes.can_read stood.can) (goes.fresh_ids stood.can.given stood.fresh) goes.completed)
+    begun sum s cache after old new c.in-Ok.writer c.in-Ok.started now items goes.starts_sync c.new.ensures.writer c.new.ensures.size (goes.can_read stood.can) (goes.fresh_ids stood.can.given stood.fresh) goes.completed goes.covers)
     c.requires.items
 
 pub returns-in-Ok-clause-ready : goal.returns-in-Ok-clause-ready

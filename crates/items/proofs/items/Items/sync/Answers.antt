@@ -32,7 +32,7 @@ returns-in-Ok-clause-syncs g c =
     subst (λ (v : ItemsState). AreItems sum v cache old → AreSynced sum v after old new now) c.self.view_is
     (λ items.
     let stood = stand sum s cache old items in
-    synced sum s cache after old new c.in-Ok.writer now items goes.syncs c.new.ensures.writer c.new.ensures.size (goes.can_read stood.can) (goes.fresh_ids stood.can.given stood.fresh) goes.durable)
+    synced sum s cache after old new c.in-Ok.writer now items goes.syncs c.new.ensures.writer c.new.ensures.size (goes.can_read stood.can) (goes.fresh_ids stood.can.given stood.fresh) goes.durable goes.covers)
     c.requires.items
 
 pub returns-in-Ok-clause-ready : goal.returns-in-Ok-clause-ready

@@ -26,7 +26,7 @@ returns-in-Ok-clause-waits g c = λ cache.
     let goes = c.in-Ok.ensures in
     let now = c.new.result in
     subst (λ (v : ItemsState). AreItems sum v cache old → HaveWaited sum v cache old new now) c.self.view_is
-    (λ items. waited sum s cache old new c.in-Ok.writer now items goes.waits c.new.ensures.writer c.new.ensures.size (goes.can_read cache (stand sum s cache old items).can) goes.durable)
+    (λ items. waited sum s cache old new c.in-Ok.writer now items goes.waits c.new.ensures.writer c.new.ensures.size (goes.can_read cache (stand sum s cache old items).can) goes.durable goes.covers)
 
 pub returns-in-Ok-clause-ready : goal.returns-in-Ok-clause-ready
 returns-in-Ok-clause-ready g c = λ cache items.

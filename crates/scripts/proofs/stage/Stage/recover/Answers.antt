@@ -1,18 +1,12 @@
-use Rattle.std.proofs.Common.{rules, ◌∙◌, sym, subst}
-use Rattle.cache.specs.Pages.{IsFresh}
+use Rattle.std.proofs.Common.{rules, sym, subst}
 use Rattle.disk.specs.History.{life_of}
 use Rattle.session.specs.Run.{SessionState, CacheFits}
-use Rattle.scripts.proofs.Caches.{fresh_here, fresh_empty}
-use Rattle.scripts.proofs.stage.Stage.recover.Goals.{in-Some, in-None+in_ok-cache-in-None}
 use Rattle.scripts.proofs.stage.Stage.recover.Goals as goal
 
 pub invariant_of-self-in_err-self-inside : goal.invariant_of-self-in_err-self-inside
 invariant_of-self-in_err-self-inside g c =
     let d = (life_of c.recover-recovered.new.blob).present in
-    let fresh : IsFresh c.match-take.cache = elim c.match-take.branch [
-      | in-Some w ↦ fresh_here c.self.inside.cache c.match-take.cache c.self.inside.session _ (search rules) c.self.invariant.cached
-      | in-None+in_ok-cache-in-None w ↦ fresh_empty _ _ c.match-take.cache (w.cache-is ∙ w.in_ok-cache-in-None.ensures.made)
-    ] in
+    let fresh = c.in_ok-cache.ensures.fresh in
     record {
       ready = search rules;
       cached = (subst (λ (s : SessionState). CacheFits s c.recover-recovered.new.cache d) (sym c.closed.ensures) (record { writer = tt; snapshots = search rules }), c.recover-recovered.ensures.fresh_ids fresh);
@@ -21,10 +15,7 @@ invariant_of-self-in_err-self-inside g c =
 
 pub invariant_of-self-2 : goal.invariant_of-self-2
 invariant_of-self-2 g c =
-    let fresh : IsFresh c.match-take.cache = elim c.match-take.branch [
-      | in-Some w ↦ fresh_here c.self.inside.cache c.match-take.cache c.self.inside.session _ (search rules) c.self.invariant.cached
-      | in-None+in_ok-cache-in-None w ↦ fresh_empty _ _ c.match-take.cache (w.cache-is ∙ w.in_ok-cache-in-None.ensures.made)
-    ] in
+    let fresh = c.in_ok-cache.ensures.fresh in
     record {
       ready = search rules;
       cached = (c.in_ok-self-inside.ensures.cached fresh, c.recover-recovered.ensures.fresh_ids fresh);

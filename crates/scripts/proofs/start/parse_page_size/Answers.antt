@@ -1,7 +1,7 @@
 use Rattle.std.proofs.Common.{rules, arith}
 use Rattle.std.specs.Int.NonZero.{non_zero_u16_get}
 use Rattle.scripts.proofs.Numbers.{same_number}
-use Rattle.scripts.proofs.script.parse_page_size.Goals as goal
+use Rattle.scripts.proofs.start.parse_page_size.Goals as goal
 
 pub returns-in_default : goal.returns-in_default
 returns-in_default c = record {
