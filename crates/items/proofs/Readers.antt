@@ -1,11 +1,11 @@
 -- Snapshots and replays of items, from those of their bytes.
-use Rattle.std.proofs.Common.{max, le_trans, ◌≡◌, inl, inr, ℕ, suc, ◌+◌, ◌-◌, ◌*◌, ◌/◌, ◌^◌, ◌<◌, ◌≤◌, List, [], ◌∷◌, ◌++◌, length, take, drop, Some, None, Ok, Err, Result, refl, sym, ap, ap₂, ◌∙◌, subst, arith, append-nil, length-drop, add-one}
-use Rattle.std.specs.Prelude.{Option, Bool, true, false, nat_le}
+use Rattle.std.proofs.Common.{max, le_trans, ◌≡◌, inl, inr, ℕ, suc, ◌+◌, ◌-◌, ◌*◌, ◌/◌, ◌^◌, ◌<◌, ◌≤◌, List, [], ◌∷◌, length, take, drop, Some, Ok, Err, Result, refl, sym, ap, ap₂, ◌∙◌, subst, arith, append-nil, length-drop, add-one}
+use Rattle.std.specs.Prelude.{false, nat_le}
 use Rattle.std.proofs.lemmas.Bool.{cases_lt, leb-false}
 use Rattle.std.proofs.lemmas.List.{drop_all, drop-drop, nil_from_length}
 use Rattle.std.proofs.Math.Nat.{div-le_self, div-mul-le_self, mul-div_cancel, mul-le-mul_right}
 use Rattle.crash.proofs.Pages.{drop-pieces}
-use Rattle.disk.specs.Disk.{Disk, Life}
+use Rattle.disk.specs.Disk.{Life}
 use Rattle.disk.specs.declared.error.Error.{Error}
 use Rattle.disk.specs.declared.error.Error.TheVariants.{ReadFailed, WriteFailed, ResizeFailed, SyncFailed, InvalidChecksum, BlobInsufficientLength, OffsetOverflow, OutOfMemory, IdsExhausted}
 use Rattle.page.specs.Page.{pieces}
@@ -13,18 +13,18 @@ use Rattle.cache.specs.CacheState.{CacheState}
 use Rattle.cache.specs.Pages.{IsFresh}
 use Rattle.crash.specs.Started.{CoversThrough}
 use Rattle.writer_state.specs.WriterState.{WriterState}
-use Rattle.paged_read.specs.Replay.{Ensures, FillFault, Gives, IsReplayOf, ReplayState, ReplaysOn, ReplaysThrough, Seeks, advanced, new_replay}
+use Rattle.paged_read.specs.Replay.{FillFault, IsReplayOf, ReplayState, ReplaysOn, Seeks}
 use Rattle.paged_read.specs.Snapshots.{StandsOn}
-use Rattle.paged_read.specs.Tail.{CanRead, HasFullPages, Tail, size_of, told}
+use Rattle.paged_read.specs.Tail.{CanRead, Tail, size_of}
 use Rattle.paged.specs.Caches.{tail_of}
 use Rattle.paged.specs.Calls.{Completed}
 use Rattle.paged.specs.Replays.{BeginsReplay}
 use Rattle.paged.specs.Snapshots.{MakesSnapshot, TriesSnapshot}
 use Rattle.items.specs.Items.{items}
 use Rattle.items.specs.State.{ItemsReplayState, ItemsSnapshotState, ItemsState}
-use Rattle.items.specs.Standing.{AreItems, IsItemsReplay, IsItemsSnapshot, ReplaysItems, bytes_along, bytes_of, bytes_over, items_left, items_of, items_over}
+use Rattle.items.specs.Standing.{AreItems, IsItemsReplay, IsItemsSnapshot, ReplaysItems, bytes_along, bytes_of, bytes_over, items_left}
 use Rattle.items.specs.Calls.{ReadRefused}
-use Rattle.items.specs.Readers.{GivesNext, HoldsAlong, HasReplay, HasSnapshot, SeeksItem, TriesItemsSnapshot}
+use Rattle.items.specs.Readers.{HoldsAlong, HasReplay, HasSnapshot, SeeksItem, TriesItemsSnapshot}
 use Rattle.items.proofs.Laws.{items_within, length-items}
 use Rattle.items.proofs.Standing.{along, is_replay, is_snapshot, stand, stands_on}
 use Rattle.items.proofs.Calls.{goes_same}

@@ -1,5 +1,5 @@
 -- What calls leave of items, and of snapshots and replays of items.
-use Rattle.std.proofs.Common.{◌≡◌, ℕ, ◌*◌, ◌/◌, ◌<◌, ◌≤◌, List, length, drop, refl, sym, ap, ◌∙◌, subst, arith}
+use Rattle.std.proofs.Common.{◌≡◌, ℕ, ◌*◌, ◌/◌, ◌<◌, List, length, drop, refl, sym, ap, ◌∙◌, subst, arith}
 use Rattle.disk.specs.Disk.{Disk, Life, IsImage}
 use Rattle.cache.specs.CacheState.{CacheState}
 use Rattle.cache.specs.Pages.{IsFresh}
@@ -17,9 +17,9 @@ use Rattle.paged_read.specs.Replay.{IsReplayOf, LeavesAllReplays, LeavesReplays}
 use Rattle.paged_read.specs.Snapshots.{LeavesAllTails, LeavesOthers, LeavesReads, LeavesTails, StandsOn}
 use Rattle.paged_read.specs.Tail.{CanRead, HasFullPages}
 use Rattle.paged.specs.Caches.{tail_of}
-use Rattle.items.specs.Items.{items, AreFirst, KeepsItems}
+use Rattle.items.specs.Items.{items, AreFirst}
 use Rattle.items.specs.State.{ItemsReplayState, ItemsSnapshotState, ItemsState}
-use Rattle.items.specs.Standing.{AllReplaysStay, AllSnapshotsStay, AreItems, CallLeaves, EachSnapshotStays, IsItemsReplay, IsItemsSnapshot, IsNewId, IsNewToSnapshots, ItemsStay, OnlyReads, OtherSnapshotsStay, OthersStay, ReplaysItems, ReplaysStay, SnapshotsStay, StandAsItems, StandsOverItems, bytes_along, bytes_of, bytes_over, items_left, items_of, items_over}
+use Rattle.items.specs.Standing.{AllReplaysStay, AllSnapshotsStay, AreItems, CallLeaves, EachSnapshotStays, IsItemsReplay, IsItemsSnapshot, IsNewId, IsNewToSnapshots, OnlyReads, OtherSnapshotsStay, OthersStay, ReplaysItems, ReplaysStay, SnapshotsStay, StandAsItems, StandsOverItems, bytes_along, bytes_of, bytes_over, items_left, items_of, items_over}
 use Rattle.items.proofs.Laws.{first_of_itself, keeps_items, keeps_started, leaves_items}
 
 -- ---- what the words stand for

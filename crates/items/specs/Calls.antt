@@ -6,7 +6,7 @@ use Rattle.std.specs.List.{flat_map}
 use Rattle.std.specs.declared.alloc.Global.{Global}
 use Rattle.disk.specs.declared.started_sync.StartedSync.{StartedSync}
 use Rattle.disk.specs.declared.started_sync.StartedSync.TheVariants.{Done, Named}
-use Rattle.disk.specs.Disk.{Disk, Life, HasFailed}
+use Rattle.disk.specs.Disk.{Life, HasFailed}
 use Rattle.disk.specs.History.{begun}
 use Rattle.disk.specs.Torn.{torn}
 use Rattle.disk.specs.declared.error.Error.{Error}

@@ -31,7 +31,10 @@ use std::marker::Model;
 use std::num::NonZeroUsize;
 
 /// Items of one size, one after another, in a blob of the type `B` with pages under the checksum
-/// function `H`.
+/// function `H`. Each item has a number, from 0 on.
+///
+/// The size of an item isn't stored, and neither are the size of a page and the checksum function:
+/// a program keeps them as constants, since a recovery with others cuts what it can't read.
 ///
 /// The blob and the cache are lent to each call, as a writer's are: always the same ones, and many
 /// values of items may share a cache. A call that takes the items gives them back only on success;
@@ -90,11 +93,16 @@ impl<B, H> Items<B, H> {
 
 impl<B: Blob, H: Sum> Items<B, H> {
     /// Recovers the items of a blob of `blob_size` physical bytes, whatever they are: those of the
-    /// blob's text, which begin with all that were durable. A rest of it that is no whole item is
-    /// cut off. The other arguments are those of [`paged::recover`], and the items' size. The cache
-    /// is a new one, or one that other items have, or had until a call of theirs failed.
+    /// blob's text, which begin with all that were durable. The bytes after the last whole item are
+    /// cut off, so that the next item that is pushed has the number [`Items::len`]. All items are
+    /// durable then. The other arguments are those of [`paged::recover`], and `size`, the bytes of an
+    /// item. The cache is a new one, or one that other items have, or had until a call of theirs
+    /// failed.
     ///
-    /// The errors are those of [`paged::recover`]. What was durable then still is.
+    /// The errors are those of [`paged::recover`]: `ReadFailed`, `WriteFailed`, `ResizeFailed` and
+    /// `SyncFailed` where the device failed, `OffsetOverflow` where the capacity can't be rounded up,
+    /// `OutOfMemory`, and `IdsExhausted` where the cache has given all its ids. What was durable
+    /// then still is.
     pub fn recover(
         alloc: Global,
         blob: &mut B,

@@ -1,9 +1,6 @@
-use Rattle.std.proofs.Common.{◌≡◌, ◌/◌, ℕ, [], Err, ap, subst, sym, ◌∙◌, arith}
+use Rattle.std.proofs.Common.{[]}
 use Rattle.std.proofs.lemmas.Result.{err_from_is_err_and}
-use Rattle.disk.specs.declared.error.Error.{Error}
-use Rattle.disk.specs.declared.error.Error.TheVariants.{OutOfMemory}
 use Rattle.paged.specs.Reads.{size_of}
-use Rattle.items.specs.Run.{GivesItem}
 use Rattle.items.specs.Standing.{bytes_of, items_of}
 use Rattle.items.proofs.Laws.{first_of_itself}
 use Rattle.items.proofs.Reading.{not_got, there_is}

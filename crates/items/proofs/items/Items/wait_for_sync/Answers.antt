@@ -1,4 +1,4 @@
-use Rattle.std.proofs.Common.{[], subst, sym, ap, ◌∙◌}
+use Rattle.std.proofs.Common.{[], subst, sym}
 use Rattle.std.specs.Int.NonZero.{non_zero_usize_get}
 use Rattle.cache.specs.CacheState.{CacheState}
 use Rattle.writer_state.specs.Sound.{IsSound}

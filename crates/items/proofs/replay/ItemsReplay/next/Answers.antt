@@ -1,12 +1,11 @@
-use Rattle.std.proofs.Common.{length-drop, ◌≡◌, ◌∙◌, ◌+◌, ◌<◌, ◌≤◌, ◌∷◌, ℕ, List, [], true, false, take, drop, length, Ok, Err, Some, None, ap, ap₂, refl, subst, sym, arith}
+use Rattle.std.proofs.Common.{length-drop, ◌≡◌, ◌∙◌, ◌+◌, ◌∷◌, ℕ, true, take, drop, length, Ok, Err, Some, None, ap, ap₂, refl, subst, sym, arith}
 use Rattle.std.specs.Int.NonZero.{non_zero_usize_get}
 use Rattle.std.proofs.lemmas.Bool.{leb-true}
 use Rattle.std.proofs.lemmas.Result.{err_from_is_err_and}
 use Rattle.std.proofs.Math.Nat.{min-eq_left}
-use Rattle.disk.specs.Disk.{Life}
 use Rattle.cache.specs.CacheState.{CacheState}
 use Rattle.paged_read.specs.Replay.{IsReplayOf, ReplayState}
-use Rattle.paged_read.specs.Tail.{Tail, size_of}
+use Rattle.paged_read.specs.Tail.{size_of}
 use Rattle.items.specs.State.{ItemsReplayState}
 use Rattle.items.specs.Standing.{IsItemsReplay, OnlyReads, ReplaysItems, bytes_along, items_left}
 use Rattle.items.specs.Readers.{GivesNext, HoldsAlong}
