@@ -13,7 +13,7 @@ use Rattle.items.proofs.Standing.{along, only_reads}
 use Rattle.items.proofs.Readers.{fill_refused, holds_along, gave, had_none, not_there, stays_there}
 use Rattle.items.proofs.replay.ItemsReplay.next.Given.{Over}
 use Rattle.items.proofs.replay.ItemsReplay.next.Goals as goal
-use Rattle.items.proofs.replay.ItemsReplay.next.Goals.{After-ensure, After-ensure-arg-2-1}
+use Rattle.items.proofs.replay.ItemsReplay.next.Goals.{After-ensure}
 
 -- the replay inside
 abbrev inside : (g : Over) (c : After-ensure g) → ItemsReplayState
