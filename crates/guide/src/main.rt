@@ -1,17 +1,19 @@
-//! What the guide shows: the calls of a writer, a device and a checksum of one's own, and a journal
-//! over them, which is refused and crashes.
+//! What the guide shows: the calls of a writer, a table of readings, a device and a checksum of one's
+//! own, and a journal over them, which is refused and crashes.
 #![tactic(auto)]
 
 mod beside;
 mod calls;
 mod device;
 mod journal;
+mod readings;
 mod sum;
 mod value;
 
 use crate::beside::{keep_and_copy, keep_and_look_back, keep_and_replay_a_snapshot, keep_two};
 use crate::calls::{keep, keep_a_replay, keep_a_snapshot, keep_and_go_on, keep_and_look};
 use crate::journal::{Journal, JournalError};
+use crate::readings::{Reading, keep_and_look_at_readings, keep_readings};
 use crate::sum::Poly;
 use crate::value::keep_a_value;
 use disk::{IoBuf, MemBlob};
@@ -70,6 +72,28 @@ fn show_what_stays(rt: &HostRuntime) -> io::Result<()> {
     Ok(())
 }
 
+fn show_reading(rt: &HostRuntime, name: &str, reading: &Option<Reading>) -> io::Result<()> {
+    if let Some(reading) = reading {
+        println!(rt; "{name} {} Pa at {} s", reading.pressure, reading.time)?;
+    }
+    Ok(())
+}
+
+fn show_readings(rt: &HostRuntime) -> io::Result<()> {
+    let alloc = rt.alloc();
+    if let Ok(table) = keep_readings(alloc) {
+        show_reading(rt, "the third reading", &table.third)?;
+        show_reading(rt, "the sixth", &table.sixth)?;
+        show_reading(rt, "the highest", &table.highest)?;
+        println!(rt; "after the crash {} readings", table.left)?;
+        show_reading(rt, "the last of them", &table.last)?;
+    }
+    if let Ok(reading) = keep_and_look_at_readings(alloc) {
+        show_reading(rt, "the snapshot's fourth", &reading)?;
+    }
+    Ok(())
+}
+
 /// What a journal had.
 #[derive(Drop)]
 struct Told {
@@ -109,6 +133,7 @@ fn fail_and_crash(alloc: Global) -> Result<Told, JournalError> {
 fn main(rt: HostRuntime) -> io::Result<()> {
     show_calls(&rt)?;
     show_what_stays(&rt)?;
+    show_readings(&rt)?;
     match fail_and_crash(rt.alloc()) {
         Ok(told) => {
             println!(rt; "refused {}, recovered {}", told.refused, told.recovered)?;

@@ -6,3 +6,4 @@ pub mod Reading
 pub mod Recovery
 pub mod Readers
 pub mod Runs
+pub mod Examples
