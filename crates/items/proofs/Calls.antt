@@ -1,6 +1,7 @@
 -- What the calls of items do that take them, from what the writer's do.
 use Rattle.std.proofs.Common.{◌≡◌, ◌≢◌, ℕ, ◌+◌, ◌*◌, ◌/◌, ◌<◌, List, [], ◌∷◌, ◌++◌, length, Some, None, Ok, Err, Result, refl, sym, ap, ap₂, ◌∙◌, subst, arith, length-append, append-nil}
-use Rattle.std.specs.Prelude.{Option}
+use Rattle.std.specs.Prelude.{Option, slice_get, ◌-◌}
+use Rattle.crash.proofs.Lists.{slice_get-append_right}
 use Rattle.std.proofs.Math.Nat.{mul-div_cancel}
 use Rattle.disk.specs.Disk.{Life}
 use Rattle.disk.specs.declared.error.Error.{Error}
@@ -24,23 +25,12 @@ use Rattle.paged.specs.Caches.{tail_of, KeepsReads}
 use Rattle.paged.specs.Calls.{Appends, BuffersOver, Completed, Completes, GoesOn, Starts, StartsSync, Syncs, TryAppends, WaitsForSync, waited_state}
 use Rattle.items.specs.Items.{items, AreDurable, AreFirst, WouldBeDurable}
 use Rattle.items.specs.State.{ItemsState}
-use Rattle.items.specs.Standing.{AreItems, CallLeaves, StandAsItems, bytes_of, count, items_of}
-use Rattle.items.specs.Calls.{AllDurable, AreReady, AreStarted, AreSynced, CompletesItems, GoOn, HaveWaited, IsPushed, Pushes, StartedFor, TriesPush}
-use Rattle.items.proofs.Laws.{durable_longer, durable_of, first_of_itself, first_of_more, items_more, would_longer}
+use Rattle.items.specs.Standing.{AreItems, AreReady, CallLeaves, StandAsItems, bytes_of, count, items_of}
+use Rattle.items.specs.Calls.{AllDurable, AreStarted, AreSynced, CompletesItems, GoOn, GoReady, HaveWaited, IsPushed, Lasts, Pushes, StartedFor, TriesPush}
+use Rattle.items.proofs.Laws.{length-items, durable_longer, durable_of, first_of_itself, first_of_more, items_more, would_longer}
 use Rattle.items.proofs.Standing.{are_items, call_leaves, stand}
 
--- what a client hands on
-pub ready : (sum : List ℕ → ℕ) (s : ItemsState) (more : List ℕ) (after : CacheState) (old new : Life) (now : ItemsState) → GoOn sum s more after old new now → AreReady sum s now after new
-ready sum s more after old new now goes = (goes.stand, goes.size, goes.same.page_size, goes.same.id, goes.same.full_pages)
-
--- a sync that was completed, by whichever call
-pub completes : (sum : List ℕ → ℕ) (s : ItemsState) (before after : SyncState) (old new : Life) → 0 < s.size → Completed sum s.writer.page_size (bytes_of s old) before after old new → CompletesItems sum s before after old new
-completes sum s Clean after old new some completed = tt
-completes sum s Dirty after old new some completed = tt
-completes sum s (Pending name) after old new some completed = λ apart n would.
-    durable_of sum s.writer.page_size s.size (bytes_of s old) n new.present some would.within (completed apart (n * s.size) would.within would.keeps)
-
--- by a wait
+-- a sync that was completed, by a wait
 pub completed_by_wait : (sum : List ℕ → ℕ) (P : ℕ) (held : List ℕ) (before after : SyncState) (old new : Life) → Completes sum P before old new → Completed sum P held before after old new
 completed_by_wait sum P held Clean after old new completes = tt
 completed_by_wait sum P held Dirty after old new completes = tt
@@ -62,11 +52,10 @@ completed_by_none sum P held (Pending name) after old new same = λ apart cover 
 
 -- the writer went on, so the items did
 pub go_on : (sum : List ℕ → ℕ) (s : ItemsState) (more : List ℕ) (cache after : CacheState) (old new : Life) (w : WriterState) (now : ItemsState) → StandAsItems sum s cache old → GoesOn sum s.writer old more w new → now.writer ≡ w → now.size ≡ s.size
-    → length (bytes_of s old ++ more) ≡ length (bytes_of s old ++ more) / s.size * s.size → CanRead (tail_of w) after new.present → IsFresh after → Completed sum s.writer.page_size (bytes_of s old) s.writer.sync w.sync old new → CoversStay sum s.writer.page_size (bytes_of s old) old.present new.present → GoOn sum s more after old new now
-go_on sum s more cache after old new w now stood goes_on is size whole can_read fresh completed covers =
+    → length (bytes_of s old ++ more) ≡ length (bytes_of s old ++ more) / s.size * s.size → CanRead (tail_of w) after new.present → IsFresh after → GoOn sum s more after old new now
+go_on sum s more cache after old new w now stood goes_on is size whole can_read fresh =
     let goes = subst (λ (v : WriterState). GoesOn sum s.writer old more v new) (sym is) goes_on in
     let can = subst (λ (v : WriterState). CanRead (tail_of v) after new.present) (sym is) can_read in
-    let P = s.writer.page_size in
     record {
       stand = are_items sum now after new (record {
         some = subst (λ (n : ℕ). 0 < n) (sym size) stood.some;
@@ -81,31 +70,76 @@ go_on sum s more cache after old new w now stood goes_on is size whole can_read 
       holds = goes.content;
       size = size;
       same = goes.same;
-      completed = subst (λ (v : WriterState). CompletesItems sum s s.writer.sync v.sync old new) (sym is) (completes sum s s.writer.sync w.sync old new stood.some completed);
-      durable = λ n durable.
-          let d = new.present in
-          let longer = durable_longer sum P s.size (bytes_of s old) more n old.present stood.some durable in
-          let stays = through_end (Stays sum P (bytes_of s old ++ more) old.present) old new goes.stays in
-          let still = durable_of sum P s.size (bytes_of s old ++ more) n d stood.some longer.within (stays.kept (n * s.size) longer.within longer.bytes) in
-          subst (λ (p : ℕ). AreDurable sum p now.size (bytes_of now new) n d) (sym goes.same.page_size)
-          (subst (λ (k : ℕ). AreDurable sum P k (bytes_of now new) n d) (sym size)
-          (subst (λ (l : List ℕ). AreDurable sum P s.size l n d) (sym goes.content) still));
-      started = λ n name would.
-          let d = new.present in
-          let still : WouldBeDurable sum P s.size (bytes_of s old) n name d = record { within = would.within; keeps = covers name (n * s.size) would.within would.keeps } in
-          subst (λ (p : ℕ). WouldBeDurable sum p now.size (bytes_of now new) n name d) (sym goes.same.page_size)
-          (subst (λ (k : ℕ). WouldBeDurable sum P k (bytes_of now new) n name d) (sym size)
-          (subst (λ (l : List ℕ). WouldBeDurable sum P s.size l n name d) (sym goes.content) (would_longer sum P s.size (bytes_of s old) more n name d still)));
     }
 
 -- so they did by a call that pushes nothing
 pub goes_same : (sum : List ℕ → ℕ) (s : ItemsState) (cache after : CacheState) (old new : Life) (w : WriterState) (now : ItemsState) → AreItems sum s cache old → GoesOn sum s.writer old [] w new → now.writer ≡ w → now.size ≡ s.size
-    → CanRead (tail_of w) after new.present → IsFresh after → Completed sum s.writer.page_size (bytes_of s old) s.writer.sync w.sync old new → CoversThrough sum s.writer.page_size (bytes_of s old) old new → GoOn sum s [] after old new now × (items_of now new ≡ items_of s old)
-goes_same sum s cache after old new w now stood goes is size can fresh completed covers =
+    → CanRead (tail_of w) after new.present → IsFresh after → GoOn sum s [] after old new now × (items_of now new ≡ items_of s old)
+goes_same sum s cache after old new w now stood goes is size can fresh =
     let was = stand sum s cache old stood in
     let nil : bytes_of s old ++ [] ≡ bytes_of s old = append-nil (bytes_of s old) in
-    let gone = go_on sum s [] cache after old new w now was goes is size (subst (λ (l : List ℕ). length l ≡ length l / s.size * s.size) (sym nil) was.whole) can fresh completed (through_end (CoversStay sum s.writer.page_size (bytes_of s old) old.present) old new covers) in
+    let gone = go_on sum s [] cache after old new w now was goes is size (subst (λ (l : List ℕ). length l ≡ length l / s.size * s.size) (sym nil) was.whole) can fresh in
     (gone, ap₂ (λ (k : ℕ) (l : List ℕ). items k l) size (gone.holds ∙ nil))
+
+-- ---- what lasts
+
+-- what is said of pages, a size and a content holds of the items now
+carried : (Q : (P s : ℕ) → List ℕ → Type 0) (s now : ItemsState) (held : List ℕ) (new : Life) → now.writer.page_size ≡ s.writer.page_size → now.size ≡ s.size → bytes_of now new ≡ held → Q s.writer.page_size s.size held → Q now.writer.page_size now.size (bytes_of now new)
+carried Q s now held new page_size size holds says =
+    subst (λ (p : ℕ). Q p now.size (bytes_of now new)) (sym page_size) (subst (λ (k : ℕ). Q s.writer.page_size k (bytes_of now new)) (sym size) (subst (λ (l : List ℕ). Q s.writer.page_size s.size l) (sym holds) says))
+
+-- a sync that was completed, by whichever call
+completes : (sum : List ℕ → ℕ) (s now : ItemsState) (before : SyncState) (old new : Life) → 0 < s.size → ((n : ℕ) → AreDurable sum s.writer.page_size s.size (bytes_of s old) n new.present → AreDurable sum now.writer.page_size now.size (bytes_of now new) n new.present)
+    → Completed sum s.writer.page_size (bytes_of s old) before now.writer.sync old new → CompletesItems sum s now before old new
+completes sum s now Clean old new some up completed = tt
+completes sum s now Dirty old new some up completed = tt
+completes sum s now (Pending name) old new some up completed = λ apart n would.
+    up n (durable_of sum s.writer.page_size s.size (bytes_of s old) n new.present some would.within (completed apart (n * s.size) would.within would.keeps))
+
+-- the writer went on
+pub lasts : (sum : List ℕ → ℕ) (s : ItemsState) (more : List ℕ) (cache : CacheState) (old new : Life) (w : WriterState) (now : ItemsState) → AreItems sum s cache old → GoesOn sum s.writer old more w new → now.writer ≡ w → now.size ≡ s.size
+    → Completed sum s.writer.page_size (bytes_of s old) s.writer.sync w.sync old new → CoversStay sum s.writer.page_size (bytes_of s old) old.present new.present → Lasts sum s now old new
+lasts sum s more cache old new w now items goes_on is size done covers =
+    let some = (stand sum s cache old items).some in
+    let goes = subst (λ (v : WriterState). GoesOn sum s.writer old more v new) (sym is) goes_on in
+    let P = s.writer.page_size in
+    let held = bytes_of s old in
+    let stays = through_end (Stays sum P (held ++ more) old.present) old new goes.stays in
+    let up : (n : ℕ) → AreDurable sum P s.size held n new.present → AreDurable sum now.writer.page_size now.size (bytes_of now new) n new.present =
+    λ n durable. carried (λ p k l. AreDurable sum p k l n new.present) s now (held ++ more) new goes.same.page_size size goes.content (durable_longer sum P s.size held more n new.present some durable) in (
+      λ n durable.
+          let longer = durable_longer sum P s.size held more n old.present some durable in
+          carried (λ p k l. AreDurable sum p k l n new.present) s now (held ++ more) new goes.same.page_size size goes.content (durable_of sum P s.size (held ++ more) n new.present some longer.within (stays.kept (n * s.size) longer.within longer.bytes)),
+      λ n name would.
+          let still : WouldBeDurable sum P s.size held n name new.present = record { within = would.within; keeps = covers name (n * s.size) would.within would.keeps } in
+          carried (λ p k l. WouldBeDurable sum p k l n name new.present) s now (held ++ more) new goes.same.page_size size goes.content (would_longer sum P s.size held more n name new.present still),
+      completes sum s now s.writer.sync old new some up (subst (λ (v : WriterState). Completed sum P held s.writer.sync v.sync old new) (sym is) done),
+    )
+
+-- by a call that was told to have done so at each moment
+pub lasts_through : (sum : List ℕ → ℕ) (s : ItemsState) (more : List ℕ) (cache : CacheState) (old new : Life) (w : WriterState) (now : ItemsState) → AreItems sum s cache old → GoesOn sum s.writer old more w new → now.writer ≡ w → now.size ≡ s.size
+    → Completed sum s.writer.page_size (bytes_of s old) s.writer.sync w.sync old new → CoversThrough sum s.writer.page_size (bytes_of s old) old new → Lasts sum s now old new
+lasts_through sum s more cache old new w now items goes is size done covers = lasts sum s more cache old new w now items goes is size done (through_end (CoversStay sum s.writer.page_size (bytes_of s old) old.present) old new covers)
+
+-- by no call
+none_completes : (sum : List ℕ → ℕ) (s now : ItemsState) (before : SyncState) (life : Life) → now.writer.sync ≡ before → CompletesItems sum s now before life life
+none_completes sum s now Clean life same = tt
+none_completes sum s now Dirty life same = tt
+none_completes sum s now (Pending name) life same = λ apart. absurd (apart same)
+
+lasts_same : (sum : List ℕ → ℕ) (s now : ItemsState) (life : Life) → now ≡ s → Lasts sum s now life life
+lasts_same sum s now life same =
+    subst (λ (t : ItemsState). Lasts sum s t life life) (sym same) (λ n durable. durable, λ n name would. would, none_completes sum s s s.writer.sync life refl)
+
+-- ---- what a client hands on
+
+pub are_ready : (sum : List ℕ → ℕ) (s : ItemsState) (cache : CacheState) (life : Life) → AreItems sum s cache life → AreReady sum s cache life
+are_ready sum s cache life items =
+    let stood = stand sum s cache life items in
+    (items, length-items s.size (bytes_of s life) ∙ ap (λ (n : ℕ). n / s.size) (sym stood.size), stood.can.page_size)
+
+pub ready : (sum : List ℕ → ℕ) (s : ItemsState) (more : List ℕ) (after : CacheState) (old new : Life) (now : ItemsState) → GoOn sum s more after old new now → GoReady sum s now after new
+ready sum s more after old new now goes = (are_ready sum now after new goes.stand, goes.size, goes.same.page_size, goes.same.id, goes.same.full_pages)
 
 -- ---- pushes
 
@@ -117,16 +151,26 @@ one_more s content item some whole size =
     let count : length (content ++ item) / s ≡ n + 1 = ap (λ (k : ℕ). k / s) long ∙ mul-div_cancel (n + 1) some in
     long ∙ ap (λ (k : ℕ). k * s) (sym count)
 
+-- the last of a list that got one more
+slice_get_last : (xs : List (List ℕ)) (x : List ℕ) → slice_get (xs ++ x ∷ []) (length xs) ≡ Some x
+slice_get_last xs x =
+    let none : length xs - length xs ≡ 0 = omega arith in
+    slice_get-append_right xs (x ∷ []) (length xs) (omega arith) ∙ ap (λ (k : ℕ). slice_get (x ∷ []) k) none
+
 -- an append of an item, by its answer
 pub pushed : (sum : List ℕ → ℕ) (s : ItemsState) (item : List ℕ) (cache after : CacheState) (old new : Life) (w : WriterState) (now : ItemsState) (at i : ℕ) → AreItems sum s cache old → length item ≡ s.size → i ≡ count s
-    → Appends sum s.writer item old new (Ok (w, at)) → now.writer ≡ w → now.size ≡ s.size → CanRead (tail_of w) after new.present → IsFresh after → Completed sum s.writer.page_size (bytes_of s old) s.writer.sync w.sync old new → CoversStay sum s.writer.page_size (bytes_of s old) old.present new.present → IsPushed sum s item after old new now i
-pushed sum s item cache after old new w now at i items long number (_, goes) is size can fresh completed covers =
+    → Appends sum s.writer item old new (Ok (w, at)) → now.writer ≡ w → now.size ≡ s.size → CanRead (tail_of w) after new.present → IsFresh after → IsPushed sum s item after old new now i
+pushed sum s item cache after old new w now at i items long number (_, goes) is size can fresh =
     let stood = stand sum s cache old items in
-    let gone = go_on sum s item cache after old new w now stood goes is size (one_more s.size (bytes_of s old) item stood.some stood.whole long) can fresh completed covers in
+    let gone = go_on sum s item cache after old new w now stood goes is size (one_more s.size (bytes_of s old) item stood.some stood.whole long) can fresh in
+    let all = items_of s old in
+    let added : items_of now new ≡ all ++ item ∷ [] = ap₂ (λ (k : ℕ) (l : List ℕ). Rattle.items.specs.Items.items k l) size gone.holds ∙ items_more s.size (bytes_of s old) item stood.some stood.whole long in
+    let last : i ≡ length all = number ∙ sym (are_ready sum s cache old items).1 in
     record {
       goes = gone;
       at = number;
-      added = ap₂ (λ (k : ℕ) (l : List ℕ). Rattle.items.specs.Items.items k l) size gone.holds ∙ items_more s.size (bytes_of s old) item stood.some stood.whole long;
+      added = added;
+      there = ap₂ (λ (l : List (List ℕ)) (n : ℕ). slice_get l n) added last ∙ slice_get_last all item;
     }
 
 pub not_pushed : (sum : List ℕ → ℕ) (s : ItemsState) (item : List ℕ) (after : CacheState) (old new : Life) (e : Error) → Appends sum s.writer item old new (Err e) → Pushes sum s item after old new (Err e)
@@ -159,8 +203,7 @@ tried_some sum s bytes v at i tries appends reads long number = (
   number,
   λ cache life items.
       let stood = stand sum s cache life items in
-      pushed sum s bytes cache cache life life v (record { writer = v; size = s.size }) at i items long number (appends life stood.sound) refl refl (reads cache life.present stood.can) stood.fresh
-      (completed_by_none sum s.writer.page_size (bytes_of s life) s.writer.sync v.sync life life (ap (λ (w : WriterState). w.sync) tries.3)) (λ name cover within would. would),
+      pushed sum s bytes cache cache life life v (record { writer = v; size = s.size }) at i items long number (appends life stood.sound) refl refl (reads cache life.present stood.can) stood.fresh,
 )
 
 pub tried_none : (sum : List ℕ → ℕ) (s : ItemsState) (bytes : List ℕ) (v : WriterState) → TryAppends s.writer bytes v (Ok None) → TriesPush sum s bytes (record { writer = v; size = s.size }) (Ok None)
@@ -178,21 +221,31 @@ not_tried sum s bytes v BlobInsufficientLength tries = absurd tries
 not_tried sum s bytes v IdsExhausted tries = absurd tries
 
 -- after it items are such, whatever it answered
-same_ready : (sum : List ℕ → ℕ) (s now : ItemsState) → now ≡ s → (cache : CacheState) (life : Life) → AreItems sum s cache life → AreReady sum s now cache life
-same_ready sum s now same cache life items = subst (λ (t : ItemsState). AreReady sum s t cache life) (sym same) (items, refl, refl, refl, omega arith)
+same_ready : (sum : List ℕ → ℕ) (s now : ItemsState) → now ≡ s → (cache : CacheState) (life : Life) → AreItems sum s cache life → GoReady sum s now cache life × Lasts sum s now life life
+same_ready sum s now same cache life items =
+    (subst (λ (t : ItemsState). GoReady sum s t cache life) (sym same) (are_ready sum s cache life items, refl, refl, refl, omega arith), lasts_same sum s now life same)
 
-pub tries_ready : (sum : List ℕ → ℕ) (s : ItemsState) (item : List ℕ) (now : ItemsState) (result : Result (Option ℕ) Error) → TriesPush sum s item now result → (cache : CacheState) (life : Life) → AreItems sum s cache life → AreReady sum s now cache life
-tries_ready sum s item now (Ok (Some i)) tries cache life items = ready sum s item cache life life now (tries.2 cache life items).goes
-tries_ready sum s item now (Ok None) tries cache life items = same_ready sum s now tries.1 cache life items
-tries_ready sum s item now (Err OffsetOverflow) tries cache life items = same_ready sum s now tries.1 cache life items
-tries_ready sum s item now (Err OutOfMemory) tries cache life items = same_ready sum s now tries cache life items
-tries_ready sum s item now (Err ReadFailed) tries cache life items = absurd tries
-tries_ready sum s item now (Err WriteFailed) tries cache life items = absurd tries
-tries_ready sum s item now (Err ResizeFailed) tries cache life items = absurd tries
-tries_ready sum s item now (Err SyncFailed) tries cache life items = absurd tries
-tries_ready sum s item now (Err InvalidChecksum) tries cache life items = absurd tries
-tries_ready sum s item now (Err BlobInsufficientLength) tries cache life items = absurd tries
-tries_ready sum s item now (Err IdsExhausted) tries cache life items = absurd tries
+some_ready : (sum : List ℕ → ℕ) (s : ItemsState) (bytes : List ℕ) (v : WriterState) (at i : ℕ) → TryAppends s.writer bytes v (Ok (Some at)) → BuffersOver sum s.writer bytes v (Ok (Some at)) → TriesPush sum s bytes (record { writer = v; size = s.size }) (Ok (Some i))
+    → (cache : CacheState) (life : Life) → AreItems sum s cache life → GoReady sum s (record { writer = v; size = s.size }) cache life × Lasts sum s (record { writer = v; size = s.size }) life life
+some_ready sum s bytes v at i tries appends pushes cache life items =
+    let now : ItemsState = record { writer = v; size = s.size } in
+    let done = completed_by_none sum s.writer.page_size (bytes_of s life) s.writer.sync v.sync life life (ap (λ (w : WriterState). w.sync) tries.3) in
+    let goes = (appends life (stand sum s cache life items).sound).1 in
+    (ready sum s bytes cache life life now (pushes.2 cache life items).goes, lasts sum s bytes cache life life v now items goes refl refl done (λ name cover within would. would))
+
+pub tries_ready : (sum : List ℕ → ℕ) (s : ItemsState) (bytes : List ℕ) (v : WriterState) (i : ℕ) (result : Result (Option ℕ) Error) → TryAppends s.writer bytes v result → BuffersOver sum s.writer bytes v result → KeepsReads s.writer v → length bytes ≡ s.size → i ≡ count s
+    → (cache : CacheState) (life : Life) → AreItems sum s cache life → GoReady sum s (record { writer = v; size = s.size }) cache life × Lasts sum s (record { writer = v; size = s.size }) life life
+tries_ready sum s bytes v i (Ok (Some at)) tries appends reads long number = some_ready sum s bytes v at i tries appends (tried_some sum s bytes v at i tries appends reads long number)
+tries_ready sum s bytes v i (Ok None) tries appends reads long number = same_ready sum s (record { writer = v; size = s.size }) (tried_none sum s bytes v tries).1
+tries_ready sum s bytes v i (Err OffsetOverflow) tries appends reads long number = same_ready sum s (record { writer = v; size = s.size }) (not_tried sum s bytes v OffsetOverflow tries).1
+tries_ready sum s bytes v i (Err OutOfMemory) tries appends reads long number = same_ready sum s (record { writer = v; size = s.size }) (not_tried sum s bytes v OutOfMemory tries)
+tries_ready sum s bytes v i (Err ReadFailed) tries appends reads long number = absurd tries
+tries_ready sum s bytes v i (Err WriteFailed) tries appends reads long number = absurd tries
+tries_ready sum s bytes v i (Err ResizeFailed) tries appends reads long number = absurd tries
+tries_ready sum s bytes v i (Err SyncFailed) tries appends reads long number = absurd tries
+tries_ready sum s bytes v i (Err InvalidChecksum) tries appends reads long number = absurd tries
+tries_ready sum s bytes v i (Err BlobInsufficientLength) tries appends reads long number = absurd tries
+tries_ready sum s bytes v i (Err IdsExhausted) tries appends reads long number = absurd tries
 
 -- ---- syncs
 
@@ -206,10 +259,10 @@ all_durable sum s cache life stood keeps =
 
 -- a sync
 pub synced : (sum : List ℕ → ℕ) (s : ItemsState) (cache after : CacheState) (old new : Life) (w : WriterState) (now : ItemsState) → AreItems sum s cache old → Syncs sum s.writer old new (Ok w) → now.writer ≡ w → now.size ≡ s.size
-    → CanRead (tail_of w) after new.present → IsFresh after → KeepsAll sum s.writer.page_size (bytes_of s old) new → CoversThrough sum s.writer.page_size (bytes_of s old) old new → AreSynced sum s after old new now
-synced sum s cache after old new w now stood (goes, settled) is size can fresh keeps covers =
+    → CanRead (tail_of w) after new.present → IsFresh after → KeepsAll sum s.writer.page_size (bytes_of s old) new → AreSynced sum s after old new now
+synced sum s cache after old new w now stood (goes, settled) is size can fresh keeps =
     let P = s.writer.page_size in
-    let gone = goes_same sum s cache after old new w now stood goes is size can fresh (completed_by_sync sum P (bytes_of s old) s.writer.sync w.sync old new keeps) covers in
+    let gone = goes_same sum s cache after old new w now stood goes is size can fresh in
     let same : bytes_of now new ≡ bytes_of s old = gone.0.holds ∙ append-nil (bytes_of s old) in
     record {
       goes = gone.0;
@@ -231,9 +284,9 @@ started_for sum s cache life (Named name) items starts =
 
 -- a sync that was started
 pub begun : (sum : List ℕ → ℕ) (s : ItemsState) (cache after : CacheState) (old new : Life) (w : WriterState) (started : StartedSync) (now : ItemsState) → AreItems sum s cache old → StartsSync sum s.writer old new (Ok (w, started)) → now.writer ≡ w → now.size ≡ s.size
-    → CanRead (tail_of w) after new.present → IsFresh after → Completed sum s.writer.page_size (bytes_of s old) s.writer.sync w.sync old new → CoversThrough sum s.writer.page_size (bytes_of s old) old new → AreStarted sum s after old new now started
-begun sum s cache after old new w started now items (goes, written, sync, starts) is size can fresh completed covers =
-    let gone = goes_same sum s cache after old new w now items goes is size can fresh completed covers in
+    → CanRead (tail_of w) after new.present → IsFresh after → AreStarted sum s after old new now started
+begun sum s cache after old new w started now items (goes, written, sync, starts) is size can fresh =
+    let gone = goes_same sum s cache after old new w now items goes is size can fresh in
     let same : bytes_of now new ≡ bytes_of s old = gone.0.holds ∙ append-nil (bytes_of s old) in
     record {
       goes = gone.0;
@@ -251,10 +304,10 @@ never_pending (Pending other) name = λ same. cc
 
 -- a wait
 pub waited : (sum : List ℕ → ℕ) (s : ItemsState) (cache : CacheState) (old new : Life) (w : WriterState) (now : ItemsState) → AreItems sum s cache old → WaitsForSync sum s.writer old new (Ok w) → now.writer ≡ w → now.size ≡ s.size
-    → CanRead (tail_of w) cache new.present → Completes sum s.writer.page_size s.writer.sync old new → CoversThrough sum s.writer.page_size (bytes_of s old) old new → HaveWaited sum s cache old new now
-waited sum s cache old new w now items (goes, state) is size can completes covers =
+    → CanRead (tail_of w) cache new.present → HaveWaited sum s cache old new now
+waited sum s cache old new w now items (goes, state) is size can =
     let stood = stand sum s cache old items in
-    let gone = goes_same sum s cache cache old new w now items goes is size can stood.fresh (completed_by_wait sum s.writer.page_size (bytes_of s old) s.writer.sync w.sync old new completes) covers in
+    let gone = goes_same sum s cache cache old new w now items goes is size can stood.fresh in
     let sync : now.writer.sync ≡ waited_state s.writer.sync = ap (λ (v : WriterState). v.sync) (is ∙ state) in
     record {
       goes = gone.0;

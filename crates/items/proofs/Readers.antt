@@ -45,10 +45,10 @@ over_items sum t s held cache life some whole long stands =
     })
 
 pub made : (sum : List ℕ → ℕ) (s : ItemsState) (cache after : CacheState) (old new : Life) (w : WriterState) (t : Tail) (now : ItemsState) → AreItems sum s cache old → MakesSnapshot sum s.writer old new (Ok (w, t)) → now.writer ≡ w → now.size ≡ s.size
-    → CanRead (tail_of w) after new.present → IsFresh after → Completed sum s.writer.page_size (bytes_of s old) s.writer.sync w.sync old new → CoversThrough sum s.writer.page_size (bytes_of s old) old new → StandsOn sum t (bytes_of s old) after new.present → HasSnapshot sum s after old new now (record { tail = t; size = s.size })
-made sum s cache after old new w t now items (goes, short, is_tail) is size can fresh completed covers stands =
+    → CanRead (tail_of w) after new.present → IsFresh after → StandsOn sum t (bytes_of s old) after new.present → HasSnapshot sum s after old new now (record { tail = t; size = s.size })
+made sum s cache after old new w t now items (goes, short, is_tail) is size can fresh stands =
     let stood = stand sum s cache old items in
-    let gone = goes_same sum s cache after old new w now items goes is size can fresh completed covers in
+    let gone = goes_same sum s cache after old new w now items goes is size can fresh in
     let held = bytes_of s old in
     let long : size_of t ≡ length held = ap (λ (u : Tail). size_of u) is_tail ∙ goes.size ∙ ap length (goes.content ∙ append-nil held) in
     let own : w.id ≡ s.writer.id = goes.same.id in
@@ -93,11 +93,11 @@ along_items sum r held k life some whole long at gives =
     )
 
 pub began : (sum : List ℕ → ℕ) (s : ItemsState) (buffer_size : ℕ) (cache after : CacheState) (old new : Life) (w : WriterState) (replay : ReplayState) (now : ItemsState) → AreItems sum s cache old → BeginsReplay sum s.writer buffer_size old new (Ok (w, replay)) → now.writer ≡ w → now.size ≡ s.size
-    → CanRead (tail_of w) after new.present → IsFresh after → Completed sum s.writer.page_size (bytes_of s old) s.writer.sync w.sync old new → CoversThrough sum s.writer.page_size (bytes_of s old) old new → IsReplayOf sum replay (bytes_of s old) new.present → (replay.tail.page_size ≡ w.page_size) × (replay.tail.full_pages ≤ w.full_pages)
+    → CanRead (tail_of w) after new.present → IsFresh after → IsReplayOf sum replay (bytes_of s old) new.present → (replay.tail.page_size ≡ w.page_size) × (replay.tail.full_pages ≤ w.full_pages)
     → HasReplay sum s after old new now (record { replay = replay; size = s.size })
-began sum s buffer_size cache after old new w replay now items (goes, written, is_replay) is size can fresh completed covers gives (one_size, below) =
+began sum s buffer_size cache after old new w replay now items (goes, written, is_replay) is size can fresh gives (one_size, below) =
     let stood = stand sum s cache old items in
-    let gone = goes_same sum s cache after old new w now items goes is size can fresh completed covers in
+    let gone = goes_same sum s cache after old new w now items goes is size can fresh in
     let held = bytes_of s old in
     let r : ItemsReplayState = record { replay = replay; size = s.size } in
     let long : size_of replay.tail ≡ length held = ap (λ (x : ReplayState). size_of x.tail) is_replay ∙ goes.size ∙ ap length (goes.content ∙ append-nil held) in

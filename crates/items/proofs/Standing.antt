@@ -19,7 +19,7 @@ use Rattle.paged_read.specs.Tail.{CanRead, HasFullPages}
 use Rattle.paged.specs.Caches.{tail_of}
 use Rattle.items.specs.Items.{items, AreFirst}
 use Rattle.items.specs.State.{ItemsReplayState, ItemsSnapshotState, ItemsState}
-use Rattle.items.specs.Standing.{AllReplaysStay, AllSnapshotsStay, AreItems, CallLeaves, EachSnapshotStays, IsItemsReplay, IsItemsSnapshot, IsNewId, IsNewToSnapshots, OnlyReads, OtherSnapshotsStay, OthersStay, ReplaysItems, ReplaysStay, SnapshotsStay, StandAsItems, StandsOverItems, bytes_along, bytes_of, bytes_over, items_left, items_of, items_over}
+use Rattle.items.specs.Standing.{AllReplaysStay, AllSnapshotsStay, AreItems, CallLeaves, EachSnapshotStays, IsItemsReplay, IsItemsSnapshot, IsNewId, IsNewToSnapshots, OnlyReads, OnlyReadsOn, OtherSnapshotsStay, OthersStay, ReplaysItems, ReplaysStay, SnapshotsStay, StandAsItems, StandsOverItems, bytes_along, bytes_of, bytes_over, items_left, items_of, items_over}
 use Rattle.items.proofs.Laws.{first_of_itself, keeps_items, keeps_started, leaves_items}
 
 -- ---- what the words stand for
@@ -274,3 +274,17 @@ only_reads sum id cache after old new looked fresh others tails replays = record
 pub nothing_read : (sum : List ℕ → ℕ) (id : ℕ) (cache : CacheState) (life : Life) → OnlyReads sum id cache cache life life
 nothing_read sum id cache life =
     only_reads sum id cache cache life life (looked_start life) (λ fresh. fresh) (λ t d apart can. can) (λ t held stands. stands) (λ own content r gives. gives)
+
+-- a replay that read on, with each cache
+pub only_reads_on : (sum : List ℕ → ℕ) (old new : Life) → Looked old new → ((cache : CacheState) → LeavesAllTails sum cache cache old new) → LeavesAllReplays old new → OnlyReadsOn sum old new
+only_reads_on sum old new looked tails replays =
+    let with_cache : (cache : CacheState) → OnlyReads sum 0 cache cache old new = λ cache. only_reads sum 0 cache cache old new looked (λ fresh. fresh) (λ t d apart can. can) (tails cache) replays in
+    record {
+      looked = looked;
+      items = λ s cache. (with_cache cache).items s;
+      snapshots = λ r cache. (with_cache cache).snapshots r;
+      replays = all_replays_stay sum old new replays;
+      kept = λ P s some. keeps_items sum P s old new some (looked_keeps sum P old new looked);
+      started = λ s cache. (with_cache cache).started s;
+      only = λ s cache. (with_cache cache).only s;
+    }

@@ -25,20 +25,21 @@ use Rattle.paged.specs.Recovers.{Recovers}
 use Rattle.paged.specs.Writer.{physical_blob_size}
 use Rattle.items.specs.Items.{items, item, AreDurable, WouldBeDurable}
 use Rattle.items.specs.State.{ItemsState}
-use Rattle.items.specs.Standing.{AreItems, IsNewId, IsNewToSnapshots, bytes_of, count, items_of}
+use Rattle.items.specs.Standing.{AreItems, AreReady, IsNewId, IsNewToSnapshots, bytes_of, count}
+use Rattle.items.specs.Standing.{items_of}
 
 -- ---- calls that take the items
 
 -- where items wait no more for the sync that they waited for, whichever call waited, what it covers
 -- of them is durable
-abbrev pub CompletesItems : (List ℕ → ℕ) → ItemsState → (before after : SyncState) → Life → Life
+abbrev pub CompletesItems : (List ℕ → ℕ) → (s now : ItemsState) → (pending : SyncState) → Life → Life
     → Type 0
-CompletesItems sum s Clean after old new = Unit {0}
-CompletesItems sum s Dirty after old new = Unit {0}
-CompletesItems sum s (Pending name) after old new =
-    after ≢ Pending name → (n : ℕ)
+CompletesItems sum s now Clean old new = Unit {0}
+CompletesItems sum s now Dirty old new = Unit {0}
+CompletesItems sum s now (Pending name) old new =
+    now.writer.sync ≢ Pending name → (n : ℕ)
     → WouldBeDurable sum s.writer.page_size s.size (bytes_of s old) n name old.present
-    → AreDurable sum s.writer.page_size s.size (bytes_of s old) n new.present
+    → AreDurable sum now.writer.page_size now.size (bytes_of now new) n new.present
 
 -- the items go on, with these bytes after theirs
 pub record GoOn (sum : List ℕ → ℕ) (s : ItemsState) (more : List ℕ) (after : CacheState)
@@ -47,23 +48,25 @@ pub record GoOn (sum : List ℕ → ℕ) (s : ItemsState) (more : List ℕ) (aft
   pub holds : bytes_of now new ≡ bytes_of s old ++ more
   pub size : now.size ≡ s.size
   pub same : IsSameWriter s.writer now.writer
-  pub completed : CompletesItems sum s s.writer.sync now.writer.sync old new
-  -- what was durable of the items before, or would be once a sync completed, is or would be of the
-  -- items now
-  pub durable : (n : ℕ)
-      → AreDurable sum s.writer.page_size s.size (bytes_of s old) n old.present
-      → AreDurable sum now.writer.page_size now.size (bytes_of now new) n new.present
-  pub started : (n name : ℕ)
-      → WouldBeDurable sum s.writer.page_size s.size (bytes_of s old) n name old.present
-      → WouldBeDurable sum now.writer.page_size now.size (bytes_of now new) n name new.present
 
--- what a client hands on: they are items, of the size that they had, and the full pages of their
--- blob are no fewer
-abbrev pub AreReady : (List ℕ → ℕ) → ItemsState → ItemsState → CacheState → Life → Type 0
-AreReady sum s now after new =
-    AreItems sum now after new × (now.size ≡ s.size)
+-- what a client hands on after a call: the items are of the size and the blob that they were of,
+-- and the full pages of the blob are no fewer
+abbrev pub GoReady : (List ℕ → ℕ) → ItemsState → ItemsState → CacheState → Life → Type 0
+GoReady sum s now after new =
+    AreReady sum now after new × (now.size ≡ s.size)
     × (now.writer.page_size ≡ s.writer.page_size) × (now.writer.id ≡ s.writer.id)
     × (s.writer.full_pages ≤ now.writer.full_pages)
+
+-- what lasts over a call: what was durable of the items before, or would be once a sync completed,
+-- is or would be of the items now; and a sync that was waited for has completed
+abbrev pub Lasts : (List ℕ → ℕ) → ItemsState → ItemsState → Life → Life → Type 0
+Lasts sum s now old new =
+    ((n : ℕ) → AreDurable sum s.writer.page_size s.size (bytes_of s old) n old.present
+    → AreDurable sum now.writer.page_size now.size (bytes_of now new) n new.present)
+    × ((n name : ℕ)
+    → WouldBeDurable sum s.writer.page_size s.size (bytes_of s old) n name old.present
+    → WouldBeDurable sum now.writer.page_size now.size (bytes_of now new) n name new.present)
+    × CompletesItems sum s now s.writer.sync old new
 
 -- an item was pushed: under this number, after those that there were
 pub record IsPushed (sum : List ℕ → ℕ) (s : ItemsState) (item : List ℕ) (after : CacheState)
@@ -71,6 +74,7 @@ pub record IsPushed (sum : List ℕ → ℕ) (s : ItemsState) (item : List ℕ) 
   pub goes : GoOn sum s item after old new now
   pub at : i ≡ count s
   pub added : items_of now new ≡ items_of s old ++ item ∷ []
+  pub there : slice_get (items_of now new) i ≡ Some item
 
 abbrev pub Pushes : (List ℕ → ℕ) → ItemsState → List ℕ → CacheState → Life → Life
     → Result (ItemsState × ℕ) Error → Type 0

@@ -46,6 +46,12 @@ pub record StandAsItems (sum : List ℕ → ℕ) (s : ItemsState) (cache : Cache
 unfoldable pub AreItems : (List ℕ → ℕ) → ItemsState → CacheState → Life → Type 0
 AreItems sum s cache life = StandAsItems sum s cache life
 
+-- what a client hands on: they are items, as many as their count, on pages of the cache's size
+abbrev pub AreReady : (List ℕ → ℕ) → ItemsState → CacheState → Life → Type 0
+AreReady sum s cache life =
+    AreItems sum s cache life × (length (items_of s life) ≡ count s)
+    × (cache.page_size ≡ s.writer.page_size)
+
 -- a call over the blob with this id: all other items that have this cache stay such
 abbrev pub OthersStay : ℕ → CacheState → CacheState → Type 0
 OthersStay id cache after =
@@ -200,9 +206,9 @@ pub record RecoveryLeaves (sum : List ℕ → ℕ) (s : ℕ) (cache after : Cach
   pub only : let T = text sum cache.page_size old.present.readable in IsDurable old.present
       → LeavesItems sum cache.page_size s (items s T) old new
 
--- what a read of a snapshot or a replay leaves, whatever it answers: the device was only read, the
--- items, snapshots and replays of the blob are as they were, and those of other blobs; and a crash
--- at each moment since keeps and leaves what it did before
+-- what a read of a snapshot leaves, whatever it answers: the device was only read, the items,
+-- snapshots and replays of the blob are as they were, and those of other blobs; and a crash at each
+-- moment since keeps and leaves what it did before
 pub record OnlyReads (sum : List ℕ → ℕ) (id : ℕ) (cache after : CacheState) (old new : Life)
     : Type 0 where
   pub looked : Looked old new
@@ -216,4 +222,17 @@ pub record OnlyReads (sum : List ℕ → ℕ) (id : ℕ) (cache after : CacheSta
   pub started : (s : ItemsState) → AreItems sum s cache old
       → KeepsStarted sum s.writer.page_size s.size (bytes_of s old) old new
   pub only : (s : ItemsState) → AreItems sum s cache old
+      → LeavesItems sum s.writer.page_size s.size (items_of s old) old new
+
+-- what a replay leaves as it reads on, whatever it answers, with each cache: the same
+pub record OnlyReadsOn (sum : List ℕ → ℕ) (old new : Life) : Type 0 where
+  pub looked : Looked old new
+  pub items : (s : ItemsState) (cache : CacheState) → AreItems sum s cache old
+      → AreItems sum s cache new × (bytes_of s new ≡ bytes_of s old)
+  pub snapshots : (r : ItemsSnapshotState) (cache : CacheState) → StaysOver sum r cache cache old new
+  pub replays : AllReplaysStay sum old new
+  pub kept : (P s : ℕ) → 0 < s → KeepsItems sum P s old new
+  pub started : (s : ItemsState) (cache : CacheState) → AreItems sum s cache old
+      → KeepsStarted sum s.writer.page_size s.size (bytes_of s old) old new
+  pub only : (s : ItemsState) (cache : CacheState) → AreItems sum s cache old
       → LeavesItems sum s.writer.page_size s.size (items_of s old) old new

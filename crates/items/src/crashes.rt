@@ -4,7 +4,7 @@ ghost use Rattle.std.specs.Int.NonZero.{non_zero_usize_get};
 ghost use Rattle.disk.specs.History.{life_of};
 ghost use Rattle.disk.specs.Torn.{torn};
 ghost use Rattle.cache.specs.Pages.{IsFresh};
-ghost use Rattle.items.specs.Standing.{AllStay, AreItems, EachSnapshotStays, items_of};
+ghost use Rattle.items.specs.Standing.{AllStay, AreReady, EachSnapshotStays, items_of};
 ghost use Rattle.items.specs.Calls.{CrashesAndRecovers};
 ghost use Rattle.items.specs.Items.{BringsBack, BringsOnly, StaysDurable};
 
@@ -36,7 +36,7 @@ pub fn crash_and_recover<H: Sum>(
         CrashesAndRecovers H.sum_of s cache.old cache.new capacity keep.now (life_of blob.old)
         (life_of blob.new) result }
     ensures ready { let s = non_zero_usize_get size in IfOk result (λ r.
-        AreItems H.sum_of r cache.new (life_of blob.new) × (r.size ≡ s)) }
+        AreReady H.sum_of r cache.new (life_of blob.new) × (r.size ≡ s)) }
     ensures fresh { IsFresh cache.new }
     ensures others { AllStay cache.old cache.new × EachSnapshotStays cache.old cache.new }
     ensures stays { let was = (life_of blob.old).present in let is = (life_of blob.new).present in

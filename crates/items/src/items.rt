@@ -11,12 +11,13 @@ ghost use Rattle.paged.specs.Caches.{tail_of};
 ghost use Rattle.paged.specs.Calls.{AsksAtMost, start_calls, sync_calls, wait_calls};
 ghost use Rattle.paged.specs.Replays.{replay_calls};
 ghost use Rattle.paged.specs.Snapshots.{snapshot_calls};
-ghost use Rattle.items.specs.Calls.{AreReady, AreRising, FindsItem, GetsItem, GetsMany, Pushes};
-ghost use Rattle.items.specs.Calls.{RecoversItems};
+ghost use Rattle.items.specs.Calls.{AreRising, FindsItem, GetsItem, GetsMany, GoReady, Lasts};
+ghost use Rattle.items.specs.Calls.{Pushes, RecoversItems};
 ghost use Rattle.items.specs.Calls.{StartsItems, SyncsItems, TriesPush, WaitsForItems, item_ranges};
 ghost use Rattle.items.specs.Items.{BringsBack, BringsOnly};
 ghost use Rattle.items.specs.Readers.{BeginsItemsReplay, MakesItemsSnapshot, TriesItemsSnapshot};
-ghost use Rattle.items.specs.Standing.{AreItems, CallLeaves, IsItemsReplay, IsItemsSnapshot};
+ghost use Rattle.items.specs.Standing.{AreItems, AreReady, CallLeaves, IsItemsReplay};
+ghost use Rattle.items.specs.Standing.{IsItemsSnapshot};
 ghost use Rattle.items.specs.Standing.{RecoveryLeaves, bytes_of, count, items_of};
 
 use crate::locate::{offset_of, offsets_of};
@@ -118,7 +119,7 @@ impl<B: Blob, H: Sum> Items<B, H> {
             let s = non_zero_usize_get size in
             RecoversItems H.sum_of s cache.old cache.new capacity old new result }
         ensures ready { let s = non_zero_usize_get size in IfOk result (λ r.
-            AreItems H.sum_of r cache.new (B.life blob.new) × (r.size ≡ s)) }
+            AreReady H.sum_of r cache.new (B.life blob.new) × (r.size ≡ s)) }
         ensures leaves { let old = B.life blob.old in let new = B.life blob.new in
             let s = non_zero_usize_get size in
             RecoveryLeaves H.sum_of s cache.old cache.new old new }
@@ -153,7 +154,7 @@ impl<B: Blob, H: Sum> Items<B, H> {
     /// Pushes an item of the items' size, and answers its number: how many there were. It is durable
     /// once the next [`Items::sync`] has answered.
     ///
-    /// It makes no device call where the item fits what is buffered, and at most three else.
+    /// It makes no device call where the item fits the buffer, and at most three else.
     ///
     /// `OffsetOverflow` where the blob has no room for the item, `WriteFailed` and `SyncFailed`
     /// where the device failed, `OutOfMemory`. The items are gone then.
@@ -163,7 +164,9 @@ impl<B: Blob, H: Sum> Items<B, H> {
         ensures pushes { let old = B.life blob.old in let new = B.life blob.new in
             Pushes H.sum_of self item.now cache.new old new result }
         ensures ready { IfOk result (λ r.
-            AreReady H.sum_of self r.0 cache.new (B.life blob.new)) }
+            GoReady H.sum_of self r.0 cache.new (B.life blob.new)) }
+        ensures lasts { let old = B.life blob.old in let new = B.life blob.new in
+            IfOk result (λ r. Lasts H.sum_of self r.0 old new) }
         ensures leaves { let old = B.life blob.old in let new = B.life blob.new in
             let all = items_of self old ++ item.now ∷ [] in
             CallLeaves H.sum_of self all cache.old cache.new old new }
@@ -180,9 +183,9 @@ impl<B: Blob, H: Sum> Items<B, H> {
         }
     }
 
-    /// Pushes a value of the items' size where it fits what is buffered, and answers its number:
-    /// how many there were. `None` exactly where what is buffered would then hold more than its
-    /// capacity. No device is asked.
+    /// Pushes a value of the items' size where it fits the buffer, and answers its number: how many
+    /// there were. `None` exactly where the buffer would then hold more than its capacity. No device
+    /// is asked.
     ///
     /// `OffsetOverflow` where the blob has no room for the value, `OutOfMemory`. After `None` or an
     /// error the items are as they were.
@@ -190,7 +193,8 @@ impl<B: Blob, H: Sum> Items<B, H> {
         requires size { T.SIZE ≡ self.old.size }
         ensures tries { TriesPush H.sum_of self.old (T.encoded value.now) self.new result }
         ensures ready { (cache : CacheState) (life : Life) → AreItems H.sum_of self.old cache life
-            → AreReady H.sum_of self.old self.new cache life }
+            → GoReady H.sum_of self.old self.new cache life
+            × Lasts H.sum_of self.old self.new life life }
     {
         let at = self.len();
         match self.writer.try_append_value(value) {
@@ -208,7 +212,9 @@ impl<B: Blob, H: Sum> Items<B, H> {
         requires items { AreItems H.sum_of self cache.old (B.life blob.old) }
         ensures syncs { let old = B.life blob.old in let new = B.life blob.new in
             SyncsItems H.sum_of self cache.new old new result }
-        ensures ready { IfOk result (λ r. AreReady H.sum_of self r cache.new (B.life blob.new)) }
+        ensures ready { IfOk result (λ r. GoReady H.sum_of self r cache.new (B.life blob.new)) }
+        ensures lasts { let old = B.life blob.old in let new = B.life blob.new in
+            IfOk result (λ r. Lasts H.sum_of self r old new) }
         ensures leaves { let old = B.life blob.old in let new = B.life blob.new in
             CallLeaves H.sum_of self (items_of self old) cache.old cache.new old new }
         ensures fresh { IsFresh cache.new }
@@ -236,7 +242,9 @@ impl<B: Blob, H: Sum> Items<B, H> {
         ensures starts { let old = B.life blob.old in let new = B.life blob.new in
             StartsItems H.sum_of self cache.new old new result }
         ensures ready { IfOk result (λ r.
-            AreReady H.sum_of self r.0 cache.new (B.life blob.new)) }
+            GoReady H.sum_of self r.0 cache.new (B.life blob.new)) }
+        ensures lasts { let old = B.life blob.old in let new = B.life blob.new in
+            IfOk result (λ r. Lasts H.sum_of self r.0 old new) }
         ensures leaves { let old = B.life blob.old in let new = B.life blob.new in
             CallLeaves H.sum_of self (items_of self old) cache.old cache.new old new }
         ensures fresh { IsFresh cache.new }
@@ -260,7 +268,7 @@ impl<B: Blob, H: Sum> Items<B, H> {
             → WaitsForItems H.sum_of self cache old new result }
         ensures ready { let old = B.life blob.old in let new = B.life blob.new in
             (cache : CacheState) → AreItems H.sum_of self cache old
-            → IfOk result (λ r. AreReady H.sum_of self r cache new) }
+            → IfOk result (λ r. GoReady H.sum_of self r cache new × Lasts H.sum_of self r old new) }
         ensures leaves { let old = B.life blob.old in let new = B.life blob.new in
             (cache : CacheState) → AreItems H.sum_of self cache old
             → CallLeaves H.sum_of self (items_of self old) cache cache old new }
@@ -303,10 +311,12 @@ impl<B: Blob, H: Sum> Items<B, H> {
         ensures makes { let old = B.life blob.old in let new = B.life blob.new in
             MakesItemsSnapshot H.sum_of self cache.new old new result }
         ensures ready { let new = B.life blob.new in IfOk result (λ r.
-            AreReady H.sum_of self r.0 cache.new new
+            GoReady H.sum_of self r.0 cache.new new
             × IsItemsSnapshot H.sum_of r.1 cache.new new × (r.1.size ≡ self.size)
             × (r.1.tail.id ≡ self.writer.id)
             × (r.1.tail.full_pages ≤ r.0.writer.full_pages)) }
+        ensures lasts { let old = B.life blob.old in let new = B.life blob.new in
+            IfOk result (λ r. Lasts H.sum_of self r.0 old new) }
         ensures leaves { let old = B.life blob.old in let new = B.life blob.new in
             CallLeaves H.sum_of self (items_of self old) cache.old cache.new old new }
         ensures fresh { IsFresh cache.new }
@@ -343,10 +353,12 @@ impl<B: Blob, H: Sum> Items<B, H> {
         ensures begins { let old = B.life blob.old in let new = B.life blob.new in
             BeginsItemsReplay H.sum_of self cache.new old new result }
         ensures ready { let new = B.life blob.new in IfOk result (λ r.
-            AreReady H.sum_of self r.0 cache.new new
+            GoReady H.sum_of self r.0 cache.new new
             × IsItemsReplay H.sum_of r.1 new × (r.1.size ≡ self.size)
             × (r.1.replay.tail.page_size ≡ r.0.writer.page_size)
             × (r.1.replay.tail.full_pages ≤ r.0.writer.full_pages)) }
+        ensures lasts { let old = B.life blob.old in let new = B.life blob.new in
+            IfOk result (λ r. Lasts H.sum_of self r.0 old new) }
         ensures leaves { let old = B.life blob.old in let new = B.life blob.new in
             CallLeaves H.sum_of self (items_of self old) cache.old cache.new old new }
         ensures fresh { IsFresh cache.new }
@@ -382,7 +394,7 @@ impl<B: Blob, H: Sum> Items<B, H> {
             GetsItem self.now.size (bytes_of self.now old) i buf.new old new result }
         ensures length { length buf.new ≡ length buf.old }
         ensures ready { let old = B.life blob.old in let new = B.life blob.new in
-            AreItems H.sum_of self.now cache.new new
+            AreReady H.sum_of self.now cache.new new
             × (bytes_of self.now new ≡ bytes_of self.now old) }
         ensures leaves { let old = B.life blob.old in let new = B.life blob.new in
             Looked old new
@@ -419,7 +431,7 @@ impl<B: Blob, H: Sum> Items<B, H> {
             GetsMany self.now.size t bytes indices.now cache.old buf.new old new result }
         ensures length { length buf.new ≡ length buf.old }
         ensures ready { let old = B.life blob.old in let new = B.life blob.new in
-            AreItems H.sum_of self.now cache.new new
+            AreReady H.sum_of self.now cache.new new
             × (bytes_of self.now new ≡ bytes_of self.now old) }
         ensures leaves { let old = B.life blob.old in let new = B.life blob.new in
             Looked old new

@@ -1,10 +1,9 @@
 // Replays of items.
-ghost use Rattle.std.specs.Prelude.{◌≡◌, ℕ, OnOk};
+ghost use Rattle.std.specs.Prelude.{◌≡◌, OnOk};
 ghost use Rattle.std.specs.Int.NonZero.{non_zero_usize_get};
-ghost use Rattle.cache.specs.CacheState.{CacheState};
 ghost use Rattle.paged_read.specs.Replay.{IsHad};
 ghost use Rattle.items.specs.Readers.{GivesNext, HoldsAlong, SeeksItem};
-ghost use Rattle.items.specs.Standing.{IsItemsReplay, OnlyReads, count_along};
+ghost use Rattle.items.specs.Standing.{IsItemsReplay, OnlyReadsOn, count_along};
 
 use disk::{Blob, Error, IoBuf};
 use page::Sum;
@@ -71,8 +70,7 @@ impl<B: Blob, H: Sum> ItemsReplay<B, H> {
         ensures ready { IsItemsReplay H.sum_of self.new (B.life blob.new)
             × (self.new.size ≡ self.old.size)
             × (self.new.replay.tail ≡ self.old.replay.tail) }
-        ensures leaves { let old = B.life blob.old in let new = B.life blob.new in
-            (id : ℕ) (cache : CacheState) → OnlyReads H.sum_of id cache cache old new }
+        ensures leaves { OnlyReadsOn H.sum_of (B.life blob.old) (B.life blob.new) }
         ensures costs { IsHad self.old.replay self.old.size
             → B.life blob.new ≡ B.life blob.old }
         ensures held { OnOk result (HoldsAlong self.old self.new) }

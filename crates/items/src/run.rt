@@ -77,6 +77,13 @@ impl<B, H> ItemSession<B, H> {
         ItemSession { alloc, items: None }
     }
 
+    /// Its items, unless a refusal ended them.
+    pub fn into_items(self) -> Option<Items<B, H>>
+        ensures { result ≡ self }
+    {
+        self.items
+    }
+
     fn len(&self) -> ItemReply
         ensures { TellsLength self.now result }
     {

@@ -10,6 +10,7 @@ use Rattle.paged_read.specs.Ranges.{AsksForMissing}
 use Rattle.items.specs.Calls.{FindsItem, GetsItem}
 use Rattle.items.proofs.Laws.{first_of_itself}
 use Rattle.items.proofs.Standing.{nothing_leaves, read_items, read_leaves, stand}
+use Rattle.items.proofs.Calls.{are_ready}
 use Rattle.items.proofs.Reading.{asks_item, asks_none, got, not_got}
 use Rattle.items.proofs.items.Items.get.Given.{Over}
 use Rattle.items.proofs.items.Items.get.Goals as goal
@@ -70,7 +71,9 @@ left g c =
     (read_items sum s cache after old new items goes.looked fresh goes.leaves.can, read_leaves sum s cache after old new items goes.looked fresh goes.others goes.tails goes.replays)) c.requires.items
 
 pub returns-in-Ok-clause-ready : goal.returns-in-Ok-clause-ready
-returns-in-Ok-clause-ready g c = (left g (goal.at.returns-in-Ok-clause-ready g c).After-read_into).0
+returns-in-Ok-clause-ready g c =
+    let left_items = (left g (goal.at.returns-in-Ok-clause-ready g c).After-read_into).0 in
+    (are_ready g.H.Sum.sum_of c.args.self.now c.read_into.new.cache (g.B.Blob.life c.read_into.new.blob) left_items.0, left_items.1)
 
 pub returns-in-Ok-clause-leaves : goal.returns-in-Ok-clause-leaves
 returns-in-Ok-clause-leaves g c = (c.read_into.ensures.looked, (left g (goal.at.returns-in-Ok-clause-leaves g c).After-read_into).1)
@@ -94,7 +97,7 @@ pub returns-in-Err-clause-costs : goal.returns-in-Err-clause-costs
 returns-in-Err-clause-costs g c = asks_none (tail_of c.args.self.now.writer) c.args.cache.now (c.args.i * c.args.self.now.size, c.args.self.now.size) (g.B.Blob.life c.args.blob.now)
 
 pub returns-in-Err-clause-ready : goal.returns-in-Err-clause-ready
-returns-in-Err-clause-ready g c = (c.requires.items, refl)
+returns-in-Err-clause-ready g c = (are_ready g.H.Sum.sum_of c.args.self.now c.args.cache.now (g.B.Blob.life c.args.blob.now) c.requires.items, refl)
 
 pub returns-in-Err-clause-leaves : goal.returns-in-Err-clause-leaves
 returns-in-Err-clause-leaves g c =

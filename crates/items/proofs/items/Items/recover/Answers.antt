@@ -4,6 +4,7 @@ use Rattle.cache.specs.Pages.{IsFresh}
 use Rattle.paged.specs.Reads.{size_of}
 use Rattle.items.specs.Items.{BringsBack, BringsOnly}
 use Rattle.items.specs.Standing.{RecoveryLeaves}
+use Rattle.items.proofs.Calls.{are_ready}
 use Rattle.items.proofs.Laws.{brings_back, brings_only}
 use Rattle.items.proofs.Recovery.{refused_at_first, cut_leaves, cut_refused, recovered_items}
 use Rattle.items.proofs.items.Items.recover.Given.{Over}
@@ -79,4 +80,6 @@ pub returns-in-Err-clause-fresh : goal.returns-in-Err-clause-fresh
 returns-in-Err-clause-fresh g c = fresh g (goal.at.returns-in-Err-clause-fresh g c).After-truncate
 
 pub returns-in-Ok-clause-ready : goal.returns-in-Ok-clause-ready
-returns-in-Ok-clause-ready g c = let has = returns-in-Ok-clause-recovers g c in (has.stand, has.size)
+returns-in-Ok-clause-ready g c =
+    let has = returns-in-Ok-clause-recovers g c in
+    (are_ready g.H.Sum.sum_of c.new.result c.truncate.new.cache (g.B.Blob.life c.truncate.new.blob) has.stand, has.size)

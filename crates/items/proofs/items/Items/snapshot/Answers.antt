@@ -4,9 +4,10 @@ use Rattle.writer_state.specs.Sound.{IsSound}
 use Rattle.items.specs.State.{ItemsState}
 use Rattle.items.specs.Standing.{AreItems, CallLeaves, items_of}
 use Rattle.items.specs.State.{ItemsSnapshotState}
+use Rattle.items.specs.Calls.{Lasts}
 use Rattle.items.specs.Readers.{HasSnapshot}
 use Rattle.items.proofs.Standing.{same_leaves, stand}
-use Rattle.items.proofs.Calls.{ready}
+use Rattle.items.proofs.Calls.{lasts_through, ready}
 use Rattle.items.proofs.Readers.{made}
 use Rattle.items.proofs.items.Items.snapshot.Given.{Over}
 use Rattle.items.proofs.items.Items.snapshot.Goals as goal
@@ -35,7 +36,7 @@ returns-in-Ok-clause-makes g c =
     (subst (λ (v : ItemsState). AreItems sum v cache old → HasSnapshot sum v after old new now (record { tail = c.in-Ok.snapshot; size = non_zero_usize_get c.self.inside.size })) c.self.view_is
     (λ items.
     let stood = stand sum s cache old items in
-    made sum s cache after old new c.in-Ok.writer c.in-Ok.snapshot now items goes.makes c.new-items.ensures.writer c.new-items.ensures.size (goes.can_read stood.can) (goes.fresh_ids stood.can.given stood.fresh) goes.completed goes.covers (goes.stands stood.can))
+    made sum s cache after old new c.in-Ok.writer c.in-Ok.snapshot now items goes.makes c.new-items.ensures.writer c.new-items.ensures.size (goes.can_read stood.can) (goes.fresh_ids stood.can.given stood.fresh) (goes.stands stood.can))
     c.requires.items)
 
 pub returns-in-Ok-clause-ready : goal.returns-in-Ok-clause-ready
@@ -47,6 +48,19 @@ returns-in-Ok-clause-ready g c =
       has.id,
       has.below,
     )
+
+pub returns-in-Ok-clause-lasts : goal.returns-in-Ok-clause-lasts
+returns-in-Ok-clause-lasts g c =
+    let sum = g.H.Sum.sum_of in
+    let s : ItemsState = record { writer = c.self.inside.writer; size = non_zero_usize_get c.self.inside.size } in
+    let cache = c.args.cache.now in
+    let old = g.B.Blob.life c.args.blob.now in
+    let new = g.B.Blob.life c.snapshot.new.blob in
+    let goes = c.in-Ok.ensures in
+    let now = c.new-items.result in
+    subst (λ (v : ItemsState). AreItems sum v cache old → Lasts sum v now old new) c.self.view_is
+    (λ items. lasts_through sum s [] cache old new c.in-Ok.writer now items goes.makes.0 c.new-items.ensures.writer c.new-items.ensures.size goes.completed goes.covers)
+    c.requires.items
 
 left : (g : Over) (c : After-snapshot g) → CallLeaves g.H.Sum.sum_of c.args.self (items_of c.args.self (g.B.Blob.life c.args.blob.now)) c.args.cache.now c.snapshot.new.cache (g.B.Blob.life c.args.blob.now) (g.B.Blob.life c.snapshot.new.blob)
 left g c =

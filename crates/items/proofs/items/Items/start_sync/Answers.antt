@@ -3,9 +3,9 @@ use Rattle.std.specs.Int.NonZero.{non_zero_usize_get}
 use Rattle.writer_state.specs.Sound.{IsSound}
 use Rattle.items.specs.State.{ItemsState}
 use Rattle.items.specs.Standing.{AreItems, CallLeaves, items_of}
-use Rattle.items.specs.Calls.{AreStarted}
+use Rattle.items.specs.Calls.{AreStarted, Lasts}
 use Rattle.items.proofs.Standing.{same_leaves, stand}
-use Rattle.items.proofs.Calls.{begun, ready}
+use Rattle.items.proofs.Calls.{begun, lasts_through, ready}
 use Rattle.items.proofs.items.Items.start_sync.Given.{Over}
 use Rattle.items.proofs.items.Items.start_sync.Goals as goal
 use Rattle.items.proofs.items.Items.start_sync.Goals.{After-start_sync}
@@ -32,12 +32,25 @@ returns-in-Ok-clause-starts g c =
     subst (λ (v : ItemsState). AreItems sum v cache old → AreStarted sum v after old new now c.in-Ok.started) c.self.view_is
     (λ items.
     let stood = stand sum s cache old items in
-    begun sum s cache after old new c.in-Ok.writer c.in-Ok.started now items goes.starts_sync c.new.ensures.writer c.new.ensures.size (goes.can_read stood.can) (goes.fresh_ids stood.can.given stood.fresh) goes.completed goes.covers)
+    begun sum s cache after old new c.in-Ok.writer c.in-Ok.started now items goes.starts_sync c.new.ensures.writer c.new.ensures.size (goes.can_read stood.can) (goes.fresh_ids stood.can.given stood.fresh))
     c.requires.items
 
 pub returns-in-Ok-clause-ready : goal.returns-in-Ok-clause-ready
 returns-in-Ok-clause-ready g c =
     ready g.H.Sum.sum_of c.args.self [] c.start_sync.new.cache (g.B.Blob.life c.args.blob.now) (g.B.Blob.life c.start_sync.new.blob) c.new.result (returns-in-Ok-clause-starts g c).goes
+
+pub returns-in-Ok-clause-lasts : goal.returns-in-Ok-clause-lasts
+returns-in-Ok-clause-lasts g c =
+    let sum = g.H.Sum.sum_of in
+    let s : ItemsState = record { writer = c.self.inside.writer; size = non_zero_usize_get c.self.inside.size } in
+    let cache = c.args.cache.now in
+    let old = g.B.Blob.life c.args.blob.now in
+    let new = g.B.Blob.life c.start_sync.new.blob in
+    let goes = c.in-Ok.ensures in
+    let now = c.new.result in
+    subst (λ (v : ItemsState). AreItems sum v cache old → Lasts sum v now old new) c.self.view_is
+    (λ items. lasts_through sum s [] cache old new c.in-Ok.writer now items goes.starts_sync.0 c.new.ensures.writer c.new.ensures.size goes.completed goes.covers)
+    c.requires.items
 
 left : (g : Over) (c : After-start_sync g) → CallLeaves g.H.Sum.sum_of c.args.self (items_of c.args.self (g.B.Blob.life c.args.blob.now)) c.args.cache.now c.start_sync.new.cache (g.B.Blob.life c.args.blob.now) (g.B.Blob.life c.start_sync.new.blob)
 left g c =

@@ -2,10 +2,10 @@ use Rattle.std.proofs.Common.{subst, sym, ap, ◌∙◌, []}
 use Rattle.std.specs.Int.NonZero.{non_zero_usize_get}
 use Rattle.writer_state.specs.Sound.{IsSound}
 use Rattle.items.specs.State.{ItemsState}
-use Rattle.items.specs.Standing.{AreItems, CallLeaves, items_of}
-use Rattle.items.specs.Calls.{AreSynced}
+use Rattle.items.specs.Standing.{AreItems, CallLeaves, bytes_of, items_of}
+use Rattle.items.specs.Calls.{AreSynced, Lasts}
 use Rattle.items.proofs.Standing.{same_leaves, stand}
-use Rattle.items.proofs.Calls.{ready, synced}
+use Rattle.items.proofs.Calls.{completed_by_sync, lasts_through, ready, synced}
 use Rattle.items.proofs.items.Items.sync.Given.{Over}
 use Rattle.items.proofs.items.Items.sync.Goals as goal
 use Rattle.items.proofs.items.Items.sync.Goals.{After-sync}
@@ -32,12 +32,25 @@ returns-in-Ok-clause-syncs g c =
     subst (λ (v : ItemsState). AreItems sum v cache old → AreSynced sum v after old new now) c.self.view_is
     (λ items.
     let stood = stand sum s cache old items in
-    synced sum s cache after old new c.in-Ok.writer now items goes.syncs c.new.ensures.writer c.new.ensures.size (goes.can_read stood.can) (goes.fresh_ids stood.can.given stood.fresh) goes.durable goes.covers)
+    synced sum s cache after old new c.in-Ok.writer now items goes.syncs c.new.ensures.writer c.new.ensures.size (goes.can_read stood.can) (goes.fresh_ids stood.can.given stood.fresh) goes.durable)
     c.requires.items
 
 pub returns-in-Ok-clause-ready : goal.returns-in-Ok-clause-ready
 returns-in-Ok-clause-ready g c =
     ready g.H.Sum.sum_of c.args.self [] c.sync.new.cache (g.B.Blob.life c.args.blob.now) (g.B.Blob.life c.sync.new.blob) c.new.result (returns-in-Ok-clause-syncs g c).goes
+
+pub returns-in-Ok-clause-lasts : goal.returns-in-Ok-clause-lasts
+returns-in-Ok-clause-lasts g c =
+    let sum = g.H.Sum.sum_of in
+    let s : ItemsState = record { writer = c.self.inside.writer; size = non_zero_usize_get c.self.inside.size } in
+    let cache = c.args.cache.now in
+    let old = g.B.Blob.life c.args.blob.now in
+    let new = g.B.Blob.life c.sync.new.blob in
+    let goes = c.in-Ok.ensures in
+    let now = c.new.result in
+    subst (λ (v : ItemsState). AreItems sum v cache old → Lasts sum v now old new) c.self.view_is
+    (λ items. lasts_through sum s [] cache old new c.in-Ok.writer now items goes.syncs.0 c.new.ensures.writer c.new.ensures.size (completed_by_sync sum s.writer.page_size (bytes_of s old) s.writer.sync c.in-Ok.writer.sync old new goes.durable) goes.covers)
+    c.requires.items
 
 left : (g : Over) (c : After-sync g) → CallLeaves g.H.Sum.sum_of c.args.self (items_of c.args.self (g.B.Blob.life c.args.blob.now)) c.args.cache.now c.sync.new.cache (g.B.Blob.life c.args.blob.now) (g.B.Blob.life c.sync.new.blob)
 left g c =

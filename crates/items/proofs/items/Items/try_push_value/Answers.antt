@@ -4,8 +4,10 @@ use Rattle.std.specs.Int.NonZero.{non_zero_usize_get}
 use Rattle.disk.specs.declared.error.Error.{Error}
 use Rattle.paged.specs.Calls.{BuffersOver, TryAppends}
 use Rattle.items.specs.State.{ItemsState}
-use Rattle.items.specs.Standing.{count}
-use Rattle.items.specs.Calls.{TriesPush}
+use Rattle.disk.specs.Disk.{Life}
+use Rattle.cache.specs.CacheState.{CacheState}
+use Rattle.items.specs.Standing.{AreItems, count}
+use Rattle.items.specs.Calls.{GoReady, Lasts, TriesPush}
 use Rattle.items.proofs.Calls.{not_tried, tried_none, tried_some, tries_ready}
 use Rattle.items.proofs.items.Items.try_push_value.Goals as goal
 use Rattle.items.proofs.items.Items.try_push_value.Goals.{in-Ok-Some, in-Ok-None, in-Err}
@@ -39,6 +41,11 @@ returns-clause-tries g c =
 
 pub returns-clause-ready : goal.returns-clause-ready
 returns-clause-ready g c =
+    let sum = g.H.Sum.sum_of in
+    let s : ItemsState = record { writer = c.self.inside.writer; size = non_zero_usize_get c.self.inside.size } in
     let bytes = g.T.EncodeSize.encoded c.args.value.now in
-    let now : ItemsState = record { writer = c.try_append_value.new.self; size = non_zero_usize_get c.self.inside.size } in
-    tries_ready g.H.Sum.sum_of c.args.self.now bytes now c.match-try_append_value.result (returns-clause-tries g c)
+    let v = c.try_append_value.new.self in
+    let now : ItemsState = record { writer = v; size = s.size } in
+    let goes = c.try_append_value.ensures in
+    subst (λ (t : ItemsState). length bytes ≡ t.size → c.len-at.result ≡ count t → (cache : CacheState) (life : Life) → AreItems sum t cache life → GoReady sum t now cache life × Lasts sum t now life life) c.self.view_is
+    (tries_ready sum s bytes v c.len-at.result c.try_append_value.result goes.tries goes.appends goes.can_read) (g.met.T.FixedSize.sized c.args.value.now ∙ c.requires.size) c.len-at.ensures.count

@@ -3,10 +3,10 @@ use Rattle.std.specs.Int.NonZero.{non_zero_usize_get}
 use Rattle.cache.specs.CacheState.{CacheState}
 use Rattle.writer_state.specs.Sound.{IsSound}
 use Rattle.items.specs.State.{ItemsState}
-use Rattle.items.specs.Standing.{AreItems, CallLeaves, items_of}
-use Rattle.items.specs.Calls.{HaveWaited}
+use Rattle.items.specs.Standing.{AreItems, CallLeaves, bytes_of, items_of}
+use Rattle.items.specs.Calls.{HaveWaited, Lasts}
 use Rattle.items.proofs.Standing.{same_leaves, stand}
-use Rattle.items.proofs.Calls.{ready, waited}
+use Rattle.items.proofs.Calls.{completed_by_wait, lasts_through, ready, waited}
 use Rattle.items.proofs.items.Items.wait_for_sync.Given.{Over}
 use Rattle.items.proofs.items.Items.wait_for_sync.Goals as goal
 use Rattle.items.proofs.items.Items.wait_for_sync.Goals.{After-wait_for_sync}
@@ -26,11 +26,20 @@ returns-in-Ok-clause-waits g c = λ cache.
     let goes = c.in-Ok.ensures in
     let now = c.new.result in
     subst (λ (v : ItemsState). AreItems sum v cache old → HaveWaited sum v cache old new now) c.self.view_is
-    (λ items. waited sum s cache old new c.in-Ok.writer now items goes.waits c.new.ensures.writer c.new.ensures.size (goes.can_read cache (stand sum s cache old items).can) goes.durable goes.covers)
+    (λ items. waited sum s cache old new c.in-Ok.writer now items goes.waits c.new.ensures.writer c.new.ensures.size (goes.can_read cache (stand sum s cache old items).can))
 
 pub returns-in-Ok-clause-ready : goal.returns-in-Ok-clause-ready
 returns-in-Ok-clause-ready g c = λ cache items.
-    ready g.H.Sum.sum_of c.args.self [] cache (g.B.Blob.life c.args.blob.now) (g.B.Blob.life c.wait_for_sync.new.blob) c.new.result (returns-in-Ok-clause-waits g c cache items).goes
+    let sum = g.H.Sum.sum_of in
+    let s : ItemsState = record { writer = c.self.inside.writer; size = non_zero_usize_get c.self.inside.size } in
+    let old = g.B.Blob.life c.args.blob.now in
+    let new = g.B.Blob.life c.wait_for_sync.new.blob in
+    let goes = c.in-Ok.ensures in
+    let now = c.new.result in (
+      ready sum c.args.self [] cache old new now (returns-in-Ok-clause-waits g c cache items).goes,
+      subst (λ (v : ItemsState). AreItems sum v cache old → Lasts sum v now old new) c.self.view_is
+          (λ inside. lasts_through sum s [] cache old new c.in-Ok.writer now inside goes.waits.0 c.new.ensures.writer c.new.ensures.size (completed_by_wait sum s.writer.page_size (bytes_of s old) s.writer.sync c.in-Ok.writer.sync old new goes.durable) goes.covers) items,
+    )
 
 left : (g : Over) (c : After-wait_for_sync g) (cache : CacheState) → AreItems g.H.Sum.sum_of c.args.self cache (g.B.Blob.life c.args.blob.now)
     → CallLeaves g.H.Sum.sum_of c.args.self (items_of c.args.self (g.B.Blob.life c.args.blob.now)) cache cache (g.B.Blob.life c.args.blob.now) (g.B.Blob.life c.wait_for_sync.new.blob)

@@ -3,13 +3,12 @@ use Rattle.std.specs.Int.NonZero.{non_zero_usize_get}
 use Rattle.std.proofs.lemmas.Bool.{leb-true}
 use Rattle.std.proofs.lemmas.Result.{err_from_is_err_and}
 use Rattle.std.proofs.Math.Nat.{min-eq_left}
-use Rattle.cache.specs.CacheState.{CacheState}
 use Rattle.paged_read.specs.Replay.{IsReplayOf, ReplayState}
 use Rattle.paged_read.specs.Tail.{size_of}
 use Rattle.items.specs.State.{ItemsReplayState}
-use Rattle.items.specs.Standing.{IsItemsReplay, OnlyReads, ReplaysItems, bytes_along, items_left}
+use Rattle.items.specs.Standing.{IsItemsReplay, OnlyReadsOn, ReplaysItems, bytes_along, items_left}
 use Rattle.items.specs.Readers.{GivesNext, HoldsAlong}
-use Rattle.items.proofs.Standing.{along, only_reads}
+use Rattle.items.proofs.Standing.{along, only_reads_on}
 use Rattle.items.proofs.Readers.{fill_refused, holds_along, gave, had_none, not_there, stays_there}
 use Rattle.items.proofs.replay.ItemsReplay.next.Given.{Over}
 use Rattle.items.proofs.replay.ItemsReplay.next.Goals as goal
@@ -33,10 +32,10 @@ ensure-requires g c =
     record { can = (along sum r old (subst (λ (v : ItemsReplayState). IsItemsReplay sum v old) (sym c.self.view_is) c.requires.replay)).gives.can }
 
 -- what the fill leaves
-left : (g : Over) (c : After-ensure g) (id : ℕ) (cache : CacheState) → OnlyReads g.H.Sum.sum_of id cache cache (g.B.Blob.life c.args.blob.now) (g.B.Blob.life c.ensure.new.blob)
-left g c id cache =
+left : (g : Over) (c : After-ensure g) → OnlyReadsOn g.H.Sum.sum_of (g.B.Blob.life c.args.blob.now) (g.B.Blob.life c.ensure.new.blob)
+left g c =
     let goes = c.ensure.ensures in
-    only_reads g.H.Sum.sum_of id cache cache (g.B.Blob.life c.args.blob.now) (g.B.Blob.life c.ensure.new.blob) goes.looked (λ fresh. fresh) (λ t d apart can. can) (goes.tails cache) goes.others
+    only_reads_on g.H.Sum.sum_of (g.B.Blob.life c.args.blob.now) (g.B.Blob.life c.ensure.new.blob) goes.looked goes.tails goes.others
 
 -- it gives what it gave
 gives : (g : Over) (c : After-ensure g) → IsReplayOf g.H.Sum.sum_of c.ensure.new.self (bytes_along (inside g c) (g.B.Blob.life c.args.blob.now)) (g.B.Blob.life c.ensure.new.blob).present
