@@ -1,14 +1,15 @@
 // The runs of a case.
 use crate::calls::{error_of, may_be_silent};
 use crate::case::Case;
+use crate::item_stage::ItemStage;
 use crate::keep::Keep;
 use crate::line::Row;
 use crate::setting::{Setting, SumName, count_settings, say_setting, setting_of};
 use crate::stage::Stage;
-use crate::subject::{play_all, play_refused, play_refusing};
+use crate::subject::{Tearable, play_all, play_refused, play_refusing};
 use crate::words::{bytes_of, out_of_memory, say_error, words};
 use crc32c::Crc32c;
-use disk::Call;
+use disk::{Call, Error};
 use page::{AddSum, ConstSum, Sum};
 use scripts::parse_number;
 use std::alloc::Global;
@@ -76,31 +77,31 @@ fn compare_fault(alloc: Global, call: &Call, fault: &[u8], told: &mut Vec<u8>) -
     writeln!(told)
 }
 
-fn crash<H: Sum>(alloc: Global, stage: &mut Stage<H>, keep: Keep, number: usize) -> io::Result<()> {
+fn crash<S: Tearable>(alloc: Global, stage: &mut S, keep: Keep, number: usize) -> io::Result<()> {
     if keep == Keep::AtOnce {
         return Ok(());
     }
     let flags = keep.flags(alloc, number)?;
-    match stage.crash(&flags) {
-        Ok(_) => Ok(()),
+    match stage.tear(&flags) {
+        Ok(()) => Ok(()),
         Err(_) => Err(out_of_memory()),
     }
 }
 
 // Lines with a device call that fails. Answers whether they reach it.
-fn play_failing<H: Sum>(
+fn play_failing<S: Tearable>(
     alloc: Global,
-    stage: &mut Stage<H>,
+    stage: &mut S,
     rows: &[Row],
     fails: u32,
     told: &mut Vec<u8>,
 ) -> io::Result<bool> {
-    let mark = stage.device_calls().len();
+    let mark = stage.calls();
     let mut fault = Vec::new(alloc);
     stage.fail_at(u64::from(fails));
     play_refused(alloc, stage, rows, &mut fault)?;
     let at = mark.saturating_add(fails as usize).saturating_sub(1);
-    match stage.device_calls().get(at) {
+    match stage.call_at(at) {
         Some(call) => {
             compare_fault(alloc, call, &fault, told)?;
             Ok(true)
@@ -110,9 +111,9 @@ fn play_failing<H: Sum>(
 }
 
 // The tried lines. Answers whether they reach what is planned for them.
-fn try_lines<H: Sum>(
+fn try_lines<S: Tearable>(
     alloc: Global,
-    stage: &mut Stage<H>,
+    stage: &mut S,
     case: &Case,
     plan: Plan,
     told: &mut Vec<u8>,
@@ -129,9 +130,9 @@ fn try_lines<H: Sum>(
 
 // A crash, and the lines after it: with a call of theirs that fails they are played once more
 // after a further crash. Answers whether that call is reached.
-fn go_on<H: Sum>(
+fn go_on<S: Tearable>(
     alloc: Global,
-    stage: &mut Stage<H>,
+    stage: &mut S,
     case: &Case,
     plan: Plan,
     keep: Keep,
@@ -149,9 +150,9 @@ fn go_on<H: Sum>(
 }
 
 // Answers whether what is planned is reached.
-fn run_on<H: Sum>(
+fn run_on<S: Tearable>(
     alloc: Global,
-    stage: &mut Stage<H>,
+    stage: &mut S,
     case: &Case,
     plan: Plan,
     told: &mut Vec<u8>,
@@ -169,6 +170,19 @@ fn run_on<H: Sum>(
     }
 }
 
+fn run_made<S: Tearable + Drop>(
+    alloc: Global,
+    made: Result<Box<S>, Error>,
+    case: &Case,
+    plan: Plan,
+    told: &mut Vec<u8>,
+) -> io::Result<bool> {
+    match made {
+        Ok(mut stage) => run_on(alloc, &mut *stage, case, plan, told),
+        Err(_) => Err(out_of_memory()),
+    }
+}
+
 fn run_under<H: Sum>(
     alloc: Global,
     case: &Case,
@@ -177,9 +191,15 @@ fn run_under<H: Sum>(
     told: &mut Vec<u8>,
 ) -> io::Result<bool> {
     let blob = bytes_of(alloc, &case.blob)?;
-    match Stage::<H>::new(alloc, setting, &blob) {
-        Ok(mut stage) => run_on(alloc, &mut stage, case, plan, told),
-        Err(_) => Err(out_of_memory()),
+    match setting.item_size {
+        Some(size) => {
+            let made = ItemStage::<H>::new(alloc, setting, size, &blob);
+            run_made(alloc, made, case, plan, told)
+        }
+        None => {
+            let made = Stage::<H>::new(alloc, setting, &blob);
+            run_made(alloc, made, case, plan, told)
+        }
     }
 }
 
@@ -336,8 +356,8 @@ fn run_setting(
     Ok(runs.saturating_add(1))
 }
 
-/// Plays a case of a session in each of its ways, writes each difference, and answers how many runs
-/// that were.
+/// Plays a case of a session or of items in each of its ways, writes each difference, and answers
+/// how many runs that were.
 pub fn play_session(
     alloc: Global,
     case: &Case,

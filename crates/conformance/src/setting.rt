@@ -48,6 +48,8 @@ pub struct Setting {
     pub sum: SumName,
     /// Whether a read of several ranges delivers the last one first.
     pub backwards: bool,
+    /// The bytes of an item, where it is run over items.
+    pub item_size: Option<NonZeroUsize>,
 }
 
 fn number(word: &[u8]) -> Option<u64> {
@@ -86,6 +88,16 @@ fn pick<'a>(words: &'a [u8], index: &mut usize) -> Option<&'a [u8]> {
 pub fn setting_of(words: &[&[u8]], number_of_it: usize) -> Option<Setting> {
     let mut index = number_of_it;
     match words {
+        [kind, page_size, capacity, pages, sum, size, order @ ..] if *kind == b"items".as_slice() =>
+            {
+                let order = order.first().copied().unwrap_or(b"forward");
+                let setting = read_setting(page_size, capacity, pages, sum, order, &mut index)?;
+                let size = NonZeroUsize::new(number(pick(size, &mut index)?)? as usize)?;
+                Some(Setting {
+                    item_size: Some(size),
+                    ..setting
+                })
+            }
         [page_size, capacity, pages, sum] => {
             read_setting(page_size, capacity, pages, sum, b"forward", &mut index)
         }
@@ -116,6 +128,7 @@ fn read_setting(
         pages,
         sum,
         backwards,
+        item_size: None,
     })
 }
 
@@ -135,5 +148,9 @@ pub fn say_setting(setting: Setting, told: &mut Vec<u8>) -> io::Result<()> {
     } else {
         "forward"
     };
-    write!(told, ", sum {}, {order}", name_of(setting.sum))
+    write!(told, ", sum {}, {order}", name_of(setting.sum))?;
+    match setting.item_size {
+        Some(size) => write!(told, ", items of {size}"),
+        None => Ok(()),
+    }
 }

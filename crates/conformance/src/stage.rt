@@ -1,5 +1,6 @@
 // What a case runs over.
 use crate::setting::Setting;
+use crate::subject::Tearable;
 use cache::CacheRef;
 use disk::{Blob, Call, Error, MemBlob};
 use page::Sum;
@@ -142,11 +143,6 @@ impl<H: Sum> Stage<H> {
         Ok(self.blob.len())
     }
 
-    /// The nth device call from now on is to fail, the next one at least.
-    pub fn fail_at(&mut self, n: u64) {
-        self.blob.fail_at(n.max(1));
-    }
-
     /// The length of the content; 0 where there is no writer.
     pub fn size(&self) -> u64 {
         self.session.size().unwrap_or(0)
@@ -175,5 +171,19 @@ impl<H: Sum> Stage<H> {
     /// Whether the cache holds a page of the blob under this id.
     pub fn holds(&self, id: u64, page: u64) -> bool {
         self.cache.holds(id, page)
+    }
+}
+
+impl<H: Sum> Tearable for Stage<H> {
+    fn call_at(&self, index: usize) -> Option<&Call> {
+        self.blob.calls().get(index)
+    }
+
+    fn fail_at(&mut self, n: u64) {
+        self.blob.fail_at(n.max(1));
+    }
+
+    fn tear(&mut self, keep: &[bool]) -> Result<(), Error> {
+        self.session.crash(&mut self.blob, keep)
     }
 }

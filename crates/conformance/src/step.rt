@@ -5,7 +5,7 @@ use crate::forms::{Arguments, Form, read_step};
 use crate::hostile::try_hostile;
 use crate::line::Row;
 use crate::stage::Stage;
-use crate::subject::Subject;
+use crate::subject::{Subject, Tearable};
 use crate::words::{
     buffer_size, out_of_memory, say, say_done, say_error, say_size, say_whether, unreadable,
 };
@@ -142,7 +142,8 @@ fn holds<H: Sum>(
     }
 }
 
-fn is_between(bytes: &[u8], floor: &[u8], whole: Option<&[u8]>) -> bool {
+/// Whether bytes begin with the floor, and are the beginning of the whole, if that is told.
+pub fn is_between(bytes: &[u8], floor: &[u8], whole: Option<&[u8]>) -> bool {
     let below = match whole {
         Some(whole) => whole.starts_with(bytes),
         None => true,

@@ -2,6 +2,7 @@
 use crate::line::Row;
 use crate::refuse::{refuse, was_refused};
 use crate::words::is_refusal;
+use disk::{Call, Error};
 use std::alloc::Global;
 use std::io;
 use std::io::{ErrorKind, Write};
@@ -25,6 +26,18 @@ pub trait Subject {
     fn say_calls(&self, _first: usize, said: &mut Vec<u8>) -> io::Result<()> {
         write!(said, "none")
     }
+}
+
+/// A subject over a blob in memory, whose device calls can be made to fail and which can crash.
+pub trait Tearable: Subject {
+    /// The device call of this index, across crashes, if there were so many.
+    fn call_at(&self, index: usize) -> Option<&Call>;
+
+    /// The nth device call from now on is to fail, the next one at least.
+    fn fail_at(&mut self, n: u64);
+
+    /// Crashes, with these flags for what isn't durable. Nothing is open then.
+    fn tear(&mut self, keep: &[bool]) -> Result<(), Error>;
 }
 
 // Plays the step of a line. Where it can't be read, that is what it answers.

@@ -4,8 +4,8 @@ ghost use Rattle.std.specs.Int.{to_be_bytes, w32, w64};
 ghost use Rattle.std.specs.Int.NonZero.{non_zero_usize_get};
 ghost use Rattle.cache.specs.Pages.{IsFresh};
 ghost use Rattle.disk.specs.History.{life_of};
-ghost use Rattle.items.specs.Calls.{AllDurable};
-ghost use Rattle.items.specs.Standing.{AreItems, count, items_of};
+ghost use Rattle.items.specs.Calls.{AllDurable, Lasts};
+ghost use Rattle.items.specs.Standing.{AreItems, AreReady, count, items_of};
 ghost use Rattle.items.specs.State.{ItemsState};
 
 use crate::calls::{CAPACITY, new_cache};
@@ -113,11 +113,12 @@ fn note<B: Blob, H: Sum>(
     requires ready { AreItems H.sum_of readings cache.old (B.life blob.old) }
     requires size { readings.size ≡ 12 }
     ensures ready { IfOk result (λ r.
-        AreItems H.sum_of r.0 cache.new (B.life blob.new) × (r.0.size ≡ 12)) }
+        AreReady H.sum_of r.0 cache.new (B.life blob.new) × (r.0.size ≡ 12)) }
     ensures at { IfOk result (λ r. r.1 ≡ count readings) }
-    ensures added { let old = B.life blob.old in let new = B.life blob.new in
-        let item = to_be_bytes w64 reading.now.time ++ to_be_bytes w32 reading.now.pressure in
-        IfOk result (λ r. items_of r.0 new ≡ items_of readings old ++ item ∷ []) }
+    ensures there { let item = to_be_bytes w64 reading.now.time ++ to_be_bytes w32 reading.now.pressure in
+        IfOk result (λ r. slice_get (items_of r.0 (B.life blob.new)) r.1 ≡ Some item) }
+    ensures lasts { let old = B.life blob.old in let new = B.life blob.new in
+        IfOk result (λ r. Lasts H.sum_of readings r.0 old new) }
 {
     if let Some(i) = readings.try_push_value(reading)? {
         return Ok((readings, i));
@@ -141,8 +142,7 @@ fn reading_at<B: Blob, H: Sum>(
     Ok(Reading::from_bytes(&bytes))
 }
 
-/// Pushes a reading, and reads the item that has its number: of the readings that there were, and
-/// this one after them.
+/// Pushes a reading, and reads it by its number: its bytes come back.
 fn note_and_get<B: Blob, H: Sum>(
     readings: Items<B, H>,
     blob: &mut B,
@@ -152,10 +152,9 @@ fn note_and_get<B: Blob, H: Sum>(
     requires ready { AreItems H.sum_of readings cache.old (B.life blob.old) }
     requires size { readings.size ≡ 12 }
     ensures ready { IfOk result (λ r.
-        AreItems H.sum_of r.0 cache.new (B.life blob.new) × (r.0.size ≡ 12)) }
+        AreReady H.sum_of r.0 cache.new (B.life blob.new) × (r.0.size ≡ 12)) }
     ensures got { let item = to_be_bytes w64 reading.now.time ++ to_be_bytes w32 reading.now.pressure in
-        let all = items_of readings (B.life blob.old) ++ item ∷ [] in
-        IfOk result (λ r. slice_get all (count readings) ≡ Some r.1) }
+        IfOk result (λ r. r.1 ≡ item) }
 {
     let (readings, i) = note(readings, blob, cache, reading)?;
     let mut bytes = [0; 12];

@@ -106,15 +106,16 @@ lasts sum s more cache old new w now items goes_on is size done covers =
     let held = bytes_of s old in
     let stays = through_end (Stays sum P (held ++ more) old.present) old new goes.stays in
     let up : (n : ℕ) → AreDurable sum P s.size held n new.present → AreDurable sum now.writer.page_size now.size (bytes_of now new) n new.present =
-    λ n durable. carried (λ p k l. AreDurable sum p k l n new.present) s now (held ++ more) new goes.same.page_size size goes.content (durable_longer sum P s.size held more n new.present some durable) in (
-      λ n durable.
+    λ n durable. carried (λ p k l. AreDurable sum p k l n new.present) s now (held ++ more) new goes.same.page_size size goes.content (durable_longer sum P s.size held more n new.present some durable) in
+    record {
+      durable = λ n durable.
           let longer = durable_longer sum P s.size held more n old.present some durable in
-          carried (λ p k l. AreDurable sum p k l n new.present) s now (held ++ more) new goes.same.page_size size goes.content (durable_of sum P s.size (held ++ more) n new.present some longer.within (stays.kept (n * s.size) longer.within longer.bytes)),
-      λ n name would.
+          carried (λ p k l. AreDurable sum p k l n new.present) s now (held ++ more) new goes.same.page_size size goes.content (durable_of sum P s.size (held ++ more) n new.present some longer.within (stays.kept (n * s.size) longer.within longer.bytes));
+      started = λ n name would.
           let still : WouldBeDurable sum P s.size held n name new.present = record { within = would.within; keeps = covers name (n * s.size) would.within would.keeps } in
-          carried (λ p k l. WouldBeDurable sum p k l n name new.present) s now (held ++ more) new goes.same.page_size size goes.content (would_longer sum P s.size held more n name new.present still),
-      completes sum s now s.writer.sync old new some up (subst (λ (v : WriterState). Completed sum P held s.writer.sync v.sync old new) (sym is) done),
-    )
+          carried (λ p k l. WouldBeDurable sum p k l n name new.present) s now (held ++ more) new goes.same.page_size size goes.content (would_longer sum P s.size held more n name new.present still);
+      completed = completes sum s now s.writer.sync old new some up (subst (λ (v : WriterState). Completed sum P held s.writer.sync v.sync old new) (sym is) done);
+    }
 
 -- by a call that was told to have done so at each moment
 pub lasts_through : (sum : List ℕ → ℕ) (s : ItemsState) (more : List ℕ) (cache : CacheState) (old new : Life) (w : WriterState) (now : ItemsState) → AreItems sum s cache old → GoesOn sum s.writer old more w new → now.writer ≡ w → now.size ≡ s.size
@@ -129,7 +130,7 @@ none_completes sum s now (Pending name) life same = λ apart. absurd (apart same
 
 lasts_same : (sum : List ℕ → ℕ) (s now : ItemsState) (life : Life) → now ≡ s → Lasts sum s now life life
 lasts_same sum s now life same =
-    subst (λ (t : ItemsState). Lasts sum s t life life) (sym same) (λ n durable. durable, λ n name would. would, none_completes sum s s s.writer.sync life refl)
+    subst (λ (t : ItemsState). Lasts sum s t life life) (sym same) (record { durable = λ n durable. durable; started = λ n name would. would; completed = none_completes sum s s s.writer.sync life refl })
 
 -- ---- what a client hands on
 

@@ -59,14 +59,14 @@ GoReady sum s now after new =
 
 -- what lasts over a call: what was durable of the items before, or would be once a sync completed,
 -- is or would be of the items now; and a sync that was waited for has completed
-abbrev pub Lasts : (List ℕ → ℕ) → ItemsState → ItemsState → Life → Life → Type 0
-Lasts sum s now old new =
-    ((n : ℕ) → AreDurable sum s.writer.page_size s.size (bytes_of s old) n old.present
-    → AreDurable sum now.writer.page_size now.size (bytes_of now new) n new.present)
-    × ((n name : ℕ)
-    → WouldBeDurable sum s.writer.page_size s.size (bytes_of s old) n name old.present
-    → WouldBeDurable sum now.writer.page_size now.size (bytes_of now new) n name new.present)
-    × CompletesItems sum s now s.writer.sync old new
+pub record Lasts (sum : List ℕ → ℕ) (s now : ItemsState) (old new : Life) : Type 0 where
+  pub durable : (n : ℕ)
+      → AreDurable sum s.writer.page_size s.size (bytes_of s old) n old.present
+      → AreDurable sum now.writer.page_size now.size (bytes_of now new) n new.present
+  pub started : (n name : ℕ)
+      → WouldBeDurable sum s.writer.page_size s.size (bytes_of s old) n name old.present
+      → WouldBeDurable sum now.writer.page_size now.size (bytes_of now new) n name new.present
+  pub completed : CompletesItems sum s now s.writer.sync old new
 
 -- an item was pushed: under this number, after those that there were
 pub record IsPushed (sum : List ℕ → ℕ) (s : ItemsState) (item : List ℕ) (after : CacheState)

@@ -1,5 +1,6 @@
 // Runs of items.
 ghost use Rattle.std.specs.Prelude.{◌≡◌, ◌++◌, None, Some, IsOkUnless, OnErr, OnOk};
+ghost use Rattle.cache.specs.Pages.{IsFresh};
 ghost use Rattle.items.specs.Run.{DidItem, GotItem, IsOpen, PushedItem, SyncedItems};
 ghost use Rattle.items.specs.Run.{GivesItem, Ran, TellsLength};
 ghost use Rattle.items.specs.Standing.{AreItems, CallLeaves, items_of};
@@ -204,6 +205,7 @@ pub fn run_items<B: Blob, H: Sum>(
         OnOk result (Ran H.sum_of steps.now session.old session.new cache.old cache.new old new
         replies.old.items replies.new.items) }
     ensures err { IsOkUnless result Error.OutOfMemory }
+    ensures fresh { IsFresh cache.new }
 
     // Where room is refused.
     ensures same_session { OnErr result (session.new ≡ session.old) }

@@ -2,7 +2,7 @@ use Rattle.std.proofs.Common.{rules, ◌≡◌, ◌+◌, List, [], ◌∷◌, �
 use Rattle.std.proofs.lemmas.List.{take_more}
 use Rattle.items.specs.declared.run.ItemStep.{ItemStep}
 use Rattle.items.specs.Run.{Ran}
-use Rattle.items.proofs.Runs.{ran_none, ran_more, opened}
+use Rattle.items.proofs.Runs.{fresh_in, opened, ran_more, ran_none}
 use Rattle.items.proofs.run.run_items.Goals as goal
 
 pub loop-step-init : goal.loop-step-init
@@ -29,3 +29,9 @@ loop-step-preserved g c =
           (ran_more sum before c.step-item.result c.step-reply.result c.args.session.now c.loop-step.session c.step-reply.new.self c.args.cache.now c.loop-step.cache c.step-reply.new.cache old between new c.try_reserve.new.self.items c.loop-step.replies.items c.push_reserved.new.self.items
           c.loop-step.invariant.ran c.step-reply.ensures.did c.push_reserved.ensures.items);
     }
+
+pub returns-clause-fresh : goal.returns-clause-fresh
+returns-clause-fresh g c = fresh_in g.H.Sum.sum_of c.loop-step.session c.loop-step.cache (g.B.Blob.life c.loop-step.blob) c.loop-step.invariant.stands
+
+pub returns-in_err-try_reserve-clause-fresh : goal.returns-in_err-try_reserve-clause-fresh
+returns-in_err-try_reserve-clause-fresh g c = fresh_in g.H.Sum.sum_of c.args.session.now c.args.cache.now (g.B.Blob.life c.args.blob.now) c.requires.open

@@ -1,0 +1,28 @@
+-- What a case of items runs over, between two of its lines.
+use Rattle.std.specs.Prelude.{◌≡◌, ◌≤◌, ℕ, List, Option, IfSome}
+use Rattle.disk.specs.Disk.{Life}
+use Rattle.cache.specs.CacheState.{CacheState}
+use Rattle.cache.specs.Pages.{IsFresh}
+use Rattle.items.specs.State.{ItemsState, ItemsReplayState, ItemsSnapshotState}
+use Rattle.items.specs.Standing.{AreItems, IsItemsReplay, IsItemsSnapshot}
+
+-- the snapshot's full pages are not past those of the items
+abbrev pub IsBelow : ItemsState → ItemsSnapshotState → Type 0
+IsBelow s r = r.tail.full_pages ≤ s.writer.full_pages
+
+-- nor are the replay's, whose pages have the same size
+abbrev pub IsAlong : ItemsState → ItemsReplayState → Type 0
+IsAlong s r =
+    (r.replay.tail.page_size ≡ s.writer.page_size)
+    × (r.replay.tail.full_pages ≤ s.writer.full_pages)
+
+-- the items, the snapshot and the replay are such, where they are there; the cache serves on
+pub record AreSet (sum : List ℕ → ℕ) (items : Option ItemsState)
+    (snapshot : Option ItemsSnapshotState) (replay : Option ItemsReplayState) (cache : CacheState)
+    (life : Life) : Type 0 where
+  pub fresh : IsFresh cache
+  pub stand : IfSome items (λ s. AreItems sum s cache life)
+  pub sealed : IfSome snapshot (λ r. IsItemsSnapshot sum r cache life)
+  pub replays : IfSome replay (λ r. IsItemsReplay sum r life)
+  pub below : IfSome items (λ s. IfSome snapshot (IsBelow s))
+  pub along : IfSome items (λ s. IfSome replay (IsAlong s))
