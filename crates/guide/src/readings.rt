@@ -115,7 +115,8 @@ fn note<B: Blob, H: Sum>(
     ensures ready { IfOk result (λ r.
         AreReady H.sum_of r.0 cache.new (B.life blob.new) × (r.0.size ≡ 12)) }
     ensures at { IfOk result (λ r. r.1 ≡ count readings) }
-    ensures there { let item = to_be_bytes w64 reading.now.time ++ to_be_bytes w32 reading.now.pressure in
+    ensures there { let noted = reading.now in
+        let item = to_be_bytes w64 noted.time ++ to_be_bytes w32 noted.pressure in
         IfOk result (λ r. slice_get (items_of r.0 (B.life blob.new)) r.1 ≡ Some item) }
     ensures lasts { let old = B.life blob.old in let new = B.life blob.new in
         IfOk result (λ r. Lasts H.sum_of readings r.0 old new) }
@@ -153,7 +154,8 @@ fn note_and_get<B: Blob, H: Sum>(
     requires size { readings.size ≡ 12 }
     ensures ready { IfOk result (λ r.
         AreReady H.sum_of r.0 cache.new (B.life blob.new) × (r.0.size ≡ 12)) }
-    ensures got { let item = to_be_bytes w64 reading.now.time ++ to_be_bytes w32 reading.now.pressure in
+    ensures got { let noted = reading.now in
+        let item = to_be_bytes w64 noted.time ++ to_be_bytes w32 noted.pressure in
         IfOk result (λ r. r.1 ≡ item) }
 {
     let (readings, i) = note(readings, blob, cache, reading)?;
