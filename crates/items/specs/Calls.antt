@@ -1,7 +1,7 @@
 -- What the calls of items do.
-use Rattle.std.specs.Prelude.{◌≡◌, ◌≢◌, ◌≤◌, ◌<◌, ◌+◌, ◌*◌, ◌/◌, ◌^◌, ◌++◌, ℕ, List, [], ◌∷◌, length}
-use Rattle.std.specs.Prelude.{take, map, slice_get, get_or, All, Option, Some, None, Result, Ok, Err}
-use Rattle.std.specs.Prelude.{Bool, Vec}
+use Rattle.std.specs.Prelude.{◌≡◌, ◌≢◌, ◌≤◌, ◌<◌, ◌+◌, ◌*◌, ◌/◌, ◌^◌, ◌++◌, ℕ, List, [], ◌∷◌}
+use Rattle.std.specs.Prelude.{length, take, map, slice_get, get_or, All, Option, Some, None, Result}
+use Rattle.std.specs.Prelude.{Ok, Err, Bool, Vec}
 use Rattle.std.specs.List.{flat_map}
 use Rattle.std.specs.declared.alloc.Global.{Global}
 use Rattle.disk.specs.declared.started_sync.StartedSync.{StartedSync}
@@ -32,8 +32,8 @@ use Rattle.items.specs.Standing.{items_of}
 
 -- where items wait no more for the sync that they waited for, whichever call waited, what it covers
 -- of them is durable
-abbrev pub CompletesItems : (List ℕ → ℕ) → (s now : ItemsState) → (pending : SyncState) → Life → Life
-    → Type 0
+abbrev pub CompletesItems : (List ℕ → ℕ) → (s now : ItemsState) → (pending : SyncState) → Life
+    → Life → Type 0
 CompletesItems sum s now Clean old new = Unit {0}
 CompletesItems sum s now Dirty old new = Unit {0}
 CompletesItems sum s now (Pending name) old new =
@@ -169,11 +169,13 @@ pub record HasRecovered (sum : List ℕ → ℕ) (s : ℕ) (cache after : CacheS
 -- a recovery is refused as that of a blob is
 abbrev pub RecoversItems : (List ℕ → ℕ) → (s : ℕ) → (cache after : CacheState) → (capacity : ℕ)
     → Life → Life → Result ItemsState Error → Type 0
-RecoversItems sum s cache after capacity old new (Ok now) = HasRecovered sum s cache after old new now
-RecoversItems sum s cache after capacity old new (Err e) = Recovers sum cache capacity old new (Err e)
+RecoversItems sum s cache after capacity old new (Ok now) =
+    HasRecovered sum s cache after old new now
+RecoversItems sum s cache after capacity old new (Err e) =
+    Recovers sum cache capacity old new (Err e)
 
--- a blob in memory crashed, which kept what these flags say, and its items were recovered; memory may
--- be refused as it crashes
+-- a blob in memory crashed, which kept what these flags say, and its items were recovered; memory
+-- may be refused as it crashes
 abbrev pub CrashesAndRecovers : (List ℕ → ℕ) → (s : ℕ) → (cache after : CacheState)
     → (capacity : ℕ) → List Bool → Life → Life → Result ItemsState Error → Type 0
 CrashesAndRecovers sum s cache after capacity keep old new (Ok now) =

@@ -61,7 +61,8 @@ KeepsItems sum P s old new =
     (content : List ℕ) (n : ℕ) → AreDurable sum P s content n old.present
     → Through (AreDurable sum P s content n) old new
 
--- what a started sync would make durable of a content as a call began, it would at each moment since
+-- what a started sync would make durable of a content as a call began, it would at each moment
+-- since
 abbrev pub KeepsStarted : (List ℕ → ℕ) → (P s : ℕ) → List ℕ → Life → Life → Type 0
 KeepsStarted sum P s content old new =
     (n name : ℕ) → WouldBeDurable sum P s content n name old.present

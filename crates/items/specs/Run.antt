@@ -14,8 +14,8 @@ use Rattle.items.specs.Calls.{AreSynced, GetsItem, IsPushed, Pushes}
 use Rattle.items.specs.declared.run.ItemStep.{ItemStep}
 use Rattle.items.specs.declared.run.ItemStep.TheVariants.{Push, Get, Len, Sync}
 use Rattle.items.specs.declared.run.ItemReply.{ItemReply}
-use Rattle.items.specs.declared.run.ItemReply.TheVariants.{Item, BadItem, Bytes, Length, Done, Fault}
-use Rattle.items.specs.declared.run.ItemReply.TheVariants.{Closed}
+use Rattle.items.specs.declared.run.ItemReply.TheVariants.{Item, BadItem, Bytes, Length, Done}
+use Rattle.items.specs.declared.run.ItemReply.TheVariants.{Fault, Closed}
 
 -- a session between two steps: its items are such, or it has none, and the cache serves on
 abbrev pub IsOpen : (List ℕ → ℕ) → Option ItemsState → CacheState → Life → Type 0
@@ -23,8 +23,8 @@ IsOpen sum None cache life = IsFresh cache
 IsOpen sum (Some s) cache life = AreItems sum s cache life
 
 -- what a step leaves, whatever its reply: what a call does that pushes these items, or nothing new
-abbrev pub StepLeaves : (List ℕ → ℕ) → Option ItemsState → List (List ℕ) → (cache after : CacheState)
-    → Life → Life → Type 0
+abbrev pub StepLeaves : (List ℕ → ℕ) → Option ItemsState → List (List ℕ)
+    → (cache after : CacheState) → Life → Life → Type 0
 StepLeaves sum None more cache after old new = (after ≡ cache) × (new ≡ old)
 StepLeaves sum (Some s) more cache after old new =
     CallLeaves sum s (items_of s old ++ more) cache after old new
@@ -59,7 +59,8 @@ SaysPushed sum item (Some s) now after old new _ = ⊥
 abbrev pub PushedItem : (List ℕ → ℕ) → List ℕ → (was now : Option ItemsState)
     → (cache after : CacheState) → Life → Life → ItemReply → Type 0
 PushedItem sum item was now cache after old new reply =
-    Did sum was now (item ∷ []) cache after old new (SaysPushed sum item was now after old new reply)
+    Did sum was now (item ∷ []) cache after old new
+    (SaysPushed sum item was now after old new reply)
 
 -- the bytes of an item, or why there are none
 abbrev pub GivesItem : ItemsState → (i : ℕ) → Life → Life → Result (Vec ℕ Global) Error → Type 0
@@ -105,7 +106,8 @@ abbrev pub DidItem : (List ℕ → ℕ) → ItemStep → (was now : Option Items
     → (cache after : CacheState) → Life → Life → ItemReply → Type 0
 DidItem sum (Push item) was now cache after old new reply =
     PushedItem sum item.items was now cache after old new reply
-DidItem sum (Get i) was now cache after old new reply = GotItem sum i was now cache after old new reply
+DidItem sum (Get i) was now cache after old new reply =
+    GotItem sum i was now cache after old new reply
 DidItem sum Len was now cache after old new reply =
     Did sum was now [] cache after old new ((now ≡ was) × (new ≡ old) × TellsLength was reply)
 DidItem sum Sync was now cache after old new reply =
@@ -127,8 +129,8 @@ abbrev pub HasSizes : (P s : ℕ) → Option ItemsState → Type 0
 HasSizes P s None = Unit {0}
 HasSizes P s (Some t) = (t.writer.page_size ≡ P) × (t.size ≡ s)
 
--- a run stands at a moment after so many of its steps: what these did, and that from then on what is
--- durable is so at each moment up to the run's end
+-- a run stands at a moment after so many of its steps: what these did, and that from then on what
+-- is durable is so at each moment up to the run's end
 pub record Stop (sum : List ℕ → ℕ) (steps : List ItemStep) (replies : List ItemReply)
     (was now : Option ItemsState) (cache : CacheState) (old new : Life) (taken : ℕ) : Type 0 where
   pub mid : Option ItemsState

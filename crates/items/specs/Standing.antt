@@ -229,7 +229,8 @@ pub record OnlyReadsOn (sum : List ℕ → ℕ) (old new : Life) : Type 0 where
   pub looked : Looked old new
   pub items : (s : ItemsState) (cache : CacheState) → AreItems sum s cache old
       → AreItems sum s cache new × (bytes_of s new ≡ bytes_of s old)
-  pub snapshots : (r : ItemsSnapshotState) (cache : CacheState) → StaysOver sum r cache cache old new
+  pub snapshots : (r : ItemsSnapshotState) (cache : CacheState)
+      → StaysOver sum r cache cache old new
   pub replays : AllReplaysStay sum old new
   pub kept : (P s : ℕ) → 0 < s → KeepsItems sum P s old new
   pub started : (s : ItemsState) (cache : CacheState) → AreItems sum s cache old

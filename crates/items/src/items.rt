@@ -272,7 +272,8 @@ impl<B: Blob, H: Sum> Items<B, H> {
         ensures leaves { let old = B.life blob.old in let new = B.life blob.new in
             (cache : CacheState) → AreItems H.sum_of self cache old
             → CallLeaves H.sum_of self (items_of self old) cache cache old new }
-        ensures costs { AsksAtMost (wait_calls self.writer.sync) (B.life blob.old) (B.life blob.new) }
+        ensures costs { let old = B.life blob.old in let new = B.life blob.new in
+            AsksAtMost (wait_calls self.writer.sync) old new }
     {
         let (alloc, size) = (self.alloc, self.size);
         match self.writer.wait_for_sync(blob) {
