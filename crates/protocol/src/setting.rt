@@ -1,7 +1,9 @@
 // How a blob is served.
 use std::num::{NonZeroU16, NonZeroUsize};
 
-/// How a blob is served. The default is what `pagedd` does where it is told nothing else.
+/// How a blob is served. The default has the sizes that `pagedd` has where it is told nothing else,
+/// and lets a recovery give up 4,096 physical bytes: `pagedd` itself looks at the file first, and
+/// computes from it what may go.
 #[derive(Clone, Copy, Debug)]
 pub struct Setting {
     /// The logical bytes of a page.
