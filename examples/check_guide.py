@@ -2,7 +2,8 @@
 
 README.md and docs/GUIDE.md: each block of code that follows a line `In FILE:` must stand in that file, word for word,
 at whatever indentation. README.md and docs/CONTRACTS.md: each clause must stand in a file of crates/*/src, except for
-the short names that docs/CONTRACTS.md introduces at its beginning. docs/GUIDE.md: each line of crates.txt that it
+the short names that docs/CONTRACTS.md introduces at its beginning. And each clause of each public call of the crates in
+WHOLE must stand in docs/CONTRACTS.md. docs/GUIDE.md: each line of crates.txt that it
 quotes must stand there, except that of the crate `mine`. docs/DEFINITIONS.md: each word must stand in a file of
 crates/. In every page each link, and each path below crates/, docs/ or examples/, must be there. README.md and
 docs/PROTOCOL.md must have the same table of exit statuses. It prints what isn't so, and ends with status 1 then.
@@ -31,6 +32,9 @@ SHORT = [
     ("let P = non_zero_u16_get page_size in", ""),
     ("let w = self.now in let P = w.page_size in", "let w = self.now in"),
 ]
+
+# The crates whose public calls the page of contracts has with all their clauses.
+WHOLE = ["paged", "session", "journal", "items"]
 
 
 def read(path):
@@ -98,6 +102,28 @@ def wrong_clauses(pages):
     return [f"in no source: {clause}" for clause in quoted if clause not in source], len(quoted)
 
 
+def public_calls(crate):
+    """The clauses of each public call of a crate: each with the call's name."""
+    library = read(f"crates/{crate}/src/lib.rt")
+    exported = set(re.findall(r"\w+", " ".join(re.findall(r"^pub use [^;]*;", library, re.M))))
+    calls = []
+    for path in sources(f"{crate}/src/**/*.rt"):
+        for part in re.split(r"^(?=impl\b|pub fn )", read(path), flags=re.M)[1:]:
+            owner = re.match(r"impl(?:<[^>]*>)? (\w+)|pub fn (\w+)", part)
+            if owner and (owner[1] or owner[2]) in exported:
+                for call in re.finditer(r"^ *pub fn (\w+).*?^ *\{$", part, re.M | re.S):
+                    calls.append((f"{crate}: {call[1]}", clauses(call[0])))
+    return calls
+
+
+def missing_clauses(page):
+    """The clauses of public calls that a page lacks, and how many calls there are."""
+    quoted = set(clauses("".join(re.findall(r"^    .*\n", read(page), re.M))))
+    calls = [call for crate in WHOLE for call in public_calls(crate)]
+    wrong = [f"not in {page}: {name}: {clause}" for name, found in calls for clause in found if clause not in quoted]
+    return wrong, len(calls)
+
+
 def wrong_crates(page):
     """The lines of crates.txt that a page quotes and that don't stand there, and how many it quotes."""
     quoted = re.findall(r"^    (?!mine:)([a-z_0-9]+:(?: [a-z_0-9]+)+)$", read(page), re.M)
@@ -141,6 +167,7 @@ def main():
     found = {
         "snippets": wrong_code(["README.md", "docs/GUIDE.md"]),
         "clauses": wrong_clauses(["README.md", "docs/CONTRACTS.md"]),
+        "public calls": missing_clauses("docs/CONTRACTS.md"),
         "crates": wrong_crates("docs/GUIDE.md"),
         "words": wrong_words("docs/DEFINITIONS.md"),
         "links and paths": wrong_places(pages),
