@@ -18,4 +18,8 @@ pub mod WholeLaws
 pub mod RunLaws
 pub mod PromiseLaws
 pub mod Examples
+pub mod ComesBackExamples
+pub mod PromiseExamples
+pub mod GivesBackExamples
+pub mod RefusedExamples
 pub mod Joined
