@@ -22,4 +22,5 @@ pub mod ComesBackExamples
 pub mod PromiseExamples
 pub mod GivesBackExamples
 pub mod RefusedExamples
+pub mod StandingExamples
 pub mod Joined

@@ -1,0 +1,264 @@
+-- Examples of the parts of a standing, of the bytes that a read answers, and of the causes of an error. The writer of `six_stand` has
+-- "abcdef", of which "ef" is buffered, of eight bytes.
+use Rattle.std.proofs.Common.{lit<, ◌≡◌, ◌⊎◌, ◌+◌, ◌<◌, ℕ, zero, suc, Vec, List, [], ◌∷◌, ◌++◌, length, take, drop, refl, sym, ap, inl, inr, arith, true, false}
+use Rattle.std.specs.Prelude.{Some, None, get_or}
+use Rattle.std.specs.declared.alloc.Global.{Global}
+use Rattle.std.proofs.lemmas.Bool.{false≢true}
+use Rattle.disk.specs.Disk.{Disk, failed_at}
+use Rattle.disk.specs.declared.error.Error.TheVariants.{WriteFailed, OutOfMemory}
+use Rattle.page.specs.Geometry.{EndWithin}
+use Rattle.page.specs.Sums.{add_sum}
+use Rattle.writer_state.specs.declared.sync_state.SyncState.TheVariants.{Clean, Dirty, Pending}
+use Rattle.writer_state.proofs.Examples.{durable, six, seven, flush_started, all_is_covered, rewritten}
+use Rattle.paged_read.specs.Tail.{Tail}
+use Rattle.paged_read.specs.Replay.{ReplayState, new_replay}
+use Rattle.session.specs.declared.steps.Step.TheVariants.{Append, Sync, Read, Truncate}
+use Rattle.session.specs.declared.steps.Reply.TheVariants.{Closed, NotAppending}
+use Rattle.session.specs.Run.{Replayed, Standing, has_room, written_after, moved, forgetting, raised_floor, lowered, has_name, numbered, has_snapshot, has_replay, replay_size, in_order_from, unless_appending, replaying, ended}
+use Rattle.session.specs.Run.{Slices, SlicesUpTo, SlicesAll, NumbersSome, HasFetched, HasCompleted, Overflows, HadFailed, HadNoRoom, content_after, other_content, AllCover, pending_in, WriterFits, replayed}
+use Rattle.session.specs.Promise.{fresh}
+use Rattle.session.proofs.Examples.{six_stand, none_synced, six_started}
+use Rattle.session.proofs.ComesBackExamples.{ab, saved, ab_writer}
+use Rattle.session.proofs.PromiseExamples.{ab_writer_stands}
+use Rattle.session.proofs.RefusedExamples.{started, complete}
+
+-- ---- the buffer
+
+pub six_bytes_more_fit : has_room six_stand 6 ≡ true
+six_bytes_more_fit = refl
+
+pub seven_do_not : has_room six_stand 7 ≡ false
+seven_do_not = refl
+
+pub no_byte_leaves_all_written : written_after [] true ≡ true
+no_byte_leaves_all_written = refl
+
+pub a_byte_does_not : written_after (103 ∷ []) true ≡ false
+a_byte_does_not = refl
+
+-- ---- floors, and what started syncs cover
+
+-- a started sync raises the floor once it is complete, and not before
+pub a_complete_sync_raises_it : raised_floor complete ((0, 2) ∷ []) 0 ≡ 2
+a_complete_sync_raises_it = refl
+
+pub a_started_one_does_not : raised_floor started ((0, 2) ∷ []) 0 ≡ 0
+a_started_one_does_not = refl
+
+-- it never falls by one
+pub it_does_not_fall : raised_floor complete ((0, 2) ∷ []) 5 ≡ 5
+it_does_not_fall = refl
+
+-- a cut lowers it, and what is covered, to what is left
+pub a_cut_lowers_both : lowered 4 (record six_started { floor = 6 }) ≡ record six_started { floor = 4; covers = (0, 4) ∷ [] }
+a_cut_lowers_both = refl
+
+pub a_cut_past_the_end_does_not : lowered 7 six_stand ≡ six_stand
+a_cut_past_the_end_does_not = refl
+
+pub a_complete_sync : HasCompleted (Some 0) complete
+a_complete_sync = refl
+
+pub none_to_complete : HasCompleted None started
+none_to_complete = tt
+
+pub not_yet_complete : HasCompleted (Some 0) started → ⊥
+not_yet_complete is = absurd (false≢true is)
+
+-- a sync that was started after "abcdefg" was written covers it; one that wasn't started covers nothing
+pub all_seven_are_covered : AllCover add_sum 4 seven ((0, 7) ∷ []) flush_started
+all_seven_are_covered zero c lt = all_is_covered
+all_seven_are_covered (suc k) c lt = absurd (omega (arith, lt))
+
+pub no_cover_without_a_start : AllCover add_sum 4 seven ((0, 7) ∷ []) rewritten → ⊥
+no_cover_without_a_start cover = absurd (cc ((cover 0 (0, 7) (omega arith)).named))
+
+-- ---- names, snapshots and replays
+
+pub its_name : has_name six_started 0 ≡ true
+its_name = refl
+
+pub no_second_name : has_name six_started 1 ≡ false
+no_second_name = refl
+
+pub the_first_of_two : numbered (Some ab ∷ None ∷ []) 0 ≡ Some ab
+the_first_of_two = refl
+
+pub the_second_was_let_go : numbered (Some ab ∷ None ∷ []) 1 ≡ None
+the_second_was_let_go = refl
+
+pub there_is_no_third : numbered (Some ab ∷ None ∷ []) 2 ≡ None
+there_is_no_third = refl
+
+pub it_has_a_snapshot : has_snapshot (record six_stand { snapshots = Some ab ∷ None ∷ [] }) 0 ≡ true
+it_has_a_snapshot = refl
+
+pub it_has_let_one_go : has_snapshot (record six_stand { snapshots = Some ab ∷ None ∷ [] }) 1 ≡ false
+it_has_let_one_go = refl
+
+-- a replay of "abcdef" with two bytes at hand
+abbrev pub two_at_hand : Replayed
+two_at_hand = record { content = six; whole = 4; position = 0; hand = 2; batch = 4 }
+
+abbrev pub with_replays : Standing
+with_replays = record six_stand { replays = Some two_at_hand ∷ None ∷ [] }
+
+pub it_has_a_replay : has_replay with_replays 0 ≡ true
+it_has_a_replay = refl
+
+pub it_has_forgotten_one : has_replay with_replays 1 ≡ false
+it_has_forgotten_one = refl
+
+pub it_goes_over_six : replay_size with_replays 0 ≡ 6
+it_goes_over_six = refl
+
+pub none_goes_over_nothing : replay_size with_replays 1 ≡ 0
+none_goes_over_nothing = refl
+
+pub all_are_forgotten : (forgetting with_replays).replays ≡ None ∷ None ∷ []
+all_are_forgotten = refl
+
+pub the_first_moves : (moved 0 (record two_at_hand { position = 2; hand = 0 }) with_replays).replays ≡ Some (record two_at_hand { position = 2; hand = 0 }) ∷ None ∷ []
+the_first_moves = refl
+
+-- two bytes more are at hand; none is given up, and none past the end
+pub two_more : HasFetched two_at_hand (record two_at_hand { hand = 4 })
+two_more = record { stays = refl; more = omega arith; within = omega arith }
+
+pub none_is_given_up : HasFetched two_at_hand (record two_at_hand { hand = 1 }) → ⊥
+none_is_given_up has = omega (arith, has.more)
+
+pub none_past_the_end : HasFetched two_at_hand (record two_at_hand { hand = 7 }) → ⊥
+none_past_the_end has = omega (arith, has.within)
+
+pub it_does_not_move : HasFetched two_at_hand (record two_at_hand { position = 1; hand = 2 }) → ⊥
+it_does_not_move has = omega (arith, ap (λ (r : Replayed). r.position) has.stays)
+
+-- a replay of "abcdef" as a session has it, of four bytes in a full page and two in memory
+abbrev six_tail : Tail
+six_tail = record { page_size = 4; id = 0; full_pages = 1; bytes = 101 ∷ 102 ∷ [] }
+
+pub a_replay_is_told : replayed durable.readable (record (new_replay six_tail 64) { batch = 1 }) ≡ record two_at_hand { hand = 0 }
+a_replay_is_told = refl
+
+-- ---- phases
+
+pub no_snapshot_yet : unless_appending six_stand ≡ Some NotAppending
+no_snapshot_yet = refl
+
+pub it_appends : unless_appending (record six_stand { recovering = false }) ≡ None
+it_appends = refl
+
+pub it_is_closed : unless_appending (record six_stand { has_writer = false }) ≡ Some Closed
+it_is_closed = refl
+
+pub a_clean_writer_awaits_none : pending_in Clean ≡ None
+a_clean_writer_awaits_none = refl
+
+pub nor_does_a_dirty_one : pending_in Dirty ≡ None
+nor_does_a_dirty_one = refl
+
+pub one_with_a_name_does : pending_in (Pending 3) ≡ Some 3
+one_with_a_name_does = refl
+
+pub a_writer_fits : WriterFits 4 (Some ab_writer) (fresh 4 8 ab) saved
+a_writer_fits = ab_writer_stands
+
+pub no_writer_does_not : WriterFits 4 None (fresh 4 8 ab) saved → ⊥
+no_writer_does_not fits = absurd (false≢true (sym fits))
+
+-- ---- slices
+
+-- two ranges touch
+pub touching : in_order_from 2 ((2, 2) ∷ (4, 0) ∷ []) ≡ true
+touching = refl
+
+pub one_begins_too_early : in_order_from 3 ((2, 2) ∷ []) ≡ false
+one_begins_too_early = refl
+
+pub three_of_six : Slices six 2 3 (99 ∷ 100 ∷ 101 ∷ [])
+three_of_six = (omega arith, refl)
+
+pub none_past_six : (bytes : List ℕ) → Slices six 5 2 bytes → ⊥
+none_past_six bytes slices = omega (arith, slices.0)
+
+pub not_the_next_three : Slices six 2 3 (100 ∷ 101 ∷ 102 ∷ []) → ⊥
+not_the_next_three slices = omega (arith, ap (λ (l : List ℕ). get_or l 0 0) slices.1)
+
+-- the last byte, where four are asked for; and none, wherever none is
+pub the_last_byte : SlicesUpTo six 5 4 (102 ∷ [])
+the_last_byte = (inr (omega arith), refl)
+
+pub none_of_none : SlicesUpTo six 9 0 []
+none_of_none = (inl refl, refl)
+
+pub none_at_the_end : SlicesUpTo six 6 1 [] → ⊥
+none_at_the_end slices = elim slices.0 [ inl none ↦ omega (arith, none) | inr before ↦ omega (arith, before) ]
+
+abbrev a_and_ef : List (ℕ × ℕ)
+a_and_ef = (0, 1) ∷ (4, 2) ∷ []
+
+both_within : EndWithin 6 a_and_ef
+both_within zero range lt = omega (arith, lt)
+both_within (suc zero) range lt = omega (arith, lt)
+both_within (suc (suc k)) range lt = absurd (omega (arith, lt))
+
+pub one_and_two : SlicesAll six a_and_ef (97 ∷ 101 ∷ 102 ∷ [])
+one_and_two = (both_within, refl)
+
+pub not_the_other_way : SlicesAll six a_and_ef (101 ∷ 102 ∷ 97 ∷ []) → ⊥
+not_the_other_way slices = omega (arith, ap (λ (l : List ℕ). get_or l 0 0) slices.1)
+
+pub the_second_is_missed : NumbersSome six a_and_ef (1 ∷ [])
+the_second_is_missed = ((omega arith, omega arith, tt), inl both_within)
+
+pub there_is_no_third_to_miss : NumbersSome six a_and_ef (2 ∷ []) → ⊥
+there_is_no_third_to_miss numbers = omega (arith, numbers.0.1)
+
+-- ---- causes
+
+pub past_all_numbers : Overflows 4 (Read 18446744073709551615 1) six_stand
+past_all_numbers = omega arith
+
+pub within_the_numbers : Overflows 4 (Read 0 6) six_stand → ⊥
+within_the_numbers over = omega (arith, over)
+
+-- the started sync, after a wait for it failed
+abbrev pub failed_sync : Disk
+failed_sync = record started { started = failed_at 0 started.started }
+
+pub it_had_failed : HadFailed (Some 0) failed_sync
+it_had_failed = refl
+
+pub it_had_not : HadFailed (Some 0) started → ⊥
+it_had_not failed = absurd (false≢true failed)
+
+pub none_had_failed : HadFailed None failed_sync → ⊥
+none_had_failed failed = failed
+
+pub no_room : HadNoRoom OutOfMemory durable durable six_stand six_stand
+no_room = (refl, refl, refl)
+
+pub no_other_error : HadNoRoom WriteFailed durable durable six_stand six_stand → ⊥
+no_other_error had = absurd (cc had.0)
+
+pub nothing_else_is_done : HadNoRoom OutOfMemory durable durable six_stand none_synced → ⊥
+nothing_else_is_done had = omega (arith, ap (λ (s : Standing). s.buffered) had.2)
+
+-- ---- the other content
+
+pub two_are_left : content_after (Truncate 2) six ≡ ab
+two_are_left = refl
+
+pub they_stand_behind : (bytes : Vec ℕ Global) → content_after (Append bytes) six ≡ six ++ bytes.items
+they_stand_behind bytes = refl
+
+pub a_sync_leaves_it : content_after Sync six ≡ six
+a_sync_leaves_it = refl
+
+-- while a truncate goes on a crash may leave its content, and after a refused one too
+pub it_may_be_cut : other_content (Truncate 2) six_stand ≡ ab
+it_may_be_cut = refl
+
+pub it_may_have_been : other_content Sync (ended ab six_stand) ≡ ab
+it_may_have_been = refl
