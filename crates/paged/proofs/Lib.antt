@@ -24,6 +24,7 @@ pub mod Recovered
 pub mod Opened
 pub mod Trims
 pub mod RecoveryExamples
+pub mod PartExamples
 pub mod TruncateExamples
 pub mod There
 pub mod Below

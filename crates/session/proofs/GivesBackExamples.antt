@@ -12,12 +12,22 @@ use Rattle.crash.proofs.Disks.{base_is_image}
 use Rattle.crash.proofs.DistinctLaws.{distinct_at_rest}
 use Rattle.writer_state.specs.WriterState.{WriterState}
 use Rattle.writer_state.specs.Sound.{content as content_of}
+use Rattle.paged.specs.Recovers.{Recovers}
 use Rattle.session.specs.Run.{SessionState}
 use Rattle.session.specs.Promise.{Attempts, closed, session_of, fresh, opened, IsBegun, BeginsBy, AttemptsThrough, RecoversFrom, KeepsFloor, LeavesContent, GivesBack, GivesBackLeft, LeadsOn, StandsWhereSound, GivesId}
 use Rattle.session.specs.Promise.ComesBack.{crashed}
 use Rattle.session.proofs.PromiseLaws.{stands_where_sound, recovered_keeps, recovered_leaves, left_back, unfair}
 use Rattle.session.proofs.ComesBackExamples.{ab, ab_page, empty, unsynced, saved, life_of, a_cache, ab_writer, ab_recovered, empty_writer, a_crash_before_the_sync, a_recovery, an_empty_recovery, an_attempt_that_did_nothing, no_attempt_that_lost, ab_comes_back, none_survives}
 use Rattle.session.proofs.PromiseExamples.{ab_stands}
+
+-- ---- a recovery, by its answer
+
+pub it_recovers_so : Recovers add_sum a_cache 8 (life_of saved) (life_of saved) (Ok ab_writer)
+it_recovers_so = ab_recovered
+
+-- not with the writer of an empty blob
+pub not_as_an_empty_one : Recovers add_sum a_cache 8 (life_of saved) (life_of saved) (Ok empty_writer) → ⊥
+not_as_an_empty_one is = omega (arith, ap length is.content)
 
 -- ---- how a session begins
 

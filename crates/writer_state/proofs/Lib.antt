@@ -9,3 +9,4 @@ pub mod ShortenLaws
 pub mod MendLaws
 pub mod TailLaws
 pub mod Examples
+pub mod PartExamples
