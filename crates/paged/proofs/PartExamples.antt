@@ -3,14 +3,13 @@ use Rattle.std.proofs.Common.{◌≡◌, ◌^◌, ℕ, List, [], ◌∷◌, refl
 use Rattle.std.specs.Prelude.{Some, None}
 use Rattle.cache.specs.CacheState.{ids_given}
 use Rattle.page.specs.Sums.{add_sum}
-use Rattle.page.specs.declared.slot.Slot.TheVariants.{First, Second}
-use Rattle.page.specs.declared.slot.ActiveChecksum.{ActiveChecksum}
-use Rattle.page.proofs.Examples.{abcd_page, ef_page}
+use Rattle.page.specs.declared.slot.Slot.TheVariants.{Second}
+use Rattle.page.proofs.Examples.{ef_page}
 use Rattle.writer_state.specs.declared.sync_state.SyncState.TheVariants.{Clean, Dirty, Pending}
 use Rattle.writer_state.proofs.Examples.{durable, six, ef_slot}
 use Rattle.writer_state.proofs.PartExamples.{torn_page}
 use Rattle.paged_read.specs.Prefix.{value_and_slot, partial_pages, tip_of, bad_beside_value}
-use Rattle.paged_read.specs.Tail.{Tail, told}
+use Rattle.paged_read.specs.Tail.{told}
 use Rattle.paged.specs.Calls.{wait_calls, unstarted_calls}
 use Rattle.paged.specs.Recovery.{emptied, slot_of_tip}
 

@@ -1,6 +1,6 @@
 -- Examples of the parts of a standing, of the bytes that a read answers, and of the causes of an error. The writer of `six_stand` has
 -- "abcdef", of which "ef" is buffered, of eight bytes.
-use Rattle.std.proofs.Common.{lit<, ◌≡◌, ◌⊎◌, ◌+◌, ◌<◌, ℕ, zero, suc, Vec, List, [], ◌∷◌, ◌++◌, length, take, drop, refl, sym, ap, inl, inr, arith, true, false}
+use Rattle.std.proofs.Common.{◌≡◌, ℕ, zero, suc, Vec, List, [], ◌∷◌, ◌++◌, refl, sym, ap, inl, inr, arith, true, false}
 use Rattle.std.specs.Prelude.{Some, None, get_or}
 use Rattle.std.specs.declared.alloc.Global.{Global}
 use Rattle.std.proofs.lemmas.Bool.{false≢true}
@@ -11,10 +11,10 @@ use Rattle.page.specs.Sums.{add_sum}
 use Rattle.writer_state.specs.declared.sync_state.SyncState.TheVariants.{Clean, Dirty, Pending}
 use Rattle.writer_state.proofs.Examples.{durable, six, seven, flush_started, all_is_covered, rewritten}
 use Rattle.paged_read.specs.Tail.{Tail}
-use Rattle.paged_read.specs.Replay.{ReplayState, new_replay}
+use Rattle.paged_read.specs.Replay.{new_replay}
 use Rattle.session.specs.declared.steps.Step.TheVariants.{Append, Sync, Read, Truncate}
 use Rattle.session.specs.declared.steps.Reply.TheVariants.{Closed, NotAppending}
-use Rattle.session.specs.Run.{Replayed, Standing, has_room, written_after, moved, forgetting, raised_floor, lowered, has_name, numbered, has_snapshot, has_replay, replay_size, in_order_from, unless_appending, replaying, ended}
+use Rattle.session.specs.Run.{Replayed, Standing, has_room, written_after, moved, forgetting, raised_floor, lowered, has_name, numbered, has_snapshot, has_replay, replay_size, in_order_from, unless_appending, ended}
 use Rattle.session.specs.Run.{Slices, SlicesUpTo, SlicesAll, NumbersSome, HasFetched, HasCompleted, Overflows, HadFailed, HadNoRoom, content_after, other_content, AllCover, pending_in, WriterFits, replayed}
 use Rattle.session.specs.Promise.{fresh}
 use Rattle.session.proofs.Examples.{six_stand, none_synced, six_started}

@@ -1,24 +1,22 @@
 -- Examples of the parts of which pages, slots, operations and what a crash keeps are told. Pages have 4 bytes, and the checksum is
 -- their sum.
-use Rattle.std.proofs.Common.{◌≡◌, ◌⊎◌, inl, inr, ℕ, ◌+◌, ◌<◌, ◌≤◌, List, [], ◌∷◌, ◌++◌, length, refl, sym, arith, true, false}
+use Rattle.std.proofs.Common.{◌≡◌, inl, inr, ℕ, ◌+◌, ◌<◌, List, [], ◌∷◌, ◌++◌, refl, arith, true, false}
 use Rattle.std.specs.Prelude.{Some, None}
-use Rattle.std.proofs.lemmas.Bool.{false≢true}
 use Rattle.std.proofs.lemmas.Option.{same_Some}
-use Rattle.disk.specs.Disk.{Disk, Operation, Started, Writes, SomeWrites, fault_of, is_failed, had_failed, failed_at}
+use Rattle.disk.specs.Disk.{Started, Writes, SomeWrites, fault_of, is_failed, had_failed, failed_at}
 use Rattle.disk.specs.Disk.Operation.{Write, Resize}
 use Rattle.disk.specs.Disk.Request.{ReadAt, ReadMany, StartReadMany, WriteAt, ResizeTo, SyncAll, StartSync, WaitSync}
 use Rattle.disk.specs.declared.error.Error.TheVariants.{ReadFailed, WriteFailed, ResizeFailed, SyncFailed}
 use Rattle.page.specs.Page.{slot_bytes, pieces, slot_verifies, is_clear, value_slot, bad_beside, bad_slot, text_of_pages}
 use Rattle.page.specs.Slot.{slot_offset, other}
 use Rattle.page.specs.Sums.{add_sum}
-use Rattle.page.specs.declared.slot.Slot.{Slot}
 use Rattle.page.specs.declared.slot.Slot.TheVariants.{First, Second}
 use Rattle.page.proofs.Examples.{abcd_page, ef_page, efg_page}
 use Rattle.crash.specs.Built.{footer, kept_len}
 use Rattle.crash.specs.Shrink.{slot_write}
 use Rattle.crash.specs.Guard.{IsSlotFor, IsGuarded, Guards}
 use Rattle.crash.specs.Distinct.{IsOld, IsVouched}
-use Rattle.crash.specs.Kept.{AreHeld, AllKeep}
+use Rattle.crash.specs.Kept.{AreHeld}
 use Rattle.crash.proofs.DistinctLaws.{vouched_at_rest}
 use Rattle.crash.proofs.Promise.{guards_at_rest}
 use Rattle.writer_state.proofs.Examples.{at_rest, and_then, durable, rewritten, six, ef_slot}
