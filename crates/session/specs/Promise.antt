@@ -86,8 +86,8 @@ LeadsTo sum P fair d m =
 abbrev pub Begins : List ℕ → List ℕ → Type 0
 Begins given content = given ≡ take (length given) content
 
--- whatever comes back begins with the content's first floor bytes; and where each crash left what is
--- distinct, and each recovery began with all durable, as after a crash, it is a prefix of the
+-- whatever comes back begins with the content's first floor bytes; and where each crash left what
+-- is distinct, and each recovery began with all durable, as after a crash, it is a prefix of the
 -- content, or of the other
 pub record Survives (sum : List ℕ → ℕ) (P : ℕ) (content other : List ℕ) (floor : ℕ)
     (d : Disk) : Type 0 where
