@@ -201,14 +201,14 @@ brought_only sum s cache after capacity d image old new (Err e) is_image is reco
 
 -- a crash, and a recovery of what it left
 pub crash_recovers : (sum : List ℕ → ℕ) (s : ℕ) (cache after : CacheState) (capacity : ℕ) (keep : List Bool) (old new : Life) (result : Result ItemsState Error) → RecoversItems sum s cache after capacity (begun (torn keep old.present.since old.present.base) old.present.log) new result
-    → CrashesAndRecovers sum s cache after capacity keep old new result
-crash_recovers sum s cache after capacity keep old new (Ok r) recovers = recovers
-crash_recovers sum s cache after capacity keep old new (Err OutOfMemory) recovers = tt
-crash_recovers sum s cache after capacity keep old new (Err ReadFailed) recovers = recovers
-crash_recovers sum s cache after capacity keep old new (Err WriteFailed) recovers = recovers
-crash_recovers sum s cache after capacity keep old new (Err ResizeFailed) recovers = recovers
-crash_recovers sum s cache after capacity keep old new (Err SyncFailed) recovers = recovers
-crash_recovers sum s cache after capacity keep old new (Err InvalidChecksum) recovers = recovers
-crash_recovers sum s cache after capacity keep old new (Err BlobInsufficientLength) recovers = recovers
-crash_recovers sum s cache after capacity keep old new (Err OffsetOverflow) recovers = recovers
-crash_recovers sum s cache after capacity keep old new (Err IdsExhausted) recovers = recovers
+    → RecoveryLeaves sum s cache after (begun (torn keep old.present.since old.present.base) old.present.log) new → CrashesAndRecovers sum s cache after capacity keep old new result
+crash_recovers sum s cache after capacity keep old new (Ok r) recovers leaves = recovers
+crash_recovers sum s cache after capacity keep old new (Err OutOfMemory) recovers leaves = inr leaves
+crash_recovers sum s cache after capacity keep old new (Err ReadFailed) recovers leaves = recovers
+crash_recovers sum s cache after capacity keep old new (Err WriteFailed) recovers leaves = recovers
+crash_recovers sum s cache after capacity keep old new (Err ResizeFailed) recovers leaves = recovers
+crash_recovers sum s cache after capacity keep old new (Err SyncFailed) recovers leaves = recovers
+crash_recovers sum s cache after capacity keep old new (Err InvalidChecksum) recovers leaves = recovers
+crash_recovers sum s cache after capacity keep old new (Err BlobInsufficientLength) recovers leaves = recovers
+crash_recovers sum s cache after capacity keep old new (Err OffsetOverflow) recovers leaves = recovers
+crash_recovers sum s cache after capacity keep old new (Err IdsExhausted) recovers leaves = recovers

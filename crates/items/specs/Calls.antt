@@ -1,5 +1,5 @@
 -- What the calls of items do.
-use Rattle.std.specs.Prelude.{◌≡◌, ◌≢◌, ◌≤◌, ◌<◌, ◌+◌, ◌*◌, ◌/◌, ◌^◌, ◌++◌, ℕ, List, [], ◌∷◌}
+use Rattle.std.specs.Prelude.{◌≡◌, ◌≢◌, ◌⊎◌, ◌≤◌, ◌<◌, ◌+◌, ◌*◌, ◌/◌, ◌^◌, ◌++◌, ℕ, List, [], ◌∷◌}
 use Rattle.std.specs.Prelude.{length, take, map, slice_get, get_or, All, Option, Some, None, Result}
 use Rattle.std.specs.Prelude.{Ok, Err, Bool, Vec}
 use Rattle.std.specs.List.{flat_map}
@@ -25,8 +25,8 @@ use Rattle.paged.specs.Recovers.{Recovers}
 use Rattle.paged.specs.Writer.{physical_blob_size}
 use Rattle.items.specs.Items.{items, item, AreDurable, WouldBeDurable}
 use Rattle.items.specs.State.{ItemsState}
-use Rattle.items.specs.Standing.{AreItems, AreReady, IsNewId, IsNewToSnapshots, bytes_of, count}
-use Rattle.items.specs.Standing.{items_of}
+use Rattle.items.specs.Standing.{AreItems, AreReady, IsNewId, IsNewToSnapshots, RecoveryLeaves}
+use Rattle.items.specs.Standing.{bytes_of, count, items_of}
 
 -- ---- calls that take the items
 
@@ -174,14 +174,17 @@ RecoversItems sum s cache after capacity old new (Ok now) =
 RecoversItems sum s cache after capacity old new (Err e) =
     Recovers sum cache capacity old new (Err e)
 
--- a blob in memory crashed, which kept what these flags say, and its items were recovered; memory
--- may be refused as it crashes
+-- a blob in memory crashed, which kept what these flags say, and its items were recovered; where
+-- memory was refused, nothing changed, or the recovery of what the flags leave was refused
 abbrev pub CrashesAndRecovers : (List ℕ → ℕ) → (s : ℕ) → (cache after : CacheState)
     → (capacity : ℕ) → List Bool → Life → Life → Result ItemsState Error → Type 0
 CrashesAndRecovers sum s cache after capacity keep old new (Ok now) =
     let d = old.present in
     HasRecovered sum s cache after (begun (torn keep d.since d.base) d.log) new now
-CrashesAndRecovers sum s cache after capacity keep old new (Err OutOfMemory) = Unit {0}
+CrashesAndRecovers sum s cache after capacity keep old new (Err OutOfMemory) =
+    let d = old.present in
+    ((after ≡ cache) × (new ≡ old))
+    ⊎ RecoveryLeaves sum s cache after (begun (torn keep d.since d.base) d.log) new
 CrashesAndRecovers sum s cache after capacity keep old new (Err e) =
     let d = old.present in
     RecoversItems sum s cache after capacity (begun (torn keep d.since d.base) d.log) new (Err e)

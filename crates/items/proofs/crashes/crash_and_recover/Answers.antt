@@ -6,6 +6,7 @@ use Rattle.disk.specs.Torn.{torn}
 use Rattle.crash.specs.Moments.{through_end}
 use Rattle.items.specs.Calls.{RecoversItems}
 use Rattle.items.specs.Items.{AreDurable}
+use Rattle.items.specs.Standing.{RecoveryLeaves}
 use Rattle.items.proofs.Laws.{durable_left}
 use Rattle.items.proofs.Recovery.{brought_back, brought_only, crash_recovers}
 use Rattle.items.proofs.crashes.crash_and_recover.Goals as goal
@@ -45,3 +46,4 @@ returns-clause-recovers g c =
     let new = life_of c.recover.new.blob in
     crash_recovers sum s c.args.cache.now c.recover.new.cache c.args.capacity c.args.keep.now (life_of c.args.blob.now) new c.recover.result
     (subst (λ (l : Life). RecoversItems sum s c.args.cache.now c.recover.new.cache c.args.capacity l new c.recover.result) c.in_ok-crash.ensures.life c.recover.ensures.recovers)
+    (subst (λ (l : Life). RecoveryLeaves sum s c.args.cache.now c.recover.new.cache l new) c.in_ok-crash.ensures.life c.recover.ensures.leaves)
