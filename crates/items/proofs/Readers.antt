@@ -11,13 +11,11 @@ use Rattle.disk.specs.declared.error.Error.TheVariants.{ReadFailed, WriteFailed,
 use Rattle.page.specs.Page.{pieces}
 use Rattle.cache.specs.CacheState.{CacheState}
 use Rattle.cache.specs.Pages.{IsFresh}
-use Rattle.crash.specs.Started.{CoversThrough}
 use Rattle.writer_state.specs.WriterState.{WriterState}
 use Rattle.paged_read.specs.Replay.{FillFault, IsReplayOf, ReplayState, ReplaysOn, Seeks}
 use Rattle.paged_read.specs.Snapshots.{StandsOn}
 use Rattle.paged_read.specs.Tail.{CanRead, Tail, size_of}
 use Rattle.paged.specs.Caches.{tail_of}
-use Rattle.paged.specs.Calls.{Completed}
 use Rattle.paged.specs.Replays.{BeginsReplay}
 use Rattle.paged.specs.Snapshots.{MakesSnapshot, TriesSnapshot}
 use Rattle.items.specs.Items.{items}
