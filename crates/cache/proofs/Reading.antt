@@ -2,12 +2,16 @@
 use Rattle.std.proofs.Common.{◌≡◌, ◌∙◌, ◌⊎◌, inl, inr, ℕ, ◌+◌, ◌-◌, ◌*◌, ◌/◌, ◌%◌, ◌<◌, ◌≤◌, List, [], ◌∷◌, ◌++◌, zero, suc, length, take, drop, sym, ap, subst, refl, arith, drop-drop, length-take, length-drop, length-append, slice_index_or, append-nil}
 use Rattle.std.proofs.Math.Seq.{drop-append_seam}
 use Rattle.std.proofs.lemmas.List.Elements.{filter-append}
-use Rattle.std.specs.Prelude.{Option, Some, None, slice_get}
+use Rattle.std.specs.Prelude.{Option, Some, None, slice_get, not, is_some}
 use Rattle.std.proofs.lemmas.Option.{slice_get_within}
 use Rattle.std.proofs.Math.Nat.{div-eq_of_lt, mod-eq_of_lt, add-mul-div_right, add-mul-mod_self_right, mod-add-div'}
-use Rattle.cache.specs.CacheState.{CacheState, held, HoldsByte, put_at, with_piece, with_pieces, pieces_left}
+use Rattle.std.specs.Prelude.{◌≢◌, Result, Ok, Err, Vec, IsErrAnd}
+use Rattle.std.specs.declared.alloc.Global.{Global}
+use Rattle.disk.specs.declared.error.Error.{Error}
+use Rattle.disk.specs.declared.error.Error.TheVariants.{OutOfMemory}
+use Rattle.cache.specs.CacheState.{CacheState, held, HoldsByte, put_at, with_piece, with_pieces, pieces_left, ReadsPieces}
 use Rattle.cache.specs.declared.piece.Piece.{Piece}
-use Rattle.std.proofs.lemmas.List.{take_more}
+use Rattle.std.proofs.lemmas.List.{take_more, take-append-drop}
 
 -- an element of a joined list is one of the first part or of the second
 joined_element : {X : Type 0} (xs ys : List X) (i : ℕ) (x : X) → slice_get (xs ++ ys) i ≡ Some x
@@ -236,3 +240,20 @@ missing_step cache id pieces left more i d buf now below there is_left is_now is
           ∙ sym (with_more cache id pieces i d buf below
           ∙ ap (λ o. with_piece o piece (with_pieces cache id (take i pieces) buf)) there),
     )
+
+-- a piece of an absent page among the first of them is among all of them
+pub some_left : (cache : CacheState) (id : ℕ) (pieces left : List Piece) (piece : Piece) (n : ℕ)
+    → left ++ piece ∷ [] ≡ pieces_left cache id (take n pieces) → pieces_left cache id pieces ≢ []
+some_left cache id pieces left piece n first = λ none.
+    let test = λ (p : Piece). not (is_some (held cache (id, p.page))) in
+    let all : pieces_left cache id (take n pieces) ++ pieces_left cache id (drop n pieces) ≡ pieces_left cache id pieces =
+    sym (filter-append test (take n pieces) (drop n pieces)) ∙ ap (λ l. pieces_left cache id l) (take-append-drop n pieces) in
+    let long = length-append left (piece ∷ []) in
+    let both = length-append (pieces_left cache id (take n pieces)) (pieces_left cache id (drop n pieces)) in
+    absurd (omega (arith, long, both, ap length first, ap length all, ap length none))
+
+-- then memory may be refused
+pub unread : (cache : CacheState) (id : ℕ) (pieces : List Piece) (old new : List ℕ) (result : Result (Vec Piece Global) Error) → IsErrAnd result (λ e. e ≡ OutOfMemory)
+    → length new ≡ length old → pieces_left cache id pieces ≢ [] → ReadsPieces cache id pieces old new result
+unread cache id pieces old new (Ok left) is long some = absurd is
+unread cache id pieces old new (Err e) is long some = subst (λ (x : Error). ReadsPieces cache id pieces old new (Err x)) (sym is) (long, some)

@@ -151,5 +151,6 @@ abbrev pub ReadsPieces : CacheState → (id : ℕ) → List Piece → List ℕ �
     → Result (Vec Piece Global) Error → Type 0
 ReadsPieces cache id pieces old new (Ok left) =
     (left.items ≡ pieces_left cache id pieces) × (new ≡ with_pieces cache id pieces old)
-ReadsPieces cache id pieces old new (Err OutOfMemory) = length new ≡ length old
+ReadsPieces cache id pieces old new (Err OutOfMemory) =
+    (length new ≡ length old) × (pieces_left cache id pieces ≢ [])
 ReadsPieces cache id pieces old new (Err _) = ⊥

@@ -1,8 +1,8 @@
 -- A blob in memory: what its fields stand for, and what they say of one another.
-use Rattle.std.specs.Prelude.{◌≡◌, ◌≤◌, ◌<◌, ◌≢◌, ℕ, ◌+◌, ◌-◌, List, [], ◌∷◌, length, take, drop}
+use Rattle.std.specs.Prelude.{◌≡◌, ◌≤◌, ◌<◌, ◌≢◌, ◌⊎◌, ℕ, ◌+◌, ◌-◌, List, [], ◌∷◌, length, take, drop}
 use Rattle.std.specs.Prelude.{Bool, true, false, Result, Ok, Err, if◌then◌else◌, ◌++◌, suc, zero}
 use Rattle.std.specs.Prelude.{Option, Some, None, slice_get, max, map}
-use Rattle.disk.specs.Disk.{Entry, Started, Delivers, IsWithin, bytes_of, failures}
+use Rattle.disk.specs.Disk.{Entry, Started, Delivers, IsWithin, bytes_of, failures, had_failed}
 use Rattle.disk.specs.declared.action.Event.{Event}
 use Rattle.disk.specs.declared.action.Call.{Call}
 use Rattle.disk.specs.declared.error.Error.{Error}
@@ -10,8 +10,8 @@ use Rattle.disk.specs.declared.started_sync.StartedSync.{StartedSync}
 use Rattle.disk.specs.declared.started_sync.StartedSync.TheVariants.{Done, Named}
 use Rattle.disk.specs.declared.error.Error.TheVariants.{ReadFailed, WriteFailed, ResizeFailed}
 use Rattle.disk.specs.declared.error.Error.TheVariants.{SyncFailed, BlobInsufficientLength}
-use Rattle.disk.specs.declared.error.Error.TheVariants.{OutOfMemory}
-use Rattle.disk.specs.History.{History, life_of, request_of, replayed, operations_of, names_in}
+use Rattle.disk.specs.declared.error.Error.TheVariants.{OutOfMemory, OffsetOverflow}
+use Rattle.disk.specs.History.{History, life_of, request_of, replayed, operations_of, names_in, told}
 use Rattle.disk.specs.declared.action.Action.{Action}
 use Rattle.disk.specs.declared.action.Action.TheVariants as actions
 use Rattle.disk.specs.declared.action.Start.{Start}
@@ -118,17 +118,30 @@ CountsDown old new (Err ResizeFailed) = (old ≡ 1) × (new ≡ 0)
 CountsDown old new (Err SyncFailed) = (old ≡ 1) × (new ≡ 0)
 CountsDown old new (Err _) = new ≡ old
 
--- a start of a sync counts; that it is the one that is to fail shows at the wait
-abbrev pub CountsStart : {T : Type 0} → ℕ → ℕ → Result T Error → Type 0
-CountsStart old new (Ok _) = new ≡ old - 1
-CountsStart old new (Err _) = new ≡ old
+-- the device is asked for this, and fails just where it is the call that is to fail; a call that is
+-- refused before changes nothing, and doesn't count
+abbrev pub Asks : {T : Type 0} → Action → History → History → Result T Error → Type 0
+Asks action old new (Ok _) = (old.failing ≢ 1) × (new ≡ told action old)
+Asks action old new (Err BlobInsufficientLength) = new ≡ old
+Asks action old new (Err OffsetOverflow) = new ≡ old
+Asks action old new (Err OutOfMemory) = new ≡ old
+Asks action old new (Err _) = (old.failing ≡ 1) × (new ≡ told action old)
 
--- a wait counts, whether the sync had failed or not
-abbrev pub CountsWait : StartedSync → ℕ → ℕ → Result (Unit {0}) Error → Type 0
-CountsWait Done old new result = new ≡ old
-CountsWait (Named name) old new (Ok _) = (old ≢ 1) × (new ≡ old - 1)
-CountsWait (Named name) old new (Err SyncFailed) = new ≡ old - 1
-CountsWait (Named name) old new (Err _) = new ≡ old
+-- a start of a sync counts, and fails just where it is the one that is to fail; that shows at the
+-- wait
+abbrev pub AsksStart : {T : Type 0} → History → History → Result T Error → Type 0
+AsksStart old new (Ok _) = new ≡ told actions.StartSync old
+AsksStart old new (Err _) = new ≡ old
+
+-- a wait counts, and fails just where it is the one that is to fail, or the sync had failed
+abbrev pub AsksWait : StartedSync → (had_failed : Bool) → History → History
+    → Result (Unit {0}) Error → Type 0
+AsksWait Done had_failed old new result = new ≡ old
+AsksWait (Named name) had_failed old new (Ok _) =
+    (old.failing ≢ 1) × (new ≡ told (actions.WaitSync name) old)
+AsksWait (Named name) had_failed old new (Err SyncFailed) =
+    ((old.failing ≡ 1) ⊎ (had_failed ≡ true)) × (new ≡ told (actions.WaitSync name) old)
+AsksWait (Named name) had_failed old new (Err _) = new ≡ old
 
 -- the bytes of a range, or none where it passes the end, or no memory
 abbrev pub IsRange : ℕ → ℕ → List ℕ → Result (List ℕ) Error → Type 0
@@ -152,3 +165,8 @@ AreRangesInOrder ranges readable (Ok bufs) =
 AreRangesInOrder ranges readable (Err BlobInsufficientLength) = IsWithin ranges readable → ⊥
 AreRangesInOrder ranges readable (Err OutOfMemory) = IsWithin ranges readable
 AreRangesInOrder ranges readable (Err _) = ⊥
+
+-- whether a wait for this can only fail
+abbrev pub waits_in_vain : StartedSync → List Started → Bool
+waits_in_vain Done started = false
+waits_in_vain (Named name) started = had_failed started name

@@ -8,7 +8,9 @@ ghost use Rattle.disk.specs.Disk.{IsImage, LeavesNoMore, Life, Write, Resize, fa
 ghost use Rattle.disk.specs.Disk.{ReadGoes, ReadManyGoes, WriteGoes, ResizeGoes, SyncGoes};
 ghost use Rattle.disk.specs.Disk.{StartReadGoes, StartGoes, WaitsFor};
 ghost use Rattle.disk.specs.History.{life_of, begun, told, request_of};
-ghost use Rattle.disk.specs.Memory.{CountsDown, CountsStart, CountsWait, IsRange, AreRanges};
+ghost use Rattle.disk.specs.declared.action.Action.TheVariants as actions;
+ghost use Rattle.disk.specs.Memory.{Asks, AsksStart, AsksWait, waits_in_vain, IsRange};
+ghost use Rattle.disk.specs.Memory.{AreRanges};
 ghost use Rattle.disk.specs.StartedRead.{answer_of};
 ghost use Rattle.disk.specs.Torn.{torn};
 
@@ -211,7 +213,7 @@ impl MemBlob {
     fn start_ranges(&mut self, alloc: Global, ranges: &[(u64, usize)]) -> Result<Vec<IoBuf>, Error>
         ensures goes { let old = life_of self.old in let new = life_of self.new in
             StartReadGoes ranges.now old new (answer_of result) }
-        ensures counts { CountsDown self.old.failing self.new.failing (answer_of result) }
+        ensures asks { Asks (actions.StartReadMany ranges.now) self.old self.new (answer_of result) }
     {
         let bufs = copy_in_order(alloc, self.bytes(), ranges)?;
         let asked = Ranges::from_slice(alloc, ranges)?;
@@ -276,7 +278,7 @@ impl Blob for MemBlob {
         _options: ReadOptions,
     ) -> Result<IoBuf, Error>
         ensures goes { ReadGoes offset len (life_of self.old) (life_of self.new) result }
-        ensures counts { CountsDown self.old.failing self.new.failing result }
+        ensures asks { Asks (actions.Read offset len) self.old self.new result }
     {
         let bytes = self.range(alloc, offset, len)?;
         if self.ask(Action::Read(offset, len))? {
@@ -294,7 +296,7 @@ impl Blob for MemBlob {
     ) -> Result<(), Error>
         ensures goes { let old = life_of self.old in let new = life_of self.new in
             ReadManyGoes ranges.now old new out.new.items result }
-        ensures counts { CountsDown self.old.failing self.new.failing result }
+        ensures asks { Asks (actions.ReadMany ranges.now) self.old self.new result }
     {
         self.ranges(alloc, ranges, out)?;
         let asked = Ranges::from_slice(alloc, ranges)?;
@@ -311,7 +313,7 @@ impl Blob for MemBlob {
         _options: ReadOptions,
     ) -> StartedRead
         ensures goes { StartReadGoes ranges.now (life_of self.old) (life_of self.new) result }
-        ensures counts { CountsDown self.old.failing self.new.failing result }
+        ensures asks { Asks (actions.StartReadMany ranges.now) self.old self.new result }
     {
         StartedRead::kept(self.start_ranges(alloc, ranges))
     }
@@ -320,7 +322,8 @@ impl Blob for MemBlob {
     fn write_at(&mut self, offset: u64, bufs: &IoBufs, options: WriteOptions) -> Result<(), Error>
         ensures goes { WriteGoes offset (concat bufs.now) options.sync (life_of self.old)
             (life_of self.new) result }
-        ensures counts { CountsDown self.old.failing self.new.failing result }
+        ensures asks { let bytes = concat bufs.now in
+            Asks (actions.Write offset bytes options.sync) self.old self.new result }
     {
         if offset.checked_add(bufs.len() as u64).is_none() {
             return Err(Error::OffsetOverflow);
@@ -334,7 +337,7 @@ impl Blob for MemBlob {
 
     fn resize(&mut self, len: u64) -> Result<(), Error>
         ensures goes { ResizeGoes len (life_of self.old) (life_of self.new) result }
-        ensures counts { CountsDown self.old.failing self.new.failing result }
+        ensures asks { Asks (actions.Resize len) self.old self.new result }
     {
         if self.ask(Action::Resize(len))? {
             return Err(Error::ResizeFailed);
@@ -344,7 +347,7 @@ impl Blob for MemBlob {
 
     fn sync(&mut self) -> Result<(), Error>
         ensures goes { SyncGoes (life_of self.old) (life_of self.new) result }
-        ensures counts { CountsDown self.old.failing self.new.failing result }
+        ensures asks { Asks actions.Sync self.old self.new result }
     {
         if self.ask(Action::Sync)? {
             return Err(Error::SyncFailed);
@@ -354,7 +357,7 @@ impl Blob for MemBlob {
 
     fn start_sync(&mut self) -> Result<StartedSync, Error>
         ensures goes { StartGoes (life_of self.old) (life_of self.new) result }
-        ensures counts { CountsStart self.old.failing self.new.failing result }
+        ensures asks { AsksStart self.old self.new result }
     {
         let name = self.starts.len() as u64;
         self.ask(Action::StartSync)?;
@@ -363,7 +366,8 @@ impl Blob for MemBlob {
 
     fn wait_sync(&mut self, started: StartedSync) -> Result<(), Error>
         ensures goes { WaitsFor started (life_of self.old) (life_of self.new) result }
-        ensures counts { CountsWait started self.old.failing self.new.failing result }
+        ensures asks { let named = (life_of self.old).present.started in
+            AsksWait started (waits_in_vain started named) self.old self.new result }
     {
         let StartedSync::Named(name) = started else {
             return Ok(());

@@ -69,7 +69,7 @@ abbrev pub DrainGoes : Tip → Tip → Result (List (List ℕ)) Error → Type 0
 DrainGoes old new (Ok chunks) =
     (concat chunks ≡ take (full_len old) old.bytes) × AreWholePages old.page_size chunks
     × (new ≡ drained old)
-DrainGoes old new (Err OutOfMemory) = new ≡ old
+DrainGoes old new (Err OutOfMemory) = (new ≡ old) × (0 < full_len old)
 DrainGoes old new (Err _) = ⊥
 
 -- other bytes at another offset

@@ -453,7 +453,9 @@ reach_more sum r count mid now old between new so_far is less filled idle can lo
 pub reach_fails : (sum : List ℕ → ℕ) (r : ReplayState) (count : ℕ) (mid now : ReplayState) (old between new : Life) (e : Error) → Reached sum r count mid old between
     → FillsOnce sum mid now between new (Err e) → Ensures sum r count now old new (Err e)
 reach_fails sum r count mid now old between new e so_far filled =
-    let fills = filled.0 in (
+    let fills = filled.0 in
+    let same : length now.hand ≡ length mid.hand = ap (λ (l : List ℕ). length l) filled.2 in
+    let end : end_of now ≡ end_of mid = omega (arith, same, fills.position) in (
       record {
         tail = fills.tail ∙ so_far.fills.tail;
         batch = fills.batch ∙ so_far.fills.batch;
@@ -461,6 +463,9 @@ reach_fails sum r count mid now old between new e so_far filled =
         hand = omega (arith, fills.hand, so_far.fills.hand);
       },
       fault e (subst (λ (u : Tail). FillFault sum u between new e) so_far.fills.tail filled.3),
+      subst (λ (n : ℕ). AreFullPages sum r.tail.page_size (end_of r / r.tail.page_size) (min r.tail.full_pages (n / r.tail.page_size)) old.present.readable) (sym end) so_far.filled,
+      omega (arith, same, so_far.few),
+      filled.1 ∙ so_far.exhausted,
     )
   where
     fault : (e : Error) → FillFault sum r.tail between new e → FillFault sum r.tail old new e
@@ -476,7 +481,7 @@ pub reach_enough : (sum : List ℕ → ℕ) (r : ReplayState) (count : ℕ) (now
 reach_enough sum r count now old new so_far is enough =
     let size : size_of now.tail ≡ size_of r.tail = ap (λ (u : Tail). size_of u) so_far.fills.tail in
     let there : r.position + count ≤ size_of r.tail = omega (arith, is.within, size, so_far.fills.position, enough) in
-    (so_far.fills, sym (le-leb (r.position + count) (size_of r.tail) there), (λ _. enough), (λ no. absurd (true≢false no)), so_far.few, so_far.filled, so_far.ahead)
+    (so_far.fills, sym (le-leb (r.position + count) (size_of r.tail) there), (λ _. enough), (λ no. absurd (true≢false no)), so_far.few, so_far.filled, so_far.ahead, (λ _. so_far.exhausted))
 
 -- and all that is left
 pub reach_ends : (sum : List ℕ → ℕ) (r : ReplayState) (count : ℕ) (now : ReplayState) (old new : Life) → Reached sum r count now old new → length now.hand < count → end_of now ≡ size_of now.tail
@@ -491,6 +496,7 @@ reach_ends sum r count now old new so_far few ends =
       so_far.few,
       so_far.filled,
       so_far.ahead,
+      (λ yes. absurd (true≢false (sym yes))),
     )
 
 -- ---- what a replay gives it gives

@@ -154,7 +154,11 @@ Ensures sum r count now old new (Ok answer) =
     × (answer ≡ false → (end_of now ≡ size_of r.tail) × (now.exhausted ≡ true))
     × (length now.hand ≤ max (length r.hand) (count + r.batch * r.tail.page_size))
     × HasFilled sum r now old.present × IsAhead r now old new
-Ensures sum r count now old new (Err e) = Fills r now × FillFault sum r.tail old new e
+    × (answer ≡ true → now.exhausted ≡ r.exhausted)
+Ensures sum r count now old new (Err e) =
+    Fills r now × FillFault sum r.tail old new e × HasFilled sum r now old.present
+    × (length now.hand ≤ max (length r.hand) (count + r.batch * r.tail.page_size))
+    × (now.exhausted ≡ r.exhausted)
 
 -- so many bytes of those at hand are passed over, or all
 abbrev pub advanced : ℕ → ReplayState → ReplayState

@@ -3,7 +3,8 @@ ghost use Rattle.std.specs.Prelude.{◌≡◌, ◌+◌, ◌*◌, ◌<◌, ◌≤
 ghost use Rattle.std.specs.Int.NonZero.{non_zero_u16_get};
 ghost use Rattle.cache.specs.CacheState.{IsMissing};
 ghost use Rattle.paged_read.specs.Tail.{tail_at, IsView, CanRead};
-ghost use Rattle.paged_read.specs.Ranges.{LeavesAll, AsksForMissing, missing};
+ghost use Rattle.paged_read.specs.Ranges.{LeavesAll, AsksForMissing, missing, is_served};
+ghost use Rattle.std.specs.Prelude.{Ok, true};
 ghost use Rattle.paged_read.specs.Parts.{IsPieceOf, ReadsPieces, ReadsBelow};
 
 use crate::View;
@@ -132,6 +133,8 @@ impl<B: Blob, H: Sum> View<'_, B, H> {
             AsksForMissing cache.old t (offset, length buf.old) old new }
         ensures leaves { let t = tail_at self.entry.page_size self.entry.id self.entry.tip.now in
             LeavesAll t cache.old cache.new (B.life blob.old) (B.life blob.new) }
+        ensures served { let t = tail_at self.entry.page_size self.entry.id self.entry.tip.now in
+            is_served cache.old t (offset, length buf.old) ≡ true → result ≡ Ok tt }
         ensures size { length buf.new ≡ length buf.old }
     {
         let count = cache.read_cached(self.id, buf, offset);

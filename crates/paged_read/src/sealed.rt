@@ -8,6 +8,8 @@ ghost use Rattle.page.specs.Geometry.{AreInOrder, EndWithin};
 ghost use Rattle.crash.specs.Looks.{Looked};
 ghost use Rattle.paged_read.specs.Batch.{ranges_of};
 ghost use Rattle.paged_read.specs.Ranges.{AsksForMissing, AsksOnce, HasServed, LeavesAll, Misses};
+ghost use Rattle.paged_read.specs.Ranges.{is_served};
+ghost use Rattle.std.specs.Prelude.{Ok, true, IfErr};
 ghost use Rattle.paged_read.specs.Ranges.{range_up_to, Reads, ReadsMany, ReadsUpTo, TriesRead};
 ghost use Rattle.paged_read.specs.Replay.{LeavesAllReplays};
 ghost use Rattle.paged_read.specs.Snapshots.{IsSealed, LeavesAllReads, LeavesAllTails};
@@ -212,6 +214,9 @@ impl<B: Blob, H: Sum> Sealed<B, H> {
             → result ≡ Err Error.BlobInsufficientLength }
         ensures asks { let old = B.life blob.old in let new = B.life blob.new in
             AsksForMissing cache.old self.now (offset, length buf.old) old new }
+        ensures served { offset + length buf.old < 2 ^ 64
+            → offset + length buf.old ≤ size_of self.now
+            → is_served cache.old self.now (offset, length buf.old) ≡ true → result ≡ Ok tt }
         ensures size { length buf.new ≡ length buf.old }
         ensures leaves { let old = B.life blob.old in let new = B.life blob.new in
             LeavesAll self.now cache.old cache.new old new }
@@ -292,6 +297,7 @@ impl<B: Blob, H: Sum> Sealed<B, H> {
             → result ≡ Err Error.BlobInsufficientLength }
         ensures asks { let old = B.life blob.old in let new = B.life blob.new in
             AsksForMissing cache.old self.now (range_up_to self.now offset len) old new }
+        ensures none { IfErr result (λ e. len ≢ 0) }
         ensures leaves { let old = B.life blob.old in let new = B.life blob.new in
             LeavesAll self.now cache.old cache.new old new }
         ensures looked { Looked (B.life blob.old) (B.life blob.new) }

@@ -5,7 +5,8 @@ ghost use Rattle.std.specs.Int.NonZero.{non_zero_u16_get};
 ghost use Rattle.std.specs.List.{concat};
 ghost use Rattle.paged_read.specs.Tail.{tail_at, size_of, IsView, CanRead};
 ghost use Rattle.paged_read.specs.Ranges.{Reads, ReadsUpTo, range_up_to, AsksForMissing, LeavesAll};
-ghost use Rattle.paged_read.specs.Ranges.{TriesRead};
+ghost use Rattle.paged_read.specs.Ranges.{TriesRead, is_served};
+ghost use Rattle.std.specs.Prelude.{Ok, true, IfErr};
 ghost use Rattle.paged_read.specs.Parts.{TriesBelow};
 
 use cache::CacheRef;
@@ -106,6 +107,9 @@ impl<B: Blob, H: Sum> View<'_, B, H> {
         ensures asks { let t = tail_at self.entry.page_size self.entry.id self.entry.tip.now in
             let old = B.life blob.old in let new = B.life blob.new in
             AsksForMissing cache.old t (offset, length buf.old) old new }
+        ensures served { let t = tail_at self.entry.page_size self.entry.id self.entry.tip.now in
+            offset + length buf.old < 2 ^ 64 → offset + length buf.old ≤ size_of t
+            → is_served cache.old t (offset, length buf.old) ≡ true → result ≡ Ok tt }
         ensures leaves { let t = tail_at self.entry.page_size self.entry.id self.entry.tip.now in
             LeavesAll t cache.old cache.new (B.life blob.old) (B.life blob.new) }
         ensures size { length buf.new ≡ length buf.old }
@@ -185,6 +189,7 @@ impl<B: Blob, H: Sum> View<'_, B, H> {
         ensures asks { let t = tail_at self.entry.page_size self.entry.id self.entry.tip.now in
             let old = B.life blob.old in let new = B.life blob.new in
             AsksForMissing cache.old t (range_up_to t offset len) old new }
+        ensures none { IfErr result (λ e. len ≢ 0) }
         ensures leaves { let t = tail_at self.entry.page_size self.entry.id self.entry.tip.now in
             LeavesAll t cache.old cache.new (B.life blob.old) (B.life blob.new) }
     {

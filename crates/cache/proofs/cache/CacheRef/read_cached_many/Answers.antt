@@ -2,7 +2,8 @@ use Rattle.std.proofs.Common.{◌∙◌, ap, sym, ℕ, List, length, take, slice
 use Rattle.std.proofs.lemmas.List.{take_rest}
 use Rattle.cache.specs.CacheState.{put_at}
 use Rattle.cache.specs.declared.piece.Piece.{Piece}
-use Rattle.cache.proofs.Reading.{held_step, missing_step}
+use Rattle.std.proofs.Common.{◌++◌, ◌∷◌, [], refl, ◌+◌}
+use Rattle.cache.proofs.Reading.{held_step, missing_step, some_left, unread}
 use Rattle.cache.proofs.cache.CacheRef.read_cached_many.Goals as goal
 use Rattle.cache.proofs.cache.CacheRef.read_cached_many.Goals.{in-Some, in-None+in_ok-push-in-None}
 
@@ -34,3 +35,17 @@ loop-piece-preserved c =
             w.buf-is ∙ step.1,
           )
     ]
+
+pub returns-in_err-push-in-None-clause-reads : goal.returns-in_err-push-in-None-clause-reads
+returns-in_err-push-in-None-clause-reads c =
+    let zero : Piece = record { page = 0; skip = 0; buf_offset = 0; len = 0 } in
+    let i : ℕ = c.loop-piece.piece-index in
+    let pieces : List Piece = c.args.pieces.now in
+    let piece : Piece = slice_index_or pieces i zero in
+    let step = missing_step c.args.self.now c.args.id pieces c.loop-piece.left.items
+    (c.loop-piece.left.items ++ piece ∷ []) i zero c.args.buf.now c.loop-piece.buf
+    c.loop-piece-test.true (sym c.in-None.ensures.page) c.loop-piece.invariant.1
+    c.loop-piece.invariant.2 refl in
+    unread c.args.self.now c.args.id pieces c.args.buf.now c.loop-piece.buf c.from_residual.result
+    c.from_residual.ensures.1 c.loop-piece.invariant.0
+    (some_left c.args.self.now c.args.id pieces c.loop-piece.left.items piece (i + 1) step.0)

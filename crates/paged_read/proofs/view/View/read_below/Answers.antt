@@ -1,9 +1,10 @@
-use Rattle.std.proofs.Common.{◌+◌, ◌≤◌, ◌∙◌, [], ◌∷◌, length, sym, subst, arith, refl}
+use Rattle.std.proofs.Common.{◌+◌, ◌≤◌, ◌∙◌, [], ◌∷◌, length, sym, subst, arith, refl, ◌≡◌}
+use Rattle.std.proofs.lemmas.Bool.Decides.{nat_tests}
 use Rattle.paged_read.specs.Tail.{tail_at}
 use Rattle.paged_read.specs.Ranges.{missing}
 use Rattle.paged_read.specs.Parts.{ReadsBelow}
 use Rattle.paged_read.proofs.Leaving.{leaves_none}
-use Rattle.paged_read.proofs.BelowReads.{below_joins, asks_joins, cached_reads, rest_many}
+use Rattle.paged_read.proofs.BelowReads.{below_joins, asks_joins, cached_reads, cached_tries, rest_many}
 use Rattle.paged_read.proofs.CachedBytes.{cached_within}
 use Rattle.paged_read.proofs.view.View.read_below.Goals as goal
 
@@ -46,3 +47,11 @@ returns-clause-asks g c =
     asks_joins t c.args.cache.now c.args.offset c.args.buf.now c.read_cached-count.new.buf count c.args.self.page_size.ok c.read_cached-count.ensures old new c.requires.can.page_size below c.requires.view.fits
     (λ all. c.if-count-buf.false (all ∙ sym c.read_cached-count.ensures.size))
     (subst (λ n. length new.present.log ≤ length old.present.log + length (missing c.args.cache.now t ((c.args.offset + count, n) ∷ []))) many c.read_missing.ensures.asks)
+
+pub returns-clause-served : goal.returns-clause-served
+returns-clause-served g c = λ served.
+    let t = tail_at c.args.self.page_size c.args.self.id c.args.self.tip.now in
+    let tries = cached_tries t c.args.cache.now c.args.offset c.args.buf.now c.read_cached-count.new.buf c.read_cached-count.result c.args.self.page_size.ok c.read_cached-count.ensures c.requires.can.page_size c.requires.view.fits c.requires.below in
+    let all = tries.0 ∙ served in
+    let same : c.read_cached-count.result ≡ length c.read_cached-count.new.buf = grind (arith, nat_tests, all) in
+    absurd (c.if-count-buf.false same)

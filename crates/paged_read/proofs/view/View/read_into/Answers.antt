@@ -1,10 +1,10 @@
-use Rattle.std.proofs.Common.{◌≡◌, ◌+◌, ◌-◌, ◌*◌, ◌≤◌, ◌∙◌, ◌++◌, [], ◌∷◌, length, take, drop, ap, subst, arith}
+use Rattle.std.proofs.Common.{◌≡◌, ◌+◌, ◌-◌, ◌*◌, ◌≤◌, ◌∙◌, ◌++◌, [], ◌∷◌, length, take, drop, ap, subst, arith, sym, true}
 use Rattle.std.proofs.lemmas.List.{length-take-le}
 use Rattle.std.proofs.lemmas.Result.{err_from_is_err_and}
 use Rattle.paged_read.specs.Tail.{tail_at, told}
-use Rattle.paged_read.specs.Ranges.{slice, AreMissingFull, AsksForMissing, ReadFault}
+use Rattle.paged_read.specs.Ranges.{slice, is_served, AreMissingFull, AsksForMissing, ReadFault}
 use Rattle.paged_read.proofs.Leaving.{leaves_none}
-use Rattle.paged_read.proofs.WholeReads.{part_asks, part_fault, part_full, parts_join, two_parts, second_len}
+use Rattle.paged_read.proofs.WholeReads.{part_served, part_asks, part_fault, part_full, parts_join, two_parts, second_len}
 use Rattle.paged_read.proofs.view.View.read_into.Goals as goal
 
 pub returns-in_err-end-clause-leaves : goal.returns-in_err-end-clause-leaves
@@ -59,3 +59,13 @@ returns-clause-reads g c =
       two_parts below c.args.buf.now c.read_below.new.buf c.copy_tip.new.buf within c.read_below.ensures.size ∙ parts_join t c.args.cache.now c.args.offset len below c.len_below-below.ensures d c.read_below.new.buf c.copy_tip.new.buf c.requires.can front back,
       part_full t c.args.cache.now c.args.offset len below c.len_below-below.ensures g.H.Sum.sum_of d.readable (subst (λ n. AreMissingFull g.H.Sum.sum_of c.args.cache.now t ((c.args.offset, n) ∷ []) d.readable) many c.in_ok-read_below.ensures.reads.1),
     )
+
+pub returns-in_err-read_below-clause-served : goal.returns-in_err-read_below-clause-served
+returns-in_err-read_below-clause-served g c = λ small within served.
+    let t = tail_at c.args.self.page_size c.args.self.id c.args.self.tip.now in
+    let below = c.len_below-below.result in
+    let many : length (take below c.args.buf.now) ≡ below = length-take-le below c.args.buf.now (omega (arith, c.len_below-below.ensures)) in
+    let part : is_served c.args.cache.now t (c.args.offset, length (take below c.args.buf.now)) ≡ true =
+    subst (λ n. is_served c.args.cache.now t (c.args.offset, n) ≡ true) (sym many)
+    (sym (part_served t c.args.cache.now c.args.offset (length c.args.buf.now) below c.len_below-below.ensures) ∙ served) in
+    let same = c.in_err-read_below.ensures.served part in absurd (cc same)
