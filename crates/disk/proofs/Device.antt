@@ -13,12 +13,6 @@ use Rattle.disk.proofs.Histories.{life_told}
 pub life_after : (a : Action) (failed : Bool) (old new : History) → failed ≡ (old.failing == 1) → new ≡ told a old → life_of new ≡ life_after_action a failed (life_of old)
 life_after a failed old new e same = rw (same, e) (life_told a old)
 
--- the call that was to fail has failed, and no later one is to
-pub counts_failed : (a : Action) (old new : History) → true ≡ (old.failing == 1) → new ≡ told a old → (old.failing ≡ 1) × (new.failing ≡ 0)
-counts_failed a old new failed same =
-    let one : old.failing ≡ 1 = grind (arith, nat_tests, failed) in
-    (one, rw same (omega (arith, one)))
-
 -- an operation that was done, or failed and left all as it was
 operated_is : (o : Operation) (request : Request) (failed : Bool) (d : Disk) → Operated o request failed d (operated o request failed d)
 operated_is o request true d = record { readable = same_is_partial o d.readable; done = λ h. cc; rest = refl }

@@ -108,16 +108,6 @@ starts_after (actions.Write offset bytes sync) failed starts events = starts
 starts_after (actions.Resize len) failed starts events = starts
 starts_after actions.Sync failed starts events = starts
 
--- a call of the device counts, and fails just where it is the one that is to fail; what asks no
--- device doesn't count
-abbrev pub CountsDown : {T : Type 0} → ℕ → ℕ → Result T Error → Type 0
-CountsDown old new (Ok _) = (old ≢ 1) × (new ≡ old - 1)
-CountsDown old new (Err ReadFailed) = (old ≡ 1) × (new ≡ 0)
-CountsDown old new (Err WriteFailed) = (old ≡ 1) × (new ≡ 0)
-CountsDown old new (Err ResizeFailed) = (old ≡ 1) × (new ≡ 0)
-CountsDown old new (Err SyncFailed) = (old ≡ 1) × (new ≡ 0)
-CountsDown old new (Err _) = new ≡ old
-
 -- the device is asked for this, and fails just where it is the call that is to fail; a call that is
 -- refused before changes nothing, and doesn't count
 abbrev pub Asks : {T : Type 0} → Action → History → History → Result T Error → Type 0

@@ -1,10 +1,8 @@
 // The calls of a writer, one after another.
 ghost use Rattle.std.specs.Prelude.{IfOk};
 ghost use Rattle.cache.specs.Pages.{IsFresh};
-ghost use Rattle.writer_state.specs.Sound.{IsSound};
 ghost use Rattle.disk.specs.History.{life_of};
-ghost use Rattle.paged.specs.Caches.{tail_of};
-ghost use Rattle.paged_read.specs.Tail.{CanRead};
+ghost use Rattle.paged.specs.Ready.{IsReady};
 
 use cache::CacheRef;
 use crc32c::Crc32c;
@@ -50,9 +48,7 @@ pub fn open<H: Sum>(
     cache: &mut CacheRef,
 ) -> Result<Recovery<VecBlob, H>, Error>
     requires fresh { IsFresh cache.old }
-    ensures sound { IfOk result (λ w. IsSound H.sum_of w (life_of blob.new.history).present) }
-    ensures can { let life = life_of blob.new.history in
-        IfOk result (λ w. CanRead (tail_of w) cache.new life.present) }
+    ensures ready { IfOk result (λ w. IsReady H.sum_of w cache.new (life_of blob.new.history)) }
 {
     let size = blob.len();
     recover::<VecBlob, H>(alloc, blob, size, CAPACITY, cache, NonZeroUsize::MIN)
@@ -71,8 +67,7 @@ fn look_back<B: Blob, H: Sum>(
     blob: &mut B,
     cache: &mut CacheRef,
 ) -> Result<IoBuf, Error>
-    requires sound { IsSound H.sum_of writer (B.life blob.old).present }
-    requires can { CanRead (tail_of writer) cache.old (B.life blob.old).present }
+    requires ready { IsReady H.sum_of writer cache.old (B.life blob.old) }
 {
     let (_writer, snapshot) = writer.snapshot(blob, cache)?;
     let size = snapshot.size() as usize;
@@ -85,8 +80,7 @@ fn play_back<B: Blob, H: Sum>(
     blob: &mut B,
     cache: &mut CacheRef,
 ) -> Result<IoBuf, Error>
-    requires sound { IsSound H.sum_of writer (B.life blob.old).present }
-    requires can { CanRead (tail_of writer) cache.old (B.life blob.old).present }
+    requires ready { IsReady H.sum_of writer cache.old (B.life blob.old) }
 {
     let options = ReadOptions::default();
     let (_writer, mut replay) = writer.replay(blob, cache, NonZeroUsize::MIN, options)?;
@@ -103,8 +97,7 @@ fn overlap<B: Blob, H: Sum>(
     blob: &mut B,
     cache: &mut CacheRef,
 ) -> Result<u64, Error>
-    requires sound { IsSound H.sum_of writer (B.life blob.old).present }
-    requires can { CanRead (tail_of writer) cache.old (B.life blob.old).present }
+    requires ready { IsReady H.sum_of writer cache.old (B.life blob.old) }
 {
     let (writer, _) = writer.append(blob, cache, b"hello")?;
     let (writer, _started) = writer.start_sync(blob, cache)?;

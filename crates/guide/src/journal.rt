@@ -1,9 +1,7 @@
 // A journal: records, one after another, on a device and under a checksum function of one's own.
 ghost use Rattle.std.specs.Prelude.{◌≡◌, length, IfOk};
 ghost use Rattle.cache.specs.Pages.{IsFresh};
-ghost use Rattle.writer_state.specs.Sound.{IsSound};
-ghost use Rattle.paged.specs.Caches.{tail_of};
-ghost use Rattle.paged_read.specs.Tail.{CanRead};
+ghost use Rattle.paged.specs.Ready.{IsReady};
 
 use crate::calls::{CAPACITY, new_cache};
 use crate::device::Metered;
@@ -53,14 +51,14 @@ pub struct Journal<H: Sum> {
 
 impl<H: Sum> Model for Journal<H> {
     ghost use Rattle.disk.specs.History.{life_of};
-    ghost use Rattle.guide.specs.Ready.{IsReady};
+    ghost use Rattle.guide.specs.Ready.{IsJournal};
 
     ghost Value = { Unit {0} };
 
     ghost view = { λ journal. tt };
 
     ghost invariant = { λ journal.
-        IsReady H.sum_of journal.writer journal.cache (life_of journal.blob.inner) };
+        IsJournal H.sum_of journal.writer journal.cache (life_of journal.blob.inner) };
 }
 
 // A record as it stands in the blob.
@@ -80,8 +78,7 @@ fn recovered<B: Blob, H: Sum>(
 ) -> Result<Recovery<B, H>, Error>
     requires length { size ≡ length (B.life blob.old).present.readable }
     requires fresh { IsFresh cache.old }
-    ensures sound { IfOk result (λ w. IsSound H.sum_of w (B.life blob.new).present) }
-    ensures can { IfOk result (λ w. CanRead (tail_of w) cache.new (B.life blob.new).present) }
+    ensures ready { IfOk result (λ w. IsReady H.sum_of w cache.new (B.life blob.new)) }
     ensures fresh { IsFresh cache.new }
 {
     recover::<B, H>(alloc, blob, size, CAPACITY, cache, NonZeroUsize::MIN)
@@ -94,11 +91,8 @@ fn cut_to<B: Blob, H: Sum>(
     cache: &mut CacheRef,
     size: u64,
 ) -> Result<Recovery<B, H>, Error>
-    requires sound { IsSound H.sum_of recovery (B.life blob.old).present }
-    requires can { CanRead (tail_of recovery) cache.old (B.life blob.old).present }
-    requires fresh { IsFresh cache.old }
-    ensures sound { IfOk result (λ w. IsSound H.sum_of w (B.life blob.new).present) }
-    ensures can { IfOk result (λ w. CanRead (tail_of w) cache.new (B.life blob.new).present) }
+    requires ready { IsReady H.sum_of recovery cache.old (B.life blob.old) }
+    ensures ready { IfOk result (λ w. IsReady H.sum_of w cache.new (B.life blob.new)) }
     ensures fresh { IsFresh cache.new }
 {
     recovery.truncate(blob, cache, size)

@@ -20,11 +20,21 @@ use Rattle.crash.specs.Looks.{Looked, looked_start}
 use Rattle.writer_state.specs.Sound.{IsSound, LeavesItsContent, content}
 use Rattle.writer_state.specs.WriterState.{WriterState}
 use Rattle.crash.specs.Moments.{through_start, through_then, through_joins, through_end}
+<<<<<<< ours
 use Rattle.paged_read.specs.Hand.{HandState, kept_with}
 use Rattle.paged_read.specs.Snapshots.{LeavesOthers, LeavesReads}
 use Rattle.paged_read.specs.Tail.{CanRead}
 use Rattle.paged.specs.Caches.{tail_of, KeepsReads}
 use Rattle.paged.specs.Calls.{GoesOn, Appends, BuffersOver, Syncs, TryAppends}
+=======
+use Rattle.paged_read.specs.Snapshots.{LeavesOthers, LeavesReads, LeavesTails}
+use Rattle.paged_read.specs.Tail.{Tail, CanRead}
+use Rattle.paged_read.specs.Ranges.{Reads, LeavesAll}
+use Rattle.paged.specs.Caches.{tail_of}
+use Rattle.paged.specs.Calls.{GoesOn}
+use Rattle.paged.specs.Ready.{IsReady as IsWriterReady}
+use Rattle.paged.specs.Goes.{AppendAnswers, AppendGoes, Holds, SyncAllGoes}
+>>>>>>> theirs
 use Rattle.paged.specs.Reads.{size_of}
 use Rattle.paged.specs.Recovers.{Recovers}
 use Rattle.paged.specs.Truncate.{Truncates, KeepsFloorsWithin}
@@ -147,21 +157,25 @@ all_stay id cache mid after is first second = λ sum w life journal.
 -- ---- the calls
 
 -- a writer that went on is ready
+pub holds_on : (sum : List ℕ → ℕ) (w : WriterState) (old : Life) (more : List ℕ) (now : WriterState) (after : CacheState) (new : Life) → Holds sum w old more now new → IsWriterReady sum now after new
+    → IsReady sum now after new
+holds_on sum w old more now after new holds ready = record { sound = ready.sound; can = ready.can; fresh = ready.fresh; size = holds.size; only = holds.only }
+
 pub gone_on : (sum : List ℕ → ℕ) (w : WriterState) (old : Life) (more : List ℕ) (now : WriterState) (after : CacheState) (new : Life) → GoesOn sum w old more now new → CanRead (tail_of now) after new.present → IsFresh after
     → IsReady sum now after new
 gone_on sum w old more now after new goes can fresh = record { sound = goes.sound; can = can; fresh = fresh; size = goes.size; only = goes.only }
 
 -- a record that was appended
 pub appended : (sum own : List ℕ → ℕ) (w : WriterState) (bytes : List ℕ) (after : CacheState) (old new : Life) (now : WriterState) (offset : ℕ) → length bytes ≤ 65535 → own bytes < 2 ^ 32
-    → IsWhole (content w old.present.readable) → CanRead (tail_of now) after new.present → IsFresh after → Appends sum w (frame own bytes) old new (Ok (now, offset)) → IsAppended sum own w bytes after old new now offset
-appended sum own w bytes after old new now offset short small whole can fresh (at, goes) =
+    → IsWhole (content w old.present.readable) → IsWriterReady sum now after new → AppendAnswers sum w (frame own bytes) old new (Ok (now, offset)) → IsAppended sum own w bytes after old new now offset
+appended sum own w bytes after old new now offset short small whole ready (at, goes) =
     let before = content w old.present.readable in
     let framed = frame own bytes in
     let fits : length bytes < 2 ^ 16 = omega arith in
     let stood : drop offset (before ++ framed) ≡ framed ++ [] = ap (λ n. drop n (before ++ framed)) at ∙ drop_at before framed (length before) refl ∙ sym (append-nil framed) in
     record {
       at = at;
-      journal = is_journal sum now after new (gone_on sum w old framed now after new goes can fresh)
+      journal = is_journal sum now after new (holds_on sum w old framed now after new goes ready)
           (subst (λ (l : List ℕ). IsWhole l) (sym goes.content) (whole_more before framed whole (frame_is_whole own bytes fits)));
       holds = goes.content;
       added = ap (λ (l : List ℕ). records own l) goes.content ∙ records-append own before framed whole ∙ ap (λ rs. records own before ++ rs) (records-frame own bytes fits small);
@@ -173,7 +187,7 @@ appended sum own w bytes after old new now offset short small whole can fresh (a
     }
 
 -- an append that was refused
-pub not_appended : (sum own : List ℕ → ℕ) (w : WriterState) (bytes : List ℕ) (after : CacheState) (old new : Life) (e : Error) → Appends sum w (frame own bytes) old new (Err e) → AppendsRecord sum own w bytes after old new (Err e)
+pub not_appended : (sum own : List ℕ → ℕ) (w : WriterState) (bytes : List ℕ) (after : CacheState) (old new : Life) (e : Error) → AppendAnswers sum w (frame own bytes) old new (Err e) → AppendsRecord sum own w bytes after old new (Err e)
 not_appended sum own w bytes after old new OffsetOverflow (same, passes) =
     (same, subst (λ (n : ℕ). 2 ^ 64 ≤ physical_blob_size w.page_size w.full_pages (length w.tip + n)) (length-frame own bytes) passes)
 not_appended sum own w bytes after old new ReadFailed refused = refused.cause
@@ -225,19 +239,19 @@ after_append own before bytes short small whole =
     ([], sym (append-nil (records own (before ++ frame own bytes)) ∙ records-append own before (frame own bytes) whole ∙ ap (λ rs. records own before ++ rs) (records-frame own bytes (omega arith) small)))
 
 -- a commit
-pub committed : (sum own : List ℕ → ℕ) (w : WriterState) (after : CacheState) (old new : Life) (now : WriterState) → IsWhole (content w old.present.readable) → CanRead (tail_of now) after new.present → IsFresh after
-    → Syncs sum w old new (Ok now) → KeepsAll sum w.page_size (content w old.present.readable) new → IsCommitted sum own w after old new now
-committed sum own w after old new now whole can fresh (goes, settled) keeps =
+pub committed : (sum own : List ℕ → ℕ) (w : WriterState) (after : CacheState) (old new : Life) (now : WriterState) → IsWhole (content w old.present.readable) → IsWriterReady sum now after new
+    → SyncAllGoes sum w old new (Ok now) → IsCommitted sum own w after old new now
+committed sum own w after old new now whole ready (goes, settled, keeps) =
     let same : content now new.present.readable ≡ content w old.present.readable = goes.content ∙ append-nil (content w old.present.readable) in
     record {
-      journal = is_journal sum now after new (gone_on sum w old [] now after new goes can fresh) (subst (λ (l : List ℕ). IsWhole l) (sym same) whole);
+      journal = is_journal sum now after new (holds_on sum w old [] now after new goes ready) (subst (λ (l : List ℕ). IsWhole l) (sym same) whole);
       holds = same;
       same = goes.same;
       all = subst (λ (P : ℕ). CommitsAll sum own P (content now new.present.readable) new.present) (sym goes.same.page_size)
           (subst (λ (l : List ℕ). CommitsAll sum own w.page_size l new.present) (sym same) (commits_all sum own w.page_size (content w old.present.readable) new.present keeps));
     }
 
-pub not_committed : (sum own : List ℕ → ℕ) (w : WriterState) (after : CacheState) (old new : Life) (e : Error) → Syncs sum w old new (Err e) → CommitGoes sum own w after old new (Err e)
+pub not_committed : (sum own : List ℕ → ℕ) (w : WriterState) (after : CacheState) (old new : Life) (e : Error) → SyncAllGoes sum w old new (Err e) → CommitGoes sum own w after old new (Err e)
 not_committed sum own w after old new e refused = refused.cause
 
 take_first : (n : ℕ) (xs ys : List (List ℕ)) → n ≤ length xs → take n (xs ++ ys) ≡ take n xs
@@ -259,9 +273,9 @@ brings_back sum own P d image is_image = λ content n commits.
 
 -- an append of a record's frame, by its answer
 pub append_goes : (sum own : List ℕ → ℕ) (w : WriterState) (bytes : List ℕ) (after : CacheState) (old new : Life) (result : Result (WriterState × ℕ) Error) → length bytes ≤ 65535 → own bytes < 2 ^ 32
-    → IsWhole (content w old.present.readable) → Appends sum w (frame own bytes) old new result → IfOk result (λ r. CanRead (tail_of r.0) after new.present) → IsFresh after → AppendsRecord sum own w bytes after old new result
-append_goes sum own w bytes after old new (Ok r) short small whole appends can fresh = appended sum own w bytes after old new r.0 r.1 short small whole can fresh appends
-append_goes sum own w bytes after old new (Err e) short small whole appends can fresh = not_appended sum own w bytes after old new e appends
+    → IsWhole (content w old.present.readable) → AppendGoes sum w (frame own bytes) old new result → IfOk result (λ r. IsWriterReady sum r.0 after new) → AppendsRecord sum own w bytes after old new result
+append_goes sum own w bytes after old new (Ok r) short small whole goes ready = appended sum own w bytes after old new r.0 r.1 short small whole ready goes.answers
+append_goes sum own w bytes after old new (Err e) short small whole goes ready = not_appended sum own w bytes after old new e goes.answers
 
 pub append_gives : (sum own : List ℕ → ℕ) (w : WriterState) (bytes : List ℕ) (after : CacheState) (old new : Life) (result : Result (WriterState × ℕ) Error) → AppendsRecord sum own w bytes after old new result
     → IfOk result (λ r. IsJournal sum r.0 after new)
@@ -270,10 +284,9 @@ append_gives sum own w bytes after old new (Err e) is = tt
 
 -- a commit, by its answer
 pub commit_goes : (sum own : List ℕ → ℕ) (w : WriterState) (after : CacheState) (old new : Life) (result : Result WriterState Error) → IsWhole (content w old.present.readable)
-    → Syncs sum w old new result → IfOk result (λ now. CanRead (tail_of now) after new.present) → IsFresh after → OnOk result (KeepsAll sum w.page_size (content w old.present.readable) new)
-    → CommitGoes sum own w after old new result
-commit_goes sum own w after old new (Ok now) whole syncs can fresh keeps = committed sum own w after old new now whole can fresh syncs keeps
-commit_goes sum own w after old new (Err e) whole syncs can fresh keeps = not_committed sum own w after old new e syncs
+    → SyncAllGoes sum w old new result → IfOk result (λ now. IsWriterReady sum now after new) → CommitGoes sum own w after old new result
+commit_goes sum own w after old new (Ok now) whole goes ready = committed sum own w after old new now whole ready goes
+commit_goes sum own w after old new (Err e) whole goes ready = not_committed sum own w after old new e goes
 
 pub commit_gives : (sum own : List ℕ → ℕ) (w : WriterState) (after : CacheState) (old new : Life) (result : Result WriterState Error) → CommitGoes sum own w after old new result → IfOk result (λ now. IsJournal sum now after new)
 commit_gives sum own w after old new (Ok now) is = is.journal

@@ -1,12 +1,24 @@
 // Journals: records over a paged blob.
+<<<<<<< ours
 ghost use Rattle.std.specs.Prelude.{◌≡◌, ◌≤◌, ◌++◌, length};
 ghost use Rattle.std.specs.Prelude.{IfOk, OnOk};
+=======
+ghost use Rattle.std.specs.Prelude.{◌≡◌, ◌+◌, ◌*◌, ◌^◌, ◌<◌, ◌≤◌, ◌++◌, ◌∷◌, [], length};
+ghost use Rattle.std.specs.Prelude.{IfOk};
+>>>>>>> theirs
 ghost use Rattle.cache.specs.Pages.{IsFresh};
 ghost use Rattle.crash.specs.Looks.{Looked};
 ghost use Rattle.writer_state.specs.Sound.{IsSound, content};
-ghost use Rattle.crash.specs.Stays.{KeepsAll, KeepsAllFloors, LeavesOnly};
+ghost use Rattle.crash.specs.Stays.{KeepsAllFloors, LeavesOnly};
 ghost use Rattle.page.specs.Page.{text};
+<<<<<<< ours
 ghost use Rattle.paged.specs.Calls.{Appends, BuffersOver, Syncs, TryAppends};
+=======
+ghost use Rattle.paged.specs.Calls.{IsSettled};
+ghost use Rattle.paged.specs.Owes.{Owes};
+ghost use Rattle.paged.specs.Ready.{IsReady as IsWriterReady};
+ghost use Rattle.paged.specs.Goes.{AppendGoes, SyncAllGoes};
+>>>>>>> theirs
 ghost use Rattle.paged.specs.Reads.{size_of};
 ghost use Rattle.paged.specs.Truncate.{KeepsFloorsWithin};
 ghost use Rattle.journal.specs.Frame.{frame, whole_frames};
@@ -163,18 +175,10 @@ impl<B: Blob, H: Sum, R: Sum> Journal<B, H, R> {
     // Appends bytes to the content.
     fn append(self, blob: &mut B, cache: &mut CacheRef, bytes: &[u8]) -> Result<(Self, u64), Error>
         requires ready { IsReady H.sum_of self cache.old (B.life blob.old) }
-        ensures appends { let old = B.life blob.old in let new = B.life blob.new in
-            Appends H.sum_of self bytes.now old new result }
-        ensures can { let new = B.life blob.new in
-            IfOk result (λ r. CanRead (tail_of r.0) cache.new new.present) }
-        ensures fresh { IsFresh cache.new }
-        ensures tails { let old = B.life blob.old in let new = B.life blob.new in
-            LeavesTails H.sum_of self.full_pages cache.old cache.new old new }
-        ensures others { LeavesOthers self.id cache.old cache.new }
-        ensures kept { KeepsAllFloors H.sum_of self.page_size (B.life blob.old) (B.life blob.new) }
-        ensures only { let old = B.life blob.old in
-            let held = content self old.present.readable in
-            LeavesOnly H.sum_of self.page_size held (held ++ bytes.now) old (B.life blob.new) }
+        ensures goes { AppendGoes H.sum_of self bytes.now (B.life blob.old) (B.life blob.new) result }
+        ensures ready { IfOk result (λ r. IsWriterReady H.sum_of r.0 cache.new (B.life blob.new)) }
+        ensures owes { let all = content self (B.life blob.old).present.readable ++ bytes.now in
+            Owes H.sum_of self all cache.old cache.new (B.life blob.old) (B.life blob.new) }
     {
         let alloc = self.alloc;
         match self.writer.append(blob, cache, bytes) {
@@ -211,18 +215,10 @@ impl<B: Blob, H: Sum, R: Sum> Journal<B, H, R> {
     // Makes the content durable.
     fn sync(self, blob: &mut B, cache: &mut CacheRef) -> Result<Self, Error>
         requires ready { IsReady H.sum_of self cache.old (B.life blob.old) }
-        ensures syncs { Syncs H.sum_of self (B.life blob.old) (B.life blob.new) result }
-        ensures can { let new = B.life blob.new in
-            IfOk result (λ w. CanRead (tail_of w) cache.new new.present) }
-        ensures fresh { IsFresh cache.new }
-        ensures tails { let old = B.life blob.old in let new = B.life blob.new in
-            LeavesTails H.sum_of self.full_pages cache.old cache.new old new }
-        ensures others { LeavesOthers self.id cache.old cache.new }
-        ensures durable { let held = content self (B.life blob.old).present.readable in
-            OnOk result (KeepsAll H.sum_of self.page_size held (B.life blob.new)) }
-        ensures kept { KeepsAllFloors H.sum_of self.page_size (B.life blob.old) (B.life blob.new) }
-        ensures only { let held = content self (B.life blob.old).present.readable in
-            LeavesOnly H.sum_of self.page_size held held (B.life blob.old) (B.life blob.new) }
+        ensures goes { SyncAllGoes H.sum_of self (B.life blob.old) (B.life blob.new) result }
+        ensures ready { IfOk result (λ w. IsWriterReady H.sum_of w cache.new (B.life blob.new)) }
+        ensures owes { let all = content self (B.life blob.old).present.readable in
+            Owes H.sum_of self all cache.old cache.new (B.life blob.old) (B.life blob.new) }
     {
         let alloc = self.alloc;
         match self.writer.sync(blob, cache) {

@@ -82,11 +82,11 @@ sync_leaves sum w old new result syncs = leaves_only sum w.page_size (content w 
 pub goes_stay : (sum : List ℕ → ℕ) (w now : WriterState) (old new : Life) → GoesOn sum w old [] now new → StaysThrough sum w.page_size (content w old.present.readable) old new
 goes_stay sum w now old new goes = subst (λ c. StaysThrough sum w.page_size c old new) (append-nil (content w old.present.readable)) goes.stays
 
-starts_stay : (sum : List ℕ → ℕ) (w : WriterState) (old new : Life) (result : Result (WriterState × StartedSync) Error) → StartsSync sum w old new result → StaysThrough sum w.page_size (content w old.present.readable) old new
+pub starts_stay : (sum : List ℕ → ℕ) (w : WriterState) (old new : Life) (result : Result (WriterState × StartedSync) Error) → StartsSync sum w old new result → StaysThrough sum w.page_size (content w old.present.readable) old new
 starts_stay sum w old new (Ok r) (goes, written, state, covered) = goes_stay sum w r.0 old new goes
 starts_stay sum w old new (Err e) refused = refused.stays
 
-waits_stay : (sum : List ℕ → ℕ) (w : WriterState) (old new : Life) (result : Result WriterState Error) → WaitsForSync sum w old new result → StaysThrough sum w.page_size (content w old.present.readable) old new
+pub waits_stay : (sum : List ℕ → ℕ) (w : WriterState) (old new : Life) (result : Result WriterState Error) → WaitsForSync sum w old new result → StaysThrough sum w.page_size (content w old.present.readable) old new
 waits_stay sum w old new (Ok now) (goes, is) = goes_stay sum w now old new goes
 waits_stay sum w old new (Err e) refused = refused.stays
 

@@ -50,3 +50,5 @@ pub mod Foretelling
 pub mod Surveying
 pub mod SurveyExamples
 pub mod LookedFirst
+pub mod Owing
+pub mod Answering

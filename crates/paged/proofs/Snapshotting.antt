@@ -57,7 +57,7 @@ made_stands sum w now t cache after old new goes is reads can = record {
 
 -- ---- a snapshot that is made
 
-make_stays : (sum : List ℕ → ℕ) (w : WriterState) (old new : Life)
+pub make_stays : (sum : List ℕ → ℕ) (w : WriterState) (old new : Life)
     (result : Result (WriterState × Tail) Error) → MakesSnapshot sum w old new result
     → StaysThrough sum w.page_size (content w old.present.readable) old new
 make_stays sum w old new (Ok r) (goes, short, is) = goes_stay sum w r.0 old new goes
@@ -81,7 +81,7 @@ module _ (sum : List ℕ → ℕ) (w : WriterState) (old new : Life)
 
 -- ---- a replay that begins
 
-begin_stays : (sum : List ℕ → ℕ) (w : WriterState) (size : ℕ) (old new : Life)
+pub begin_stays : (sum : List ℕ → ℕ) (w : WriterState) (size : ℕ) (old new : Life)
     (result : Result (WriterState × ReplayState) Error) → BeginsReplay sum w size old new result
     → StaysThrough sum w.page_size (content w old.present.readable) old new
 begin_stays sum w size old new (Ok r) begins = goes_stay sum w r.0 old new begins.0

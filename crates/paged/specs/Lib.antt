@@ -14,3 +14,8 @@ pub mod Replays
 pub mod Scans
 pub mod Outlook
 pub mod Within
+pub mod Ready
+pub mod Owes
+pub mod Goes
+pub mod Costs
+pub mod RecoveryCalls

@@ -13,6 +13,7 @@ use Rattle.writer_state.specs.WriterState.{WriterState}
 use Rattle.crash.specs.Stays.{KeepsAllFloors}
 use Rattle.paged_read.specs.Replay.{LeavesAllReplays}
 use Rattle.paged_read.specs.Scans.{ReadsForward, pages_from}
+use Rattle.paged_read.specs.Searches.{ReadsWithin}
 use Rattle.paged_read.specs.Snapshots.{LeavesAllReads, LeavesAllTails, LeavesWriters}
 use Rattle.paged.specs.declared.outlook.Outlook.{Outlook}
 use Rattle.paged.specs.declared.verdict.Survey.{Survey}
@@ -130,6 +131,19 @@ pub record LeavesAsIs (old new : Life) : Type 0 where
   pub floors : (sum : List ℕ → ℕ) (P : ℕ) → KeepsAllFloors sum P old new
   pub kept : (sum : List ℕ → ℕ) (P : ℕ) → KeepsText sum P old new
   pub only : (sum : List ℕ → ℕ) (P : ℕ) → LeavesText sum P old new
+
+-- what a look asks of the device: reads forward, from the first page on, and of no more than a page
+-- or what fits the buffer; of less than a page nothing
+pub record LookCosts (P most size : ℕ) (old new : Life) (result : Result Outlook Error) : Type 0 where
+  pub forward : ReadsForward most 0 (size / (P + 12) * (P + 12)) old new
+  pub within : ReadsWithin most old new
+  pub idle : size < P + 12
+      → (result ≡ Ok (record { pages = 0; len = 0; cut = size })) × (new ≡ old)
+
+-- what a survey asks of it: each page twice at most
+pub record SurveyCosts (P most size : ℕ) (old new : Life) : Type 0 where
+  pub twice : ReadsTwice most (size / (P + 12) * (P + 12)) old new
+  pub within : ReadsWithin most old new
 
 -- how many bytes at the end may hold synced bytes that a recovery gives up: those of a torn last
 -- page and of all after it; else all that would be cut, unless these are whole pages of zeros. At

@@ -5,17 +5,17 @@ ghost use Rattle.writer_state.specs.Sound.{IsSound, content};
 ghost use Rattle.crash.specs.Below.{PagesStay};
 ghost use Rattle.writer_state.specs.declared.sync_state.SyncState.TheVariants.{Dirty};
 ghost use Rattle.crash.specs.Started.{CoversThrough, StartsStand};
-ghost use Rattle.crash.specs.Stays.{KeepsAllFloors, LeavesOnly};
 ghost use Rattle.paged.specs.Writer.{physical_blob_size, FitsBlob};
 ghost use Rattle.paged.specs.Calls.{AsksAtMost, HoldsWithin, Appends, Buffers, BuffersAll};
-ghost use Rattle.paged.specs.Calls.{Completed, wait_calls};
+ghost use Rattle.paged.specs.Calls.{wait_calls};
+ghost use Rattle.paged.specs.Costs.{AppendCosts};
+ghost use Rattle.paged.specs.Owes.{Owes};
+ghost use Rattle.paged.specs.Ready.{IsReady};
+ghost use Rattle.paged.specs.Goes.{AppendGoes};
 ghost use Rattle.paged.specs.Calls.{TryAppends, BuffersOver, KeepsSound, KeepsPages};
-ghost use Rattle.paged.specs.Reads.{HasPages, size_of};
+ghost use Rattle.paged.specs.Reads.{size_of};
 ghost use Rattle.paged.specs.Flush.{answered};
-ghost use Rattle.paged.specs.Caches.{CachesTo, Caches, ReadsOn, KeepsReads, PutsOnceWaited};
-ghost use Rattle.cache.specs.Pages.{CachesOnly, IsFresh};
-ghost use Rattle.paged_read.specs.Replay.{LeavesReplays};
-ghost use Rattle.paged_read.specs.Snapshots.{LeavesOthers, LeavesTails};
+ghost use Rattle.paged.specs.Caches.{CachesTo, KeepsReads, PutsOnceWaited};
 
 use crate::Writer;
 use cache::CacheRef;
@@ -75,58 +75,13 @@ impl<B: Blob, H: Sum, Phase> Writer<B, H, Phase> {
         cache: &mut CacheRef,
         bytes: &[u8],
     ) -> Result<(Self, u64), Error>
-        requires cached { cache.old.page_size ≡ self.page_size }
-        requires sound { IsSound H.sum_of self (B.life blob.old).present }
-        ensures appends { let old = B.life blob.old in let new = B.life blob.new in
-            Appends H.sum_of self bytes.now old new result }
-        ensures overflow { let buffered = length self.tip + length bytes.now in
-            2 ^ 64 ≤ physical_blob_size self.page_size self.full_pages buffered
-            → result ≡ Err Error.OffsetOverflow }
-        ensures sound { IfOk result (λ r. IsSound H.sum_of r.0 (B.life blob.new).present) }
-        ensures there { IfOk result (λ r. HasPages r.0 (B.life blob.new)) }
-        ensures within { IfOk result (λ r. HoldsWithin r.0) }
-        ensures buffered { let old = B.life blob.old in let new = B.life blob.new in
-            length self.tip + length bytes.now ≤ self.capacity
-            → BuffersAll self bytes.now old new result }
-        ensures flushed { self.capacity < length self.tip + length bytes.now
-            → IfOk result (λ r. length r.0.tip < self.page_size) }
-        ensures dirty { self.capacity < length self.tip + length bytes.now
-            → IfOk result (λ r. r.0.sync ≡ Dirty) }
-        ensures calls { let old = B.life blob.old in let new = B.life blob.new in
-            AsksAtMost (wait_calls self.sync + 2) old new }
-        ensures completed { let old = B.life blob.old in let new = B.life blob.new in
-            let held = content self old.present.readable in
-            IfOk result (λ r. Completed H.sum_of self.page_size held self.sync r.0.sync old new) }
-
-        // The full pages that are written are put in the cache, which stays true: reads go on.
-        ensures puts { Caches (λ r. r.0) self (self.tip ++ bytes.now) cache.old cache.new result }
-        ensures can_read { let old = B.life blob.old in let new = B.life blob.new in
-            IfOk result (λ r. ReadsOn self r.0 cache.old cache.new old new) }
-        ensures caches { let held = content self (B.life blob.old).present.readable in
-            CachesOnly self.id self.full_pages (held ++ bytes.now) cache.old cache.new }
-        ensures fresh_ids { self.id < cache.old.ids_given → IsFresh cache.old → IsFresh cache.new }
-        ensures refused { PutsOnceWaited cache.old cache.new result }
-        ensures idle_cache { length self.tip + length bytes.now ≤ self.capacity
-            → cache.new ≡ cache.old }
-
-        // At each moment since the call began, and at every answer.
-        ensures kept { KeepsAllFloors H.sum_of self.page_size (B.life blob.old) (B.life blob.new) }
-        ensures only { let old = B.life blob.old in let new = B.life blob.new in
-            let held = content self old.present.readable in
-            LeavesOnly H.sum_of self.page_size held (held ++ bytes.now) old new }
-        ensures pages { let old = B.life blob.old in let new = B.life blob.new in
-            PagesStay self.page_size self.full_pages old new }
-        ensures covers { let old = B.life blob.old in let new = B.life blob.new in
-            let held = content self old.present.readable in
-            CoversThrough H.sum_of self.page_size held old new }
-        ensures starts { StartsStand (B.life blob.new).present }
-
-        // What snapshots, replays, and reads of other blobs stand on.
-        ensures tails { let old = B.life blob.old in let new = B.life blob.new in
-            LeavesTails H.sum_of self.full_pages cache.old cache.new old new }
-        ensures replays { let old = B.life blob.old in let new = B.life blob.new in
-            LeavesReplays self.page_size self.full_pages old new }
-        ensures others { LeavesOthers self.id cache.old cache.new }
+        requires ready { IsReady H.sum_of self cache.old (B.life blob.old) }
+        ensures goes { AppendGoes H.sum_of self bytes.now (B.life blob.old) (B.life blob.new) result }
+        ensures ready { IfOk result (λ r. IsReady H.sum_of r.0 cache.new (B.life blob.new)) }
+        ensures owes { let all = content self (B.life blob.old).present.readable ++ bytes.now in
+            Owes H.sum_of self all cache.old cache.new (B.life blob.old) (B.life blob.new) }
+        ensures costs { let old = B.life blob.old in let new = B.life blob.new in
+            AppendCosts self bytes.now cache.old cache.new old new result }
     {
         let at = self.size();
         self.append_bytes(blob, cache, bytes)?;

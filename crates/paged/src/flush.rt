@@ -9,21 +9,20 @@ ghost use Rattle.crash.specs.Built.{built, durable_after, rest_written};
 ghost use Rattle.writer_state.specs.Sound.{CanWrite, IsSound, MayFlush, content, guard_slot};
 ghost use Rattle.crash.specs.Below.{PagesStay};
 ghost use Rattle.crash.specs.Started.{CoversThrough, StartsStand};
-ghost use Rattle.crash.specs.Stays.{KeepsAll, KeepsAllFloors, LeavesOnly};
-ghost use Rattle.paged.specs.Calls.{AsksAtMost, HoldsWithin, settle_calls, sync_calls, Flushes};
+ghost use Rattle.paged.specs.Calls.{AsksAtMost, settle_calls, sync_calls, Flushes};
 ghost use Rattle.paged.specs.Calls.{Settles, SettlesBy, Syncs, IsWritten, WaitsForNone, Completes};
 ghost use Rattle.paged.specs.Calls.{WaitsForSync, wait_calls};
-ghost use Rattle.paged.specs.Reads.{HasPages};
+ghost use Rattle.paged.specs.Costs.{SyncCosts};
+ghost use Rattle.paged.specs.Owes.{Owes};
+ghost use Rattle.paged.specs.Ready.{IsReady};
+ghost use Rattle.paged.specs.Goes.{SyncAllGoes};
 ghost use Rattle.page.specs.Tip.{ArePages};
 ghost use Rattle.paged.specs.Writer.{FitsBlob};
-ghost use Rattle.paged.specs.Caches.{CachesTo, Caches, ReadsOn, PutsOnceWaited, IsNotBefore};
+ghost use Rattle.paged.specs.Caches.{CachesTo, PutsOnceWaited, IsNotBefore};
 ghost use Rattle.cache.specs.CacheState.{PutsAll};
-ghost use Rattle.cache.specs.Pages.{CachesOnly, IsFresh};
 ghost use Rattle.paged.specs.Flush.{full_in, rest_of, rest_bytes, has_work, carried, advanced};
-ghost use Rattle.paged.specs.Flush.{offset_of, flush_bytes, synced, written, outcome, answered};
+ghost use Rattle.paged.specs.Flush.{offset_of, flush_bytes, synced, written, answered};
 ghost use Rattle.paged.specs.Flush.{TellsFirst};
-ghost use Rattle.paged_read.specs.Replay.{LeavesReplays};
-ghost use Rattle.paged_read.specs.Snapshots.{LeavesOthers, LeavesTails};
 
 use crate::Writer;
 use crate::build::{physical_pages, push_page};
@@ -346,51 +345,13 @@ impl<B: Blob, H: Sum, Phase> Writer<B, H, Phase> {
     /// `WriteFailed` and `SyncFailed` where the device failed, and `SyncFailed` where the started
     /// sync had failed; `OutOfMemory`. The writer is gone then.
     pub fn sync(mut self, blob: &mut B, cache: &mut CacheRef) -> Result<Self, Error>
-        requires cached { cache.old.page_size ≡ self.page_size }
-        requires sound { IsSound H.sum_of self (B.life blob.old).present }
-        ensures syncs { Syncs H.sum_of self (B.life blob.old) (B.life blob.new) result }
-        ensures sound { IfOk result (λ w. IsSound H.sum_of w (B.life blob.new).present) }
-        ensures there { IfOk result (λ w. HasPages w (B.life blob.new)) }
-        ensures within { IfOk result (λ w. HoldsWithin w) }
-        ensures calls { AsksAtMost (sync_calls self) (B.life blob.old) (B.life blob.new) }
-        ensures idle { sync_calls self ≡ 0
-            → (result ≡ Ok self) × (B.life blob.new ≡ B.life blob.old) }
-        ensures unwritten { let old = B.life blob.old in let new = B.life blob.new in
-            has_work self true ≡ false → SettlesBy self.sync old new (outcome result) }
-
-        // The full pages that are written are put in the cache, which stays true: reads go on.
-        ensures puts { Caches (λ w. w) self self.tip cache.old cache.new result }
-        ensures can_read { let old = B.life blob.old in let new = B.life blob.new in
-            IfOk result (λ w. ReadsOn self w cache.old cache.new old new) }
-        ensures caches { let old = B.life blob.old in
-            CachesOnly self.id self.full_pages (content self old.present.readable) cache.old
-            cache.new }
-        ensures fresh_ids { self.id < cache.old.ids_given → IsFresh cache.old → IsFresh cache.new }
-        ensures refused { wait_calls self.sync ≡ 1 → PutsOnceWaited cache.old cache.new result }
-        ensures idle_cache { has_work self true ≡ false → cache.new ≡ cache.old }
-
-        // From then on every image keeps the whole content.
-        ensures durable { let old = B.life blob.old in let new = B.life blob.new in
-            OnOk result (KeepsAll H.sum_of self.page_size (content self old.present.readable) new) }
-
-        // At each moment since the call began, and at every answer.
-        ensures kept { KeepsAllFloors H.sum_of self.page_size (B.life blob.old) (B.life blob.new) }
-        ensures only { let old = B.life blob.old in let new = B.life blob.new in
-            let held = content self old.present.readable in
-            LeavesOnly H.sum_of self.page_size held held old new }
-        ensures pages { let old = B.life blob.old in let new = B.life blob.new in
-            PagesStay self.page_size self.full_pages old new }
-        ensures covers { let old = B.life blob.old in let new = B.life blob.new in
-            let held = content self old.present.readable in
-            CoversThrough H.sum_of self.page_size held old new }
-        ensures starts { StartsStand (B.life blob.new).present }
-
-        // What snapshots, replays, and reads of other blobs stand on.
-        ensures tails { let old = B.life blob.old in let new = B.life blob.new in
-            LeavesTails H.sum_of self.full_pages cache.old cache.new old new }
-        ensures replays { let old = B.life blob.old in let new = B.life blob.new in
-            LeavesReplays self.page_size self.full_pages old new }
-        ensures others { LeavesOthers self.id cache.old cache.new }
+        requires ready { IsReady H.sum_of self cache.old (B.life blob.old) }
+        ensures goes { SyncAllGoes H.sum_of self (B.life blob.old) (B.life blob.new) result }
+        ensures ready { IfOk result (λ w. IsReady H.sum_of w cache.new (B.life blob.new)) }
+        ensures owes { let all = content self (B.life blob.old).present.readable in
+            Owes H.sum_of self all cache.old cache.new (B.life blob.old) (B.life blob.new) }
+        ensures costs { let old = B.life blob.old in let new = B.life blob.new in
+            SyncCosts self cache.old cache.new old new result }
     {
         self.sync_all(blob, cache)?;
         Ok(self)

@@ -1,18 +1,13 @@
 // Looking at a blob before it is recovered.
-ghost use Rattle.std.specs.Prelude.{◌≡◌, ◌+◌, ◌-◌, ◌*◌, ◌/◌, ◌<◌, ◌≤◌, ◌^◌, ℕ, List};
+ghost use Rattle.std.specs.Prelude.{◌≡◌, ◌+◌, ◌-◌, ◌*◌, ◌/◌, ◌<◌, ◌≤◌, ◌^◌};
 ghost use Rattle.std.specs.Prelude.{length, take, drop, Ok, IfOk, is_some, true, if◌then◌else◌};
 ghost use Rattle.std.specs.Int.NonZero.{non_zero_u16_get, non_zero_usize_get};
-ghost use Rattle.cache.specs.CacheState.{CacheState};
 ghost use Rattle.crash.specs.Looks.{Looked};
-ghost use Rattle.crash.specs.Stays.{KeepsAllFloors};
-ghost use Rattle.paged_read.specs.Replay.{LeavesAllReplays};
 ghost use Rattle.page.specs.Page.{active, pages};
 ghost use Rattle.paged_read.specs.Scans.{LooksThrough, ReadsForward};
 ghost use Rattle.paged_read.specs.Searches.{ReadsWithin, scan_bytes};
-ghost use Rattle.paged_read.specs.Snapshots.{LeavesAllReads, LeavesAllTails, LeavesWriters};
-ghost use Rattle.paged.specs.Recovery.{KeepsText, LeavesText};
 ghost use Rattle.paged.specs.Outlook.{Foretells, IsOutlook, LeavesAsIs, Looks, LooksToLast};
-ghost use Rattle.paged.specs.Outlook.{ReadsLast, ReadsToLast, ReadsTwice, Surveys};
+ghost use Rattle.paged.specs.Outlook.{LookCosts, ReadsLast, ReadsToLast, SurveyCosts, Surveys};
 ghost use Rattle.paged.specs.Outlook.{are_zeros, beyond_of, is_torn, values_of};
 
 use crate::recovery::size_of;
@@ -69,42 +64,20 @@ pub fn look<B: Blob, H: Sum>(
     buffer_size: NonZeroUsize,
 ) -> Result<Outlook, Error>
     requires length { size ≡ length (B.life blob.old).present.readable }
-    ensures looks { let old = B.life blob.old in let new = B.life blob.new in
+    ensures goes { let old = B.life blob.old in let new = B.life blob.new in
         Looks H.sum_of (non_zero_u16_get page_size) old new result }
 
     // So does a recovery that is done, from whatever moment on at which the bytes are these.
     ensures foretells { let old = B.life blob.old in let P = non_zero_u16_get page_size in
         IfOk result (λ outlook. Foretells H.sum_of P old.present.readable outlook) }
-
-    ensures reads { let old = B.life blob.old in let new = B.life blob.new in
-        let P = non_zero_u16_get page_size in
-        let most = scan_bytes P (non_zero_usize_get buffer_size) in
-        ReadsForward most 0 (size / (P + 12) * (P + 12)) old new }
-    ensures within { let old = B.life blob.old in let new = B.life blob.new in
-        let P = non_zero_u16_get page_size in
-        ReadsWithin (scan_bytes P (non_zero_usize_get buffer_size)) old new }
-    ensures idle { size < non_zero_u16_get page_size + 12
-        → (result ≡ Ok (record { pages = 0; len = 0; cut = size }))
-        × (B.life blob.new ≡ B.life blob.old) }
     ensures looked { Looked (B.life blob.old) (B.life blob.new) }
 
-    // What the blob's writer stands on, its snapshots and its replays, through any cache; whatever
-    // the page size is with which it was written, and the checksum function.
-    ensures writers { let old = B.life blob.old in let new = B.life blob.new in
-        (sum : List ℕ → ℕ) → LeavesWriters sum old new }
-    ensures tails { let old = B.life blob.old in let new = B.life blob.new in
-        (sum : List ℕ → ℕ) (cache : CacheState) → LeavesAllTails sum cache cache old new }
-    ensures can_read { let old = B.life blob.old in let new = B.life blob.new in
-        (cache : CacheState) → LeavesAllReads cache cache old new }
-    ensures replays { LeavesAllReplays (B.life blob.old) (B.life blob.new) }
-
-    // A crash at any moment of the call keeps and leaves what it did.
-    ensures floors { let old = B.life blob.old in let new = B.life blob.new in
-        (sum : List ℕ → ℕ) (P : ℕ) → KeepsAllFloors sum P old new }
-    ensures kept { let old = B.life blob.old in let new = B.life blob.new in
-        (sum : List ℕ → ℕ) (P : ℕ) → KeepsText sum P old new }
-    ensures only { let old = B.life blob.old in let new = B.life blob.new in
-        (sum : List ℕ → ℕ) (P : ℕ) → LeavesText sum P old new }
+    // What stood on the blob's bytes still does, whatever they were written with.
+    ensures leaves { LeavesAsIs (B.life blob.old) (B.life blob.new) }
+    ensures costs { let old = B.life blob.old in let new = B.life blob.new in
+        let P = non_zero_u16_get page_size in
+        let most = scan_bytes P (non_zero_usize_get buffer_size) in
+        LookCosts P most size old new result }
 {
     let physical_page_size = physical_page_size(page_size);
     let whole = size / physical_page_size;
@@ -254,24 +227,20 @@ pub fn survey<B: Blob, H: Sum>(
     buffer_size: NonZeroUsize,
 ) -> Result<Survey, Error>
     requires length { size ≡ length (B.life blob.old).present.readable }
-    ensures surveys { let old = B.life blob.old in let new = B.life blob.new in
+    ensures goes { let old = B.life blob.old in let new = B.life blob.new in
         Surveys H.sum_of (non_zero_u16_get page_size) old new result }
 
     // So does a recovery that is done, from whatever moment on at which the bytes are these.
     ensures foretells { let old = B.life blob.old in let P = non_zero_u16_get page_size in
         IfOk result (λ survey. Foretells H.sum_of P old.present.readable survey.outlook) }
-
-    ensures reads { let old = B.life blob.old in let new = B.life blob.new in
-        let P = non_zero_u16_get page_size in
-        let most = scan_bytes P (non_zero_usize_get buffer_size) in
-        ReadsTwice most (size / (P + 12) * (P + 12)) old new }
-    ensures within { let old = B.life blob.old in let new = B.life blob.new in
-        let P = non_zero_u16_get page_size in
-        ReadsWithin (scan_bytes P (non_zero_usize_get buffer_size)) old new }
     ensures looked { Looked (B.life blob.old) (B.life blob.new) }
 
     // What stood on the blob's bytes still does, whatever they were written with.
     ensures leaves { LeavesAsIs (B.life blob.old) (B.life blob.new) }
+    ensures costs { let old = B.life blob.old in let new = B.life blob.new in
+        let P = non_zero_u16_get page_size in
+        let most = scan_bytes P (non_zero_usize_get buffer_size) in
+        SurveyCosts P most size old new }
 {
     let (outlook, torn) = look_to_last::<B, H>(alloc, blob, size, page_size, buffer_size)?;
     let whole = size / physical_page_size(page_size);

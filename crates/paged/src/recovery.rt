@@ -26,6 +26,9 @@ ghost use Rattle.cache.specs.Pages.{IsFresh};
 ghost use Rattle.writer_state.specs.Sound.{IsSound};
 ghost use Rattle.crash.specs.Stays.{KeepsAll, KeepsAllFloors};
 ghost use Rattle.paged_read.specs.Snapshots.{LeavesReads};
+ghost use Rattle.paged.specs.Ready.{IsReady};
+ghost use Rattle.paged.specs.RecoveryCalls.{OpenGoes, OwesRecovering, RecoverGoes};
+ghost use Rattle.paged.specs.RecoveryCalls.{RecoverKeepingGoes};
 
 use crate::{Recovery, Writer};
 use cache::CacheRef;
@@ -212,6 +215,28 @@ impl<B: Blob, H: Sum> Recovery<B, H> {
         cache: &mut CacheRef,
     ) -> Result<Self, Error>
         requires length { size ≡ length (B.life blob.old).present.readable }
+        ensures goes { let old = B.life blob.old in let new = B.life blob.new in
+            OpenGoes H.sum_of cache.old cache.new capacity old new result }
+        ensures can { IsFresh cache.old
+            → IfOk result (λ w. CanRead (tail_of w) cache.new (B.life blob.new).present) }
+        ensures owes { let old = B.life blob.old in let new = B.life blob.new in
+            OwesRecovering H.sum_of cache.old.page_size cache.old cache.new old new }
+
+        // Pages are read one by one, from the last back.
+        ensures costs { ReadsBack (cache.old.page_size + 12) (B.life blob.old) (B.life blob.new) }
+    {
+        Self::open_all(alloc, blob, size, capacity, cache)
+    }
+
+    /// The same, told clause by clause.
+    pub(crate) fn open_all(
+        alloc: Global,
+        blob: &mut B,
+        size: u64,
+        capacity: usize,
+        cache: &mut CacheRef,
+    ) -> Result<Self, Error>
+        requires length { size ≡ length (B.life blob.old).present.readable }
         ensures opens { let old = B.life blob.old in let new = B.life blob.new in
             Opens H.sum_of cache.old capacity old new result }
         ensures overflow { 2 ^ 64 ≤ adjusted capacity cache.old.page_size
@@ -272,41 +297,15 @@ impl<B: Blob, H: Sum> Writer<B, H> {
         cache: &mut CacheRef,
     ) -> Result<Self, Error>
         requires length { size ≡ length (B.life blob.old).present.readable }
-        ensures opens { let old = B.life blob.old in let new = B.life blob.new in
-            Opens H.sum_of cache.old capacity old new result }
-        ensures overflow { 2 ^ 64 ≤ adjusted capacity cache.old.page_size
-            → result ≡ Err Error.OffsetOverflow }
-        ensures there { IfOk result (λ w. HasPages w (B.life blob.new)) }
-        ensures within { IfOk result (λ w. HoldsWithin w) }
-        ensures ids { cache.new ≡ cache_after result cache.old }
-
-        // Nothing is held under a new id, so reads may begin.
-        ensures can_read { IsFresh cache.old
+        ensures goes { let old = B.life blob.old in let new = B.life blob.new in
+            OpenGoes H.sum_of cache.old cache.new capacity old new result }
+        ensures can { IsFresh cache.old
             → IfOk result (λ w. CanRead (tail_of w) cache.new (B.life blob.new).present) }
-        ensures fresh_ids { IsFresh cache.old → IsFresh cache.new }
-
-        // What reads of other blobs stand on.
-        ensures others { LeavesReads cache.old cache.new }
-
-        // What a cut of it asks for.
-        ensures as_opened { let new = B.life blob.new in
-            IfOk result (λ w. IsAsOpened H.sum_of w new.present) }
-
-        // Once it has answered, no slot of the tip's page is bad, durably.
-        ensures mended { let old = B.life blob.old in let new = B.life blob.new in
-            IsDurable old.present
-            → IfOk result (λ w. TailIsMended H.sum_of w new.present.base) }
-
-        // At each moment since the call began, and at every answer.
-        ensures floors { let old = B.life blob.old in let new = B.life blob.new in
-            KeepsAllFloors H.sum_of cache.old.page_size old new }
-
-        // The same, where all was durable.
-        ensures kept { KeepsText H.sum_of cache.old.page_size (B.life blob.old) (B.life blob.new) }
-        ensures only { LeavesText H.sum_of cache.old.page_size (B.life blob.old) (B.life blob.new) }
+        ensures owes { let old = B.life blob.old in let new = B.life blob.new in
+            OwesRecovering H.sum_of cache.old.page_size cache.old cache.new old new }
 
         // Pages are read one by one, from the last back.
-        ensures reads { ReadsBack (cache.old.page_size + 12) (B.life blob.old) (B.life blob.new) }
+        ensures costs { ReadsBack (cache.old.page_size + 12) (B.life blob.old) (B.life blob.new) }
     {
         let recovery = Recovery::<B, H>::open(alloc, blob, size, capacity, cache)?;
         Ok(Writer::from(recovery))
@@ -330,46 +329,18 @@ pub fn recover<B: Blob, H: Sum>(
     buffer_size: NonZeroUsize,
 ) -> Result<Recovery<B, H>, Error>
     requires length { size ≡ length (B.life blob.old).present.readable }
-    ensures recovers { let old = B.life blob.old in let new = B.life blob.new in
-        Recovers H.sum_of cache.old capacity old new result }
-    ensures overflow { 2 ^ 64 ≤ adjusted capacity cache.old.page_size
-        → result ≡ Err Error.OffsetOverflow }
-    ensures sound { IfOk result (λ w. IsSound H.sum_of w (B.life blob.new).present) }
-    ensures there { IfOk result (λ w. HasPages w (B.life blob.new)) }
-    ensures within { IfOk result (λ w. HoldsWithin w) }
-    ensures id { IfOk result (λ w. w.id ≡ cache.old.ids_given) }
-    ensures ids { GivesId result cache.old cache.new }
+    ensures goes { let old = B.life blob.old in let new = B.life blob.new in
+        RecoverGoes H.sum_of cache.old cache.new capacity old new result }
+    ensures ready { IsFresh cache.old
+        → IfOk result (λ w. IsReady H.sum_of w cache.new (B.life blob.new)) }
+    ensures owes { let old = B.life blob.old in let new = B.life blob.new in
+        OwesRecovering H.sum_of cache.old.page_size cache.old cache.new old new }
 
-    // Nothing is held under a new id, so reads may begin.
-    ensures can_read { IsFresh cache.old
-        → IfOk result (λ w. CanRead (tail_of w) cache.new (B.life blob.new).present) }
-    ensures fresh_ids { IsFresh cache.old → IsFresh cache.new }
-
-    // What reads of other blobs stand on.
-    ensures others { LeavesReads cache.old cache.new }
-
-    // From then on every image keeps the whole text.
-    ensures durable { let old = B.life blob.old in let new = B.life blob.new in
-        let all = text H.sum_of cache.old.page_size old.present.readable in
-        OnOk result (KeepsAll H.sum_of cache.old.page_size all new) }
-
-    // Once it has answered, no slot of the tip's page is bad, durably.
-    ensures mended { let new = B.life blob.new in
-        IfOk result (λ w. TailIsMended H.sum_of w new.present.base) }
-
-    // At each moment since the call began, and at every answer.
-    ensures floors { let old = B.life blob.old in let new = B.life blob.new in
-        KeepsAllFloors H.sum_of cache.old.page_size old new }
-
-    // The same, where all was durable.
-    ensures kept { KeepsText H.sum_of cache.old.page_size (B.life blob.old) (B.life blob.new) }
-    ensures only { LeavesText H.sum_of cache.old.page_size (B.life blob.old) (B.life blob.new) }
-
-    // No read has more pages than fit `buffer_size`, but for one page.
-    ensures reads { let old = B.life blob.old in let new = B.life blob.new in
+    // No read has more pages than fit `buffer_size`, and each may have one page.
+    ensures costs { let old = B.life blob.old in let new = B.life blob.new in
         ReadsWithin (scan_bytes cache.old.page_size (non_zero_usize_get buffer_size)) old new }
 {
-    recover_keeping::<B, H>(alloc, blob, size, capacity, cache, buffer_size, &mut None)
+    recover_all::<B, H>(alloc, blob, size, capacity, cache, buffer_size, &mut None)
 }
 
 /// Recovers a blob as [`recover`] does, and keeps the content as it is read: where `kept` is some,
@@ -378,6 +349,32 @@ pub fn recover<B: Blob, H: Sum>(
 ///
 /// Errors are those of [`recover`].
 pub fn recover_keeping<B: Blob, H: Sum>(
+    alloc: Global,
+    blob: &mut B,
+    size: u64,
+    capacity: usize,
+    cache: &mut CacheRef,
+    buffer_size: NonZeroUsize,
+    kept: &mut Option<Hand>,
+) -> Result<Recovery<B, H>, Error>
+    requires length { size ≡ length (B.life blob.old).present.readable }
+    requires empty { IsEmptyHand cache.old.page_size kept.old }
+    ensures goes { let old = B.life blob.old in let new = B.life blob.new in
+        RecoverKeepingGoes H.sum_of cache.old cache.new capacity old new kept.old kept.new result }
+    ensures ready { IsFresh cache.old
+        → IfOk result (λ w. IsReady H.sum_of w cache.new (B.life blob.new)) }
+    ensures owes { let old = B.life blob.old in let new = B.life blob.new in
+        OwesRecovering H.sum_of cache.old.page_size cache.old cache.new old new }
+
+    // No read has more pages than fit `buffer_size`, and each may have one page.
+    ensures costs { let old = B.life blob.old in let new = B.life blob.new in
+        ReadsWithin (scan_bytes cache.old.page_size (non_zero_usize_get buffer_size)) old new }
+{
+    recover_all::<B, H>(alloc, blob, size, capacity, cache, buffer_size, kept)
+}
+
+/// The same, told clause by clause.
+fn recover_all<B: Blob, H: Sum>(
     alloc: Global,
     blob: &mut B,
     size: u64,
@@ -432,9 +429,9 @@ pub fn recover_keeping<B: Blob, H: Sum>(
         let all = text H.sum_of cache.old.page_size old.present.readable in
         OnOk result (kept.new ≡ kept_with all kept.old) }
 {
-    let recovery = Recovery::<B, H>::open(alloc, blob, size, capacity, cache)?;
+    let recovery = Recovery::<B, H>::open_all(alloc, blob, size, capacity, cache)?;
     let pages = recovery.flushed_pages();
     let prefix = scan::<B, H>(alloc, blob, recovery.page_size, pages, buffer_size, kept)?;
     let text_size = size_of(&prefix, recovery.page_size);
-    recovery.truncate(blob, cache, text_size)
+    recovery.truncate_all(blob, cache, text_size)
 }

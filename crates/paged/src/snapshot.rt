@@ -1,21 +1,18 @@
 // Snapshots of a writer's blob.
-ghost use Rattle.std.specs.Prelude.{◌≡◌, ◌≤◌, ◌<◌, ◌*◌, Ok, IfOk, OnOk, false, true, length};
-ghost use Rattle.cache.specs.Pages.{CachesOnly, IsFresh};
+ghost use Rattle.std.specs.Prelude.{◌≡◌, ◌≤◌, ◌<◌, Ok, IfOk, OnOk, false, true, length};
 ghost use Rattle.crash.specs.Below.{PagesStay};
 ghost use Rattle.writer_state.specs.declared.sync_state.SyncState.TheVariants.{Dirty};
 ghost use Rattle.writer_state.specs.Sound.{content, IsSound};
 ghost use Rattle.crash.specs.Started.{CoversThrough, StartsStand};
-ghost use Rattle.crash.specs.Stays.{KeepsAllFloors, LeavesOnly};
-ghost use Rattle.paged_read.specs.Replay.{LeavesReplays};
-ghost use Rattle.paged_read.specs.Snapshots.{IsTailOf, LeavesOthers, LeavesTails, StandsOn};
-ghost use Rattle.paged_read.specs.Tail.{CanRead};
-ghost use Rattle.paged.specs.Caches.{Caches, CachesTo, PutsOnceWaited, ReadsOn, tail_of};
-ghost use Rattle.paged.specs.Calls.{AsksAtMost, Completed, HoldsWithin, StartsSync, wait_calls};
-ghost use Rattle.paged.specs.Calls.{Starts};
+ghost use Rattle.paged.specs.Caches.{CachesTo, PutsOnceWaited, tail_of};
+ghost use Rattle.paged.specs.Calls.{AsksAtMost, StartsSync};
 ghost use Rattle.paged.specs.Flush.{has_work, paired};
-ghost use Rattle.paged.specs.Reads.{HasPages};
-ghost use Rattle.paged.specs.Snapshots.{answer_of_seal, CachesOfSeal, CopiesTail, MakesSnapshot};
-ghost use Rattle.paged.specs.Snapshots.{seal_calls, SealsWriter, snapshot_calls, TriesSnapshot};
+ghost use Rattle.paged.specs.Snapshots.{answer_of_seal, CopiesTail, MakesSnapshot};
+ghost use Rattle.paged.specs.Snapshots.{seal_calls, snapshot_calls, TriesSnapshot};
+ghost use Rattle.paged.specs.Costs.{SealCosts, SnapshotCosts};
+ghost use Rattle.paged.specs.Goes.{SealGoes, SnapshotGoes};
+ghost use Rattle.paged.specs.Owes.{Owes};
+ghost use Rattle.paged.specs.Ready.{IsReady};
 
 use crate::Writer;
 use cache::CacheRef;
@@ -85,59 +82,14 @@ impl<B: Blob, H: Sum> Writer<B, H> {
         blob: &mut B,
         cache: &mut CacheRef,
     ) -> Result<(Self, Sealed<B, H>), Error>
-        requires cached { cache.old.page_size ≡ self.page_size }
-        requires sound { IsSound H.sum_of self (B.life blob.old).present }
-        ensures makes { let old = B.life blob.old in let new = B.life blob.new in
-            MakesSnapshot H.sum_of self old new result }
-        ensures sound { IfOk result (λ r. IsSound H.sum_of r.0 (B.life blob.new).present) }
-        ensures there { IfOk result (λ r. HasPages r.0 (B.life blob.new)) }
-        ensures within { IfOk result (λ r. HoldsWithin r.0) }
-        ensures calls { AsksAtMost (snapshot_calls self) (B.life blob.old) (B.life blob.new) }
-        ensures idle { has_work self false ≡ false
-            → CopiesTail self result × (B.life blob.new ≡ B.life blob.old) }
-        ensures dirty { has_work self false ≡ true → IfOk result (λ r. r.0.sync ≡ Dirty) }
-        ensures completed { let old = B.life blob.old in let new = B.life blob.new in
-            let held = content self old.present.readable in
-            IfOk result (λ r. Completed H.sum_of self.page_size held self.sync r.0.sync old new) }
-
-        // The snapshot tells the content, and can be read where the writer could be.
-        ensures tells { let old = B.life blob.old in let new = B.life blob.new in
-            let held = content self old.present.readable in
-            IfOk result (λ r. IsTailOf H.sum_of r.1 held new.present) }
-        ensures stands { let old = B.life blob.old in let new = B.life blob.new in
-            let held = content self old.present.readable in
-            IfOk result (λ r. CanRead (tail_of self) cache.old old.present
-            → StandsOn H.sum_of r.1 held cache.new new.present) }
-
-        // The full pages that are written are put in the cache, which stays true: reads go on.
-        ensures puts { Caches (λ r. r.0) self self.tip cache.old cache.new result }
-        ensures can_read { let old = B.life blob.old in let new = B.life blob.new in
-            IfOk result (λ r. ReadsOn self r.0 cache.old cache.new old new) }
-        ensures caches { let old = B.life blob.old in
-            CachesOnly self.id self.full_pages (content self old.present.readable) cache.old
-            cache.new }
-        ensures fresh_ids { self.id < cache.old.ids_given → IsFresh cache.old → IsFresh cache.new }
-        ensures refused { PutsOnceWaited cache.old cache.new result }
-        ensures idle_cache { has_work self false ≡ false → cache.new ≡ cache.old }
-
-        // At each moment since the call began, and at every answer.
-        ensures kept { KeepsAllFloors H.sum_of self.page_size (B.life blob.old) (B.life blob.new) }
-        ensures only { let old = B.life blob.old in let new = B.life blob.new in
-            let held = content self old.present.readable in
-            LeavesOnly H.sum_of self.page_size held held old new }
-        ensures pages { let old = B.life blob.old in let new = B.life blob.new in
-            PagesStay self.page_size self.full_pages old new }
-        ensures covers { let old = B.life blob.old in let new = B.life blob.new in
-            let held = content self old.present.readable in
-            CoversThrough H.sum_of self.page_size held old new }
-        ensures starts { StartsStand (B.life blob.new).present }
-
-        // What snapshots, replays, and reads of other blobs stand on.
-        ensures tails { let old = B.life blob.old in let new = B.life blob.new in
-            LeavesTails H.sum_of self.full_pages cache.old cache.new old new }
-        ensures replays { let old = B.life blob.old in let new = B.life blob.new in
-            LeavesReplays self.page_size self.full_pages old new }
-        ensures others { LeavesOthers self.id cache.old cache.new }
+        requires ready { IsReady H.sum_of self cache.old (B.life blob.old) }
+        ensures goes { let old = B.life blob.old in let new = B.life blob.new in
+            SnapshotGoes H.sum_of self cache.new old new result }
+        ensures ready { IfOk result (λ r. IsReady H.sum_of r.0 cache.new (B.life blob.new)) }
+        ensures owes { let all = content self (B.life blob.old).present.readable in
+            Owes H.sum_of self all cache.old cache.new (B.life blob.old) (B.life blob.new) }
+        ensures costs { let old = B.life blob.old in let new = B.life blob.new in
+            SnapshotCosts self cache.old cache.new old new result }
     {
         let sealed = self.snapshot_all(blob, cache)?;
         Ok((self, sealed))
@@ -185,55 +137,13 @@ impl<B: Blob, H: Sum> Writer<B, H> {
         blob: &mut B,
         cache: &mut CacheRef,
     ) -> Result<(Sealed<B, H>, StartedSync), Error>
-        requires cached { cache.old.page_size ≡ self.page_size }
-        requires sound { IsSound H.sum_of self (B.life blob.old).present }
-        ensures seals { let old = B.life blob.old in let new = B.life blob.new in
-            SealsWriter H.sum_of self old new result }
-        ensures calls { AsksAtMost (seal_calls self) (B.life blob.old) (B.life blob.new) }
-        ensures answers { IfOk result (λ r. r.1 ≡ answer_of_seal self (B.life blob.old)) }
-        ensures idle { seal_calls self ≡ 0 → (result ≡ Ok (tail_of self, StartedSync.Done))
-            × (B.life blob.new ≡ B.life blob.old) }
-
-        // What is started stands for the content, once it completed.
-        ensures covered { let old = B.life blob.old in let new = B.life blob.new in
-            IfOk result (λ r.
-            Starts H.sum_of self.page_size (content self old.present.readable) new r.1) }
-
-        // The snapshot tells the content, and can be read where the writer could be.
-        ensures tells { let old = B.life blob.old in let new = B.life blob.new in
-            let held = content self old.present.readable in
-            IfOk result (λ r. IsTailOf H.sum_of r.0 held new.present) }
-        ensures stands { let old = B.life blob.old in let new = B.life blob.new in
-            let held = content self old.present.readable in
-            IfOk result (λ r. CanRead (tail_of self) cache.old old.present
-            → StandsOn H.sum_of r.0 held cache.new new.present) }
-
-        // The full pages that are written are put in the cache, which stays true: reads go on.
-        ensures puts { CachesOfSeal self cache.old cache.new result }
-        ensures caches { let old = B.life blob.old in
-            CachesOnly self.id self.full_pages (content self old.present.readable) cache.old
-            cache.new }
-        ensures fresh_ids { self.id < cache.old.ids_given → IsFresh cache.old → IsFresh cache.new }
-        ensures idle_cache { has_work self true ≡ false → cache.new ≡ cache.old }
-
-        // At each moment since the call began, and at every answer.
-        ensures kept { KeepsAllFloors H.sum_of self.page_size (B.life blob.old) (B.life blob.new) }
-        ensures only { let old = B.life blob.old in let new = B.life blob.new in
-            let held = content self old.present.readable in
-            LeavesOnly H.sum_of self.page_size held held old new }
-        ensures pages { let old = B.life blob.old in let new = B.life blob.new in
-            PagesStay self.page_size self.full_pages old new }
-        ensures covers { let old = B.life blob.old in let new = B.life blob.new in
-            let held = content self old.present.readable in
-            CoversThrough H.sum_of self.page_size held old new }
-        ensures starts { StartsStand (B.life blob.new).present }
-
-        // What snapshots, replays, and reads of other blobs stand on.
-        ensures tails { let old = B.life blob.old in let new = B.life blob.new in
-            LeavesTails H.sum_of self.full_pages cache.old cache.new old new }
-        ensures replays { let old = B.life blob.old in let new = B.life blob.new in
-            LeavesReplays self.page_size self.full_pages old new }
-        ensures others { LeavesOthers self.id cache.old cache.new }
+        requires ready { IsReady H.sum_of self cache.old (B.life blob.old) }
+        ensures goes { let old = B.life blob.old in let new = B.life blob.new in
+            SealGoes H.sum_of self cache.new old new result }
+        ensures owes { let all = content self (B.life blob.old).present.readable in
+            Owes H.sum_of self all cache.old cache.new (B.life blob.old) (B.life blob.new) }
+        ensures costs { let old = B.life blob.old in let new = B.life blob.new in
+            SealCosts self cache.old cache.new old new result }
     {
         let started = self.seal_all(blob, cache)?;
         Ok((self.into_sealed(), started))
@@ -251,6 +161,7 @@ impl<B: Blob, H: Sum> Writer<B, H> {
             let held = content self.old old.present.readable in
             CoversThrough H.sum_of self.old.page_size held old new }
         ensures starts { StartsStand (B.life blob.new).present }
+        ensures room { OnOk result (self.old.page_size ≤ self.old.capacity) }
         ensures calls { let old = B.life blob.old in let new = B.life blob.new in
             AsksAtMost (seal_calls self.old) old new }
         ensures answers { IfOk result (λ started.

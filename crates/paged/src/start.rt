@@ -4,23 +4,24 @@ ghost use Rattle.disk.specs.declared.started_sync.StartedSync.TheVariants.{Named
 ghost use Rattle.writer_state.specs.Sound.{IsSound, content};
 ghost use Rattle.crash.specs.Below.{PagesStay};
 ghost use Rattle.crash.specs.Started.{CoversThrough, StartsStand};
-ghost use Rattle.crash.specs.Stays.{KeepsAllFloors, LeavesOnly};
-ghost use Rattle.paged.specs.Calls.{AsksAtMost, HoldsWithin, IsWritten, StartsSync};
-ghost use Rattle.paged.specs.Calls.{WaitsForSync, Completed, Completes, start_calls};
+ghost use Rattle.paged.specs.Calls.{AsksAtMost, IsWritten, StartsSync};
+ghost use Rattle.paged.specs.Calls.{start_calls};
 ghost use Rattle.paged.specs.Calls.{started_already, Covers};
 ghost use Rattle.writer_state.specs.WriterState.{started_state};
-ghost use Rattle.paged_read.specs.Replay.{LeavesAllReplays, LeavesReplays};
-ghost use Rattle.paged_read.specs.Snapshots.{LeavesAllTails, LeavesOthers, LeavesTails};
+ghost use Rattle.paged_read.specs.Replay.{LeavesAllReplays};
+ghost use Rattle.paged_read.specs.Snapshots.{LeavesAllTails};
 ghost use Rattle.paged_read.specs.Snapshots.{LeavesWriters};
 ghost use Rattle.disk.specs.Disk.{StartGoes, WaitsFor};
-ghost use Rattle.paged.specs.Calls.{sync_calls, unstarted_calls, wait_calls, SettlesBy};
-ghost use Rattle.paged.specs.Flush.{answered, outcome, paired};
-ghost use Rattle.paged.specs.Reads.{HasPages};
-ghost use Rattle.paged.specs.Caches.{CachesTo, Caches, ReadsOn};
+ghost use Rattle.paged.specs.Calls.{sync_calls, unstarted_calls};
+ghost use Rattle.paged.specs.Flush.{paired};
+ghost use Rattle.paged.specs.Caches.{CachesTo};
 ghost use Rattle.paged_read.specs.Tail.{Tail, CanRead};
 ghost use Rattle.paged.specs.Flush.{has_work};
 ghost use Rattle.cache.specs.CacheState.{CacheState};
-ghost use Rattle.cache.specs.Pages.{CachesOnly, IsFresh};
+ghost use Rattle.paged.specs.Costs.{StartSyncCosts, WaitForSyncCosts};
+ghost use Rattle.paged.specs.Goes.{StartSyncGoes, WaitForSyncGoes};
+ghost use Rattle.paged.specs.Owes.{Owes, OwesWaiting};
+ghost use Rattle.paged.specs.Ready.{IsReady};
 
 use crate::Writer;
 use cache::CacheRef;
@@ -55,50 +56,13 @@ impl<B: Blob, H: Sum, Phase> Writer<B, H, Phase> {
         blob: &mut B,
         cache: &mut CacheRef,
     ) -> Result<(Self, StartedSync), Error>
-        requires cached { cache.old.page_size ≡ self.page_size }
-        requires sound { IsSound H.sum_of self (B.life blob.old).present }
-        ensures starts_sync { let old = B.life blob.old in let new = B.life blob.new in
-            StartsSync H.sum_of self old new result }
-        ensures sound { IfOk result (λ r. IsSound H.sum_of r.0 (B.life blob.new).present) }
-        ensures there { IfOk result (λ r. HasPages r.0 (B.life blob.new)) }
-        ensures within { IfOk result (λ r. HoldsWithin r.0) }
-        ensures calls { AsksAtMost (start_calls self) (B.life blob.old) (B.life blob.new) }
-        ensures completed { let old = B.life blob.old in let new = B.life blob.new in
-            let held = content self old.present.readable in
-            IfOk result (λ r. Completed H.sum_of self.page_size held self.sync r.0.sync old new) }
-        ensures idle { start_calls self ≡ 0 → (result ≡ Ok (self, started_already self.sync))
-            × (B.life blob.new ≡ B.life blob.old) }
-        ensures fresh { 0 < start_calls self → IfOk result (λ r.
-            r.1 ≡ Named (length (B.life blob.old).present.started)) }
-
-        // The full pages that are written are put in the cache, which stays true: reads go on.
-        ensures puts { Caches (λ r. r.0) self self.tip cache.old cache.new result }
-        ensures can_read { let old = B.life blob.old in let new = B.life blob.new in
-            IfOk result (λ r. ReadsOn self r.0 cache.old cache.new old new) }
-        ensures caches { let old = B.life blob.old in
-            CachesOnly self.id self.full_pages (content self old.present.readable) cache.old
-            cache.new }
-        ensures fresh_ids { self.id < cache.old.ids_given → IsFresh cache.old → IsFresh cache.new }
-        ensures idle_cache { has_work self true ≡ false → cache.new ≡ cache.old }
-
-        // At each moment since the call began, and at every answer.
-        ensures kept { KeepsAllFloors H.sum_of self.page_size (B.life blob.old) (B.life blob.new) }
-        ensures only { let old = B.life blob.old in let new = B.life blob.new in
-            let held = content self old.present.readable in
-            LeavesOnly H.sum_of self.page_size held held old new }
-        ensures pages { let old = B.life blob.old in let new = B.life blob.new in
-            PagesStay self.page_size self.full_pages old new }
-        ensures covers { let old = B.life blob.old in let new = B.life blob.new in
-            let held = content self old.present.readable in
-            CoversThrough H.sum_of self.page_size held old new }
-        ensures starts { StartsStand (B.life blob.new).present }
-
-        // What snapshots, replays, and reads of other blobs stand on.
-        ensures tails { let old = B.life blob.old in let new = B.life blob.new in
-            LeavesTails H.sum_of self.full_pages cache.old cache.new old new }
-        ensures replays { let old = B.life blob.old in let new = B.life blob.new in
-            LeavesReplays self.page_size self.full_pages old new }
-        ensures others { LeavesOthers self.id cache.old cache.new }
+        requires ready { IsReady H.sum_of self cache.old (B.life blob.old) }
+        ensures goes { StartSyncGoes H.sum_of self (B.life blob.old) (B.life blob.new) result }
+        ensures ready { IfOk result (λ r. IsReady H.sum_of r.0 cache.new (B.life blob.new)) }
+        ensures owes { let all = content self (B.life blob.old).present.readable in
+            Owes H.sum_of self all cache.old cache.new (B.life blob.old) (B.life blob.new) }
+        ensures costs { let old = B.life blob.old in let new = B.life blob.new in
+            StartSyncCosts self cache.old cache.new old new result }
     {
         let started = self.start_all(blob, cache)?;
         Ok((self, started))
@@ -180,40 +144,12 @@ impl<B: Blob, H: Sum, Phase> Writer<B, H, Phase> {
     /// `OutOfMemory`. The writer is gone then.
     pub fn wait_for_sync(mut self, blob: &mut B) -> Result<Self, Error>
         requires sound { IsSound H.sum_of self (B.life blob.old).present }
-        ensures waits { let old = B.life blob.old in let new = B.life blob.new in
-            WaitsForSync H.sum_of self old new result }
-        ensures sound { IfOk result (λ w. IsSound H.sum_of w (B.life blob.new).present) }
-        ensures there { IfOk result (λ w. HasPages w (B.life blob.new)) }
-        ensures calls { AsksAtMost (wait_calls self.sync) (B.life blob.old) (B.life blob.new) }
-        ensures settles { wait_calls self.sync ≡ 1
-            → SettlesBy self.sync (B.life blob.old) (B.life blob.new) (outcome result) }
-        ensures idle { wait_calls self.sync ≡ 0
-            → (result ≡ Ok self) × (B.life blob.new ≡ B.life blob.old) }
-        ensures can_read { let old = B.life blob.old in let new = B.life blob.new in
-            IfOk result (λ w. (cache : CacheState) → ReadsOn self w cache cache old new) }
-
-        // From then on every image keeps what the sync covers.
-        ensures durable { let old = B.life blob.old in let new = B.life blob.new in
-            OnOk result (Completes H.sum_of self.page_size self.sync old new) }
-
-        // At each moment since the call began, and at every answer.
-        ensures kept { KeepsAllFloors H.sum_of self.page_size (B.life blob.old) (B.life blob.new) }
-        ensures only { let old = B.life blob.old in let new = B.life blob.new in
-            let held = content self old.present.readable in
-            LeavesOnly H.sum_of self.page_size held held old new }
-        ensures pages { let old = B.life blob.old in let new = B.life blob.new in
-            PagesStay self.page_size self.full_pages old new }
-        ensures covers { let old = B.life blob.old in let new = B.life blob.new in
-            let held = content self old.present.readable in
-            CoversThrough H.sum_of self.page_size held old new }
-        ensures starts { StartsStand (B.life blob.new).present }
-
-        // What snapshots stand on, with whichever cache.
-        ensures tails { let old = B.life blob.old in let new = B.life blob.new in
-            (cache : CacheState) → cache.page_size ≡ self.page_size
-            → LeavesTails H.sum_of self.full_pages cache cache old new }
-        ensures replays { let old = B.life blob.old in let new = B.life blob.new in
-            LeavesReplays self.page_size self.full_pages old new }
+        ensures goes { WaitForSyncGoes H.sum_of self (B.life blob.old) (B.life blob.new) result }
+        ensures ready { let old = B.life blob.old in let new = B.life blob.new in
+            (cache : CacheState) → IsReady H.sum_of self cache old
+            → IfOk result (λ w. IsReady H.sum_of w cache new) }
+        ensures owes { OwesWaiting H.sum_of self (B.life blob.old) (B.life blob.new) }
+        ensures costs { WaitForSyncCosts self (B.life blob.old) (B.life blob.new) result }
     {
         self.wait(blob)?;
         Ok(self)

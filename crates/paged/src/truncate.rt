@@ -23,6 +23,8 @@ ghost use Rattle.paged.specs.Writer.{FitsBlob};
 ghost use Rattle.paged.specs.Caches.{CachesTo, PutsUpTo, ReadsOn};
 ghost use Rattle.cache.specs.Pages.{CachesOnly, IsFresh};
 ghost use Rattle.paged_read.specs.Snapshots.{LeavesOthers};
+ghost use Rattle.paged.specs.Ready.{IsReady};
+ghost use Rattle.paged.specs.RecoveryCalls.{OwesCutting, TruncateCosts, TruncateGoes};
 
 use crate::Recovery;
 use crate::recovery::{cut, write_slot};
@@ -55,7 +57,30 @@ impl<B: Blob, H: Sum> Recovery<B, H> {
     /// always does in a sound blob. `ReadFailed`, `WriteFailed`, `ResizeFailed` and `SyncFailed`
     /// where the device failed, and `SyncFailed` where a started sync had failed; `OutOfMemory`.
     /// The writer is gone then.
-    pub fn truncate(mut self, blob: &mut B, cache: &mut CacheRef, size: u64) -> Result<Self, Error>
+    pub fn truncate(self, blob: &mut B, cache: &mut CacheRef, size: u64) -> Result<Self, Error>
+        requires cached { cache.old.page_size ≡ self.page_size }
+        requires stands { let old = B.life blob.old in
+            IsSound H.sum_of self old.present ⊎ IsAsOpened H.sum_of self old.present }
+        ensures goes { let old = B.life blob.old in let new = B.life blob.new in
+            TruncateGoes H.sum_of size self cache.old cache.new old new result }
+        ensures ready { let old = B.life blob.old in let new = B.life blob.new in
+            IsReady H.sum_of self cache.old old
+            → IfOk result (λ w. IsReady H.sum_of w cache.new new) }
+        ensures owes { let old = B.life blob.old in let new = B.life blob.new in
+            OwesCutting H.sum_of size self cache.old cache.new old new }
+        ensures costs { let old = B.life blob.old in let new = B.life blob.new in
+            TruncateCosts size self cache.old cache.new old new result }
+    {
+        self.truncate_all(blob, cache, size)
+    }
+
+    /// The same, told clause by clause.
+    pub(crate) fn truncate_all(
+        mut self,
+        blob: &mut B,
+        cache: &mut CacheRef,
+        size: u64,
+    ) -> Result<Self, Error>
         requires cached { cache.old.page_size ≡ self.page_size }
         requires stands { let old = B.life blob.old in
             IsSound H.sum_of self old.present ⊎ IsAsOpened H.sum_of self old.present }

@@ -15,6 +15,8 @@ ghost use Rattle.paged.specs.Reads.{HasPages};
 ghost use Rattle.paged.specs.Recovers.{Recovers, GivesId};
 ghost use Rattle.paged.specs.Recovery.{KeepsText, LeavesText, TailIsMended};
 ghost use Rattle.paged.specs.Within.{RecoversWithin, GivesIdWithin};
+ghost use Rattle.paged.specs.Ready.{IsReady};
+ghost use Rattle.paged.specs.RecoveryCalls.{OwesRecovering, RecoverWithinGoes};
 
 use crate::Recovery;
 use crate::outlook::look_to_last;
@@ -80,8 +82,8 @@ fn recover_text<B: Blob, H: Sum>(
     ensures only { LeavesText H.sum_of cache.old.page_size (B.life blob.old) (B.life blob.new) }
     ensures reads { ReadsWithin (cache.old.page_size + 12) (B.life blob.old) (B.life blob.new) }
 {
-    let recovery = Recovery::<B, H>::open(alloc, blob, size, capacity, cache)?;
-    recovery.truncate(blob, cache, len)
+    let recovery = Recovery::<B, H>::open_all(alloc, blob, size, capacity, cache)?;
+    recovery.truncate_all(blob, cache, len)
 }
 
 /// Recovers a blob as [`crate::recover`] does, unless more than `allowed` physical bytes at its end
@@ -97,6 +99,31 @@ fn recover_text<B: Blob, H: Sum>(
 /// `WouldCut` where more would go, with the number: then the blob was only looked at. Else the
 /// errors are those of [`crate::recover`]. With `OffsetOverflow` no device was called.
 pub fn recover_within<B: Blob, H: Sum>(
+    alloc: Global,
+    blob: &mut B,
+    size: u64,
+    capacity: usize,
+    cache: &mut CacheRef,
+    buffer_size: NonZeroUsize,
+    allowed: u64,
+) -> Result<Recovery<B, H>, Refusal>
+    requires length { size ≡ length (B.life blob.old).present.readable }
+    ensures goes { let old = B.life blob.old in let new = B.life blob.new in
+        RecoverWithinGoes H.sum_of cache.old cache.new capacity allowed old new result }
+    ensures ready { IsFresh cache.old
+        → IfOk result (λ w. IsReady H.sum_of w cache.new (B.life blob.new)) }
+    ensures owes { let old = B.life blob.old in let new = B.life blob.new in
+        OwesRecovering H.sum_of cache.old.page_size cache.old cache.new old new }
+
+    // No read has more pages than fit `buffer_size`, and each may have one page.
+    ensures costs { let old = B.life blob.old in let new = B.life blob.new in
+        ReadsWithin (scan_bytes cache.old.page_size (non_zero_usize_get buffer_size)) old new }
+{
+    recover_looked::<B, H>(alloc, blob, size, capacity, cache, buffer_size, allowed)
+}
+
+/// The same, told clause by clause.
+fn recover_looked<B: Blob, H: Sum>(
     alloc: Global,
     blob: &mut B,
     size: u64,

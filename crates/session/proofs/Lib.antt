@@ -24,3 +24,4 @@ pub mod GivesBackExamples
 pub mod RefusedExamples
 pub mod StandingExamples
 pub mod Joined
+pub mod WordLaws

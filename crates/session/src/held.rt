@@ -87,6 +87,7 @@ impl<B: Blob, H: Sum, Phase> Held<B, H, Phase> {
         requires either { IsOfEither step.now }
         requires sound { HasSoundWriter H.sum_of self.old (B.life blob.old).present }
         requires cached { FitsWriter self.old cache.old (B.life blob.old).present }
+        requires fresh { IsFresh cache.old }
         ensures goes { let old = B.life blob.old in let new = B.life blob.new in
             TakenBy H.sum_of step.now self.old self.new names.old.items names.new.items cache.old
             old new result }
@@ -117,6 +118,7 @@ impl<B: Blob, H: Sum, Phase> Held<B, H, Phase> {
     fn append(&mut self, blob: &mut B, cache: &mut CacheRef, bytes: &[u8]) -> Reply
         requires sound { HasSoundWriter H.sum_of self.old (B.life blob.old).present }
         requires cached { FitsWriter self.old cache.old (B.life blob.old).present }
+        requires fresh { IsFresh cache.old }
         ensures goes { let old = B.life blob.old in let new = B.life blob.new in
             Appended H.sum_of self.old self.new bytes.now old new result }
         ensures cached { FitsWriter self.new cache.new (B.life blob.new).present }
@@ -139,6 +141,7 @@ impl<B: Blob, H: Sum, Phase> Held<B, H, Phase> {
     fn append_owned(&mut self, blob: &mut B, cache: &mut CacheRef, bytes: &[u8]) -> Reply
         requires sound { HasSoundWriter H.sum_of self.old (B.life blob.old).present }
         requires cached { FitsWriter self.old cache.old (B.life blob.old).present }
+        requires fresh { IsFresh cache.old }
         ensures goes { let old = B.life blob.old in let new = B.life blob.new in
             Appended H.sum_of self.old self.new bytes.now old new result }
         ensures cached { FitsWriter self.new cache.new (B.life blob.new).present }
@@ -175,6 +178,7 @@ impl<B: Blob, H: Sum, Phase> Held<B, H, Phase> {
     fn sync(&mut self, blob: &mut B, cache: &mut CacheRef) -> Reply
         requires sound { HasSoundWriter H.sum_of self.old (B.life blob.old).present }
         requires cached { FitsWriter self.old cache.old (B.life blob.old).present }
+        requires fresh { IsFresh cache.old }
         ensures goes { let old = B.life blob.old in let new = B.life blob.new in
             Synced H.sum_of self.old self.new old new result }
         ensures cached { FitsWriter self.new cache.new (B.life blob.new).present }
@@ -198,6 +202,7 @@ impl<B: Blob, H: Sum, Phase> Held<B, H, Phase> {
     fn start_sync(&mut self, names: &mut Names, blob: &mut B, cache: &mut CacheRef) -> Reply
         requires sound { HasSoundWriter H.sum_of self.old (B.life blob.old).present }
         requires cached { FitsWriter self.old cache.old (B.life blob.old).present }
+        requires fresh { IsFresh cache.old }
         ensures goes { let old = B.life blob.old in let new = B.life blob.new in
             Starts H.sum_of self.old self.new names.old.items names.new.items old new result }
         ensures cached { FitsWriter self.new cache.new (B.life blob.new).present }
@@ -258,6 +263,7 @@ fn append_copy<B: Blob, H: Sum, Phase>(
 ) -> Result<(Writer<B, H, Phase>, u64), Error>
     requires sound { IsSound H.sum_of writer (B.life blob.old).present }
     requires can { CanRead (tail_of writer) cache.old (B.life blob.old).present }
+    requires fresh { IsFresh cache.old }
     ensures says { let old = B.life blob.old in let new = B.life blob.new in
         AppendSays H.sum_of writer bytes.now old new result }
     ensures can { let new = B.life blob.new in

@@ -30,6 +30,7 @@ impl<B: Blob, H: Sum, Phase> Held<B, H, Phase> {
     ) -> Reply
         requires sound { HasSoundWriter H.sum_of self.old (B.life blob.old).present }
         requires cached { FitsWriter self.old cache.old (B.life blob.old).present }
+        requires fresh { IsFresh cache.old }
         ensures goes { let old = B.life blob.old in let new = B.life blob.new in
             TakesReplay H.sum_of self.old self.new replays.old.items replays.new.items
             (non_zero_usize_get buffer_size) old new result }
@@ -85,6 +86,7 @@ impl<B: Blob, H: Sum> Session<B, H> {
     ) -> Reply
         requires sound { HasSoundWriter H.sum_of self.old.writer (B.life blob.old).present }
         requires cached { FitsWriter self.old.writer cache.old (B.life blob.old).present }
+        requires fresh { IsFresh cache.old }
         ensures goes { let old = B.life blob.old in let new = B.life blob.new in
             TakesReplay H.sum_of self.old.writer self.new.writer self.old.replays self.new.replays
             (non_zero_usize_get buffer_size) old new result }

@@ -116,6 +116,7 @@ impl<B: Blob, H: Sum> Session<B, H> {
     fn step(&mut self, blob: &mut B, cache: &mut CacheRef, step: &Step) -> Reply
         requires ready { IsReady H.sum_of self.old (B.life blob.old).present }
         requires cached { CacheFits self.old cache.old (B.life blob.old).present }
+        requires fresh { IsFresh cache.old }
         ensures goes { let old = B.life blob.old in let new = B.life blob.new in
             Steps H.sum_of step.now result self.old self.new old new }
         ensures cached { CacheFits self.new cache.new (B.life blob.new).present }
@@ -144,6 +145,7 @@ impl<B: Blob, H: Sum> Session<B, H> {
         requires either { IsOfEither step.now }
         requires sound { HasSoundWriter H.sum_of self.old.writer (B.life blob.old).present }
         requires cached { FitsWriter self.old.writer cache.old (B.life blob.old).present }
+        requires fresh { IsFresh cache.old }
         ensures goes { let old = B.life blob.old in let new = B.life blob.new in
             TakenBy H.sum_of step.now self.old.writer self.new.writer self.old.names self.new.names
             cache.old old new result }
@@ -274,6 +276,7 @@ pub fn run<B: Blob, H: Sum>(
 ) -> Result<(), Error>
     requires ready { IsReady H.sum_of session.old (B.life blob.old).present }
     requires cached { CacheFits session.old cache.old (B.life blob.old).present }
+    requires fresh { IsFresh cache.old }
     ensures ready { IsReady H.sum_of session.new (B.life blob.new).present }
     ensures cached { CacheFits session.new cache.new (B.life blob.new).present }
     ensures fresh_ids { IsFresh cache.old → IsFresh cache.new }

@@ -33,6 +33,7 @@ impl<B: Blob, H: Sum> Session<B, H> {
     pub(crate) fn snapshot(&mut self, blob: &mut B, cache: &mut CacheRef) -> Reply
         requires sound { HasSoundWriter H.sum_of self.old.writer (B.life blob.old).present }
         requires cached { FitsWriter self.old.writer cache.old (B.life blob.old).present }
+        requires fresh { IsFresh cache.old }
         ensures goes { let old = B.life blob.old in let new = B.life blob.new in
             DidSnapshot H.sum_of self.old self.new cache.new old new result }
         ensures cached { FitsWriter self.new.writer cache.new (B.life blob.new).present }
@@ -88,6 +89,7 @@ impl<B: Blob, H: Sum> Session<B, H> {
     pub(crate) fn seal(&mut self, blob: &mut B, cache: &mut CacheRef) -> Reply
         requires sound { HasSoundWriter H.sum_of self.old.writer (B.life blob.old).present }
         requires cached { FitsWriter self.old.writer cache.old (B.life blob.old).present }
+        requires fresh { IsFresh cache.old }
         ensures goes { let old = B.life blob.old in let new = B.life blob.new in
             DidSeal H.sum_of self.old self.new cache.new old new result }
         ensures cached { FitsWriter self.new.writer cache.new (B.life blob.new).present }

@@ -1,19 +1,18 @@
-use Rattle.std.proofs.Common.{◌≡◌, ◌≤◌, ◌*◌, ◌+◌, ◌-◌, ◌/◌, ℕ, length, sym, ◌∙◌, ap, arith, Ok}
+use Rattle.std.proofs.Common.{rules, ◌≡◌, ◌≤◌, ◌*◌, ◌+◌, ◌-◌, ◌/◌, ℕ, length, sym, ◌∙◌, ap, arith, Ok}
+use Rattle.std.proofs.Math.Nat.{div-eq_of_lt}
 use Rattle.std.specs.Int.NonZero.{non_zero_u16_get, non_zero_usize_get}
 use Rattle.crash.specs.Looks.{Looked}
-use Rattle.crash.proofs.FloorLaws.{floors_looked}
 use Rattle.page.specs.Page.{pieces}
 use Rattle.paged_read.specs.Prefix.{prefix_of, prefix_pages}
 use Rattle.paged_read.specs.Scans.{prefix_from}
 use Rattle.paged_read.specs.Searches.{ReadsWithin, scan_bytes}
 use Rattle.paged_read.proofs.Looking.{look_finds}
-use Rattle.paged_read.proofs.Outliving.{look_leaves_reads, look_leaves_tails, look_leaves_writers}
-use Rattle.paged_read.proofs.OutlivingReplays.{look_leaves_replays}
+use Rattle.paged.proofs.Surveying.{leaves_as_is}
 use Rattle.paged_read.proofs.Prefixes.{stands_first}
 use Rattle.paged_read.proofs.Forward.{forward_is_within}
 use Rattle.paged.specs.declared.outlook.Outlook.{Outlook}
 use Rattle.paged.specs.Outlook.{IsOutlook}
-use Rattle.paged.proofs.Foretelling.{finds_only_looks, foretold, found_few, found_first, found_there, idle_is, found_none, look_keeps_text, look_leaves_text, told_is, whole_there}
+use Rattle.paged.proofs.Foretelling.{finds_only_looks, foretold, found_few, found_first, found_there, idle_is, found_none, told_is, whole_there}
 use Rattle.paged.proofs.Scanned.{scanned_short}
 use Rattle.paged.proofs.outlook.look.Given.{Over}
 use Rattle.paged.proofs.outlook.look.Goals as goal
@@ -39,113 +38,13 @@ within g c =
     forward_is_within (scan_bytes P (non_zero_usize_get c.args.buffer_size)) (0 * (P + 12)) (c.args.size / c.physical_page_size-physical_page_size.result * (P + 12)) (g.B.Blob.life c.args.blob.now) (g.B.Blob.life c.scan_from.new.blob)
     c.scan_from.ensures.reads
 
-pub returns-in_err-prefix-clause-within : goal.returns-in_err-prefix-clause-within
-returns-in_err-prefix-clause-within g c =
-    let k = (goal.at.returns-in_err-prefix-clause-within g c).After-scan_from in
-    within g k
+pub returns-in_err-prefix-clause-leaves : goal.returns-in_err-prefix-clause-leaves
+returns-in_err-prefix-clause-leaves g c =
+    leaves_as_is (g.B.Blob.life c.args.blob.now) (g.B.Blob.life c.scan_from.new.blob) (looks g (goal.at.returns-in_err-prefix-clause-leaves g c).After-scan_from)
 
-pub returns-in_err-prefix-clause-writers : goal.returns-in_err-prefix-clause-writers
-returns-in_err-prefix-clause-writers g c =
-    let old = g.B.Blob.life c.args.blob.now in
-    let new = g.B.Blob.life c.scan_from.new.blob in
-    let k = (goal.at.returns-in_err-prefix-clause-writers g c).After-scan_from in
-    λ sum. look_leaves_writers sum old new (looks g k)
-
-pub returns-in_err-prefix-clause-tails : goal.returns-in_err-prefix-clause-tails
-returns-in_err-prefix-clause-tails g c =
-    let old = g.B.Blob.life c.args.blob.now in
-    let new = g.B.Blob.life c.scan_from.new.blob in
-    let k = (goal.at.returns-in_err-prefix-clause-tails g c).After-scan_from in
-    λ sum cache. look_leaves_tails sum cache old new (looks g k)
-
-pub returns-in_err-prefix-clause-can_read : goal.returns-in_err-prefix-clause-can_read
-returns-in_err-prefix-clause-can_read g c =
-    let old = g.B.Blob.life c.args.blob.now in
-    let new = g.B.Blob.life c.scan_from.new.blob in
-    let k = (goal.at.returns-in_err-prefix-clause-can_read g c).After-scan_from in
-    λ cache. look_leaves_reads cache old new (looks g k)
-
-pub returns-in_err-prefix-clause-replays : goal.returns-in_err-prefix-clause-replays
-returns-in_err-prefix-clause-replays g c =
-    let old = g.B.Blob.life c.args.blob.now in
-    let new = g.B.Blob.life c.scan_from.new.blob in
-    let k = (goal.at.returns-in_err-prefix-clause-replays g c).After-scan_from in
-    look_leaves_replays old new (looks g k)
-
-pub returns-in_err-prefix-clause-floors : goal.returns-in_err-prefix-clause-floors
-returns-in_err-prefix-clause-floors g c =
-    let old = g.B.Blob.life c.args.blob.now in
-    let new = g.B.Blob.life c.scan_from.new.blob in
-    let k = (goal.at.returns-in_err-prefix-clause-floors g c).After-scan_from in
-    λ sum P content. floors_looked sum P content old new (looks g k)
-
-pub returns-in_err-prefix-clause-kept : goal.returns-in_err-prefix-clause-kept
-returns-in_err-prefix-clause-kept g c =
-    let old = g.B.Blob.life c.args.blob.now in
-    let new = g.B.Blob.life c.scan_from.new.blob in
-    let k = (goal.at.returns-in_err-prefix-clause-kept g c).After-scan_from in
-    look_keeps_text old new (looks g k)
-
-pub returns-in_err-prefix-clause-only : goal.returns-in_err-prefix-clause-only
-returns-in_err-prefix-clause-only g c =
-    let old = g.B.Blob.life c.args.blob.now in
-    let new = g.B.Blob.life c.scan_from.new.blob in
-    let k = (goal.at.returns-in_err-prefix-clause-only g c).After-scan_from in
-    look_leaves_text old new (looks g k)
-
-pub returns-clause-within : goal.returns-clause-within
-returns-clause-within g c =
-    let k = (goal.at.returns-clause-within g c).After-scan_from in
-    within g k
-
-pub returns-clause-writers : goal.returns-clause-writers
-returns-clause-writers g c =
-    let old = g.B.Blob.life c.args.blob.now in
-    let new = g.B.Blob.life c.scan_from.new.blob in
-    let k = (goal.at.returns-clause-writers g c).After-scan_from in
-    λ sum. look_leaves_writers sum old new (looks g k)
-
-pub returns-clause-tails : goal.returns-clause-tails
-returns-clause-tails g c =
-    let old = g.B.Blob.life c.args.blob.now in
-    let new = g.B.Blob.life c.scan_from.new.blob in
-    let k = (goal.at.returns-clause-tails g c).After-scan_from in
-    λ sum cache. look_leaves_tails sum cache old new (looks g k)
-
-pub returns-clause-can_read : goal.returns-clause-can_read
-returns-clause-can_read g c =
-    let old = g.B.Blob.life c.args.blob.now in
-    let new = g.B.Blob.life c.scan_from.new.blob in
-    let k = (goal.at.returns-clause-can_read g c).After-scan_from in
-    λ cache. look_leaves_reads cache old new (looks g k)
-
-pub returns-clause-replays : goal.returns-clause-replays
-returns-clause-replays g c =
-    let old = g.B.Blob.life c.args.blob.now in
-    let new = g.B.Blob.life c.scan_from.new.blob in
-    let k = (goal.at.returns-clause-replays g c).After-scan_from in
-    look_leaves_replays old new (looks g k)
-
-pub returns-clause-floors : goal.returns-clause-floors
-returns-clause-floors g c =
-    let old = g.B.Blob.life c.args.blob.now in
-    let new = g.B.Blob.life c.scan_from.new.blob in
-    let k = (goal.at.returns-clause-floors g c).After-scan_from in
-    λ sum P content. floors_looked sum P content old new (looks g k)
-
-pub returns-clause-kept : goal.returns-clause-kept
-returns-clause-kept g c =
-    let old = g.B.Blob.life c.args.blob.now in
-    let new = g.B.Blob.life c.scan_from.new.blob in
-    let k = (goal.at.returns-clause-kept g c).After-scan_from in
-    look_keeps_text old new (looks g k)
-
-pub returns-clause-only : goal.returns-clause-only
-returns-clause-only g c =
-    let old = g.B.Blob.life c.args.blob.now in
-    let new = g.B.Blob.life c.scan_from.new.blob in
-    let k = (goal.at.returns-clause-only g c).After-scan_from in
-    look_leaves_text old new (looks g k)
+pub returns-clause-leaves : goal.returns-clause-leaves
+returns-clause-leaves g c =
+    leaves_as_is (g.B.Blob.life c.args.blob.now) (g.B.Blob.life c.scan_from.new.blob) (looks g (goal.at.returns-clause-leaves g c).After-scan_from)
 
 pub pages_of-pages-requires : goal.pages_of-pages-requires
 pages_of-pages-requires g c =
@@ -205,9 +104,9 @@ told g c =
     let first = found_first sum P c.args.size c.physical_page_size-physical_page_size.result readable p c.physical_page_size-physical_page_size.ensures c.in_ok-prefix.ensures.finds.0 c.requires.length in
     told_is sum P readable p first (answer g c) c.args.page_size.ok c.pages_of-pages.ensures c.size_of-len.ensures (rest g c ∙ c.requires.length)
 
-pub returns-clause-looks : goal.returns-clause-looks
+pub returns-clause-goes : goal.returns-clause-goes
 unfolding answer
-returns-clause-looks g c = told g (goal.at.returns-clause-looks g c).After-size_of-len
+returns-clause-goes g c = told g (goal.at.returns-clause-goes g c).After-size_of-len
 
 pub returns-clause-foretells : goal.returns-clause-foretells
 unfolding answer
@@ -215,17 +114,33 @@ returns-clause-foretells g c =
     let k = (goal.at.returns-clause-foretells g c).After-size_of-len in
     foretold g.H.Sum.sum_of (non_zero_u16_get c.args.page_size) (g.B.Blob.life c.args.blob.now).present.readable (answer g k) (told g k)
 
-pub returns-clause-idle : goal.returns-clause-idle
+pub returns-in_err-prefix-clause-costs : goal.returns-in_err-prefix-clause-costs
+returns-in_err-prefix-clause-costs g c = record {
+  forward = search rules;
+  within = within g (goal.at.returns-in_err-prefix-clause-costs g c).After-scan_from;
+  idle = λ less.
+      let P = non_zero_u16_get c.args.page_size in
+      let none : c.args.size / c.physical_page_size-physical_page_size.result ≡ 0 = div-eq_of_lt (omega (arith, less, c.physical_page_size-physical_page_size.ensures)) in
+      let never = (c.in_err-prefix.ensures.idle (sym none)).0 in
+      absurd (cc never);
+}
+
+pub returns-clause-costs : goal.returns-clause-costs
 unfolding answer
-returns-clause-idle g c = λ less.
-    let sum = g.H.Sum.sum_of in
-    let P = non_zero_u16_get c.args.page_size in
-    let r = c.physical_page_size-physical_page_size.result in
-    let readable = (g.B.Blob.life c.args.blob.now).present.readable in
-    let p = c.in_ok-prefix.prefix in
-    let is = c.physical_page_size-physical_page_size.ensures in
-    let found = c.in_ok-prefix.ensures.finds.0 in
-    let k = (goal.at.returns-clause-idle g c).After-size_of-len in (
-      ap (λ (o : Outlook). Ok o) (idle_is sum P c.args.size r readable p is found (answer g k) less c.pages_of-pages.ensures c.size_of-len.ensures (rest g k)),
-      (c.in_ok-prefix.ensures.idle (sym (found_none sum P c.args.size r readable p is found less))).1,
-    )
+returns-clause-costs g c = record {
+  forward = search rules;
+  within = within g (goal.at.returns-clause-costs g c).After-scan_from;
+  idle = λ less.
+
+      let sum = g.H.Sum.sum_of in
+      let P = non_zero_u16_get c.args.page_size in
+      let r = c.physical_page_size-physical_page_size.result in
+      let readable = (g.B.Blob.life c.args.blob.now).present.readable in
+      let p = c.in_ok-prefix.prefix in
+      let is = c.physical_page_size-physical_page_size.ensures in
+      let found = c.in_ok-prefix.ensures.finds.0 in
+      let k = (goal.at.returns-clause-costs g c).After-size_of-len in (
+        ap (λ (o : Outlook). Ok o) (idle_is sum P c.args.size r readable p is found (answer g k) less c.pages_of-pages.ensures c.size_of-len.ensures (rest g k)),
+        (c.in_ok-prefix.ensures.idle (sym (found_none sum P c.args.size r readable p is found less))).1,
+      );
+}

@@ -21,7 +21,7 @@ pages_end g c =
     let P = non_zero_u16_get c.args.page_size in
     let few : c.in_ok-outlook.outlook.pages ≤ c.args.size / (P + 12) = omega (
       arith,
-      kept_within g.H.Sum.sum_of P (g.B.Blob.life c.args.blob.now).present.readable c.in_ok-outlook.outlook c.in_ok-outlook.ensures.looks,
+      kept_within g.H.Sum.sum_of P (g.B.Blob.life c.args.blob.now).present.readable c.in_ok-outlook.outlook c.in_ok-outlook.ensures.goes,
       ap (λ (n : ℕ). n / (P + 12)) c.requires.length,
     ) in
     let more : (P + 12) * c.in_ok-outlook.outlook.pages ≤ (P + 12) * (c.args.size / (P + 12)) = mul-le-mul_left (P + 12) few in
@@ -39,7 +39,7 @@ looks g c =
 
 pub last_is_torn-requires-clause-is : goal.last_is_torn-requires-clause-is
 last_is_torn-requires-clause-is g c =
-    subst (λ (l : List ℕ). IsOutlook g.H.Sum.sum_of (non_zero_u16_get c.args.page_size) l c.in_ok-outlook.outlook) (sym (looked_readable (g.B.Blob.life c.args.blob.now) (g.B.Blob.life c.look.new.blob) c.look.ensures.looked)) c.in_ok-outlook.ensures.looks
+    subst (λ (l : List ℕ). IsOutlook g.H.Sum.sum_of (non_zero_u16_get c.args.page_size) l c.in_ok-outlook.outlook) (sym (looked_readable (g.B.Blob.life c.args.blob.now) (g.B.Blob.life c.look.new.blob) c.look.ensures.looked)) c.in_ok-outlook.ensures.goes
 
 pub last_is_torn-requires-clause-fits : goal.last_is_torn-requires-clause-fits
 last_is_torn-requires-clause-fits g c =
@@ -55,13 +55,13 @@ last_is_torn-requires-clause-fits g c =
 pub returns-in_err-outlook-clause-looks : goal.returns-in_err-outlook-clause-looks
 returns-in_err-outlook-clause-looks g c =
     let p = err_from_is_err_and c.from_residual.result c.from_residual.ensures.1 in
-    rw (p.1, p.2) c.in_err-outlook.ensures.looks
+    rw (p.1, p.2) c.in_err-outlook.ensures.goes
 
 pub returns-in_err-outlook-clause-reads : goal.returns-in_err-outlook-clause-reads
 returns-in_err-outlook-clause-reads g c =
     let P = non_zero_u16_get c.args.page_size in
     let p = err_from_is_err_and c.from_residual.result c.from_residual.ensures.1 in
-    rw (p.1) (reads_once (scan_bytes P (non_zero_usize_get c.args.buffer_size)) (c.args.size / (P + 12) * (P + 12)) (g.B.Blob.life c.args.blob.now) (g.B.Blob.life c.look.new.blob) c.look.ensures.reads)
+    rw (p.1) (reads_once (scan_bytes P (non_zero_usize_get c.args.buffer_size)) (c.args.size / (P + 12) * (P + 12)) (g.B.Blob.life c.args.blob.now) (g.B.Blob.life c.look.new.blob) c.look.ensures.costs.forward)
 
 -- ---- where the last page can't be read
 
@@ -88,7 +88,7 @@ returns-in_err-torn-clause-reads g c =
     rw (p.1) (
       g.B.Blob.life c.look.new.blob,
       (c.in_ok-outlook.outlook.pages - 1) * (P + 12),
-      c.look.ensures.reads,
+      c.look.ensures.costs.forward,
       unread g k c.in_err-torn.field-0.0 c.in_err-torn.ensures.reads,
     )
 
@@ -98,7 +98,7 @@ returns-in_err-torn-clause-within g c =
     let most = scan_bytes P (non_zero_usize_get c.args.buffer_size) in
     let mid = g.B.Blob.life c.look.new.blob in
     let new = g.B.Blob.life c.last_is_torn.new.blob in
-    within_both most (g.B.Blob.life c.args.blob.now) mid new c.look.ensures.within
+    within_both most (g.B.Blob.life c.args.blob.now) mid new c.look.ensures.costs.within
     (forward_is_within most ((c.in_ok-outlook.outlook.pages - 1) * (P + 12)) (c.args.size / (P + 12) * (P + 12)) mid new (unread g (goal.at.returns-in_err-torn-clause-within g c).After-last_is_torn c.in_err-torn.field-0.0 c.in_err-torn.ensures.reads))
 
 pub returns-in_err-torn-clause-looked : goal.returns-in_err-torn-clause-looked
@@ -108,12 +108,12 @@ returns-in_err-torn-clause-looked g c = looks g (goal.at.returns-in_err-torn-cla
 
 pub returns-clause-looks : goal.returns-clause-looks
 returns-clause-looks g c = (
-  c.in_ok-outlook.ensures.looks,
+  c.in_ok-outlook.ensures.goes,
   c.in_ok-torn.ensures.tells.0 ∙ ap (λ (l : List ℕ). is_torn g.H.Sum.sum_of (non_zero_u16_get c.args.page_size) l c.in_ok-outlook.outlook) (looked_readable (g.B.Blob.life c.args.blob.now) (g.B.Blob.life c.look.new.blob) c.look.ensures.looked),
 )
 
 pub returns-clause-reads : goal.returns-clause-reads
-returns-clause-reads g c = (g.B.Blob.life c.look.new.blob, c.look.ensures.reads, c.in_ok-torn.ensures.reads)
+returns-clause-reads g c = (g.B.Blob.life c.look.new.blob, c.look.ensures.costs.forward, c.in_ok-torn.ensures.reads)
 
 pub returns-clause-within : goal.returns-clause-within
 returns-clause-within g c =
@@ -123,7 +123,7 @@ returns-clause-within g c =
     let new = g.B.Blob.life c.last_is_torn.new.blob in
     let k = (goal.at.returns-clause-within g c).After-last_is_torn in
     let read = last_reading P most (c.args.size / (P + 12) * (P + 12)) c.in_ok-outlook.outlook mid new c.in_ok-torn.torn (few g k) (pages_end g k) c.in_ok-torn.ensures.reads in
-    within_both most (g.B.Blob.life c.args.blob.now) mid new c.look.ensures.within (forward_is_within most read.0 (c.args.size / (P + 12) * (P + 12)) mid new read.1)
+    within_both most (g.B.Blob.life c.args.blob.now) mid new c.look.ensures.costs.within (forward_is_within most read.0 (c.args.size / (P + 12) * (P + 12)) mid new read.1)
 
 pub returns-clause-looked : goal.returns-clause-looked
 returns-clause-looked g c = looks g (goal.at.returns-clause-looked g c).After-last_is_torn

@@ -74,8 +74,8 @@ look_beyond-requires-clause-fits g c =
 
 -- ---- where the first look fails
 
-pub returns-in_err-outlook-clause-surveys : goal.returns-in_err-outlook-clause-surveys
-returns-in_err-outlook-clause-surveys g c =
+pub returns-in_err-outlook-clause-goes : goal.returns-in_err-outlook-clause-goes
+returns-in_err-outlook-clause-goes g c =
     let p = err_from_is_err_and c.from_residual.result c.from_residual.ensures.1 in
     rw (p.1, p.2) (survey_fault g.H.Sum.sum_of (non_zero_u16_get c.args.page_size) (g.B.Blob.life c.args.blob.now) (g.B.Blob.life c.look_to_last.new.blob) c.in_err-outlook.field-0.0 c.in_err-outlook.ensures.looks)
 
@@ -84,8 +84,8 @@ returns-in_err-outlook-clause-leaves g c = leaves_as_is (g.B.Blob.life c.args.bl
 
 -- ---- where the pages after the text can't be read
 
-pub returns-in_err-beyond-clause-surveys : goal.returns-in_err-beyond-clause-surveys
-returns-in_err-beyond-clause-surveys g c =
+pub returns-in_err-beyond-clause-goes : goal.returns-in_err-beyond-clause-goes
+returns-in_err-beyond-clause-goes g c =
     let P = non_zero_u16_get c.args.page_size in
     let n = c.args.size / c.physical_page_size.result in
     let old = g.B.Blob.life c.args.blob.now in
@@ -99,11 +99,10 @@ returns-in_err-beyond-clause-surveys g c =
     rw (p.1, p.2)
     (later_fault g.H.Sum.sum_of P (n * (P + 12)) (beyond_of g.H.Sum.sum_of P c.in_ok-outlook.outlook.pages n mid.present.readable) old mid (g.B.Blob.life c.look_beyond.new.blob) c.in_err-beyond.field-0.0 there c.look_to_last.ensures.looked c.in_err-beyond.ensures.counts)
 
-pub returns-in_err-beyond-clause-reads : goal.returns-in_err-beyond-clause-reads
-returns-in_err-beyond-clause-reads g c = twice g (goal.at.returns-in_err-beyond-clause-reads g c).After-look_beyond
-
-pub returns-in_err-beyond-clause-within : goal.returns-in_err-beyond-clause-within
-returns-in_err-beyond-clause-within g c = within g (goal.at.returns-in_err-beyond-clause-within g c).After-look_beyond
+pub returns-in_err-beyond-clause-costs : goal.returns-in_err-beyond-clause-costs
+returns-in_err-beyond-clause-costs g c =
+    let k = (goal.at.returns-in_err-beyond-clause-costs g c).After-look_beyond in
+    record { twice = twice g k; within = within g k }
 
 pub returns-in_err-beyond-clause-looked : goal.returns-in_err-beyond-clause-looked
 returns-in_err-beyond-clause-looked g c = looks g (goal.at.returns-in_err-beyond-clause-looked g c).After-look_beyond
@@ -114,8 +113,8 @@ returns-in_err-beyond-clause-leaves g c =
 
 -- ---- what it tells
 
-pub returns-clause-surveys : goal.returns-clause-surveys
-returns-clause-surveys g c =
+pub returns-clause-goes : goal.returns-clause-goes
+returns-clause-goes g c =
     let P = non_zero_u16_get c.args.page_size in
     let whole : c.args.size / c.physical_page_size.result ≡ length (g.B.Blob.life c.args.blob.now).present.readable / (P + 12) = ap (λ (n : ℕ). c.args.size / n) c.physical_page_size.ensures ∙ ap (λ (n : ℕ). n / (P + 12)) c.requires.length in
     survey_is g.H.Sum.sum_of P (c.args.size / c.physical_page_size.result) (g.B.Blob.life c.args.blob.now) (g.B.Blob.life c.look_to_last.new.blob) c.in_ok-outlook.outlook c.in_ok-outlook.torn (c.in_ok-beyond.beyond, c.in_ok-beyond.blank)
@@ -124,11 +123,10 @@ returns-clause-surveys g c =
 pub returns-clause-foretells : goal.returns-clause-foretells
 returns-clause-foretells g c = foretold g.H.Sum.sum_of (non_zero_u16_get c.args.page_size) (g.B.Blob.life c.args.blob.now).present.readable c.in_ok-outlook.outlook c.in_ok-outlook.ensures.looks.0
 
-pub returns-clause-reads : goal.returns-clause-reads
-returns-clause-reads g c = twice g (goal.at.returns-clause-reads g c).After-look_beyond
-
-pub returns-clause-within : goal.returns-clause-within
-returns-clause-within g c = within g (goal.at.returns-clause-within g c).After-look_beyond
+pub returns-clause-costs : goal.returns-clause-costs
+returns-clause-costs g c =
+    let k = (goal.at.returns-clause-costs g c).After-look_beyond in
+    record { twice = twice g k; within = within g k }
 
 pub returns-clause-looked : goal.returns-clause-looked
 returns-clause-looked g c = looks g (goal.at.returns-clause-looked g c).After-look_beyond

@@ -13,16 +13,16 @@ use Rattle.paged_read.proofs.Backward.{back_within}
 use Rattle.paged_read.proofs.Searching.{cuts_within}
 use Rattle.paged.proofs.within.recover_text.Given.{Over}
 use Rattle.paged.proofs.within.recover_text.Goals as goal
-use Rattle.paged.proofs.within.recover_text.Goals.{After-truncate}
+use Rattle.paged.proofs.within.recover_text.Goals.{After-truncate_all}
 
 -- what is cut, and where its text ends
-cuts : (g : Over) (c : After-truncate g) → CutToText g.H.Sum.sum_of c.args.cache.now c.args.capacity c.args.len (g.B.Blob.life c.args.blob.now) (g.B.Blob.life c.open.new.blob) (g.B.Blob.life c.open.new.blob) c.in_ok-recovery.recovery
+cuts : (g : Over) (c : After-truncate_all g) → CutToText g.H.Sum.sum_of c.args.cache.now c.args.capacity c.args.len (g.B.Blob.life c.args.blob.now) (g.B.Blob.life c.open_all.new.blob) (g.B.Blob.life c.open_all.new.blob) c.in_ok-recovery.recovery
 cuts g c =
     let life = g.B.Blob.life in
     let sum = g.H.Sum.sum_of in
     let P = c.args.cache.now.page_size in
     let old = life c.args.blob.now in
-    let mid = life c.open.new.blob in
+    let mid = life c.open_all.new.blob in
     let opened = c.in_ok-recovery.ensures.opens in
     let readable = kept_readable old mid _ opened.sync opened.kept in
     record {
@@ -34,24 +34,24 @@ cuts g c =
     }
 
 -- how the recovery ends, where it does
-recovers : (g : Over) (c : After-truncate g) → Recovers g.H.Sum.sum_of c.args.cache.now c.args.capacity (g.B.Blob.life c.args.blob.now) (g.B.Blob.life c.truncate.new.blob) c.truncate.result
+recovers : (g : Over) (c : After-truncate_all g) → Recovers g.H.Sum.sum_of c.args.cache.now c.args.capacity (g.B.Blob.life c.args.blob.now) (g.B.Blob.life c.truncate_all.new.blob) c.truncate_all.result
 recovers g c =
     let life = g.B.Blob.life in
     let sum = g.H.Sum.sum_of in
     let cache = c.args.cache.now in
     let old = life c.args.blob.now in
-    let mid = life c.open.new.blob in
+    let mid = life c.open_all.new.blob in
     let w = c.in_ok-recovery.recovery in
     let n = c.args.len in
     let all = cuts g c in
     let none = no_work sum w mid.present (scanned_as_opened sum cache c.args.capacity n old mid mid w all) in
-    recovers_end sum cache c.args.capacity n old mid mid w all (life c.truncate.new.blob) c.truncate.result c.truncate.ensures.truncates (c.truncate.ensures.exact none) (c.truncate.ensures.full none)
+    recovers_end sum cache c.args.capacity n old mid mid w all (life c.truncate_all.new.blob) c.truncate_all.result c.truncate_all.ensures.truncates (c.truncate_all.ensures.exact none) (c.truncate_all.ensures.full none)
 
 pub returns-clause-recovers : goal.returns-clause-recovers
-returns-clause-recovers g c = recovers g (goal.at.returns-clause-recovers g c).After-truncate
+returns-clause-recovers g c = recovers g (goal.at.returns-clause-recovers g c).After-truncate_all
 
 pub returns-clause-sound : goal.returns-clause-sound
-returns-clause-sound g c = recovered_sound g.H.Sum.sum_of c.args.cache.now c.args.capacity (g.B.Blob.life c.args.blob.now) (g.B.Blob.life c.truncate.new.blob) c.truncate.result (recovers g (goal.at.returns-clause-sound g c).After-truncate)
+returns-clause-sound g c = recovered_sound g.H.Sum.sum_of c.args.cache.now c.args.capacity (g.B.Blob.life c.args.blob.now) (g.B.Blob.life c.truncate_all.new.blob) c.truncate_all.result (recovers g (goal.at.returns-clause-sound g c).After-truncate_all)
 
 pub returns-clause-durable : goal.returns-clause-durable
 returns-clause-durable g c =
@@ -59,12 +59,12 @@ returns-clause-durable g c =
     let sum = g.H.Sum.sum_of in
     let cache = c.args.cache.now in
     let old = life c.args.blob.now in
-    let mid = life c.open.new.blob in
+    let mid = life c.open_all.new.blob in
     let w = c.in_ok-recovery.recovery in
     let n = c.args.len in
-    let all = cuts g (goal.at.returns-clause-durable g c).After-truncate in
+    let all = cuts g (goal.at.returns-clause-durable g c).After-truncate_all in
     let none = no_work sum w mid.present (scanned_as_opened sum cache c.args.capacity n old mid mid w all) in
-    recovers_keep sum cache c.args.capacity n old mid mid w all (life c.truncate.new.blob) c.truncate.result c.truncate.ensures.truncates (c.truncate.ensures.full none)
+    recovers_keep sum cache c.args.capacity n old mid mid w all (life c.truncate_all.new.blob) c.truncate_all.result c.truncate_all.ensures.truncates (c.truncate_all.ensures.full none)
 
 pub returns-clause-mended : goal.returns-clause-mended
 returns-clause-mended g c =
@@ -72,22 +72,22 @@ returns-clause-mended g c =
     let sum = g.H.Sum.sum_of in
     let cache = c.args.cache.now in
     let old = life c.args.blob.now in
-    let mid = life c.open.new.blob in
+    let mid = life c.open_all.new.blob in
     let w = c.in_ok-recovery.recovery in
     let n = c.args.len in
-    let all = cuts g (goal.at.returns-clause-mended g c).After-truncate in
+    let all = cuts g (goal.at.returns-clause-mended g c).After-truncate_all in
     let none = no_work sum w mid.present (scanned_as_opened sum cache c.args.capacity n old mid mid w all) in
     let size = opened_page_size sum cache c.args.capacity old mid w c.in_ok-recovery.ensures.opens in
-    recovers_mended sum cache c.args.capacity n old mid mid w all g.met.H.Sum.small (omega (arith, size, c.requires.small)) (omega (arith, size, c.requires.positive)) (life c.truncate.new.blob) c.truncate.result c.truncate.ensures.truncates (c.truncate.ensures.exact none)
+    recovers_mended sum cache c.args.capacity n old mid mid w all g.met.H.Sum.small (omega (arith, size, c.requires.small)) (omega (arith, size, c.requires.positive)) (life c.truncate_all.new.blob) c.truncate_all.result c.truncate_all.ensures.truncates (c.truncate_all.ensures.exact none)
 
 -- of what it did before, whatever the answer
-owes : (g : Over) (c : After-truncate g) → Owes g.H.Sum.sum_of c.args.cache.now.page_size (g.B.Blob.life c.args.blob.now) (g.B.Blob.life c.truncate.new.blob)
+owes : (g : Over) (c : After-truncate_all g) → Owes g.H.Sum.sum_of c.args.cache.now.page_size (g.B.Blob.life c.args.blob.now) (g.B.Blob.life c.truncate_all.new.blob)
 owes g c =
     let life = g.B.Blob.life in
     let sum = g.H.Sum.sum_of in
     let cache = c.args.cache.now in
     let old = life c.args.blob.now in
-    let mid = life c.open.new.blob in
+    let mid = life c.open_all.new.blob in
     let w = c.in_ok-recovery.recovery in
     let n = c.args.len in
     let all = cuts g c in
@@ -96,23 +96,23 @@ owes g c =
     let same = opened_page_size sum cache c.args.capacity old mid w opened in
     let length_is = subst (λ (k : ℕ). n ≡ length (text sum k mid.present.readable)) same (scanned_length sum cache c.args.capacity n old mid mid w all) in
     let before : Owes sum cache.page_size old mid = record { floors = c.in_ok-recovery.ensures.floors; kept = c.in_ok-recovery.ensures.kept; only = c.in_ok-recovery.ensures.only } in
-    recovers_owe sum cache.page_size old mid all.positive opened.sync opened.kept before (g.met.B.Blob.readable_is_image c.args.blob.now) mid (life c.truncate.new.blob) n w.page_size all.looked same length_is
-    c.truncate.ensures.floors (c.truncate.ensures.text none)
+    recovers_owe sum cache.page_size old mid all.positive opened.sync opened.kept before (g.met.B.Blob.readable_is_image c.args.blob.now) mid (life c.truncate_all.new.blob) n w.page_size all.looked same length_is
+    c.truncate_all.ensures.floors (c.truncate_all.ensures.text none)
 
 pub returns-clause-floors : goal.returns-clause-floors
-returns-clause-floors g c = (owes g (goal.at.returns-clause-floors g c).After-truncate).floors
+returns-clause-floors g c = (owes g (goal.at.returns-clause-floors g c).After-truncate_all).floors
 
 pub returns-clause-kept : goal.returns-clause-kept
-returns-clause-kept g c = (owes g (goal.at.returns-clause-kept g c).After-truncate).kept
+returns-clause-kept g c = (owes g (goal.at.returns-clause-kept g c).After-truncate_all).kept
 
 pub returns-clause-only : goal.returns-clause-only
-returns-clause-only g c = (owes g (goal.at.returns-clause-only g c).After-truncate).only
+returns-clause-only g c = (owes g (goal.at.returns-clause-only g c).After-truncate_all).only
 
 pub returns-in_err-recovery-clause-reads : goal.returns-in_err-recovery-clause-reads
 returns-in_err-recovery-clause-reads g c =
     let life = g.B.Blob.life in
     let size = c.args.cache.now.page_size + 12 in
-    back_within size size (life c.args.blob.now) (life c.open.new.blob) (omega arith) c.open.ensures.reads
+    back_within size size (life c.args.blob.now) (life c.open_all.new.blob) (omega arith) c.open_all.ensures.reads
 
 pub returns-clause-reads : goal.returns-clause-reads
 returns-clause-reads g c =
@@ -120,13 +120,13 @@ returns-clause-reads g c =
     let sum = g.H.Sum.sum_of in
     let cache = c.args.cache.now in
     let old = life c.args.blob.now in
-    let mid = life c.open.new.blob in
-    let new = life c.truncate.new.blob in
+    let mid = life c.open_all.new.blob in
+    let new = life c.truncate_all.new.blob in
     let w = c.in_ok-recovery.recovery in
     let size = cache.page_size + 12 in
-    let all = cuts g (goal.at.returns-clause-reads g c).After-truncate in
+    let all = cuts g (goal.at.returns-clause-reads g c).After-truncate_all in
     let none = no_work sum w mid.present (scanned_as_opened sum cache c.args.capacity c.args.len old mid mid w all) in
-    let last = subst (λ (k : ℕ). ReadsWithin (k + 12) mid new) (opened_page_size sum cache c.args.capacity old mid w c.in_ok-recovery.ensures.opens) (c.truncate.ensures.reads none) in
+    let last = subst (λ (k : ℕ). ReadsWithin (k + 12) mid new) (opened_page_size sum cache c.args.capacity old mid w c.in_ok-recovery.ensures.opens) (c.truncate_all.ensures.reads none) in
     cuts_within size size old mid new (omega arith) (back_within size size old mid (omega arith) c.in_ok-recovery.ensures.reads) last
 
 pub returns-clause-ids : goal.returns-clause-ids
@@ -134,16 +134,16 @@ returns-clause-ids g c =
     let life = g.B.Blob.life in
     let sum = g.H.Sum.sum_of in
     let w = c.in_ok-recovery.recovery in
-    let mid = life c.open.new.blob in
-    let all = cuts g (goal.at.returns-clause-ids g c).After-truncate in
+    let mid = life c.open_all.new.blob in
+    let all = cuts g (goal.at.returns-clause-ids g c).After-truncate_all in
     let none = no_work sum w mid.present (scanned_as_opened sum c.args.cache.now c.args.capacity c.args.len (life c.args.blob.now) mid mid w all) in
-    gives_id w c.args.cache.now c.truncate.new.cache c.truncate.result (c.truncate.ensures.idle_cache none ∙ c.in_ok-recovery.ensures.ids)
+    gives_id w c.args.cache.now c.truncate_all.new.cache c.truncate_all.result (c.truncate_all.ensures.idle_cache none ∙ c.in_ok-recovery.ensures.ids)
 
 pub returns-clause-fresh_ids : goal.returns-clause-fresh_ids
 returns-clause-fresh_ids g c = λ fresh.
-    let fits = opened_fits g.H.Sum.sum_of c.args.cache.now c.open.new.cache c.args.capacity (g.B.Blob.life c.args.blob.now) (g.B.Blob.life c.open.new.blob) c.in_ok-recovery.recovery c.in_ok-recovery.ensures.opens c.in_ok-recovery.ensures.ids in
-    c.truncate.ensures.fresh_ids fits.1 (c.in_ok-recovery.ensures.fresh_ids fresh)
+    let fits = opened_fits g.H.Sum.sum_of c.args.cache.now c.open_all.new.cache c.args.capacity (g.B.Blob.life c.args.blob.now) (g.B.Blob.life c.open_all.new.blob) c.in_ok-recovery.recovery c.in_ok-recovery.ensures.opens c.in_ok-recovery.ensures.ids in
+    c.truncate_all.ensures.fresh_ids fits.1 (c.in_ok-recovery.ensures.fresh_ids fresh)
 
 pub returns-clause-others : goal.returns-clause-others
 returns-clause-others g c =
-    gives_others c.truncate.result c.args.cache.now c.truncate.new.cache (returns-clause-ids g c)
+    gives_others c.truncate_all.result c.args.cache.now c.truncate_all.new.cache (returns-clause-ids g c)

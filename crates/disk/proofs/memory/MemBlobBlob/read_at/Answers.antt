@@ -1,6 +1,6 @@
 use Rattle.std.proofs.Common.{true, false, sym, ◌∙◌, rules}
 use Rattle.disk.specs.declared.action.Action.TheVariants as actions
-use Rattle.disk.proofs.Device.{life_after, counts_failed}
+use Rattle.disk.proofs.Device.{life_after}
 use Rattle.disk.proofs.memory.MemBlobBlob.read_at.Goals as goal
 
 pub returns-then-branch-clause-goes : goal.returns-then-branch-clause-goes
@@ -15,12 +15,5 @@ returns-clause-goes c =
 pub returns-in_err-bytes-clause-goes : goal.returns-in_err-bytes-clause-goes
 returns-in_err-bytes-clause-goes c = search rules
 
-pub returns-in_err-bytes-clause-counts : goal.returns-in_err-bytes-clause-counts
-returns-in_err-bytes-clause-counts c = search rules
-
-pub returns-in_err-ask-clause-counts : goal.returns-in_err-ask-clause-counts
-returns-in_err-ask-clause-counts c = search rules
-
-pub returns-then-branch-clause-counts : goal.returns-then-branch-clause-counts
-returns-then-branch-clause-counts c =
-    counts_failed (actions.Read c.args.offset c.args.len) c.args.self.now c.ask.new.self (sym c.if-branch.true ∙ c.in_ok-ask.ensures.failed) c.in_ok-ask.ensures.told
+pub returns-in_err-bytes-clause-asks : goal.returns-in_err-bytes-clause-asks
+returns-in_err-bytes-clause-asks c = search rules

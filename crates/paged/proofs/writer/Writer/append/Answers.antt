@@ -1,112 +1,35 @@
-use Rattle.writer_state.specs.Sound.{content}
-use Rattle.std.specs.Prelude.{Ok, Err, ℕ}
+use Rattle.std.proofs.lemmas.Result.{err_from_is_err_and}
+use Rattle.std.specs.Prelude.{Ok, Err}
 use Rattle.std.proofs.Common.{ℕ, sym, refl, ◌++◌, Ok, Err, subst}
 use Rattle.writer_state.specs.WriterState.{WriterState}
-use Rattle.paged.proofs.Caching.{caches_law, fresh_law, reads_after}
-use Rattle.paged.specs.Calls.{Appends}
-use Rattle.paged.proofs.Covers.{completed}
-use Rattle.paged.proofs.Halves.{append_keeps, append_leaves}
-use Rattle.paged.proofs.There.{appended_there}
-use Rattle.paged_read.proofs.OutlivingReplays.{replays_stay}
-use Rattle.paged_read.proofs.Outliving.{others_stay, tails_stay}
+use Rattle.paged.specs.Goes.{AppendGoes}
+use Rattle.paged.proofs.Answering.{append_goes, append_owes, ready_after}
 use Rattle.paged.proofs.writer.Writer.append.Goals as goal
 
-pub returns-clause-appends : goal.returns-clause-appends
-returns-clause-appends g c =
-    subst (λ (at : ℕ). Appends g.H.Sum.sum_of c.args.self c.args.bytes.now (g.B.Blob.life c.args.blob.now) (g.B.Blob.life c.append_bytes.new.blob) (Ok (c.append_bytes.new.self, at))) (sym c.size-at.ensures) c.in_ok-append_bytes.ensures.appends
+pub returns-in_err-append_bytes-clause-goes : goal.returns-in_err-append_bytes-clause-goes
+returns-in_err-append_bytes-clause-goes g c =
+    let is = c.in_err-append_bytes.ensures in
+    let p = err_from_is_err_and c.from_residual.result c.from_residual.ensures.1 in
+    rw (p.1, p.2) (append_goes g.H.Sum.sum_of c.args.self c.append_bytes.new.self c.args.bytes.now c.args.cache.now c.append_bytes.new.cache (g.B.Blob.life c.args.blob.now) (g.B.Blob.life c.append_bytes.new.blob) (Err c.in_err-append_bytes.field-0.0) is.appends is.covers tt is.overflow)
 
-pub returns-clause-there : goal.returns-clause-there
-returns-clause-there g c = appended_there g.H.Sum.sum_of c.args.self c.args.bytes.now (g.B.Blob.life c.args.blob.now) (g.B.Blob.life c.append_bytes.new.blob) (Ok (c.append_bytes.new.self, c.size-at.result)) (returns-clause-appends g c)
+pub returns-clause-goes : goal.returns-clause-goes
+returns-clause-goes g c =
+    let is = c.in_ok-append_bytes.ensures in
+    subst (λ (at : ℕ). AppendGoes g.H.Sum.sum_of c.args.self c.args.bytes.now (g.B.Blob.life c.args.blob.now) (g.B.Blob.life c.append_bytes.new.blob) (Ok (c.append_bytes.new.self, at))) (sym c.size-at.ensures)
+    (append_goes g.H.Sum.sum_of c.args.self c.append_bytes.new.self c.args.bytes.now c.args.cache.now c.append_bytes.new.cache (g.B.Blob.life c.args.blob.now) (g.B.Blob.life c.append_bytes.new.blob) (Ok tt) is.appends is.covers is.within is.overflow)
 
-pub returns-clause-kept : goal.returns-clause-kept
-returns-clause-kept g c = append_keeps g.H.Sum.sum_of c.args.self c.args.bytes.now (g.B.Blob.life c.args.blob.now) (g.B.Blob.life c.append_bytes.new.blob) (Ok (c.append_bytes.new.self, c.size-at.result)) c.requires.sound (returns-clause-appends g c)
+pub returns-clause-ready : goal.returns-clause-ready
+returns-clause-ready g c =
+    let is = c.in_ok-append_bytes.ensures in
+    ready_after {A = WriterState × ℕ} g.H.Sum.sum_of (λ r. r.0) c.args.self c.args.bytes.now (c.args.self.tip ++ c.args.bytes.now) (g.B.Blob.life c.args.blob.now) (g.B.Blob.life c.append_bytes.new.blob) c.args.cache.now c.append_bytes.new.cache
+    (c.append_bytes.new.self, c.size-at.result) c.requires.ready refl is.appends.1 is.puts
 
-pub returns-clause-only : goal.returns-clause-only
-returns-clause-only g c = append_leaves g.H.Sum.sum_of c.args.self c.args.bytes.now (g.B.Blob.life c.args.blob.now) (g.B.Blob.life c.append_bytes.new.blob) (Ok (c.append_bytes.new.self, c.size-at.result)) c.requires.sound (returns-clause-appends g c)
+pub returns-in_err-append_bytes-clause-owes : goal.returns-in_err-append_bytes-clause-owes
+returns-in_err-append_bytes-clause-owes g c =
+    let is = c.in_err-append_bytes.ensures in
+    append_owes g.H.Sum.sum_of c.args.self c.append_bytes.new.self c.args.bytes.now c.args.cache.now c.append_bytes.new.cache (g.B.Blob.life c.args.blob.now) (g.B.Blob.life c.append_bytes.new.blob) (Err c.in_err-append_bytes.field-0.0) is.appends is.covers c.requires.ready is.puts is.pages is.starts
 
-pub returns-in_err-append_bytes-clause-kept : goal.returns-in_err-append_bytes-clause-kept
-returns-in_err-append_bytes-clause-kept g c = append_keeps g.H.Sum.sum_of c.args.self c.args.bytes.now (g.B.Blob.life c.args.blob.now) (g.B.Blob.life c.append_bytes.new.blob) (Err c.in_err-append_bytes.field-0.0) c.requires.sound c.in_err-append_bytes.ensures.appends
-
-pub returns-in_err-append_bytes-clause-only : goal.returns-in_err-append_bytes-clause-only
-returns-in_err-append_bytes-clause-only g c = append_leaves g.H.Sum.sum_of c.args.self c.args.bytes.now (g.B.Blob.life c.args.blob.now) (g.B.Blob.life c.append_bytes.new.blob) (Err c.in_err-append_bytes.field-0.0) c.requires.sound c.in_err-append_bytes.ensures.appends
-
-pub returns-clause-completed : goal.returns-clause-completed
-returns-clause-completed g c = completed g.H.Sum.sum_of c.args.self c.append_bytes.new.self (g.B.Blob.life c.args.blob.now) (g.B.Blob.life c.append_bytes.new.blob) c.in_ok-append_bytes.ensures.appends.1.sound c.in_ok-append_bytes.ensures.covers
-
-pub returns-in_err-append_bytes-clause-caches : goal.returns-in_err-append_bytes-clause-caches
-returns-in_err-append_bytes-clause-caches g c =
-    let w = c.args.self in
-    let old = g.B.Blob.life c.args.blob.now in
-    let after = c.append_bytes.new.cache in
-    caches_law {A = WriterState × ℕ} g.H.Sum.sum_of (λ r. r.0) w c.args.bytes.now (w.tip ++ c.args.bytes.now) old c.args.cache.now after (Err c.in_err-append_bytes.field-0.0) c.requires.sound c.requires.cached refl c.in_err-append_bytes.ensures.puts
-
-pub returns-in_err-append_bytes-clause-fresh_ids : goal.returns-in_err-append_bytes-clause-fresh_ids
-returns-in_err-append_bytes-clause-fresh_ids g c =
-    let w = c.args.self in
-    let old = g.B.Blob.life c.args.blob.now in
-    let after = c.append_bytes.new.cache in
-    λ given fresh. fresh_law w.id w.full_pages (content w old.present.readable ++ c.args.bytes.now) c.args.cache.now after
-    (caches_law {A = WriterState × ℕ} g.H.Sum.sum_of (λ r. r.0) w c.args.bytes.now (w.tip ++ c.args.bytes.now) old c.args.cache.now after (Err c.in_err-append_bytes.field-0.0) c.requires.sound c.requires.cached refl c.in_err-append_bytes.ensures.puts) given fresh
-
-pub returns-clause-caches : goal.returns-clause-caches
-returns-clause-caches g c =
-    let w = c.args.self in
-    let old = g.B.Blob.life c.args.blob.now in
-    let after = c.append_bytes.new.cache in
-    caches_law {A = WriterState × ℕ} g.H.Sum.sum_of (λ r. r.0) w c.args.bytes.now (w.tip ++ c.args.bytes.now) old c.args.cache.now after (Ok (c.append_bytes.new.self, c.size-at.result)) c.requires.sound c.requires.cached refl c.in_ok-append_bytes.ensures.puts
-
-pub returns-clause-fresh_ids : goal.returns-clause-fresh_ids
-returns-clause-fresh_ids g c =
-    let w = c.args.self in
-    let old = g.B.Blob.life c.args.blob.now in
-    let after = c.append_bytes.new.cache in
-    λ given fresh. fresh_law w.id w.full_pages (content w old.present.readable ++ c.args.bytes.now) c.args.cache.now after
-    (caches_law {A = WriterState × ℕ} g.H.Sum.sum_of (λ r. r.0) w c.args.bytes.now (w.tip ++ c.args.bytes.now) old c.args.cache.now after (Ok (c.append_bytes.new.self, c.size-at.result)) c.requires.sound c.requires.cached refl c.in_ok-append_bytes.ensures.puts) given fresh
-
-pub returns-clause-can_read : goal.returns-clause-can_read
-returns-clause-can_read g c =
-    let w = c.args.self in
-    let old = g.B.Blob.life c.args.blob.now in
-    let after = c.append_bytes.new.cache in
-    let new = g.B.Blob.life c.append_bytes.new.blob in
-    reads_after {A = WriterState × ℕ} g.H.Sum.sum_of (λ r. r.0) w c.args.bytes.now (w.tip ++ c.args.bytes.now) old new c.args.cache.now after (c.append_bytes.new.self, c.size-at.result) c.requires.cached refl c.in_ok-append_bytes.ensures.appends.1 c.in_ok-append_bytes.ensures.puts
-
-pub returns-in_err-append_bytes-clause-tails : goal.returns-in_err-append_bytes-clause-tails
-returns-in_err-append_bytes-clause-tails g c =
-    let w = c.args.self in
-    let old = g.B.Blob.life c.args.blob.now in
-    tails_stay g.H.Sum.sum_of w.page_size w.id w.full_pages (content w old.present.readable ++ c.args.bytes.now)
-    c.args.cache.now c.append_bytes.new.cache old (g.B.Blob.life c.append_bytes.new.blob) c.requires.cached
-    c.in_err-append_bytes.ensures.pages (returns-in_err-append_bytes-clause-caches g c)
-
-pub returns-in_err-append_bytes-clause-others : goal.returns-in_err-append_bytes-clause-others
-returns-in_err-append_bytes-clause-others g c =
-    let w = c.args.self in
-    let old = g.B.Blob.life c.args.blob.now in
-    others_stay w.id w.full_pages (content w old.present.readable ++ c.args.bytes.now) c.args.cache.now
-    c.append_bytes.new.cache (returns-in_err-append_bytes-clause-caches g c)
-
-pub returns-clause-tails : goal.returns-clause-tails
-returns-clause-tails g c =
-    let w = c.args.self in
-    let old = g.B.Blob.life c.args.blob.now in
-    tails_stay g.H.Sum.sum_of w.page_size w.id w.full_pages (content w old.present.readable ++ c.args.bytes.now)
-    c.args.cache.now c.append_bytes.new.cache old (g.B.Blob.life c.append_bytes.new.blob) c.requires.cached
-    c.in_ok-append_bytes.ensures.pages (returns-clause-caches g c)
-
-pub returns-clause-others : goal.returns-clause-others
-returns-clause-others g c =
-    let w = c.args.self in
-    let old = g.B.Blob.life c.args.blob.now in
-    others_stay w.id w.full_pages (content w old.present.readable ++ c.args.bytes.now) c.args.cache.now
-    c.append_bytes.new.cache (returns-clause-caches g c)
-
-pub returns-in_err-append_bytes-clause-replays : goal.returns-in_err-append_bytes-clause-replays
-returns-in_err-append_bytes-clause-replays g c =
-    replays_stay c.args.self.page_size c.args.self.full_pages (g.B.Blob.life c.args.blob.now)
-    (g.B.Blob.life c.append_bytes.new.blob) c.in_err-append_bytes.ensures.pages
-
-pub returns-clause-replays : goal.returns-clause-replays
-returns-clause-replays g c =
-    replays_stay c.args.self.page_size c.args.self.full_pages (g.B.Blob.life c.args.blob.now)
-    (g.B.Blob.life c.append_bytes.new.blob) c.in_ok-append_bytes.ensures.pages
+pub returns-clause-owes : goal.returns-clause-owes
+returns-clause-owes g c =
+    let is = c.in_ok-append_bytes.ensures in
+    append_owes g.H.Sum.sum_of c.args.self c.append_bytes.new.self c.args.bytes.now c.args.cache.now c.append_bytes.new.cache (g.B.Blob.life c.args.blob.now) (g.B.Blob.life c.append_bytes.new.blob) (Ok tt) is.appends is.covers c.requires.ready is.puts is.pages is.starts

@@ -1,46 +1,36 @@
-use Rattle.std.proofs.Common.{[], Ok, Err}
-use Rattle.paged.proofs.Halves.{wait_keeps, wait_leaves}
-use Rattle.paged.proofs.There.{wait_there}
-use Rattle.cache.proofs.CacheLaws.{caches_none}
-use Rattle.paged_read.proofs.OutlivingReplays.{replays_stay}
-use Rattle.paged_read.proofs.Outliving.{tails_stay}
+use Rattle.std.proofs.lemmas.Result.{err_from_is_err_and}
+use Rattle.std.proofs.Common.{Ok, Err}
+use Rattle.writer_state.specs.Sound.{content}
+use Rattle.paged.proofs.Answering.{ready_waited, refused, wait_goes}
+use Rattle.paged.proofs.Halves.{waits_stay}
+use Rattle.paged.proofs.Owing.{owes_waiting}
 use Rattle.paged.proofs.writer.Writer.wait_for_sync.Goals as goal
 
-pub returns-clause-there : goal.returns-clause-there
-returns-clause-there g c = wait_there g.H.Sum.sum_of c.args.self (g.B.Blob.life c.args.blob.now) (g.B.Blob.life c.wait.new.blob) (Ok c.wait.new.self) c.in_ok-wait.ensures.waits
+pub returns-in_err-wait-clause-goes : goal.returns-in_err-wait-clause-goes
+returns-in_err-wait-clause-goes g c =
+    let old = g.B.Blob.life c.args.blob.now in
+    let p = err_from_is_err_and c.from_residual.result c.from_residual.ensures.1 in
+    rw (p.1, p.2) (refused g.H.Sum.sum_of c.args.self (content c.args.self old.present.readable) old (g.B.Blob.life c.wait.new.blob) c.in_err-wait.field-0.0 c.in_err-wait.ensures.waits)
 
-pub returns-clause-kept : goal.returns-clause-kept
-returns-clause-kept g c = wait_keeps g.H.Sum.sum_of c.args.self (g.B.Blob.life c.args.blob.now) (g.B.Blob.life c.wait.new.blob) c.requires.sound (Ok c.wait.new.self) c.in_ok-wait.ensures.waits
+pub returns-clause-goes : goal.returns-clause-goes
+returns-clause-goes g c =
+    let is = c.in_ok-wait.ensures in
+    wait_goes g.H.Sum.sum_of c.args.self c.wait.new.self (g.B.Blob.life c.args.blob.now) (g.B.Blob.life c.wait.new.blob) is.waits is.completes is.covers
 
-pub returns-in_err-wait-clause-kept : goal.returns-in_err-wait-clause-kept
-returns-in_err-wait-clause-kept g c = wait_keeps g.H.Sum.sum_of c.args.self (g.B.Blob.life c.args.blob.now) (g.B.Blob.life c.wait.new.blob) c.requires.sound (Err c.in_err-wait.field-0.0) c.in_err-wait.ensures.waits
+pub returns-clause-ready : goal.returns-clause-ready
+returns-clause-ready g c = λ cache ready.
+    ready_waited g.H.Sum.sum_of c.args.self c.wait.new.self cache (g.B.Blob.life c.args.blob.now) (g.B.Blob.life c.wait.new.blob) c.in_ok-wait.ensures.waits ready
 
-pub returns-clause-only : goal.returns-clause-only
-returns-clause-only g c = wait_leaves g.H.Sum.sum_of c.args.self (g.B.Blob.life c.args.blob.now) (g.B.Blob.life c.wait.new.blob) c.requires.sound (Ok c.wait.new.self) c.in_ok-wait.ensures.waits
+pub returns-in_err-wait-clause-owes : goal.returns-in_err-wait-clause-owes
+returns-in_err-wait-clause-owes g c =
+    let is = c.in_err-wait.ensures in
+    let old = g.B.Blob.life c.args.blob.now in
+    let new = g.B.Blob.life c.wait.new.blob in
+    owes_waiting g.H.Sum.sum_of c.args.self old new c.requires.sound (waits_stay g.H.Sum.sum_of c.args.self old new (Err c.in_err-wait.field-0.0) is.waits) is.pages is.covers is.starts
 
-pub returns-in_err-wait-clause-only : goal.returns-in_err-wait-clause-only
-returns-in_err-wait-clause-only g c = wait_leaves g.H.Sum.sum_of c.args.self (g.B.Blob.life c.args.blob.now) (g.B.Blob.life c.wait.new.blob) c.requires.sound (Err c.in_err-wait.field-0.0) c.in_err-wait.ensures.waits
-
-pub returns-clause-tails : goal.returns-clause-tails
-returns-clause-tails g c = λ cache same.
-    let w = c.args.self in
-    tails_stay g.H.Sum.sum_of w.page_size w.id w.full_pages [] cache cache
-    (g.B.Blob.life c.args.blob.now) (g.B.Blob.life c.wait.new.blob) same
-    c.in_ok-wait.ensures.pages (caches_none w.id w.full_pages [] cache)
-
-pub returns-in_err-wait-clause-tails : goal.returns-in_err-wait-clause-tails
-returns-in_err-wait-clause-tails g c = λ cache same.
-    let w = c.args.self in
-    tails_stay g.H.Sum.sum_of w.page_size w.id w.full_pages [] cache cache
-    (g.B.Blob.life c.args.blob.now) (g.B.Blob.life c.wait.new.blob) same
-    c.in_err-wait.ensures.pages (caches_none w.id w.full_pages [] cache)
-
-pub returns-clause-replays : goal.returns-clause-replays
-returns-clause-replays g c =
-    replays_stay c.args.self.page_size c.args.self.full_pages (g.B.Blob.life c.args.blob.now)
-    (g.B.Blob.life c.wait.new.blob) c.in_ok-wait.ensures.pages
-
-pub returns-in_err-wait-clause-replays : goal.returns-in_err-wait-clause-replays
-returns-in_err-wait-clause-replays g c =
-    replays_stay c.args.self.page_size c.args.self.full_pages (g.B.Blob.life c.args.blob.now)
-    (g.B.Blob.life c.wait.new.blob) c.in_err-wait.ensures.pages
+pub returns-clause-owes : goal.returns-clause-owes
+returns-clause-owes g c =
+    let is = c.in_ok-wait.ensures in
+    let old = g.B.Blob.life c.args.blob.now in
+    let new = g.B.Blob.life c.wait.new.blob in
+    owes_waiting g.H.Sum.sum_of c.args.self old new c.requires.sound (waits_stay g.H.Sum.sum_of c.args.self old new (Ok c.wait.new.self) is.waits) is.pages is.covers is.starts

@@ -1,24 +1,44 @@
-use Rattle.std.proofs.Common.{rules, ◌≡◌, Some, None}
-use Rattle.session.proofs.Below.{can_in, leaves_on, leaves_gone}
+use Rattle.std.proofs.Common.{rules, ◌≡◌, inl, Some, None, Ok, Err, refl, sym, subst}
+use Rattle.std.specs.Prelude.{Option}
+use Rattle.writer_state.specs.WriterState.{WriterState}
+use Rattle.session.specs.declared.steps.Reply.TheVariants.{Fault, Started}
+use Rattle.session.specs.Calls.{Starts}
+use Rattle.session.proofs.Below.{can_in, leaves_on, leaves_gone, sound_in}
+use Rattle.session.proofs.WordLaws.{start_says}
 use Rattle.session.proofs.held.Held.start_sync.Goals as goal
+
+pub start_sync-requires : goal.start_sync-requires
+start_sync-requires g c =
+    let at : c.args.self.now ≡ Some c.in-Some.writer = search rules in
+    let d = (g.B.Blob.life c.args.blob.now).present in
+    record { ready = record { sound = sound_in g.H.Sum.sum_of c.args.self.now c.in-Some.writer d at c.requires.sound; can = can_in c.args.self.now c.in-Some.writer c.args.cache.now d at c.requires.cached; fresh = c.requires.fresh } }
+
+pub returns-after-started-clause-goes : goal.returns-after-started-clause-goes
+returns-after-started-clause-goes g c =
+    let at : c.args.self.now ≡ Some c.in-Some.writer = search rules in
+    let is = c.in-Ok.ensures in
+    let old = g.B.Blob.life c.args.blob.now in
+    let new = g.B.Blob.life c.start_sync.new.blob in
+    let says = start_says g.H.Sum.sum_of c.in-Some.writer c.args.cache.now c.start_sync.new.cache old new (Ok (c.in-Ok.writer, c.in-Ok.started)) is.goes is.ready is.owes is.costs in
+    search rules
+
+pub returns-in-Err-clause-goes : goal.returns-in-Err-clause-goes
+returns-in-Err-clause-goes g c =
+    let at : c.args.self.now ≡ Some c.in-Some.writer = search rules in
+    let none : c.take.new.self ≡ None = search rules in
+    let is = c.in-Err.ensures in
+    let old = g.B.Blob.life c.args.blob.now in
+    let new = g.B.Blob.life c.start_sync.new.blob in
+    subst (λ (o : Option WriterState). Starts g.H.Sum.sum_of o c.take.new.self c.args.names.now.items c.make_room.new.self.items old new (Fault c.in-Err.error)) (sym at)
+    (inl (none, search rules, start_says g.H.Sum.sum_of c.in-Some.writer c.args.cache.now c.start_sync.new.cache old new (Err c.in-Err.error) is.goes tt is.owes is.costs))
 
 pub returns-after-started-clause-tails : goal.returns-after-started-clause-tails
 returns-after-started-clause-tails g c =
     let at : c.args.self.now ≡ Some c.in-Some.writer = search rules in
-    leaves_on g.H.Sum.sum_of c.args.self.now c.in-Some.writer c.in-Ok.writer c.args.cache.now c.start_sync.new.cache (g.B.Blob.life c.args.blob.now) (g.B.Blob.life c.start_sync.new.blob) at c.in-Ok.ensures.starts_sync.0.same c.in-Ok.ensures.tails c.in-Ok.ensures.replays
-
-pub returns-after-started-clause-fresh_ids : goal.returns-after-started-clause-fresh_ids
-returns-after-started-clause-fresh_ids g c =
-    let at : c.args.self.now ≡ Some c.in-Some.writer = search rules in
-    c.in-Ok.ensures.fresh_ids (can_in c.args.self.now c.in-Some.writer c.args.cache.now (g.B.Blob.life c.args.blob.now).present at c.requires.cached).given
-
-pub returns-in-Err-clause-fresh_ids : goal.returns-in-Err-clause-fresh_ids
-returns-in-Err-clause-fresh_ids g c =
-    let at : c.args.self.now ≡ Some c.in-Some.writer = search rules in
-    c.in-Err.ensures.fresh_ids (can_in c.args.self.now c.in-Some.writer c.args.cache.now (g.B.Blob.life c.args.blob.now).present at c.requires.cached).given
+    leaves_on g.H.Sum.sum_of c.args.self.now c.in-Some.writer c.in-Ok.writer c.args.cache.now c.start_sync.new.cache (g.B.Blob.life c.args.blob.now) (g.B.Blob.life c.start_sync.new.blob) at c.in-Ok.ensures.goes.goes.holds.same c.in-Ok.ensures.owes.tails c.in-Ok.ensures.owes.replays
 
 pub returns-in-Err-clause-tails : goal.returns-in-Err-clause-tails
 returns-in-Err-clause-tails g c =
     let at : c.args.self.now ≡ Some c.in-Some.writer = search rules in
     let none : c.take.new.self ≡ None = search rules in
-    leaves_gone g.H.Sum.sum_of c.args.self.now c.take.new.self c.in-Some.writer c.args.cache.now c.start_sync.new.cache (g.B.Blob.life c.args.blob.now) (g.B.Blob.life c.start_sync.new.blob) at none c.in-Err.ensures.tails c.in-Err.ensures.replays
+    leaves_gone g.H.Sum.sum_of c.args.self.now c.take.new.self c.in-Some.writer c.args.cache.now c.start_sync.new.cache (g.B.Blob.life c.args.blob.now) (g.B.Blob.life c.start_sync.new.blob) at none c.in-Err.ensures.owes.tails c.in-Err.ensures.owes.replays

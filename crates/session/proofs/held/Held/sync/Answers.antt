@@ -1,19 +1,49 @@
-use Rattle.std.proofs.Common.{rules, ◌≡◌, Some, None}
-use Rattle.session.proofs.Below.{can_in, leaves_on, leaves_gone}
+use Rattle.std.proofs.Common.{rules, ◌≡◌, Some, None, Ok, Err, refl, sym, subst}
+use Rattle.std.specs.Prelude.{Option}
+use Rattle.writer_state.specs.WriterState.{WriterState}
+use Rattle.session.specs.declared.steps.Reply.TheVariants.{Done, Fault}
+use Rattle.session.specs.Calls.{Synced}
+use Rattle.session.proofs.Below.{can_in, leaves_on, leaves_gone, sound_in}
+use Rattle.session.proofs.WordLaws.{sync_says}
 use Rattle.session.proofs.held.Held.sync.Goals as goal
+
+pub sync-requires : goal.sync-requires
+sync-requires g c =
+    let at : c.args.self.now ≡ Some c.in-Some.writer = search rules in
+    let d = (g.B.Blob.life c.args.blob.now).present in
+    record { ready = record { sound = sound_in g.H.Sum.sum_of c.args.self.now c.in-Some.writer d at c.requires.sound; can = can_in c.args.self.now c.in-Some.writer c.args.cache.now d at c.requires.cached; fresh = c.requires.fresh } }
+
+pub returns-in-Ok-clause-goes : goal.returns-in-Ok-clause-goes
+returns-in-Ok-clause-goes g c =
+    let at : c.args.self.now ≡ Some c.in-Some.writer = search rules in
+    let is = c.in-Ok.ensures in
+    let old = g.B.Blob.life c.args.blob.now in
+    let new = g.B.Blob.life c.sync.new.blob in
+    subst (λ (o : Option WriterState). Synced g.H.Sum.sum_of o (Some c.in-Ok.writer) old new Done) (sym at) (
+      c.in-Ok.writer,
+      refl,
+      sync_says g.H.Sum.sum_of c.in-Some.writer c.args.cache.now c.sync.new.cache old new (Ok c.in-Ok.writer) is.goes is.ready is.owes is.costs,
+    )
+
+pub returns-in-Err-clause-goes : goal.returns-in-Err-clause-goes
+returns-in-Err-clause-goes g c =
+    let at : c.args.self.now ≡ Some c.in-Some.writer = search rules in
+    let none : c.take.new.self ≡ None = search rules in
+    let is = c.in-Err.ensures in
+    let old = g.B.Blob.life c.args.blob.now in
+    let new = g.B.Blob.life c.sync.new.blob in
+    subst (λ (o : Option WriterState). Synced g.H.Sum.sum_of o c.take.new.self old new (Fault c.in-Err.error)) (sym at) (
+      none,
+      sync_says g.H.Sum.sum_of c.in-Some.writer c.args.cache.now c.sync.new.cache old new (Err c.in-Err.error) is.goes tt is.owes is.costs,
+    )
 
 pub returns-in-Ok-clause-tails : goal.returns-in-Ok-clause-tails
 returns-in-Ok-clause-tails g c =
     let at : c.args.self.now ≡ Some c.in-Some.writer = search rules in
-    leaves_on g.H.Sum.sum_of c.args.self.now c.in-Some.writer c.in-Ok.writer c.args.cache.now c.sync.new.cache (g.B.Blob.life c.args.blob.now) (g.B.Blob.life c.sync.new.blob) at c.in-Ok.ensures.syncs.0.same c.in-Ok.ensures.tails c.in-Ok.ensures.replays
-
-pub returns-in-Err-clause-fresh_ids : goal.returns-in-Err-clause-fresh_ids
-returns-in-Err-clause-fresh_ids g c =
-    let at : c.args.self.now ≡ Some c.in-Some.writer = search rules in
-    c.in-Err.ensures.fresh_ids (can_in c.args.self.now c.in-Some.writer c.args.cache.now (g.B.Blob.life c.args.blob.now).present at c.requires.cached).given
+    leaves_on g.H.Sum.sum_of c.args.self.now c.in-Some.writer c.in-Ok.writer c.args.cache.now c.sync.new.cache (g.B.Blob.life c.args.blob.now) (g.B.Blob.life c.sync.new.blob) at c.in-Ok.ensures.goes.holds.same c.in-Ok.ensures.owes.tails c.in-Ok.ensures.owes.replays
 
 pub returns-in-Err-clause-tails : goal.returns-in-Err-clause-tails
 returns-in-Err-clause-tails g c =
     let at : c.args.self.now ≡ Some c.in-Some.writer = search rules in
     let none : c.take.new.self ≡ None = search rules in
-    leaves_gone g.H.Sum.sum_of c.args.self.now c.take.new.self c.in-Some.writer c.args.cache.now c.sync.new.cache (g.B.Blob.life c.args.blob.now) (g.B.Blob.life c.sync.new.blob) at none c.in-Err.ensures.tails c.in-Err.ensures.replays
+    leaves_gone g.H.Sum.sum_of c.args.self.now c.take.new.self c.in-Some.writer c.args.cache.now c.sync.new.cache (g.B.Blob.life c.args.blob.now) (g.B.Blob.life c.sync.new.blob) at none c.in-Err.ensures.owes.tails c.in-Err.ensures.owes.replays

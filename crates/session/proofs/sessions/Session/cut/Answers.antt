@@ -1,4 +1,4 @@
-use Rattle.std.proofs.Common.{rules, ◌≡◌, true, Some, None, refl, sym, subst}
+use Rattle.std.proofs.Common.{rules, ◌≡◌, true, Some, None, Ok, Err, refl, sym, subst}
 use Rattle.std.specs.Prelude.{Option}
 use Rattle.writer_state.specs.WriterState.{WriterState}
 use Rattle.session.specs.declared.steps.Reply.TheVariants.{Length, Fault}
@@ -6,6 +6,7 @@ use Rattle.session.specs.Run.{FitsWriter}
 use Rattle.session.specs.Calls.{Truncated}
 use Rattle.session.proofs.Below.{sound_in, can_in, in_recovery}
 use Rattle.session.proofs.TruncateLaws.{cuts_here}
+use Rattle.session.proofs.WordLaws.{truncate_says}
 use Rattle.session.proofs.sessions.Session.cut.Goals as goal
 
 pub returns-in-Ok-clause-goes : goal.returns-in-Ok-clause-goes
@@ -22,17 +23,7 @@ returns-in-Ok-clause-goes g c =
       c.in-Ok.writer,
       refl,
       search rules,
-      record {
-        truncates = is.truncates;
-        sound = is.sound sound;
-        within = is.within;
-        calls = is.calls;
-        durable = is.durable sound;
-        floors = is.floors;
-        only = is.only sound;
-        covers = is.covers sound;
-        starts = is.starts sound;
-      },
+      truncate_says g.H.Sum.sum_of c.in-Some-take.writer c.args.cache.now c.truncate.new.cache old (g.B.Blob.life c.truncate.new.blob) c.args.size (Ok c.in-Ok.writer) sound is.goes is.owes is.costs,
     ))
 
 pub returns-in-Ok-clause-cached : goal.returns-in-Ok-clause-cached
@@ -40,7 +31,7 @@ returns-in-Ok-clause-cached g c =
     let at : c.args.self.now.writer ≡ Some c.in-Some-take.writer = search rules in
     let inside = c.self-inside.inside in
     subst (λ (o : Option WriterState). FitsWriter o c.truncate.new.cache (g.B.Blob.life c.truncate.new.blob).present) (sym (in_recovery inside.0.1.0 (Some c.in-Ok.writer) inside.0.1.1.1.0.writer (search rules)))
-    (c.in-Ok.ensures.can_read (can_in c.args.self.now.writer c.in-Some-take.writer c.args.cache.now (g.B.Blob.life c.args.blob.now).present at c.requires.cached))
+    (c.in-Ok.ensures.goes.reads (can_in c.args.self.now.writer c.in-Some-take.writer c.args.cache.now (g.B.Blob.life c.args.blob.now).present at c.requires.cached))
 
 pub returns-in-Err-clause-goes : goal.returns-in-Err-clause-goes
 returns-in-Err-clause-goes g c =
@@ -55,25 +46,15 @@ returns-in-Err-clause-goes g c =
     subst (λ (o : Option WriterState). Truncated sum c.args.self.now.recovering c.args.self.now.writer o c.args.size old (g.B.Blob.life c.truncate.new.blob) (Fault c.in-Err.error)) (sym (in_recovery inside.0.1.0 c.take.new.self inside.0.1.1.1.0.writer (search rules)))
     (cuts_here sum c.args.self.now.recovering c.args.self.now.writer c.in-Some-take.writer c.take.new.self c.args.size old (g.B.Blob.life c.truncate.new.blob) (Fault c.in-Err.error) phase at (
       none,
-      record {
-        truncates = is.truncates;
-        sound = tt;
-        within = tt;
-        calls = is.calls;
-        durable = tt;
-        floors = is.floors;
-        only = is.only sound;
-        covers = is.covers sound;
-        starts = is.starts sound;
-      },
+      truncate_says g.H.Sum.sum_of c.in-Some-take.writer c.args.cache.now c.truncate.new.cache old (g.B.Blob.life c.truncate.new.blob) c.args.size (Err c.in-Err.error) sound is.goes is.owes is.costs,
     ))
 
 pub returns-in-Ok-clause-fresh_ids : goal.returns-in-Ok-clause-fresh_ids
 returns-in-Ok-clause-fresh_ids g c =
     let at : c.args.self.now.writer ≡ Some c.in-Some-take.writer = search rules in
-    c.in-Ok.ensures.fresh_ids (can_in c.args.self.now.writer c.in-Some-take.writer c.args.cache.now (g.B.Blob.life c.args.blob.now).present at c.requires.cached).given
+    c.in-Ok.ensures.owes.fresh (can_in c.args.self.now.writer c.in-Some-take.writer c.args.cache.now (g.B.Blob.life c.args.blob.now).present at c.requires.cached).given
 
 pub returns-in-Err-clause-fresh_ids : goal.returns-in-Err-clause-fresh_ids
 returns-in-Err-clause-fresh_ids g c =
     let at : c.args.self.now.writer ≡ Some c.in-Some-take.writer = search rules in
-    c.in-Err.ensures.fresh_ids (can_in c.args.self.now.writer c.in-Some-take.writer c.args.cache.now (g.B.Blob.life c.args.blob.now).present at c.requires.cached).given
+    c.in-Err.ensures.owes.fresh (can_in c.args.self.now.writer c.in-Some-take.writer c.args.cache.now (g.B.Blob.life c.args.blob.now).present at c.requires.cached).given

@@ -3,30 +3,30 @@ use Rattle.session.proofs.sessions.Session.recover_within.Goals as goal
 
 pub returns-in_err-writer-clause-attempts : goal.returns-in_err-writer-clause-attempts
 returns-in_err-writer-clause-attempts g c =
-    attempts_through g.H.Sum.sum_of c.args.cache.now.page_size (g.B.Blob.life c.args.blob.now) (g.B.Blob.life c.recover_within.new.blob) (g.met.B.Blob.readable_is_image c.args.blob.now) c.recover_within.ensures.floors c.recover_within.ensures.only
+    attempts_through g.H.Sum.sum_of c.args.cache.now.page_size (g.B.Blob.life c.args.blob.now) (g.B.Blob.life c.recover_within.new.blob) (g.met.B.Blob.readable_is_image c.args.blob.now) c.recover_within.ensures.owes.floors c.recover_within.ensures.owes.only
 
 pub returns-clause-begins : goal.returns-clause-begins
 returns-clause-begins g c =
-    let w = c.in_ok-writer.ensures in (
-      w.recovers.0,
-      begun g.H.Sum.sum_of c.in_ok-writer.writer c.new.result c.args.cache.now c.args.capacity (g.B.Blob.life c.args.blob.now) (g.B.Blob.life c.recover_within.new.blob) c.new.ensures.writer w.recovers.1 w.within w.durable,
+    let w = c.in_ok-writer.ensures.goes in (
+      w.answers.0,
+      begun g.H.Sum.sum_of c.in_ok-writer.writer c.new.result c.args.cache.now c.args.capacity (g.B.Blob.life c.args.blob.now) (g.B.Blob.life c.recover_within.new.blob) c.new.ensures.writer w.answers.1 w.writer.within w.durable,
     )
 
 pub returns-clause-gives : goal.returns-clause-gives
 returns-clause-gives g c =
     gives_back g.H.Sum.sum_of c.in_ok-writer.writer c.args.cache.now _ (g.B.Blob.life c.args.blob.now) (g.B.Blob.life c.recover_within.new.blob) (g.met.B.Blob.readable_is_image c.args.blob.now)
-    c.in_ok-writer.ensures.recovers.1
+    c.in_ok-writer.ensures.goes.answers.1
 
 pub returns-clause-attempts : goal.returns-clause-attempts
 returns-clause-attempts g c =
-    attempts_through g.H.Sum.sum_of c.args.cache.now.page_size (g.B.Blob.life c.args.blob.now) (g.B.Blob.life c.recover_within.new.blob) (g.met.B.Blob.readable_is_image c.args.blob.now) c.recover_within.ensures.floors c.recover_within.ensures.only
+    attempts_through g.H.Sum.sum_of c.args.cache.now.page_size (g.B.Blob.life c.args.blob.now) (g.B.Blob.life c.recover_within.new.blob) (g.met.B.Blob.readable_is_image c.args.blob.now) c.recover_within.ensures.owes.floors c.recover_within.ensures.owes.only
 
 pub returns-clause-ready : goal.returns-clause-ready
-returns-clause-ready g c = c.new.ensures.ready (g.B.Blob.life c.recover_within.new.blob).present c.in_ok-writer.ensures.sound
+returns-clause-ready g c = c.new.ensures.ready (g.B.Blob.life c.recover_within.new.blob).present c.in_ok-writer.ensures.goes.answers.1.sound
 
 pub returns-clause-cached : goal.returns-clause-cached
 returns-clause-cached g c =
-    λ fresh. c.new.ensures.cached c.recover_within.new.cache (g.B.Blob.life c.recover_within.new.blob).present (c.in_ok-writer.ensures.can_read fresh)
+    λ fresh. c.new.ensures.cached c.recover_within.new.cache (g.B.Blob.life c.recover_within.new.blob).present (c.in_ok-writer.ensures.ready fresh).can
 
 pub returns-clause-overflow : goal.returns-clause-overflow
-returns-clause-overflow g c = λ over. absurd (cc (c.in_ok-writer.ensures.overflow over))
+returns-clause-overflow g c = λ over. absurd (cc (c.in_ok-writer.ensures.goes.overflow over))

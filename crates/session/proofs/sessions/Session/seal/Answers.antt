@@ -1,25 +1,37 @@
-use Rattle.std.proofs.Common.{rules, ◌≡◌, Some, None, sym, subst}
+use Rattle.std.proofs.Common.{rules, ◌≡◌, Some, None, Ok, Err, sym, subst}
 use Rattle.std.specs.Prelude.{Option}
 use Rattle.writer_state.specs.WriterState.{WriterState}
 use Rattle.session.specs.Calls.{LeavesTaken}
-use Rattle.session.proofs.Below.{can_in, in_appending, leaves_gone}
+use Rattle.session.proofs.Below.{can_in, in_appending, leaves_gone, sound_in}
+use Rattle.session.proofs.WordLaws.{seal_says}
 use Rattle.session.proofs.sessions.Session.seal.Goals as goal
 
-pub returns-after-started-clause-fresh_ids : goal.returns-after-started-clause-fresh_ids
-returns-after-started-clause-fresh_ids g c =
+pub seal-requires : goal.seal-requires
+seal-requires g c =
     let at : c.args.self.now.writer ≡ Some c.in-Some.writer = search rules in
-    c.in-Ok.ensures.fresh_ids (can_in c.args.self.now.writer c.in-Some.writer c.args.cache.now (g.B.Blob.life c.args.blob.now).present at c.requires.cached).given
+    let d = (g.B.Blob.life c.args.blob.now).present in
+    record { ready = record { sound = sound_in g.H.Sum.sum_of c.args.self.now.writer c.in-Some.writer d at c.requires.sound; can = can_in c.args.self.now.writer c.in-Some.writer c.args.cache.now d at c.requires.cached; fresh = c.requires.fresh } }
+
+pub returns-after-started-clause-goes : goal.returns-after-started-clause-goes
+returns-after-started-clause-goes g c =
+    let at : c.args.self.now.writer ≡ Some c.in-Some.writer = search rules in
+    let is = c.in-Ok.ensures in
+    let says = seal_says g.H.Sum.sum_of c.in-Some.writer c.args.cache.now c.seal.new.cache (g.B.Blob.life c.args.blob.now) (g.B.Blob.life c.seal.new.blob) (Ok (c.in-Ok.snapshot, c.in-Ok.started)) is.goes is.owes is.costs in
+    let stands = is.goes.stands in
+    search rules
+
+pub returns-in-Err-clause-goes : goal.returns-in-Err-clause-goes
+returns-in-Err-clause-goes g c =
+    let at : c.args.self.now.writer ≡ Some c.in-Some.writer = search rules in
+    let is = c.in-Err.ensures in
+    let says = seal_says g.H.Sum.sum_of c.in-Some.writer c.args.cache.now c.seal.new.cache (g.B.Blob.life c.args.blob.now) (g.B.Blob.life c.seal.new.blob) (Err c.in-Err.error) is.goes is.owes is.costs in
+    search rules
 
 pub returns-after-started-clause-tails : goal.returns-after-started-clause-tails
 returns-after-started-clause-tails g c =
     let at : c.args.self.now.writer ≡ Some c.in-Some.writer = search rules in
     let none : c.match-started.self.writer ≡ None = search rules in
-    leaves_gone g.H.Sum.sum_of c.args.self.now.writer c.match-started.self.writer c.in-Some.writer c.args.cache.now c.seal.new.cache (g.B.Blob.life c.args.blob.now) (g.B.Blob.life c.seal.new.blob) at none c.in-Ok.ensures.tails c.in-Ok.ensures.replays
-
-pub returns-in-Err-clause-fresh_ids : goal.returns-in-Err-clause-fresh_ids
-returns-in-Err-clause-fresh_ids g c =
-    let at : c.args.self.now.writer ≡ Some c.in-Some.writer = search rules in
-    c.in-Err.ensures.fresh_ids (can_in c.args.self.now.writer c.in-Some.writer c.args.cache.now (g.B.Blob.life c.args.blob.now).present at c.requires.cached).given
+    leaves_gone g.H.Sum.sum_of c.args.self.now.writer c.match-started.self.writer c.in-Some.writer c.args.cache.now c.seal.new.cache (g.B.Blob.life c.args.blob.now) (g.B.Blob.life c.seal.new.blob) at none c.in-Ok.ensures.owes.tails c.in-Ok.ensures.owes.replays
 
 pub returns-in-Err-clause-tails : goal.returns-in-Err-clause-tails
 returns-in-Err-clause-tails g c =
@@ -29,4 +41,4 @@ returns-in-Err-clause-tails g c =
     let at : c.args.self.now.writer ≡ Some c.in-Some.writer = search rules in
     let none : c.take.new.self ≡ None = search rules in
     subst (λ (o : Option WriterState). LeavesTaken g.H.Sum.sum_of c.args.self.now.writer o c.args.cache.now c.seal.new.cache old new) (sym (in_appending inside.0.1.0 inside.0.1.1.0 c.take.new.self (search rules)))
-    (leaves_gone g.H.Sum.sum_of c.args.self.now.writer c.take.new.self c.in-Some.writer c.args.cache.now c.seal.new.cache old new at none c.in-Err.ensures.tails c.in-Err.ensures.replays)
+    (leaves_gone g.H.Sum.sum_of c.args.self.now.writer c.take.new.self c.in-Some.writer c.args.cache.now c.seal.new.cache old new at none c.in-Err.ensures.owes.tails c.in-Err.ensures.owes.replays)

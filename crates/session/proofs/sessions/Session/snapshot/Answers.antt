@@ -1,9 +1,31 @@
-use Rattle.std.proofs.Common.{rules, ◌≡◌, Some, None, sym, subst}
+use Rattle.std.proofs.Common.{rules, ◌≡◌, Some, None, Ok, Err, sym, subst}
 use Rattle.std.specs.Prelude.{Option}
 use Rattle.writer_state.specs.WriterState.{WriterState}
 use Rattle.session.specs.Calls.{LeavesTaken}
-use Rattle.session.proofs.Below.{in_appending, leaves_on, leaves_gone}
+use Rattle.session.proofs.Below.{can_in, in_appending, leaves_on, leaves_gone, sound_in}
+use Rattle.session.proofs.WordLaws.{snapshot_says}
 use Rattle.session.proofs.sessions.Session.snapshot.Goals as goal
+
+pub snapshot-requires : goal.snapshot-requires
+snapshot-requires g c =
+    let at : c.args.self.now.writer ≡ Some c.in-Some.writer = search rules in
+    let d = (g.B.Blob.life c.args.blob.now).present in
+    record { ready = record { sound = sound_in g.H.Sum.sum_of c.args.self.now.writer c.in-Some.writer d at c.requires.sound; can = can_in c.args.self.now.writer c.in-Some.writer c.args.cache.now d at c.requires.cached; fresh = c.requires.fresh } }
+
+pub returns-in-Ok-clause-goes : goal.returns-in-Ok-clause-goes
+returns-in-Ok-clause-goes g c =
+    let at : c.args.self.now.writer ≡ Some c.in-Some.writer = search rules in
+    let is = c.in-Ok.ensures in
+    let says = snapshot_says g.H.Sum.sum_of c.in-Some.writer c.args.cache.now c.snapshot.new.cache (g.B.Blob.life c.args.blob.now) (g.B.Blob.life c.snapshot.new.blob) (Ok (c.in-Ok.writer, c.in-Ok.snapshot)) is.goes is.ready is.owes is.costs in
+    let stands = is.goes.stands in
+    search rules
+
+pub returns-in-Err-clause-goes : goal.returns-in-Err-clause-goes
+returns-in-Err-clause-goes g c =
+    let at : c.args.self.now.writer ≡ Some c.in-Some.writer = search rules in
+    let is = c.in-Err.ensures in
+    let says = snapshot_says g.H.Sum.sum_of c.in-Some.writer c.args.cache.now c.snapshot.new.cache (g.B.Blob.life c.args.blob.now) (g.B.Blob.life c.snapshot.new.blob) (Err c.in-Err.error) is.goes tt is.owes is.costs in
+    search rules
 
 pub returns-in-Ok-clause-tails : goal.returns-in-Ok-clause-tails
 returns-in-Ok-clause-tails g c =
@@ -12,7 +34,7 @@ returns-in-Ok-clause-tails g c =
     let inside = c.self-inside.inside in
     let at : c.args.self.now.writer ≡ Some c.in-Some.writer = search rules in
     subst (λ (o : Option WriterState). LeavesTaken g.H.Sum.sum_of c.args.self.now.writer o c.args.cache.now c.snapshot.new.cache old new) (sym (in_appending inside.0.1.0 inside.0.1.1.0 (Some c.in-Ok.writer) (search rules)))
-    (leaves_on g.H.Sum.sum_of c.args.self.now.writer c.in-Some.writer c.in-Ok.writer c.args.cache.now c.snapshot.new.cache old new at c.in-Ok.ensures.makes.0.same c.in-Ok.ensures.tails c.in-Ok.ensures.replays)
+    (leaves_on g.H.Sum.sum_of c.args.self.now.writer c.in-Some.writer c.in-Ok.writer c.args.cache.now c.snapshot.new.cache old new at c.in-Ok.ensures.goes.holds.same c.in-Ok.ensures.owes.tails c.in-Ok.ensures.owes.replays)
 
 pub returns-in-Err-clause-tails : goal.returns-in-Err-clause-tails
 returns-in-Err-clause-tails g c =
@@ -22,4 +44,4 @@ returns-in-Err-clause-tails g c =
     let at : c.args.self.now.writer ≡ Some c.in-Some.writer = search rules in
     let none : c.take.new.self ≡ None = search rules in
     subst (λ (o : Option WriterState). LeavesTaken g.H.Sum.sum_of c.args.self.now.writer o c.args.cache.now c.snapshot.new.cache old new) (sym (in_appending inside.0.1.0 inside.0.1.1.0 c.take.new.self (search rules)))
-    (leaves_gone g.H.Sum.sum_of c.args.self.now.writer c.take.new.self c.in-Some.writer c.args.cache.now c.snapshot.new.cache old new at none c.in-Err.ensures.tails c.in-Err.ensures.replays)
+    (leaves_gone g.H.Sum.sum_of c.args.self.now.writer c.take.new.self c.in-Some.writer c.args.cache.now c.snapshot.new.cache old new at none c.in-Err.ensures.owes.tails c.in-Err.ensures.owes.replays)

@@ -1,0 +1,164 @@
+-- What each call of a writer answers.
+use Rattle.std.specs.Prelude.{◌≡◌, ◌<◌, ◌≤◌, ◌+◌, ◌^◌, ◌++◌, ℕ, List, [], length, Result, Ok, Err}
+use Rattle.disk.specs.Disk.{Life, LogGrows}
+use Rattle.disk.specs.declared.error.Error.{Error}
+use Rattle.disk.specs.declared.error.Error.TheVariants.{OffsetOverflow, SyncFailed}
+use Rattle.disk.specs.declared.started_sync.StartedSync.{StartedSync}
+use Rattle.disk.specs.declared.started_sync.StartedSync.TheVariants.{Named}
+use Rattle.cache.specs.CacheState.{CacheState}
+use Rattle.crash.specs.Stays.{KeepsAll}
+use Rattle.writer_state.specs.WriterState.{WriterState, started_state}
+use Rattle.writer_state.specs.Sound.{IsSound, LeavesItsContent, content}
+use Rattle.paged_read.specs.Replay.{IsReplayOf, ReplayState, new_replay}
+use Rattle.paged_read.specs.Snapshots.{StandsOn}
+use Rattle.paged_read.specs.Tail.{Tail}
+use Rattle.paged.specs.Writer.{physical_blob_size}
+use Rattle.paged.specs.Calls.{CallCause, Completed, Completes, HadFailed, HoldsWithin}
+use Rattle.paged.specs.Calls.{IsSameWriter, IsSettled, IsWritten, Starts, start_calls, waited}
+use Rattle.paged.specs.Reads.{size_of}
+use Rattle.paged.specs.Caches.{tail_of}
+use Rattle.paged.specs.Snapshots.{answer_of_seal}
+
+-- a call ended well: the writer is the same, and holds these bytes after what it held
+pub record Holds (sum : List ℕ → ℕ) (w : WriterState) (old : Life) (more : List ℕ)
+    (now : WriterState) (new : Life) : Type 0 where
+  pub same : IsSameWriter w now
+  -- its size is that of the content, and absent a checksum collision a crash leaves only that
+  pub size : size_of now ≡ length (content now new.present.readable)
+  pub only : LeavesItsContent sum now new.present
+  pub log : LogGrows old.present new.present
+  -- the sync that it no longer waits for has completed; the one that it is left waiting for failed
+  -- in this call, if it did
+  pub completed : Completed sum w.page_size (content w old.present.readable) w.sync now.sync old new
+  pub waits : HadFailed now.sync new.present → CallCause w.sync old new SyncFailed
+  -- (last, since a field hides a definition of its name from those after it)
+  pub content : content now new.present.readable ≡ content w old.present.readable ++ more
+
+-- it was refused, for this
+pub record IsRefused (w : WriterState) (old new : Life) (e : Error) : Type 0 where
+  pub cause : CallCause w.sync old new e
+  pub log : LogGrows old.present new.present
+
+-- ---- an append
+
+-- its answer is the size until then
+pub record HasAppended (sum : List ℕ → ℕ) (w : WriterState) (bytes : List ℕ) (old new : Life)
+    (now : WriterState) (at : ℕ) : Type 0 where
+  pub at_end : at ≡ length (content w old.present.readable)
+  pub holds : Holds sum w old bytes now new
+  pub within : HoldsWithin now
+
+abbrev pub AppendAnswers : (List ℕ → ℕ) → WriterState → List ℕ → Life → Life
+    → Result (WriterState × ℕ) Error → Type 0
+AppendAnswers sum w bytes old new (Ok r) = HasAppended sum w bytes old new r.0 r.1
+AppendAnswers sum w bytes old new (Err OffsetOverflow) =
+    (new ≡ old)
+    × (2 ^ 64 ≤ physical_blob_size w.page_size w.full_pages (length w.tip + length bytes))
+AppendAnswers sum w bytes old new (Err e) = IsRefused w old new e
+
+pub record AppendGoes (sum : List ℕ → ℕ) (w : WriterState) (bytes : List ℕ) (old new : Life)
+    (result : Result (WriterState × ℕ) Error) : Type 0 where
+  pub answers : AppendAnswers sum w bytes old new result
+  pub overflow : 2 ^ 64 ≤ physical_blob_size w.page_size w.full_pages (length w.tip + length bytes)
+      → result ≡ Err OffsetOverflow
+
+-- ---- a sync
+
+-- all that was appended is durable
+pub record HasSynced (sum : List ℕ → ℕ) (w : WriterState) (old new : Life) (now : WriterState)
+    : Type 0 where
+  pub holds : Holds sum w old [] now new
+  pub within : HoldsWithin now
+  pub settled : IsSettled now
+  pub durable : KeepsAll sum w.page_size (content w old.present.readable) new
+
+abbrev pub SyncAllGoes : (List ℕ → ℕ) → WriterState → Life → Life → Result WriterState Error
+    → Type 0
+SyncAllGoes sum w old new (Ok now) = HasSynced sum w old new now
+SyncAllGoes sum w old new (Err e) = IsRefused w old new e
+
+-- all that was appended is written, and durable already or once the sync of this answer completed
+pub record IsUnderWay (sum : List ℕ → ℕ) (w : WriterState) (old new : Life) (now : WriterState)
+    (started : StartedSync) : Type 0 where
+  pub holds : Holds sum w old [] now new
+  pub within : HoldsWithin now
+  pub written : IsWritten now
+  pub state : now.sync ≡ started_state started
+  pub starts : Starts sum w.page_size (content w old.present.readable) new started
+
+-- where the device was asked, the sync has the name that comes next
+pub record HasStarted (sum : List ℕ → ℕ) (w : WriterState) (old new : Life) (now : WriterState)
+    (started : StartedSync) : Type 0 where
+  pub goes : IsUnderWay sum w old new now started
+  pub fresh : 0 < start_calls w → started ≡ Named (length old.present.started)
+
+abbrev pub StartSyncGoes : (List ℕ → ℕ) → WriterState → Life → Life
+    → Result (WriterState × StartedSync) Error → Type 0
+StartSyncGoes sum w old new (Ok r) = HasStarted sum w old new r.0 r.1
+StartSyncGoes sum w old new (Err e) = IsRefused w old new e
+
+-- what the pending sync covers is durable
+pub record HasWaited (sum : List ℕ → ℕ) (w : WriterState) (old new : Life) (now : WriterState)
+    : Type 0 where
+  pub sound : IsSound sum now new.present
+  pub holds : Holds sum w old [] now new
+  pub state : now ≡ waited w
+  pub completes : Completes sum w.page_size w.sync old new
+
+abbrev pub WaitForSyncGoes : (List ℕ → ℕ) → WriterState → Life → Life → Result WriterState Error
+    → Type 0
+WaitForSyncGoes sum w old new (Ok now) = HasWaited sum w old new now
+WaitForSyncGoes sum w old new (Err e) = IsRefused w old new e
+
+-- ---- snapshots and replays
+
+-- a snapshot tells the content, and can be read; its writer buffers less than a page
+pub record HasSnapshot (sum : List ℕ → ℕ) (w : WriterState) (after : CacheState) (old new : Life)
+    (now : WriterState) (t : Tail) : Type 0 where
+  pub holds : Holds sum w old [] now new
+  pub within : HoldsWithin now
+  pub short : length now.tip < w.page_size
+  pub tail : t ≡ tail_of now
+  pub stands : StandsOn sum t (content w old.present.readable) after new.present
+
+abbrev pub SnapshotGoes : (List ℕ → ℕ) → WriterState → (after : CacheState) → Life → Life
+    → Result (WriterState × Tail) Error → Type 0
+SnapshotGoes sum w after old new (Ok r) = HasSnapshot sum w after old new r.0 r.1
+SnapshotGoes sum w after old new (Err e) = IsRefused w old new e
+
+-- a replay gives the content, from its first byte on; all of it is written, and what the replay is
+-- of can be read
+pub record HasReplay (sum : List ℕ → ℕ) (w : WriterState) (buffer_size : ℕ) (after : CacheState)
+    (old new : Life) (now : WriterState) (r : ReplayState) : Type 0 where
+  pub holds : Holds sum w old [] now new
+  pub within : HoldsWithin now
+  pub written : IsWritten now
+  pub replay : r ≡ new_replay (tail_of now) buffer_size
+  pub gives : IsReplayOf sum r (content w old.present.readable) new.present
+  pub page_size : r.tail.page_size ≡ now.page_size
+  pub below : r.tail.full_pages ≤ now.full_pages
+  pub stands : StandsOn sum r.tail (content w old.present.readable) after new.present
+
+abbrev pub ReplayGoes : (List ℕ → ℕ) → WriterState → (buffer_size : ℕ) → (after : CacheState)
+    → Life → Life → Result (WriterState × ReplayState) Error → Type 0
+ReplayGoes sum w buffer_size after old new (Ok r) =
+    HasReplay sum w buffer_size after old new r.0 r.1
+ReplayGoes sum w buffer_size after old new (Err e) = IsRefused w old new e
+
+-- ---- the end of a writer
+
+-- a snapshot of it is left, and a sync of all, which was started: the writer that would go on has
+-- all of it written
+pub record HasSealed (sum : List ℕ → ℕ) (w : WriterState) (after : CacheState) (old new : Life)
+    (t : Tail) (started : StartedSync) : Type 0 where
+  pub now : WriterState
+  pub sound : IsSound sum now new.present
+  pub tail : t ≡ tail_of now
+  pub goes : IsUnderWay sum w old new now started
+  pub answer : started ≡ answer_of_seal w old
+  pub stands : StandsOn sum t (content w old.present.readable) after new.present
+
+abbrev pub SealGoes : (List ℕ → ℕ) → WriterState → (after : CacheState) → Life → Life
+    → Result (Tail × StartedSync) Error → Type 0
+SealGoes sum w after old new (Ok r) = HasSealed sum w after old new r.0 r.1
+SealGoes sum w after old new (Err e) = IsRefused w old new e
