@@ -3,7 +3,7 @@ ghost use Rattle.std.specs.Prelude.{◌≡◌, IfOk};
 ghost use Rattle.std.specs.Vec.{vec_len};
 ghost use Rattle.cache.specs.Pages.{IsFresh};
 ghost use Rattle.disk.specs.History.{life_of};
-ghost use Rattle.bench.specs.Ready.{IsReady};
+ghost use Rattle.paged.specs.Ready.{IsReady};
 
 use crate::done::{Done, Start};
 use crate::reads::Reads;

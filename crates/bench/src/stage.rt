@@ -2,7 +2,7 @@
 ghost use Rattle.std.specs.Prelude.{◌≡◌, length, IfOk};
 ghost use Rattle.cache.specs.Pages.{IsFresh};
 ghost use Rattle.disk.specs.History.{life_of};
-ghost use Rattle.bench.specs.Ready.{IsReady};
+ghost use Rattle.paged.specs.Ready.{IsReady};
 
 use anyhow::Result;
 use cache::CacheRef;

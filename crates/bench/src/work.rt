@@ -2,7 +2,7 @@
 ghost use Rattle.std.specs.Prelude.{IfOk};
 ghost use Rattle.crash.specs.Looks.{Looked};
 ghost use Rattle.paged_read.specs.Replay.{CanReplay};
-ghost use Rattle.bench.specs.Ready.{IsReady};
+ghost use Rattle.paged.specs.Ready.{IsReady};
 
 use crate::reads::are_in_order;
 use cache::CacheRef;

@@ -1,13 +1,16 @@
 -- What a user may rely on: a crash at any moment of a run, whatever it leaves of what isn't synced,
 -- any number of further crashes and of recoveries that are cut short, and then a recovery that
 -- answers Ok.
-use Rattle.std.specs.Prelude.{◌≡◌, ◌⊎◌, ◌≤◌, ◌+◌, ◌%◌, ◌++◌, ℕ, List, [], ◌∷◌, length, take, Bool}
-use Rattle.std.specs.Prelude.{true, false, nat_eq, Some, None, Result, Ok, Err}
+use Rattle.std.specs.Prelude.{◌≡◌, ◌⊎◌, ◌≤◌, ◌+◌, ◌%◌, ◌^◌, ◌++◌, ℕ, List, [], ◌∷◌, length, take, Bool}
+use Rattle.std.specs.Prelude.{true, false, nat_eq, Some, None, Result, Ok, Err, IfOk, IfErr, OnOk}
 use Rattle.disk.specs.Disk.{Disk, IsImage, Life, life_after}
+use Rattle.disk.specs.History.{History, life_of}
 use Rattle.disk.specs.declared.error.Error.{Error}
+use Rattle.disk.specs.declared.error.Error.TheVariants.{OffsetOverflow, OutOfMemory}
 use Rattle.page.specs.Page.{text}
 use Rattle.page.specs.Geometry.{adjusted}
 use Rattle.cache.specs.CacheState.{CacheState}
+use Rattle.cache.specs.Pages.{IsFresh}
 use Rattle.crash.specs.Distinct.{IsDistinct}
 use Rattle.crash.specs.Kept.{AllKeep, Each, Through}
 use Rattle.crash.specs.Stays.{KeepsFloors}
@@ -19,7 +22,7 @@ use Rattle.paged.specs.Recovers.{Recovers}
 use Rattle.session.specs.declared.steps.Step.{Step}
 use Rattle.session.specs.declared.steps.Reply.{Reply}
 use Rattle.session.specs.Run.{Standing, begun, other_content, last, Answers, raised, SessionState}
-use Rattle.session.specs.Run.{pending_in, StandsFor}
+use Rattle.session.specs.Run.{IsReady, pending_in, StandsFor}
 
 -- ---- the way back
 
@@ -249,3 +252,44 @@ StandsWhereSound sum w =
     → floor ≤ length (content_of w d.readable)
     → AllKeep sum w.page_size (content_of w d.readable) floor d
     → StandsFor sum w.page_size (session_of w) (opened w floor d.readable) d
+
+-- ---- how a session begins, in a record each
+
+-- a recovery of what a crash left was refused, for this
+abbrev pub RefusesLeft : (List ℕ → ℕ) → CacheState → (capacity : ℕ) → Life → (left : List ℕ)
+    → Error → Life → Type 0
+RefusesLeft sum cache capacity old left e new =
+    (mid : Life) × HasCrashed old.present mid.present × (mid.present.readable ≡ left)
+    × Recovers sum cache capacity mid new (Err e)
+
+-- what a recovery answers: the session that begins, by the answer; and what came back, by what stood
+-- as the call began
+pub record BeginGoes (sum : List ℕ → ℕ) (cache after : CacheState) (capacity : ℕ) (old new : Life)
+    (result : Result SessionState Error) : Type 0 where
+  pub begins : BeginsBy sum cache capacity old new result
+  pub overflow : 2 ^ 64 ≤ adjusted capacity cache.page_size → result ≡ Err OffsetOverflow
+  pub ids : GivesId result cache after
+  pub steps : IfOk result (λ session. IsReady sum session new.present)
+  pub gives : OnOk result (GivesBack sum cache.page_size old.present)
+
+-- at each of its moments, and at every answer
+pub record OwesBeginning (sum : List ℕ → ℕ) (P : ℕ) (cache after : CacheState) (old new : Life)
+    : Type 0 where
+  pub attempts : AttemptsThrough sum P old new
+  pub fresh : IsFresh cache → IsFresh after
+
+-- what a crash and a recovery after it answer: the session stands for what the crash left, or one
+-- of the two was refused
+pub record CrashGoes (sum : List ℕ → ℕ) (was now : SessionState) (cache after : CacheState)
+    (capacity : ℕ) (left : List ℕ) (old new : History) (result : Result (Unit {0}) Error)
+    : Type 0 where
+  pub stands : let P = cache.page_size in
+      let s = fresh P (adjusted capacity P) (text sum P left) in
+      OnOk result (StandsFor sum P now s (life_of new).present)
+  -- it begins with the floor that stood as the crash came, and chance aside it is a prefix of what
+  -- stood
+  pub gives : OnOk result (GivesBackLeft sum cache.page_size (life_of old).present left)
+  -- the crash was refused, and nothing changed; or the recovery was, and the session is closed
+  pub refused : IfErr result (λ e.
+      ((e ≡ OutOfMemory) × (now ≡ was) × (new ≡ old) × (after ≡ cache))
+      ⊎ ((now ≡ closed) × RefusesLeft sum cache capacity (life_of old) left e (life_of new)))

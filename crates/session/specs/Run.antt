@@ -23,6 +23,7 @@ use Rattle.writer_state.specs.declared.sync_state.SyncState.{SyncState}
 use Rattle.writer_state.specs.declared.sync_state.SyncState.TheVariants.{Clean, Dirty, Pending}
 use Rattle.writer_state.specs.Sound.{IsSound, content as content_of}
 use Rattle.cache.specs.CacheState.{CacheState}
+use Rattle.cache.specs.Pages.{IsFresh}
 use Rattle.paged_read.specs.Tail.{Tail, told, HasPages, HasFullPages, CanRead}
 use Rattle.paged_read.specs.ReadAhead.{batch_of}
 use Rattle.paged_read.specs.Replay.{ReplayState, IsReplayOf}
@@ -796,6 +797,14 @@ pub record CacheFits (session : SessionState) (cache : CacheState) (d : Disk) : 
   pub writer : FitsWriter session.writer cache d
   pub snapshots : All (λ o. IfSome o (λ t. CanRead t cache d)) session.snapshots
 
+-- a session may take steps over its blob with this cache, which holds nothing of blobs that are
+-- still to come
+pub record IsSessionReady (sum : List ℕ → ℕ) (session : SessionState) (cache : CacheState)
+    (life : Life) : Type 0 where
+  pub steps : IsReady sum session life.present
+  pub cached : CacheFits session cache life.present
+  pub fresh : IsFresh cache
+
 -- where the cache fitted a writer, or none, it fits another over the same disk
 abbrev pub KeepsCache : Option WriterState → Option WriterState → Type 0
 KeepsCache was now =
@@ -827,3 +836,12 @@ pub record RunsAlways (sum : List ℕ → ℕ) (steps : List Step) (was now : Se
   pub count : length added ≡ length steps
   pub runs : (P : ℕ) (before : Standing) → StandsFor sum P was before old.present
       → Runs sum P steps added now old new before
+
+-- there was no memory for the replies: no step was taken
+pub record TookNone (e : Error) (was now : SessionState) (cache after : CacheState) (old new : Life)
+    (earlier replies : List Reply) : Type 0 where
+  pub cause : e ≡ OutOfMemory
+  pub session : now ≡ was
+  pub life : new ≡ old
+  pub replied : replies ≡ earlier
+  pub cached : after ≡ cache

@@ -1,13 +1,15 @@
 -- How a session begins on a blob of which at most so many bytes may go.
-use Rattle.std.specs.Prelude.{◌≡◌, ◌⊎◌, ◌<◌, ℕ, List, Result, Ok, Err}
+use Rattle.std.specs.Prelude.{◌≡◌, ◌⊎◌, ◌<◌, ◌≤◌, ◌^◌, ℕ, List, Result, Ok, Err, IfOk, OnOk}
 use Rattle.disk.specs.Disk.{Life}
 use Rattle.cache.specs.CacheState.{CacheState}
 use Rattle.crash.specs.Looks.{Looked}
 use Rattle.paged.specs.declared.within.Refusal.{Refusal}
 use Rattle.paged.specs.declared.within.Refusal.TheVariants.{WouldCut, Failed}
 use Rattle.paged.specs.Within.{PutsAtStake, MayGo}
-use Rattle.session.specs.Run.{SessionState}
-use Rattle.session.specs.Promise.{BeginsBy, GivesId}
+use Rattle.session.specs.Run.{IsReady, SessionState}
+use Rattle.session.specs.Promise.{BeginsBy, GivesBack, GivesId}
+use Rattle.disk.specs.declared.error.Error.TheVariants.{OffsetOverflow}
+use Rattle.page.specs.Geometry.{adjusted}
 
 -- by its answer: where one begins, no more was to go than is allowed; where more would go, that
 -- number is told, and the blob was only looked at; after an error too, unless no more was to go
@@ -27,3 +29,12 @@ abbrev pub GivesIdWithin : Result SessionState Refusal → CacheState → CacheS
 GivesIdWithin (Ok now) old new = GivesId (Ok now) old new
 GivesIdWithin (Err (WouldCut cut)) old new = new ≡ old
 GivesIdWithin (Err (Failed e)) old new = GivesId (Err e) old new
+
+-- its answer whole, as of a recovery without a bound
+pub record BeginWithinGoes (sum : List ℕ → ℕ) (cache after : CacheState) (capacity allowed : ℕ)
+    (old new : Life) (result : Result SessionState Refusal) : Type 0 where
+  pub begins : BeginsWithin sum cache capacity allowed old new result
+  pub overflow : 2 ^ 64 ≤ adjusted capacity cache.page_size → result ≡ Err (Failed OffsetOverflow)
+  pub ids : GivesIdWithin result cache after
+  pub steps : IfOk result (λ session. IsReady sum session new.present)
+  pub gives : OnOk result (GivesBack sum cache.page_size old.present)

@@ -1,17 +1,14 @@
 // How a session begins, and what a crash leaves of one.
-ghost use Rattle.std.specs.Prelude.{◌≡◌, ◌⊎◌, ◌≤◌, ◌^◌, length, IfOk, OnOk, OnErr};
-ghost use Rattle.std.specs.Prelude.{IsOkUnless, Err};
+ghost use Rattle.std.specs.Prelude.{◌≡◌, length, IfOk, OnOk, OnErr, IsOkUnless};
 ghost use Rattle.std.specs.Int.NonZero.{non_zero_usize_get};
 ghost use Rattle.disk.specs.History.{life_of};
 ghost use Rattle.disk.specs.Torn.{torn};
-ghost use Rattle.page.specs.Page.{text};
-ghost use Rattle.page.specs.Geometry.{adjusted};
 ghost use Rattle.paged_read.specs.Searches.{ReadsWithin, scan_bytes};
 ghost use Rattle.cache.specs.Pages.{IsFresh};
-ghost use Rattle.session.specs.Run.{StandsFor, IsReady, CacheFits};
-ghost use Rattle.session.specs.Promise.{HasCrashed, AttemptsThrough, BeginsBy, GivesId, GivesBack};
-ghost use Rattle.session.specs.Promise.{GivesBackLeft, LeadsOn, fresh, closed};
-ghost use Rattle.session.specs.Within.{BeginsWithin, GivesIdWithin};
+ghost use Rattle.session.specs.Run.{IsSessionReady};
+ghost use Rattle.session.specs.Promise.{BeginGoes, CrashGoes, HasCrashed, LeadsOn, OwesBeginning};
+ghost use Rattle.session.specs.Promise.{closed};
+ghost use Rattle.session.specs.Within.{BeginWithinGoes};
 
 use crate::Session;
 use cache::CacheRef;
@@ -41,25 +38,15 @@ impl<B: Blob, H: Sum> Session<B, H> {
         buffer_size: NonZeroUsize,
     ) -> Result<Self, Error>
         requires length { size ≡ length (B.life blob.old).present.readable }
-        ensures begins { let old = B.life blob.old in
-            BeginsBy H.sum_of cache.old capacity old (B.life blob.new) result }
-        ensures ready { let new = B.life blob.new in
-            IfOk result (λ session. IsReady H.sum_of session new.present) }
-        ensures cached { let new = B.life blob.new in IsFresh cache.old
-            → IfOk result (λ session. CacheFits session cache.new new.present) }
-        ensures fresh_ids { IsFresh cache.old → IsFresh cache.new }
-        ensures overflow { 2 ^ 64 ≤ adjusted capacity cache.old.page_size
-            → result ≡ Err Error.OffsetOverflow }
-        ensures ids { GivesId result cache.old cache.new }
-
-        // What came back, by what stood as the call began.
-        ensures gives { let old = B.life blob.old in
-            OnOk result (GivesBack H.sum_of cache.old.page_size old.present) }
+        ensures goes { let old = B.life blob.old in let new = B.life blob.new in
+            BeginGoes H.sum_of cache.old cache.new capacity old new result }
+        ensures ready { let new = B.life blob.new in IsFresh cache.old
+            → IfOk result (λ session. IsSessionReady H.sum_of session cache.new new) }
 
         // At each moment since the call began, and at every answer.
-        ensures attempts { let old = B.life blob.old in
-            AttemptsThrough H.sum_of cache.old.page_size old (B.life blob.new) }
-        ensures reads { let old = B.life blob.old in let new = B.life blob.new in
+        ensures owes { let old = B.life blob.old in let new = B.life blob.new in
+            OwesBeginning H.sum_of cache.old.page_size cache.old cache.new old new }
+        ensures costs { let old = B.life blob.old in let new = B.life blob.new in
             ReadsWithin (scan_bytes cache.old.page_size (non_zero_usize_get buffer_size)) old new }
     {
         let writer = paged::recover::<B, H>(alloc, blob, size, capacity, cache, buffer_size)?;
@@ -83,25 +70,15 @@ impl<B: Blob, H: Sum> Session<B, H> {
         allowed: u64,
     ) -> Result<Self, Refusal>
         requires length { size ≡ length (B.life blob.old).present.readable }
-        ensures begins { let old = B.life blob.old in
-            BeginsWithin H.sum_of cache.old capacity allowed old (B.life blob.new) result }
-        ensures ready { let new = B.life blob.new in
-            IfOk result (λ session. IsReady H.sum_of session new.present) }
-        ensures cached { let new = B.life blob.new in IsFresh cache.old
-            → IfOk result (λ session. CacheFits session cache.new new.present) }
-        ensures fresh_ids { IsFresh cache.old → IsFresh cache.new }
-        ensures overflow { 2 ^ 64 ≤ adjusted capacity cache.old.page_size
-            → result ≡ Err (Refusal.Failed Error.OffsetOverflow) }
-        ensures ids { GivesIdWithin result cache.old cache.new }
-
-        // What came back, by what stood as the call began.
-        ensures gives { let old = B.life blob.old in
-            OnOk result (GivesBack H.sum_of cache.old.page_size old.present) }
+        ensures goes { let old = B.life blob.old in let new = B.life blob.new in
+            BeginWithinGoes H.sum_of cache.old cache.new capacity allowed old new result }
+        ensures ready { let new = B.life blob.new in IsFresh cache.old
+            → IfOk result (λ session. IsSessionReady H.sum_of session cache.new new) }
 
         // At each moment since the call began, and at every answer.
-        ensures attempts { let old = B.life blob.old in
-            AttemptsThrough H.sum_of cache.old.page_size old (B.life blob.new) }
-        ensures reads { let old = B.life blob.old in let new = B.life blob.new in
+        ensures owes { let old = B.life blob.old in let new = B.life blob.new in
+            OwesBeginning H.sum_of cache.old.page_size cache.old cache.new old new }
+        ensures costs { let old = B.life blob.old in let new = B.life blob.new in
             ReadsWithin (scan_bytes cache.old.page_size (non_zero_usize_get buffer_size)) old new }
     {
         let writer = paged::recover_within::<B, H>(
@@ -151,24 +128,15 @@ impl<H: Sum> Session<MemBlob, H> {
         cache: &mut CacheRef,
         buffer_size: NonZeroUsize,
     ) -> Result<(), Error>
-        ensures stands { let old = (life_of blob.old).present in let P = cache.old.page_size in
-            let given = text H.sum_of P (torn keep.now old.since old.base) in
-            let s = fresh P (adjusted capacity P) given in
-            OnOk result (StandsFor H.sum_of P self.new s (life_of blob.new).present) }
-        ensures ready { OnOk result (IsReady H.sum_of self.new (life_of blob.new).present) }
-        ensures cached { let new = life_of blob.new in IsFresh cache.old
-            → OnOk result (CacheFits self.new cache.new new.present) }
-        ensures fresh_ids { IsFresh cache.old → IsFresh cache.new }
-        ensures refused { let same = (self.new ≡ self.old) × (blob.new ≡ blob.old) in
-            OnErr result ((self.new ≡ closed) ⊎ (same × (cache.new ≡ cache.old))) }
+        ensures goes { let d = (life_of blob.old).present in
+            let left = torn keep.now d.since d.base in
+            CrashGoes H.sum_of self.old self.new cache.old cache.new capacity left blob.old blob.new
+            result }
+        ensures ready { let new = life_of blob.new in IsFresh cache.old
+            → OnOk result (IsSessionReady H.sum_of self.new cache.new new) }
+        ensures fresh { IsFresh cache.old → IsFresh cache.new }
 
-        // What came back begins with the floor that stood as the crash came, and chance aside it is
-        // a prefix of what stood.
-        ensures gives { let old = (life_of blob.old).present in
-            let left = torn keep.now old.since old.base in
-            OnOk result (GivesBackLeft H.sum_of cache.old.page_size old left) }
-
-        // Whatever it answers, so does what comes back later.
+        // Whatever it answers, what comes back later came through that crash.
         ensures later { let old = (life_of blob.old).present in
             let left = torn keep.now old.since old.base in
             LeadsOn H.sum_of cache.old.page_size old left (life_of blob.new).present }

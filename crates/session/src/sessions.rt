@@ -1,5 +1,5 @@
 // Sessions: lists of steps over one blob.
-ghost use Rattle.std.specs.Prelude.{◌≡◌, option_map, IsOkUnless, OnOk, OnErr, false};
+ghost use Rattle.std.specs.Prelude.{◌≡◌, option_map, IfErr, OnOk, false};
 ghost use Rattle.cache.specs.CacheState.{CacheState};
 ghost use Rattle.cache.specs.Pages.{IsFresh};
 ghost use Rattle.paged_read.specs.Replay.{LeavesAllReplays};
@@ -10,6 +10,7 @@ ghost use Rattle.disk.specs.Disk.{Disk};
 ghost use Rattle.paged.specs.Caches.{tail_of};
 ghost use Rattle.paged.specs.Reads.{size_of};
 ghost use Rattle.session.specs.Run.{CacheFits, FitsWriter, HasSoundWriter, IsReady, RunsAlways};
+ghost use Rattle.session.specs.Run.{IsSessionReady, TookNone};
 ghost use Rattle.session.specs.Promise.{Promises, StandsWhereSound, closed, session_of};
 ghost use Rattle.session.specs.Calls.{Begins, is_given, IsOfEither, KeepsRest, KeepsSnapshots};
 ghost use Rattle.session.specs.Calls.{KeepsUncut};
@@ -274,12 +275,8 @@ pub fn run<B: Blob, H: Sum>(
     steps: &[Step],
     replies: &mut Vec<Reply>,
 ) -> Result<(), Error>
-    requires ready { IsReady H.sum_of session.old (B.life blob.old).present }
-    requires cached { CacheFits session.old cache.old (B.life blob.old).present }
-    requires fresh { IsFresh cache.old }
-    ensures ready { IsReady H.sum_of session.new (B.life blob.new).present }
-    ensures cached { CacheFits session.new cache.new (B.life blob.new).present }
-    ensures fresh_ids { IsFresh cache.old → IsFresh cache.new }
+    requires ready { IsSessionReady H.sum_of session.old cache.old (B.life blob.old) }
+    ensures ready { IsSessionReady H.sum_of session.new cache.new (B.life blob.new) }
 
     // Whatever the session stood for before, at each moment of each step.
     ensures runs { let old = B.life blob.old in let new = B.life blob.new in
@@ -290,13 +287,9 @@ pub fn run<B: Blob, H: Sum>(
     ensures promises { let old = B.life blob.old in let new = B.life blob.new in
         OnOk result (Promises H.sum_of steps.now session.old session.new old new
         replies.old.items replies.new.items) }
-    ensures err { IsOkUnless result Error.OutOfMemory }
-
-    // Where room is refused.
-    ensures same_session { OnErr result (session.new ≡ session.old) }
-    ensures same_life { OnErr result (B.life blob.new ≡ B.life blob.old) }
-    ensures same_replies { OnErr result (replies.new.items ≡ replies.old.items) }
-    ensures same_cache { OnErr result (cache.new ≡ cache.old) }
+    ensures refused { let old = B.life blob.old in let new = B.life blob.new in
+        IfErr result (λ e. TookNone e session.old session.new cache.old cache.new old new
+        replies.old.items replies.new.items) }
 {
     replies.try_reserve(steps.len())?;
     for step in steps {

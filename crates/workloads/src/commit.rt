@@ -2,7 +2,7 @@
 ghost use Rattle.std.specs.Prelude.{IfOk, OnOk};
 ghost use Rattle.cache.specs.Pages.{IsFresh};
 ghost use Rattle.journal.specs.Journal.{IsJournal};
-ghost use Rattle.workloads.specs.Ready.{IsReady};
+ghost use Rattle.paged.specs.Ready.{IsReady};
 
 use crate::digest::Digest;
 use crate::random::Records;

@@ -6,7 +6,7 @@ ghost use Rattle.cache.specs.Pages.{IsFresh};
 ghost use Rattle.page.specs.Geometry.{AreInOrder};
 ghost use Rattle.paged_read.specs.Batch.{ranges_of};
 ghost use Rattle.journal.specs.Reader.{IsReader};
-ghost use Rattle.workloads.specs.Ready.{IsReady};
+ghost use Rattle.paged.specs.Ready.{IsReady};
 
 use crate::commit::{append_all, append_records};
 use crate::digest::Digest;

@@ -1,5 +1,5 @@
 use Rattle.disk.specs.History.{life_of}
-use Rattle.bench.specs.Ready.{IsReady}
+use Rattle.paged.specs.Ready.{IsReady}
 use Rattle.bench.proofs.play.play_replays.Given as goal
 
 abbrev pub invariant-loop : goal.invariant-loop

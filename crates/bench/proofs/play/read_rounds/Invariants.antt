@@ -1,5 +1,5 @@
 use Rattle.disk.specs.History.{life_of}
-use Rattle.bench.specs.Ready.{IsReady}
+use Rattle.paged.specs.Ready.{IsReady}
 use Rattle.bench.proofs.play.read_rounds.Given as goal
 
 abbrev pub invariant-loop : goal.invariant-loop

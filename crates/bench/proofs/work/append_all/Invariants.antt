@@ -1,4 +1,4 @@
-use Rattle.bench.specs.Ready.{IsReady}
+use Rattle.paged.specs.Ready.{IsReady}
 use Rattle.bench.proofs.work.append_all.Given as goal
 
 abbrev pub invariant-loop : goal.invariant-loop

@@ -1,4 +1,4 @@
-use Rattle.bench.specs.Ready.{IsReady}
+use Rattle.paged.specs.Ready.{IsReady}
 use Rattle.bench.proofs.work.read_all.Given as goal
 
 abbrev pub invariant-loop-offset : goal.invariant-loop-offset

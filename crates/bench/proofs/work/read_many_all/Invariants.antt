@@ -1,6 +1,6 @@
 use Rattle.std.proofs.Common.{◌≡◌, ◌*◌, length}
 use Rattle.std.specs.Int.NonZero.{non_zero_usize_get}
-use Rattle.bench.specs.Ready.{IsReady}
+use Rattle.paged.specs.Ready.{IsReady}
 use Rattle.bench.proofs.work.read_many_all.Given as goal
 
 abbrev pub invariant-loop : goal.invariant-loop

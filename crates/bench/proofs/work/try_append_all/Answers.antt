@@ -1,6 +1,6 @@
 use Rattle.std.proofs.Common.{ap}
-use Rattle.bench.specs.Ready.{IsReady}
-use Rattle.bench.proofs.Readiness.{ready_on, ready_tried, ready_same}
+use Rattle.paged.specs.Ready.{IsReady}
+use Rattle.bench.proofs.Readiness.{ready_tried, ready_same}
 use Rattle.bench.proofs.work.try_append_all.Goals as goal
 use Rattle.bench.proofs.work.try_append_all.Goals.{then-is_none+in_ok-next, else-is_none}
 
@@ -13,10 +13,13 @@ loop-preserved g c =
     let tried : IsReady sum now c.loop.cache life = ready_tried sum c.loop.writer now c.loop.cache life c.loop.invariant c.try_append.ensures.sound c.try_append.ensures.can_read in
     elim c.if-is_none.branch [
       | then-is_none+in_ok-next w ↦
-          let goes = w.in_ok-next.ensures in
           let next = w.in_ok-next.next in
           let new = g.B.Blob.life w.append.new.blob in
           ready_same sum c.if-is_none.writer next c.if-is_none.cache w.append.new.cache end new w.writer-is w.cache-is (ap g.B.Blob.life w.blob-is)
-          (ready_on sum now next c.loop.cache w.append.new.cache life new tried goes.sound goes.can_read goes.fresh_ids)
+          w.in_ok-next.ensures.ready
       | else-is_none w ↦ ready_same sum c.if-is_none.writer now c.if-is_none.cache c.loop.cache end life w.writer-is w.cache-is (ap g.B.Blob.life w.blob-is) tried
     ]
+
+pub append-requires-then-is_none : goal.append-requires-then-is_none
+append-requires-then-is_none g c =
+    record { ready = ready_tried g.H.Sum.sum_of c.loop.writer c.try_append.new.self c.loop.cache (g.B.Blob.life c.loop.blob) c.loop.invariant c.try_append.ensures.sound c.try_append.ensures.can_read }

@@ -12,10 +12,13 @@ pub loop-step-init : goal.loop-step-init
 loop-step-init g c = record {
   room = search rules;
   ready = c.requires.ready;
-  cached = c.requires.cached;
-  fresh_ids = λ fresh. fresh;
   runs = runs_none g.H.Sum.sum_of c.args.session.now (g.B.Blob.life c.args.blob.now) c.try_reserve.new.self.items;
 }
+
+pub step-reply-requires : goal.step-reply-requires
+step-reply-requires g c =
+    let ready = c.loop-step.invariant.ready in
+    record { ready = ready.steps; cached = ready.cached; fresh = ready.fresh }
 
 pub loop-step-preserved : goal.loop-step-preserved
 loop-step-preserved g c =
@@ -29,9 +32,7 @@ loop-step-preserved g c =
     take_more steps c.loop-step.step-index c.step-item.result c.loop-step-test.true ∙ ap (λ (s : Step). before ++ s ∷ []) (sym c.step-item.is) in
     record {
       room = omega (arith, c.loop-step.invariant.room, c.push_reserved.ensures.len, c.push_reserved.ensures.capacity, c.loop-step-test.true);
-      ready = c.step-reply.ensures.goes.ready;
-      cached = c.step-reply.ensures.cached;
-      fresh_ids = λ fresh. c.step-reply.ensures.fresh_ids (c.loop-step.invariant.fresh_ids fresh);
+      ready = record { steps = c.step-reply.ensures.goes.ready; cached = c.step-reply.ensures.cached; fresh = c.step-reply.ensures.fresh_ids c.loop-step.invariant.ready.fresh };
       runs = subst (λ (taken : List Step). RunsAlways sum taken c.args.session.now c.step-reply.new.self old new c.try_reserve.new.self.items c.push_reserved.new.self.items) (sym one)
           (runs_more sum before c.step-item.result c.step-reply.result c.args.session.now c.loop-step.session c.step-reply.new.self old between new c.try_reserve.new.self.items c.loop-step.replies.items c.push_reserved.new.self.items
           c.loop-step.invariant.runs c.step-reply.ensures.goes c.push_reserved.ensures.items);

@@ -1,13 +1,10 @@
 use Rattle.std.proofs.Common.{◌+◌, ◌-◌, ◌≤◌, length, take, vec_len, vec_capacity}
-use Rattle.cache.specs.Pages.{IsFresh}
-use Rattle.session.specs.Run.{IsReady, CacheFits, RunsAlways}
+use Rattle.session.specs.Run.{IsSessionReady, RunsAlways}
 use Rattle.session.proofs.sessions.run.Given as goal
 
 abbrev pub invariant-loop-step : goal.invariant-loop-step
 invariant-loop-step g l = record {
   room : vec_len l.replies + (length l.steps - l.step-index) ≤ vec_capacity l.replies;
-  ready : IsReady g.H.Sum.sum_of l.session (g.B.Blob.life l.blob).present;
-  cached : CacheFits l.session l.cache (g.B.Blob.life l.blob).present;
-  fresh_ids : IsFresh l.initial.cache → IsFresh l.cache;
+  ready : IsSessionReady g.H.Sum.sum_of l.session l.cache (g.B.Blob.life l.blob);
   runs : RunsAlways g.H.Sum.sum_of (take l.step-index l.steps) l.initial.session l.session (g.B.Blob.life l.initial.blob) (g.B.Blob.life l.blob) l.initial.replies.items l.replies.items;
 }

@@ -1,4 +1,4 @@
-use Rattle.workloads.specs.Ready.{IsReady}
+use Rattle.paged.specs.Ready.{IsReady}
 use Rattle.workloads.proofs.load.append_owned_values.Given as goal
 
 abbrev pub invariant-loop : goal.invariant-loop

@@ -1,4 +1,4 @@
-use Rattle.workloads.specs.Ready.{IsReady}
+use Rattle.paged.specs.Ready.{IsReady}
 use Rattle.workloads.proofs.load.replay_both.Given as goal
 
 abbrev pub invariant-loop-buffer : goal.invariant-loop-buffer

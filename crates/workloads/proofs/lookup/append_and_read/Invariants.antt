@@ -1,4 +1,4 @@
-use Rattle.workloads.specs.Ready.{IsReady}
+use Rattle.paged.specs.Ready.{IsReady}
 use Rattle.workloads.proofs.lookup.append_and_read.Given as goal
 
 abbrev pub invariant-loop : goal.invariant-loop

@@ -1,30 +1,58 @@
+use Rattle.std.proofs.Common.{ℕ, List, Err}
+use Rattle.std.proofs.lemmas.Result.{err_from_is_err_and}
 use Rattle.session.proofs.PromiseLaws.{begun, gives_back, attempts_through}
 use Rattle.session.proofs.sessions.Session.recover.Goals as goal
 
-pub returns-in_err-writer-clause-attempts : goal.returns-in_err-writer-clause-attempts
-returns-in_err-writer-clause-attempts g c =
-    attempts_through g.H.Sum.sum_of c.args.cache.now.page_size (g.B.Blob.life c.args.blob.now) (g.B.Blob.life c.recover.new.blob) (g.met.B.Blob.readable_is_image c.args.blob.now) c.recover.ensures.owes.floors c.recover.ensures.owes.only
+pub returns-in_err-writer-clause-goes : goal.returns-in_err-writer-clause-goes
+returns-in_err-writer-clause-goes g c =
+    let is = c.in_err-writer.ensures.goes in
+    let old = g.B.Blob.life c.args.blob.now in
+    let new = g.B.Blob.life c.recover.new.blob in
+    let p = err_from_is_err_and c.from_residual.result c.from_residual.ensures.1 in
+    rw (p.1, p.2) (record {
+      begins = is.answers;
+      overflow = λ over. cc (is.overflow over);
+      ids = is.ids;
+      steps = tt;
+      gives = tt;
+    })
 
-pub returns-clause-begins : goal.returns-clause-begins
-returns-clause-begins g c =
+pub returns-in_err-writer-clause-ready : goal.returns-in_err-writer-clause-ready
+returns-in_err-writer-clause-ready g c =
+    let p = err_from_is_err_and c.from_residual.result c.from_residual.ensures.1 in
+    rw (p.1, p.2) (λ fresh. tt)
+
+pub returns-in_err-writer-clause-owes : goal.returns-in_err-writer-clause-owes
+returns-in_err-writer-clause-owes g c =
+    let is = c.recover.ensures.owes in
+    record {
+      attempts = attempts_through g.H.Sum.sum_of c.args.cache.now.page_size (g.B.Blob.life c.args.blob.now) (g.B.Blob.life c.recover.new.blob) (g.met.B.Blob.readable_is_image c.args.blob.now) is.floors is.only;
+      fresh = is.fresh;
+    }
+
+pub returns-clause-goes : goal.returns-clause-goes
+returns-clause-goes g c =
     let w = c.in_ok-writer.ensures.goes in
-    begun g.H.Sum.sum_of c.in_ok-writer.writer c.new.result c.args.cache.now c.args.capacity (g.B.Blob.life c.args.blob.now) (g.B.Blob.life c.recover.new.blob) c.new.ensures.writer w.answers w.writer.within w.durable
-
-pub returns-clause-gives : goal.returns-clause-gives
-returns-clause-gives g c =
-    gives_back g.H.Sum.sum_of c.in_ok-writer.writer c.args.cache.now _ (g.B.Blob.life c.args.blob.now) (g.B.Blob.life c.recover.new.blob) (g.met.B.Blob.readable_is_image c.args.blob.now)
-    c.in_ok-writer.ensures.goes.answers
-
-pub returns-clause-attempts : goal.returns-clause-attempts
-returns-clause-attempts g c =
-    attempts_through g.H.Sum.sum_of c.args.cache.now.page_size (g.B.Blob.life c.args.blob.now) (g.B.Blob.life c.recover.new.blob) (g.met.B.Blob.readable_is_image c.args.blob.now) c.recover.ensures.owes.floors c.recover.ensures.owes.only
+    let old = g.B.Blob.life c.args.blob.now in
+    let new = g.B.Blob.life c.recover.new.blob in
+    record {
+      begins = begun g.H.Sum.sum_of c.in_ok-writer.writer c.new.result c.args.cache.now c.args.capacity old new c.new.ensures.writer w.answers w.writer.within w.durable;
+      overflow = λ over. absurd (cc (w.overflow over));
+      ids = w.ids;
+      steps = c.new.ensures.ready new.present w.answers.sound;
+      gives = gives_back g.H.Sum.sum_of c.in_ok-writer.writer c.args.cache.now c.args.capacity old new (g.met.B.Blob.readable_is_image c.args.blob.now) w.answers;
+    }
 
 pub returns-clause-ready : goal.returns-clause-ready
-returns-clause-ready g c = c.new.ensures.ready (g.B.Blob.life c.recover.new.blob).present c.in_ok-writer.ensures.goes.answers.sound
+returns-clause-ready g c = λ fresh.
+    let ready = c.in_ok-writer.ensures.ready fresh in
+    let d = (g.B.Blob.life c.recover.new.blob).present in
+    record { steps = c.new.ensures.ready d ready.sound; cached = c.new.ensures.cached c.recover.new.cache d ready.can; fresh = ready.fresh }
 
-pub returns-clause-cached : goal.returns-clause-cached
-returns-clause-cached g c =
-    λ fresh. c.new.ensures.cached c.recover.new.cache (g.B.Blob.life c.recover.new.blob).present (c.in_ok-writer.ensures.ready fresh).can
-
-pub returns-clause-overflow : goal.returns-clause-overflow
-returns-clause-overflow g c = λ over. absurd (cc (c.in_ok-writer.ensures.goes.overflow over))
+pub returns-clause-owes : goal.returns-clause-owes
+returns-clause-owes g c =
+    let is = c.recover.ensures.owes in
+    record {
+      attempts = attempts_through g.H.Sum.sum_of c.args.cache.now.page_size (g.B.Blob.life c.args.blob.now) (g.B.Blob.life c.recover.new.blob) (g.met.B.Blob.readable_is_image c.args.blob.now) is.floors is.only;
+      fresh = is.fresh;
+    }
