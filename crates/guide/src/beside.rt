@@ -4,11 +4,10 @@ ghost use Rattle.std.specs.Prelude.{◌≡◌, ◌++◌, IfOk, IfSome, take, dro
 ghost use Rattle.std.specs.List.{concat};
 ghost use Rattle.cache.specs.Pages.{IsFresh};
 ghost use Rattle.disk.specs.History.{life_of};
-ghost use Rattle.writer_state.specs.Sound.{IsSound, content};
+ghost use Rattle.writer_state.specs.Sound.{content};
 ghost use Rattle.page.specs.Page.{text};
-ghost use Rattle.paged.specs.Caches.{tail_of};
+ghost use Rattle.paged.specs.Ready.{IsReady};
 ghost use Rattle.paged_read.specs.Snapshots.{LeavesReads};
-ghost use Rattle.paged_read.specs.Tail.{CanRead};
 
 use crate::calls::{CAPACITY, new_cache};
 use cache::CacheRef;
@@ -27,9 +26,7 @@ fn recovered_beside<H: Sum>(
     cache: &mut CacheRef,
 ) -> Result<Writer<MemBlob, H>, Error>
     requires fresh { IsFresh cache.old }
-    ensures sound { IfOk result (λ w. IsSound H.sum_of w (life_of blob.new).present) }
-    ensures can { IfOk result (λ w. CanRead (tail_of w) cache.new (life_of blob.new).present) }
-    ensures fresh { IfOk result (λ _. IsFresh cache.new) }
+    ensures ready { IfOk result (λ w. IsReady H.sum_of w cache.new (life_of blob.new)) }
     ensures id { IfOk result (λ w. w.id ≡ cache.old.ids_given) }
     ensures others { LeavesReads cache.old cache.new }
     ensures page_size { IfOk result (λ w. w.page_size ≡ cache.old.page_size) }
@@ -60,8 +57,7 @@ fn read_after_an_append<B: Blob, H: Sum>(
     bytes: &[u8],
     range: (u64, usize),
 ) -> Result<After, Error>
-    requires sound { IsSound H.sum_of writer (B.life blob.old).present }
-    requires can { CanRead (tail_of writer) cache.old (B.life blob.old).present }
+    requires ready { IsReady H.sum_of writer cache.old (B.life blob.old) }
     ensures reads { let held = content writer (B.life blob.old).present.readable in
         IfOk result (λ b. concat b.read ≡ take range.1 (drop range.0 held)) }
 {
@@ -85,8 +81,7 @@ fn replayed_of_a_snapshot<B: Blob, H: Sum>(
     cache: &mut CacheRef,
     count: usize,
 ) -> Result<Option<IoBuf>, Error>
-    requires cached { cache.old.page_size ≡ writer.page_size }
-    requires sound { IsSound H.sum_of writer (B.life blob.old).present }
+    requires ready { IsReady H.sum_of writer cache.old (B.life blob.old) }
     ensures gives { let held = content writer (B.life blob.old).present.readable in
         IfOk result (λ given. IfSome given (λ bytes. bytes ≡ take count held)) }
 {
@@ -104,8 +99,7 @@ fn read_a_copy<B: Blob, H: Sum>(
     blob: &mut B,
     cache: &mut CacheRef,
 ) -> Result<IoBuf, Error>
-    requires sound { IsSound H.sum_of writer (B.life blob.old).present }
-    requires can { CanRead (tail_of writer) cache.old (B.life blob.old).present }
+    requires ready { IsReady H.sum_of writer cache.old (B.life blob.old) }
 {
     let sealed = writer.try_snapshot()?.ok_or(Error::BlobInsufficientLength)?;
     let copy = sealed.try_clone()?;
@@ -159,8 +153,7 @@ fn begun<H: Sum>(
     bytes: &[u8],
 ) -> Result<Writer<MemBlob, H>, Error>
     requires fresh { IsFresh cache.old }
-    ensures sound { IfOk result (λ w. IsSound H.sum_of w (life_of blob.new).present) }
-    ensures can { IfOk result (λ w. CanRead (tail_of w) cache.new (life_of blob.new).present) }
+    ensures ready { IfOk result (λ w. IsReady H.sum_of w cache.new (life_of blob.new)) }
 {
     let writer = recovered_beside::<H>(alloc, blob, cache)?;
     let (writer, _) = writer.append(blob, cache, bytes)?;

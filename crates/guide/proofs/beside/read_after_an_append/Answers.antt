@@ -4,13 +4,13 @@ use Rattle.guide.proofs.beside.read_after_an_append.Goals as goal
 
 pub read_at-requires : goal.read_at-requires
 read_at-requires g c =
-    let made = c.in_ok-writer.ensures.stands c.requires.can in
-    let low = ap (λ (t : Tail). t.full_pages) c.in_ok-writer.ensures.makes.2 in
-    record { can = (c.append.ensures.tails _ _ (omega (arith, low)) made).can }
+    let made = c.in_ok-writer.ensures.goes in
+    let low = ap (λ (t : Tail). t.full_pages) made.tail in
+    record { can = (c.append.ensures.owes.tails _ _ (omega (arith, low)) made.stands).can }
 
 pub returns : goal.returns
 returns g c =
-    let made = c.in_ok-writer.ensures.stands c.requires.can in
-    let low = ap (λ (t : Tail). t.full_pages) c.in_ok-writer.ensures.makes.2 in
-    let is = (c.append.ensures.tails _ _ (omega (arith, low)) made).tail.is in
+    let made = c.in_ok-writer.ensures.goes in
+    let low = ap (λ (t : Tail). t.full_pages) made.tail in
+    let is = (c.append.ensures.owes.tails _ _ (omega (arith, low)) made.stands).tail.is in
     record { reads = cc (c.in_ok-read.ensures.reads.1, is) }
