@@ -24,13 +24,13 @@ pub struct Stage<H: Sum> {
 
 impl<H: Sum> Model for Stage<H> {
     ghost use Rattle.disk.specs.History.{life_of};
-    ghost use Rattle.conformance.specs.Stage.{IsSet};
+    ghost use Rattle.session.specs.Run.{IsSessionReady};
 
     ghost Value = { Unit {0} };
 
     ghost view = { λ s. tt };
 
-    ghost invariant = { λ s. IsSet H.sum_of s.session s.cache (life_of s.blob).present };
+    ghost invariant = { λ s. IsSessionReady H.sum_of s.session s.cache (life_of s.blob).present };
 }
 
 impl<H: Sum> Stage<H> {

@@ -1,6 +1,6 @@
 // Appending the program's input to a file.
 ghost use Rattle.std.specs.Prelude.{IfOk};
-ghost use Rattle.session.specs.Run.{IsReady, CacheFits};
+ghost use Rattle.session.specs.Run.{IsSessionReady};
 
 use crate::ending::{fail, fail_stop};
 use crate::look::InMemory;
@@ -97,10 +97,8 @@ fn begin<B: Blob + InMemory, H: Sum>(
     request: &Request,
     blob: &mut B,
 ) -> Result<Result<(Session<B, H>, CacheRef), Stop>, Status>
-    ensures ready { let new = B.life blob.new in
-        IfOk result (λ begun. IfOk begun (λ r. IsReady H.sum_of r.0 new.present)) }
-    ensures cached { let new = B.life blob.new in
-        IfOk result (λ begun. IfOk begun (λ r. CacheFits r.0 r.1 new.present)) }
+    ensures ready { let new = (B.life blob.new).present in
+        IfOk result (λ begun. IfOk begun (λ r. IsSessionReady H.sum_of r.0 r.1 new)) }
 {
     let begun = begin_within::<B, H>(rt.alloc(), request, blob, 0);
     let Err(Stop::WouldCut(_)) = begun else {
@@ -117,9 +115,8 @@ fn begin_within<B: Blob, H: Sum>(
     blob: &mut B,
     allowed: u64,
 ) -> Result<(Session<B, H>, CacheRef), Stop>
-    ensures ready { let new = B.life blob.new in
-        IfOk result (λ r. IsReady H.sum_of r.0 new.present) }
-    ensures cached { let new = B.life blob.new in IfOk result (λ r. CacheFits r.0 r.1 new.present) }
+    ensures ready { let new = (B.life blob.new).present in
+        IfOk result (λ r. IsSessionReady H.sum_of r.0 r.1 new) }
 {
     let buffer = request.buffer;
     let mut cache = CacheRef::new(alloc, request.shape.page_size, request.cache)?;
@@ -146,8 +143,8 @@ fn append_input<B: Blob, H: Sum>(
     cache: &mut CacheRef,
     synced: &mut u64,
 ) -> Result<(), Error>
-    requires ready { IsReady H.sum_of session.old (B.life blob.old).present }
-    requires cached { CacheFits session.old cache.old (B.life blob.old).present }
+    requires ready { let old = (B.life blob.old).present in
+        IsSessionReady H.sum_of session.old cache.old old }
 {
     for _ in 0..u64::MAX {
         let bytes = pieces.next();
@@ -169,10 +166,10 @@ fn append_piece<B: Blob, H: Sum>(
     cache: &mut CacheRef,
     synced: &mut u64,
 ) -> Result<(), Error>
-    requires ready { IsReady H.sum_of session.old (B.life blob.old).present }
-    requires cached { CacheFits session.old cache.old (B.life blob.old).present }
-    ensures ready { IsReady H.sum_of session.new (B.life blob.new).present }
-    ensures cached { CacheFits session.new cache.new (B.life blob.new).present }
+    requires ready { let old = (B.life blob.old).present in
+        IsSessionReady H.sum_of session.old cache.old old }
+    ensures ready { let new = (B.life blob.new).present in
+        IsSessionReady H.sum_of session.new cache.new new }
 {
     let step = Step::Append(Vec::from_slice(alloc, bytes)?);
     take(alloc, session, blob, cache, step)?;
@@ -190,10 +187,10 @@ fn sync<B: Blob, H: Sum>(
     cache: &mut CacheRef,
     synced: &mut u64,
 ) -> Result<(), Error>
-    requires ready { IsReady H.sum_of session.old (B.life blob.old).present }
-    requires cached { CacheFits session.old cache.old (B.life blob.old).present }
-    ensures ready { IsReady H.sum_of session.new (B.life blob.new).present }
-    ensures cached { CacheFits session.new cache.new (B.life blob.new).present }
+    requires ready { let old = (B.life blob.old).present in
+        IsSessionReady H.sum_of session.old cache.old old }
+    ensures ready { let new = (B.life blob.new).present in
+        IsSessionReady H.sum_of session.new cache.new new }
 {
     take(alloc, session, blob, cache, Step::Sync)?;
     *synced = session.size().unwrap_or(*synced);
@@ -208,10 +205,10 @@ fn take<B: Blob, H: Sum>(
     cache: &mut CacheRef,
     step: Step,
 ) -> Result<(), Error>
-    requires ready { IsReady H.sum_of session.old (B.life blob.old).present }
-    requires cached { CacheFits session.old cache.old (B.life blob.old).present }
-    ensures ready { IsReady H.sum_of session.new (B.life blob.new).present }
-    ensures cached { CacheFits session.new cache.new (B.life blob.new).present }
+    requires ready { let old = (B.life blob.old).present in
+        IsSessionReady H.sum_of session.old cache.old old }
+    ensures ready { let new = (B.life blob.new).present in
+        IsSessionReady H.sum_of session.new cache.new new }
 {
     let mut replies = Vec::new(alloc);
     run(session, blob, cache, slice::from_ref(&step), &mut replies)?;

@@ -12,7 +12,7 @@ use Rattle.session.specs.declared.steps.Step.{Step}
 use Rattle.session.specs.declared.steps.Step.TheVariants.{Size}
 use Rattle.session.specs.declared.steps.Reply.{Reply}
 use Rattle.session.specs.declared.steps.Reply.TheVariants.{Fault}
-use Rattle.session.specs.Run.{SessionState, RunsAlways}
+use Rattle.session.specs.Run.{SessionState, RunsAlways, TookNone}
 use Rattle.session.proofs.Joined.{runs_join, runs_none, promised}
 use Rattle.protocol.specs.declared.request.Request.{Request}
 use Rattle.protocol.specs.declared.request.Request.TheVariants.{Step as StepOf, Close}
@@ -104,9 +104,10 @@ answered_more sum setting request was mid now old between new input rest last ou
 -- ---- how a step ends
 
 -- no room for its reply
-pub took_unless : (was now : SessionState) (old new : Life) (result : Result (Unit {0}) Error) → is_err result ≡ true → OnErr result (now ≡ was) → OnErr result (new ≡ old) → (now ≡ was) × (new ≡ old)
-took_unless was now old new (Ok done) is session life = absurd (cc is)
-took_unless was now old new (Err error) is session life = (session, life)
+pub took_none : (was now : SessionState) (cache after : CacheState) (old new : Life) (earlier replies : List Reply) (result : Result (Unit {0}) Error) → is_err result ≡ true → IfErr result (λ e. TookNone e was now cache after old new earlier replies)
+    → (now ≡ was) × (new ≡ old)
+took_none was now cache after old new earlier replies (Ok done) is none = absurd (cc is)
+took_none was now cache after old new earlier replies (Err error) is none = (none.session, none.life)
 
 -- a list of one
 pub one_of : {X : Type 0} (xs : List X) (x : X) → 1 ≤ length xs → length xs < 2 → x ≡ slice_index_or xs 0 x → xs ≡ x ∷ []

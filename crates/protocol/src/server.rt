@@ -3,7 +3,7 @@ ghost use Rattle.std.specs.Prelude.{◌≡◌, [], IfOk, OnOk};
 ghost use Rattle.std.specs.Io.Buffered.{reader_buffer, reader_remaining};
 ghost use Rattle.std.specs.Io.Buffered.{writer_buffer, writer_contents};
 ghost use Rattle.std.specs.Io.KnownBytes.{Keeps};
-ghost use Rattle.session.specs.Run.{IsReady, CacheFits};
+ghost use Rattle.session.specs.Run.{IsSessionReady};
 ghost use Rattle.protocol.specs.Input.{IsSent, has_frame};
 ghost use Rattle.protocol.specs.Serve.{EndsSession, Greets, ReadsNext, ReadsVersion, Recovers};
 ghost use Rattle.protocol.specs.Serve.{Serves, ServesFile, TakesRequest, WritesReply};
@@ -65,9 +65,8 @@ fn greet<B: Blob, H: Sum, W: Write + Drop>(
         let out_new = writer_contents W.contents out.new in
         Greets H.sum_of setting.now old new out_old out_new result }
     ensures sent { OnOk result (writer_buffer out.new ≡ []) }
-    ensures ready { let new = B.life blob.new in
-        IfOk result (λ r. IsReady H.sum_of r.0 new.present) }
-    ensures cached { let new = B.life blob.new in IfOk result (λ r. CacheFits r.0 r.1 new.present) }
+    ensures ready { let new = (B.life blob.new).present in
+        IfOk result (λ r. IsSessionReady H.sum_of r.0 r.1 new) }
 {
     let (mut session, mut cache) = match recover::<B, H>(alloc, blob, setting) {
         Ok(begun) => begun,
@@ -100,9 +99,8 @@ fn recover<B: Blob, H: Sum>(
     setting: &Setting,
 ) -> Result<(Session<B, H>, CacheRef), Stop>
     ensures recovers { Recovers H.sum_of setting.now (B.life blob.old) (B.life blob.new) result }
-    ensures ready { let new = B.life blob.new in
-        IfOk result (λ r. IsReady H.sum_of r.0 new.present) }
-    ensures cached { let new = B.life blob.new in IfOk result (λ r. CacheFits r.0 r.1 new.present) }
+    ensures ready { let new = (B.life blob.new).present in
+        IfOk result (λ r. IsSessionReady H.sum_of r.0 r.1 new) }
 {
     let mut cache = CacheRef::new(alloc, setting.page_size, setting.pages)?;
     let size = blob.len();
@@ -152,10 +150,10 @@ pub fn serve<B: Blob, H: Sum, R: Read, W: Write + Drop>(
     input: &mut BufReader<R>,
     out: &mut BufWriter<W>,
 ) -> Result<(), Stop>
-    requires ready { IsReady H.sum_of session.old (B.life blob.old).present }
-    requires cached { CacheFits session.old cache.old (B.life blob.old).present }
-    ensures ready { IsReady H.sum_of session.new (B.life blob.new).present }
-    ensures cached { CacheFits session.new cache.new (B.life blob.new).present }
+    requires ready { let old = (B.life blob.old).present in
+        IsSessionReady H.sum_of session.old cache.old old }
+    ensures ready { let new = (B.life blob.new).present in
+        IsSessionReady H.sum_of session.new cache.new new }
     ensures serves { let old = B.life blob.old in let new = B.life blob.new in
         let input_old = reader_remaining R.remaining input.old in
         let input_new = reader_remaining R.remaining input.new in
@@ -262,11 +260,11 @@ fn take_step<B: Blob, H: Sum, W: Write>(
     out: &mut W,
 ) -> Result<Option<Error>, Stop>
     requires none { replies.old.items ≡ [] }
-    requires ready { IsReady H.sum_of session.old (B.life blob.old).present }
-    requires cached { CacheFits session.old cache.old (B.life blob.old).present }
+    requires ready { let old = (B.life blob.old).present in
+        IsSessionReady H.sum_of session.old cache.old old }
     ensures none { OnOk result (replies.new.items ≡ []) }
-    ensures ready { IsReady H.sum_of session.new (B.life blob.new).present }
-    ensures cached { CacheFits session.new cache.new (B.life blob.new).present }
+    ensures ready { let new = (B.life blob.new).present in
+        IsSessionReady H.sum_of session.new cache.new new }
     ensures takes { let old = B.life blob.old in let new = B.life blob.new in
         TakesRequest H.sum_of setting.now (Request.Step step) session.old session.new old new
         (W.contents out.old) (W.contents out.new) result }

@@ -800,9 +800,9 @@ pub record CacheFits (session : SessionState) (cache : CacheState) (d : Disk) : 
 -- a session may take steps over its blob with this cache, which holds nothing of blobs that are
 -- still to come
 pub record IsSessionReady (sum : List ℕ → ℕ) (session : SessionState) (cache : CacheState)
-    (life : Life) : Type 0 where
-  pub steps : IsReady sum session life.present
-  pub cached : CacheFits session cache life.present
+    (d : Disk) : Type 0 where
+  pub steps : IsReady sum session d
+  pub cached : CacheFits session cache d
   pub fresh : IsFresh cache
 
 -- where the cache fitted a writer, or none, it fits another over the same disk

@@ -40,7 +40,7 @@ impl<B: Blob, H: Sum> Session<B, H> {
         requires length { size ≡ length (B.life blob.old).present.readable }
         ensures goes { let old = B.life blob.old in let new = B.life blob.new in
             BeginGoes H.sum_of cache.old cache.new capacity old new result }
-        ensures ready { let new = B.life blob.new in IsFresh cache.old
+        ensures ready { let new = (B.life blob.new).present in IsFresh cache.old
             → IfOk result (λ session. IsSessionReady H.sum_of session cache.new new) }
 
         // At each moment since the call began, and at every answer.
@@ -72,7 +72,7 @@ impl<B: Blob, H: Sum> Session<B, H> {
         requires length { size ≡ length (B.life blob.old).present.readable }
         ensures goes { let old = B.life blob.old in let new = B.life blob.new in
             BeginWithinGoes H.sum_of cache.old cache.new capacity allowed old new result }
-        ensures ready { let new = B.life blob.new in IsFresh cache.old
+        ensures ready { let new = (B.life blob.new).present in IsFresh cache.old
             → IfOk result (λ session. IsSessionReady H.sum_of session cache.new new) }
 
         // At each moment since the call began, and at every answer.
@@ -132,7 +132,7 @@ impl<H: Sum> Session<MemBlob, H> {
             let left = torn keep.now d.since d.base in
             CrashGoes H.sum_of self.old self.new cache.old cache.new capacity left blob.old blob.new
             result }
-        ensures ready { let new = life_of blob.new in IsFresh cache.old
+        ensures ready { let new = (life_of blob.new).present in IsFresh cache.old
             → OnOk result (IsSessionReady H.sum_of self.new cache.new new) }
         ensures fresh { IsFresh cache.old → IsFresh cache.new }
 

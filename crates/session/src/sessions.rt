@@ -275,8 +275,10 @@ pub fn run<B: Blob, H: Sum>(
     steps: &[Step],
     replies: &mut Vec<Reply>,
 ) -> Result<(), Error>
-    requires ready { IsSessionReady H.sum_of session.old cache.old (B.life blob.old) }
-    ensures ready { IsSessionReady H.sum_of session.new cache.new (B.life blob.new) }
+    requires ready { let old = (B.life blob.old).present in
+        IsSessionReady H.sum_of session.old cache.old old }
+    ensures ready { let new = (B.life blob.new).present in
+        IsSessionReady H.sum_of session.new cache.new new }
 
     // Whatever the session stood for before, at each moment of each step.
     ensures runs { let old = B.life blob.old in let new = B.life blob.new in

@@ -9,7 +9,6 @@ pub loop-number-init : goal.loop-number-init
 loop-number-init g c = record {
   none = c.new-replies.ensures.items;
   ready = c.requires.ready;
-  cached = c.requires.cached;
   serving = serving_begins g.H.Sum.sum_of c.args.setting.now c.args.session.now (g.B.Blob.life c.args.blob.now) (reader_remaining g.R.Read.remaining c.args.input.now) (writer_contents g.W.Write.contents c.args.out.now);
 }
 
@@ -32,7 +31,6 @@ pub loop-number-preserved : goal.loop-number-preserved
 loop-number-preserved g c = record {
   none = c.in_ok-next-in-Some-Step.ensures.none;
   ready = c.take_step.ensures.ready;
-  cached = c.take_step.ensures.cached;
   serving = serving_more g.H.Sum.sum_of c.args.setting.now (Step c.in-Some-Step.step) c.args.session.now c.loop-number.session c.take_step.new.session (g.B.Blob.life c.args.blob.now) (g.B.Blob.life c.loop-number.blob) (g.B.Blob.life c.take_step.new.blob)
       (reader_remaining g.R.Read.remaining c.args.input.now) (reader_remaining g.R.Read.remaining c.loop-number.input) (reader_remaining g.R.Read.remaining c.next_request.new.input)
       (writer_contents g.W.Write.contents c.args.out.now) (writer_contents g.W.Write.contents c.loop-number.out) (writer_contents g.W.Write.contents c.next_request.new.out) (writer_contents g.W.Write.contents c.take_step.new.out)

@@ -5,6 +5,6 @@ use Rattle.session.proofs.sessions.run.Given as goal
 abbrev pub invariant-loop-step : goal.invariant-loop-step
 invariant-loop-step g l = record {
   room : vec_len l.replies + (length l.steps - l.step-index) ≤ vec_capacity l.replies;
-  ready : IsSessionReady g.H.Sum.sum_of l.session l.cache (g.B.Blob.life l.blob);
+  ready : IsSessionReady g.H.Sum.sum_of l.session l.cache (g.B.Blob.life l.blob).present;
   runs : RunsAlways g.H.Sum.sum_of (take l.step-index l.steps) l.initial.session l.session (g.B.Blob.life l.initial.blob) (g.B.Blob.life l.blob) l.initial.replies.items l.replies.items;
 }

@@ -7,16 +7,16 @@ pub invariant_of-self-in_err-truncate : goal.invariant_of-self-in_err-truncate
 invariant_of-self-in_err-truncate g c =
     let d = (life_of c.truncate.new.blob).present in
     record {
-      ready = search rules;
+      steps = search rules;
       cached = subst (λ (s : SessionState). CacheFits s c.truncate.new.cache d) (sym c.closed.ensures) (record { writer = tt; snapshots = search rules });
-      fresh = c.truncate.ensures.fresh_ids (search rules) (c.open.ensures.fresh_ids c.self.invariant.fresh);
+      fresh = c.truncate.ensures.owes.fresh (search rules) (c.open.ensures.owes.fresh c.self.invariant.fresh);
     }
 
 pub invariant_of-self-2 : goal.invariant_of-self-2
 invariant_of-self-2 g c =
     let d = (life_of c.truncate.new.blob).present in
     record {
-      ready = search rules;
+      steps = search rules;
       cached = subst (λ (s : SessionState). CacheFits s c.truncate.new.cache d) (sym c.closed.ensures) (record { writer = tt; snapshots = search rules });
-      fresh = c.truncate.ensures.fresh_ids (search rules) (c.open.ensures.fresh_ids c.self.invariant.fresh);
+      fresh = c.truncate.ensures.owes.fresh (search rules) (c.open.ensures.owes.fresh c.self.invariant.fresh);
     }

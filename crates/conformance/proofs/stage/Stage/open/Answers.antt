@@ -7,7 +7,7 @@ pub invariant_of-self-2 : goal.invariant_of-self-2
 invariant_of-self-2 g c =
     let d = (life_of c.open.new.blob).present in
     record {
-      ready = search rules;
+      steps = search rules;
       cached = subst (λ (s : SessionState). CacheFits s c.open.new.cache d) (sym c.closed.ensures) (record { writer = tt; snapshots = search rules });
-      fresh = c.open.ensures.fresh_ids c.self.invariant.fresh;
+      fresh = c.open.ensures.owes.fresh c.self.invariant.fresh;
     }

@@ -9,7 +9,7 @@ invariant_of-self-in_err-self-inside g c =
     let fresh = c.in_ok-cache.ensures.fresh in
     record {
       ready = search rules;
-      cached = (subst (λ (s : SessionState). CacheFits s c.recover-recovered.new.cache d) (sym c.closed.ensures) (record { writer = tt; snapshots = search rules }), c.recover-recovered.ensures.fresh_ids fresh);
+      cached = (subst (λ (s : SessionState). CacheFits s c.recover-recovered.new.cache d) (sym c.closed.ensures) (record { writer = tt; snapshots = search rules }), c.recover-recovered.ensures.owes.fresh fresh);
       rests = search rules;
     }
 
@@ -17,7 +17,7 @@ pub invariant_of-self-2 : goal.invariant_of-self-2
 invariant_of-self-2 g c =
     let fresh = c.in_ok-cache.ensures.fresh in
     record {
-      ready = search rules;
-      cached = (c.in_ok-self-inside.ensures.cached fresh, c.recover-recovered.ensures.fresh_ids fresh);
+      ready = (c.in_ok-self-inside.ensures.ready fresh).steps;
+      cached = (let is = c.in_ok-self-inside.ensures.ready fresh in (is.cached, is.fresh));
       rests = search rules;
     }

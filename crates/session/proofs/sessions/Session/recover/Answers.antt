@@ -20,7 +20,7 @@ returns-in_err-writer-clause-goes g c =
 pub returns-in_err-writer-clause-ready : goal.returns-in_err-writer-clause-ready
 returns-in_err-writer-clause-ready g c =
     let p = err_from_is_err_and c.from_residual.result c.from_residual.ensures.1 in
-    rw (p.1, p.2) (λ fresh. tt)
+    rw (p.1) (λ fresh. tt)
 
 pub returns-in_err-writer-clause-owes : goal.returns-in_err-writer-clause-owes
 returns-in_err-writer-clause-owes g c =
