@@ -1,6 +1,6 @@
 -- What a journal's calls do, from what the writer's do.
 use Rattle.std.proofs.Common.{◌≡◌, inl, inr, ℕ, ◌+◌, ◌-◌, ◌^◌, ◌<◌, ◌≤◌, List, [], ◌∷◌, ◌++◌, length, take, drop, refl, sym, ap, ap₂, ◌∙◌, subst, arith, append-nil, length-append, length-take, length-drop, min, Ok, Err, Result}
-use Rattle.std.specs.Prelude.{Option, Some, None, IfOk, OnOk, Vec}
+use Rattle.std.specs.Prelude.{Option, Some, None, IfOk, Vec}
 use Rattle.std.specs.Result.{IsErrAnd}
 use Rattle.std.specs.declared.alloc.Global.{Global}
 use Rattle.std.proofs.lemmas.List.{append_assoc, take-append-le, take-take, take_all, drop_at}
@@ -17,30 +17,22 @@ use Rattle.crash.proofs.Promise.{keeps_less, keeps_same, keeps_settle}
 use Rattle.crash.specs.Kept.{AllKeep, AllOnly, Through}
 use Rattle.crash.specs.Stays.{KeepsAllFloors, LeavesOnly, KeepsAll}
 use Rattle.crash.specs.Looks.{Looked, looked_start}
-use Rattle.writer_state.specs.Sound.{IsSound, LeavesItsContent, content}
+use Rattle.writer_state.specs.Sound.{LeavesItsContent, content}
 use Rattle.writer_state.specs.WriterState.{WriterState}
 use Rattle.crash.specs.Moments.{through_start, through_then, through_joins, through_end}
-<<<<<<< ours
 use Rattle.paged_read.specs.Hand.{HandState, kept_with}
 use Rattle.paged_read.specs.Snapshots.{LeavesOthers, LeavesReads}
 use Rattle.paged_read.specs.Tail.{CanRead}
 use Rattle.paged.specs.Caches.{tail_of, KeepsReads}
-use Rattle.paged.specs.Calls.{GoesOn, Appends, BuffersOver, Syncs, TryAppends}
-=======
-use Rattle.paged_read.specs.Snapshots.{LeavesOthers, LeavesReads, LeavesTails}
-use Rattle.paged_read.specs.Tail.{Tail, CanRead}
-use Rattle.paged_read.specs.Ranges.{Reads, LeavesAll}
-use Rattle.paged.specs.Caches.{tail_of}
-use Rattle.paged.specs.Calls.{GoesOn}
-use Rattle.paged.specs.Ready.{IsReady as IsWriterReady}
+use Rattle.paged.specs.Calls.{BuffersOver, IsSameWriter, TryAppends}
 use Rattle.paged.specs.Goes.{AppendAnswers, AppendGoes, Holds, SyncAllGoes}
->>>>>>> theirs
+use Rattle.paged.specs.Ready.{IsReady}
 use Rattle.paged.specs.Reads.{size_of}
 use Rattle.paged.specs.Recovers.{Recovers}
 use Rattle.paged.specs.Truncate.{Truncates, KeepsFloorsWithin}
 use Rattle.paged.specs.Writer.{physical_blob_size}
 use Rattle.journal.specs.Frame.{frame, record_len, frame_len, listed, record_of, records, whole_frames, IsWhole, IsPrefix}
-use Rattle.journal.specs.Journal.{IsReady, IsJournal, IsNewId, OthersStay, AllStay, OnlyReads, LeavesContent, Commits, OnlyRecords, KeepsCommitted, LeavesRecords, CommitsAll, IsAppended, AppendsRecord, IsCommitted, CommitGoes, BringsBack, BringsOnly, ReadRefused, ReadsBytes, ReadsFrame, IsFound, IsTrimmed, Trims, HasRecovered, RecoversJournal}
+use Rattle.journal.specs.Journal.{IsBetweenCalls, IsJournal, IsNewId, OthersStay, AllStay, OnlyReads, LeavesContent, Commits, OnlyRecords, KeepsCommitted, LeavesRecords, CommitsAll, IsAppended, AppendsRecord, IsCommitted, CommitGoes, BringsBack, BringsOnly, ReadRefused, ReadsBytes, ReadsFrame, IsFound, IsTrimmed, Trims, HasRecovered, RecoversJournal}
 use Rattle.journal.proofs.Frames.{records-append, records-take, whole_more, whole_is_whole, records-whole, whole_first, length-whole, frame_is_whole, records-frame, record_of-frame, length-frame, record_len-front, record_of-front, records-from}
 
 -- the first of the first are the first
@@ -115,23 +107,30 @@ commits_all sum own P content d keeps = record {
 -- ---- the cache
 
 -- what a journal stands on
-pub ready_of : (sum : List ℕ → ℕ) (w : WriterState) (cache : CacheState) (life : Life) → IsJournal sum w cache life → IsReady sum w cache life
+pub between_of : (sum : List ℕ → ℕ) (w : WriterState) (cache : CacheState) (life : Life) → IsJournal sum w cache life → IsBetweenCalls sum w cache life
 unfolding IsJournal
-ready_of sum w cache life journal = journal.ready
+between_of sum w cache life journal = journal.between
+
+pub ready_of : (sum : List ℕ → ℕ) (w : WriterState) (cache : CacheState) (life : Life) → IsJournal sum w cache life → IsReady sum w cache life
+ready_of sum w cache life journal = (between_of sum w cache life journal).ready
 
 pub whole_of : (sum : List ℕ → ℕ) (w : WriterState) (cache : CacheState) (life : Life) → IsJournal sum w cache life → IsWhole (content w life.present.readable)
 unfolding IsJournal
 whole_of sum w cache life journal = journal.whole
 
-pub is_journal : (sum : List ℕ → ℕ) (w : WriterState) (cache : CacheState) (life : Life) → IsReady sum w cache life → IsWhole (content w life.present.readable) → IsJournal sum w cache life
+pub is_journal : (sum : List ℕ → ℕ) (w : WriterState) (cache : CacheState) (life : Life) → IsBetweenCalls sum w cache life → IsWhole (content w life.present.readable) → IsJournal sum w cache life
 unfolding IsJournal
-is_journal sum w cache life ready whole = record { ready = ready; whole = whole }
+is_journal sum w cache life between whole = record { between = between; whole = whole }
 
 -- a journal that can still be read stays one
 stays_journal : (sum : List ℕ → ℕ) (w : WriterState) (cache after : CacheState) (life : Life) → CanRead (tail_of w) after life.present → (IsFresh cache → IsFresh after) → IsJournal sum w cache life → IsJournal sum w after life
 unfolding IsJournal
 stays_journal sum w cache after life can fresh journal = record {
-  ready = record { sound = journal.ready.sound; can = can; fresh = fresh journal.ready.fresh; size = journal.ready.size; only = journal.ready.only };
+  between = record {
+    ready = record { sound = journal.between.ready.sound; can = can; fresh = fresh journal.between.ready.fresh };
+    size = journal.between.size;
+    only = journal.between.only;
+  };
   whole = journal.whole;
 }
 
@@ -156,34 +155,29 @@ all_stay id cache mid after is first second = λ sum w life journal.
 
 -- ---- the calls
 
--- a writer that went on is ready
-pub holds_on : (sum : List ℕ → ℕ) (w : WriterState) (old : Life) (more : List ℕ) (now : WriterState) (after : CacheState) (new : Life) → Holds sum w old more now new → IsWriterReady sum now after new
-    → IsReady sum now after new
-holds_on sum w old more now after new holds ready = record { sound = ready.sound; can = ready.can; fresh = ready.fresh; size = holds.size; only = holds.only }
+-- a writer that went on stands between two calls again
+pub held_on : (sum : List ℕ → ℕ) (w : WriterState) (old : Life) (more : List ℕ) (now : WriterState) (after : CacheState) (new : Life) → Holds sum w old more now new → IsReady sum now after new → IsBetweenCalls sum now after new
+held_on sum w old more now after new holds ready = record { ready = ready; size = holds.size; only = holds.only }
 
-pub gone_on : (sum : List ℕ → ℕ) (w : WriterState) (old : Life) (more : List ℕ) (now : WriterState) (after : CacheState) (new : Life) → GoesOn sum w old more now new → CanRead (tail_of now) after new.present → IsFresh after
-    → IsReady sum now after new
-gone_on sum w old more now after new goes can fresh = record { sound = goes.sound; can = can; fresh = fresh; size = goes.size; only = goes.only }
-
--- a record that was appended
+-- a record whose frame stands after the content
 pub appended : (sum own : List ℕ → ℕ) (w : WriterState) (bytes : List ℕ) (after : CacheState) (old new : Life) (now : WriterState) (offset : ℕ) → length bytes ≤ 65535 → own bytes < 2 ^ 32
-    → IsWhole (content w old.present.readable) → IsWriterReady sum now after new → AppendAnswers sum w (frame own bytes) old new (Ok (now, offset)) → IsAppended sum own w bytes after old new now offset
-appended sum own w bytes after old new now offset short small whole ready (at, goes) =
+    → IsWhole (content w old.present.readable) → offset ≡ length (content w old.present.readable) → content now new.present.readable ≡ content w old.present.readable ++ frame own bytes → IsSameWriter w now
+    → IsBetweenCalls sum now after new → IsAppended sum own w bytes after old new now offset
+appended sum own w bytes after old new now offset short small whole at holds same between =
     let before = content w old.present.readable in
     let framed = frame own bytes in
     let fits : length bytes < 2 ^ 16 = omega arith in
     let stood : drop offset (before ++ framed) ≡ framed ++ [] = ap (λ n. drop n (before ++ framed)) at ∙ drop_at before framed (length before) refl ∙ sym (append-nil framed) in
     record {
       at = at;
-      journal = is_journal sum now after new (holds_on sum w old framed now after new goes ready)
-          (subst (λ (l : List ℕ). IsWhole l) (sym goes.content) (whole_more before framed whole (frame_is_whole own bytes fits)));
-      holds = goes.content;
-      added = ap (λ (l : List ℕ). records own l) goes.content ∙ records-append own before framed whole ∙ ap (λ rs. records own before ++ rs) (records-frame own bytes fits small);
-      there = ap (λ (l : List ℕ). record_of own (drop offset l)) goes.content ∙ ap (λ (l : List ℕ). record_of own l) stood ∙ record_of-frame own bytes [] fits small;
-      same = goes.same;
+      journal = is_journal sum now after new between (subst (λ (l : List ℕ). IsWhole l) (sym holds) (whole_more before framed whole (frame_is_whole own bytes fits)));
+      holds = holds;
+      added = ap (λ (l : List ℕ). records own l) holds ∙ records-append own before framed whole ∙ ap (λ rs. records own before ++ rs) (records-frame own bytes fits small);
+      there = ap (λ (l : List ℕ). record_of own (drop offset l)) holds ∙ ap (λ (l : List ℕ). record_of own l) stood ∙ record_of-frame own bytes [] fits small;
+      same = same;
       commits = λ n d commits.
-          subst (λ (P : ℕ). Commits sum own P (content now new.present.readable) n d) (sym goes.same.page_size)
-          (subst (λ (l : List ℕ). Commits sum own w.page_size l n d) (sym goes.content) (commits_longer sum own w.page_size before framed n d commits));
+          subst (λ (P : ℕ). Commits sum own P (content now new.present.readable) n d) (sym same.page_size)
+          (subst (λ (l : List ℕ). Commits sum own w.page_size l n d) (sym holds) (commits_longer sum own w.page_size before framed n d commits));
     }
 
 -- an append that was refused
@@ -224,7 +218,10 @@ pub buffered : (sum own : List ℕ → ℕ) (w now : WriterState) (bytes : List 
 buffered sum own w now bytes cache life at fits short small journal is buffers keeps =
     let ready = ready_of sum w cache life journal in
     let over : BuffersOver sum w (frame own bytes) now (Ok (Some at)) = subst (λ (o : Option ℕ). BuffersOver sum w (frame own bytes) now (Ok o)) is buffers in
-    appended sum own w bytes cache life life now at short small (whole_of sum w cache life journal) (keeps cache life.present ready.can) ready.fresh (over life ready.sound)
+    let is_at = (over life ready.sound).0 in
+    let goes = (over life ready.sound).1 in
+    appended sum own w bytes cache life life now at short small (whole_of sum w cache life journal) is_at goes.content goes.same
+    (record { ready = record { sound = goes.sound; can = keeps cache life.present ready.can; fresh = ready.fresh }; size = goes.size; only = goes.only })
 
 -- one for which it has no room: nothing has changed
 pub not_fitting : (w now : WriterState) (framed : List ℕ) (fits : Option ℕ) → fits ≡ None → TryAppends w framed now (Ok fits) → now ≡ w
@@ -239,16 +236,16 @@ after_append own before bytes short small whole =
     ([], sym (append-nil (records own (before ++ frame own bytes)) ∙ records-append own before (frame own bytes) whole ∙ ap (λ rs. records own before ++ rs) (records-frame own bytes (omega arith) small)))
 
 -- a commit
-pub committed : (sum own : List ℕ → ℕ) (w : WriterState) (after : CacheState) (old new : Life) (now : WriterState) → IsWhole (content w old.present.readable) → IsWriterReady sum now after new
-    → SyncAllGoes sum w old new (Ok now) → IsCommitted sum own w after old new now
-committed sum own w after old new now whole ready (goes, settled, keeps) =
-    let same : content now new.present.readable ≡ content w old.present.readable = goes.content ∙ append-nil (content w old.present.readable) in
+pub committed : (sum own : List ℕ → ℕ) (w : WriterState) (after : CacheState) (old new : Life) (now : WriterState) → IsWhole (content w old.present.readable) → IsReady sum now after new → SyncAllGoes sum w old new (Ok now)
+    → IsCommitted sum own w after old new now
+committed sum own w after old new now whole ready goes =
+    let same : content now new.present.readable ≡ content w old.present.readable = goes.holds.content ∙ append-nil (content w old.present.readable) in
     record {
-      journal = is_journal sum now after new (holds_on sum w old [] now after new goes ready) (subst (λ (l : List ℕ). IsWhole l) (sym same) whole);
+      journal = is_journal sum now after new (held_on sum w old [] now after new goes.holds ready) (subst (λ (l : List ℕ). IsWhole l) (sym same) whole);
       holds = same;
-      same = goes.same;
-      all = subst (λ (P : ℕ). CommitsAll sum own P (content now new.present.readable) new.present) (sym goes.same.page_size)
-          (subst (λ (l : List ℕ). CommitsAll sum own w.page_size l new.present) (sym same) (commits_all sum own w.page_size (content w old.present.readable) new.present keeps));
+      same = goes.holds.same;
+      all = subst (λ (P : ℕ). CommitsAll sum own P (content now new.present.readable) new.present) (sym goes.holds.same.page_size)
+          (subst (λ (l : List ℕ). CommitsAll sum own w.page_size l new.present) (sym same) (commits_all sum own w.page_size (content w old.present.readable) new.present goes.durable));
     }
 
 pub not_committed : (sum own : List ℕ → ℕ) (w : WriterState) (after : CacheState) (old new : Life) (e : Error) → SyncAllGoes sum w old new (Err e) → CommitGoes sum own w after old new (Err e)
@@ -273,8 +270,10 @@ brings_back sum own P d image is_image = λ content n commits.
 
 -- an append of a record's frame, by its answer
 pub append_goes : (sum own : List ℕ → ℕ) (w : WriterState) (bytes : List ℕ) (after : CacheState) (old new : Life) (result : Result (WriterState × ℕ) Error) → length bytes ≤ 65535 → own bytes < 2 ^ 32
-    → IsWhole (content w old.present.readable) → AppendGoes sum w (frame own bytes) old new result → IfOk result (λ r. IsWriterReady sum r.0 after new) → AppendsRecord sum own w bytes after old new result
-append_goes sum own w bytes after old new (Ok r) short small whole goes ready = appended sum own w bytes after old new r.0 r.1 short small whole ready goes.answers
+    → IsWhole (content w old.present.readable) → AppendGoes sum w (frame own bytes) old new result → IfOk result (λ r. IsReady sum r.0 after new) → AppendsRecord sum own w bytes after old new result
+append_goes sum own w bytes after old new (Ok r) short small whole goes ready =
+    let is = goes.answers in
+    appended sum own w bytes after old new r.0 r.1 short small whole is.at_end is.holds.content is.holds.same (held_on sum w old (frame own bytes) r.0 after new is.holds ready)
 append_goes sum own w bytes after old new (Err e) short small whole goes ready = not_appended sum own w bytes after old new e goes.answers
 
 pub append_gives : (sum own : List ℕ → ℕ) (w : WriterState) (bytes : List ℕ) (after : CacheState) (old new : Life) (result : Result (WriterState × ℕ) Error) → AppendsRecord sum own w bytes after old new result
@@ -284,7 +283,7 @@ append_gives sum own w bytes after old new (Err e) is = tt
 
 -- a commit, by its answer
 pub commit_goes : (sum own : List ℕ → ℕ) (w : WriterState) (after : CacheState) (old new : Life) (result : Result WriterState Error) → IsWhole (content w old.present.readable)
-    → SyncAllGoes sum w old new result → IfOk result (λ now. IsWriterReady sum now after new) → CommitGoes sum own w after old new result
+    → SyncAllGoes sum w old new result → IfOk result (λ now. IsReady sum now after new) → CommitGoes sum own w after old new result
 commit_goes sum own w after old new (Ok now) whole goes ready = committed sum own w after old new now whole ready goes
 commit_goes sum own w after old new (Err e) whole goes ready = not_committed sum own w after old new e goes
 
@@ -346,17 +345,17 @@ found own content offset rest framed bytes end within some is held after =
     }
 
 -- no read
-pub reads_start : (sum : List ℕ → ℕ) (w : WriterState) (cache : CacheState) (life : Life) → IsReady sum w cache life → OnlyReads sum w cache cache life life
-reads_start sum w cache life ready =
+pub reads_start : (sum : List ℕ → ℕ) (w : WriterState) (cache : CacheState) (life : Life) → IsBetweenCalls sum w cache life → OnlyReads sum w cache cache life life
+reads_start sum w cache life between =
     let held = content w life.present.readable in
     record {
-      ready = ready;
+      between = between;
       tails = λ t held below stands. stands;
       others = λ t d apart can. can;
       holds = refl;
       looked = looked_start life;
       kept = λ content floor enough kept. through_start (AllKeep sum w.page_size content floor) life kept;
-      only = through_start (AllOnly sum w.page_size held held) life ready.only;
+      only = through_start (AllOnly sum w.page_size held held) life between.only;
     }
 
 -- where a crash leaves only the content, it leaves that or another
@@ -378,15 +377,14 @@ trim_leaves sum w end old new is leaves =
     subst (λ (l : List ℕ). LeavesOnly sum w.page_size held l old new) (ap (λ (n : ℕ). take n held) is ∙ whole_first held) leaves
 
 -- so the whole frames are left
-pub trim_goes : (sum own : List ℕ → ℕ) (w : WriterState) (cache after : CacheState) (end : ℕ) (found : List (List ℕ)) (old new : Life) (now : WriterState) → IsReady sum w cache old → found ≡ records own (content w old.present.readable)
-    → end ≡ length (whole_frames (content w old.present.readable)) → Truncates sum end w old new (Ok now) → IsSound sum now new.present → CanRead (tail_of now) after new.present → IsFresh after
-    → LeavesItsContent sum now new.present → IsTrimmed sum own w after old new now found
-trim_goes sum own w cache after end found old new now ready given is cut sound can fresh only =
+pub trim_goes : (sum own : List ℕ → ℕ) (w : WriterState) (cache after : CacheState) (end : ℕ) (found : List (List ℕ)) (old new : Life) (now : WriterState) → IsBetweenCalls sum w cache old → found ≡ records own (content w old.present.readable)
+    → end ≡ length (whole_frames (content w old.present.readable)) → Truncates sum end w old new (Ok now) → IsReady sum now after new → LeavesItsContent sum now new.present → IsTrimmed sum own w after old new now found
+trim_goes sum own w cache after end found old new now between given is cut ready only =
     let held = content w old.present.readable in
     let holds : content now new.present.readable ≡ whole_frames held = cut.content ∙ ap (λ (n : ℕ). take n held) is ∙ whole_first held in
-    let size : size_of now ≡ length (content now new.present.readable) = omega (arith, cut.size, is, ap length holds, length-whole held, ready.size) in
+    let size : size_of now ≡ length (content now new.present.readable) = omega (arith, cut.size, is, ap length holds, length-whole held, between.size) in
     record {
-      ready = record { sound = sound; can = can; fresh = fresh; size = size; only = only };
+      between = record { ready = ready; size = size; only = only };
       holds = holds;
       given = given;
       page_size = cut.same.page_size;
@@ -394,13 +392,13 @@ trim_goes sum own w cache after end found old new now ready given is cut sound c
     }
 
 -- where all frames are whole nothing is to be cut
-pub trim_stays : (sum own : List ℕ → ℕ) (w : WriterState) (cache : CacheState) (end : ℕ) (found : List (List ℕ)) (life : Life) → IsReady sum w cache life → found ≡ records own (content w life.present.readable)
+pub trim_stays : (sum own : List ℕ → ℕ) (w : WriterState) (cache : CacheState) (end : ℕ) (found : List (List ℕ)) (life : Life) → IsBetweenCalls sum w cache life → found ≡ records own (content w life.present.readable)
     → end ≡ length (whole_frames (content w life.present.readable)) → end ≡ size_of w → IsTrimmed sum own w cache life life w found
-trim_stays sum own w cache end found life ready given is all =
+trim_stays sum own w cache end found life between given is all =
     let held = content w life.present.readable in
-    let long : length held ≤ length (whole_frames held) = omega (arith, is, all, ready.size) in
+    let long : length held ≤ length (whole_frames held) = omega (arith, is, all, between.size) in
     record {
-      ready = ready;
+      between = between;
       holds = sym (take_all (length (whole_frames held)) held long) ∙ whole_first held;
       given = given;
       page_size = refl;
@@ -408,14 +406,14 @@ trim_stays sum own w cache end found life ready given is all =
     }
 
 -- the cut was refused
-pub trim_refused : (sum own : List ℕ → ℕ) (w : WriterState) (cache after : CacheState) (end : ℕ) (old new : Life) (e : Error) → IsReady sum w cache old → end ≡ length (whole_frames (content w old.present.readable)) → (end ≡ size_of w → ⊥)
+pub trim_refused : (sum own : List ℕ → ℕ) (w : WriterState) (cache after : CacheState) (end : ℕ) (old new : Life) (e : Error) → IsBetweenCalls sum w cache old → end ≡ length (whole_frames (content w old.present.readable)) → (end ≡ size_of w → ⊥)
     → Truncates sum end w old new (Err e) → Trims sum own w after old new (Err e)
-trim_refused sum own w cache after end old new e ready is more refused =
+trim_refused sum own w cache after end old new e between is more refused =
     let held = content w old.present.readable in
     let whole = length (whole_frames held) in
     let less : whole < size_of w = (elim (cases_lt whole (size_of w)) [
       | inl lt ↦ lt
-      | inr le ↦ absurd (more (omega (arith, is, le, length-whole held, ready.size)))
+      | inr le ↦ absurd (more (omega (arith, is, le, length-whole held, between.size)))
     ]) in
     inr (old, looked_start old, less, subst (λ (n : ℕ). Truncates sum n w old new (Err e)) is refused)
 
@@ -516,7 +514,7 @@ recovery_goes sum own cache after capacity old mid new w now found recovers id a
     record {
       page_size = trims.page_size ∙ recovers.page_size;
       id = trims.id ∙ id;
-      journal = is_journal sum now after new trims.ready (subst (λ (l : List ℕ). IsWhole l) (sym holds) (whole_is_whole T));
+      journal = is_journal sum now after new trims.between (subst (λ (l : List ℕ). IsWhole l) (sym holds) (whole_is_whole T));
       holds = holds;
       given = given;
       same = given ∙ sym (ap (λ (l : List ℕ). records own l) holds ∙ records-whole own T);

@@ -7,7 +7,6 @@ use Rattle.disk.specs.Disk.{Disk, Life, IsImage}
 use Rattle.disk.specs.declared.error.Error.{Error}
 use Rattle.disk.specs.declared.error.Error.TheVariants.{ReadFailed, WriteFailed, ResizeFailed, SyncFailed, InvalidChecksum, BlobInsufficientLength, OffsetOverflow, OutOfMemory, IdsExhausted}
 use Rattle.cache.specs.CacheState.{CacheState}
-use Rattle.cache.specs.Pages.{IsFresh}
 use Rattle.crash.specs.Guard.{IsChanceFree}
 use Rattle.crash.proofs.DistinctLaws.{vouched_alike}
 use Rattle.crash.proofs.Moments.{keeps_alike}
@@ -21,15 +20,16 @@ use Rattle.paged_read.proofs.FullReads.{no_fault}
 use Rattle.paged_read.proofs.Outliving.{look_leaves_writers, read_leaves_all_tails, read_leaves_others, read_leaves_tails}
 use Rattle.paged_read.specs.Ranges.{LeavesAll, Reads}
 use Rattle.paged_read.specs.Snapshots.{LeavesAllTails, LeavesOthers, LeavesReads, LeavesTails, StandsOn}
-use Rattle.paged_read.specs.Tail.{Tail, CanRead, HasFullPages, told, size_of}
+use Rattle.paged_read.specs.Tail.{Tail, HasFullPages, told, size_of}
 use Rattle.paged.specs.Caches.{tail_of}
-use Rattle.paged.specs.Calls.{GoesOn}
+use Rattle.paged.specs.Goes.{SnapshotGoes}
+use Rattle.paged.specs.Ready.{IsReady}
 use Rattle.journal.specs.declared.frame.Found.{Found}
 use Rattle.journal.specs.Frame.{IsWhole, listed, records}
-use Rattle.journal.specs.Journal.{IsFound, IsReady, OnlyReads, ReadRefused}
+use Rattle.journal.specs.Journal.{IsBetweenCalls, IsFound, OnlyReads, ReadRefused}
 use Rattle.journal.specs.Reader.{ReaderState, AllReadersStay, EachReaderStays, FindsNext, IsNewToReaders, IsNext, IsOpen, HasReader, IsReader, JournalsStay, LeavesTheirRecords, OnlyLooks, OnlyViews, OtherReadersStay, ReadersStay, read_over}
 use Rattle.journal.proofs.Frames.{records-none}
-use Rattle.journal.proofs.Journals.{gone_on, is_journal, leaves_records, prefix_of_itself, ready_of, refused_later, whole_of}
+use Rattle.journal.proofs.Journals.{between_of, held_on, is_journal, leaves_records, prefix_of_itself, refused_later, whole_of}
 
 -- what a reader stands on
 pub opened_by : (sum : List ℕ → ℕ) (r : ReaderState) (cache : CacheState) (life : Life) → IsReader sum r cache life → IsOpen sum r.tail cache life
@@ -223,7 +223,7 @@ looked_records sum own cache old new looked = λ w journal.
     let held = content w old.present.readable in
     let itself = prefix_of_itself (records own held) in
     leaves_records sum own w.page_size held held (records own held) old new itself itself
-    (looked_leaves sum w.page_size held old new looked (ready_of sum w cache old journal).only)
+    (looked_leaves sum w.page_size held old new looked (between_of sum w cache old journal).only)
 
 -- ---- the blob's journal
 
@@ -232,28 +232,30 @@ pages_full : (sum : List ℕ → ℕ) (w : WriterState) (d : Disk) → IsSound s
 unfolding IsSound
 pages_full sum w d sound = sound.stands.full
 
--- a ready writer's pages can be read
-pub opened_writer : (sum : List ℕ → ℕ) (w : WriterState) (cache : CacheState) (life : Life) → IsReady sum w cache life → IsOpen sum (tail_of w) cache life
-opened_writer sum w cache life ready = record {
+-- the pages of a writer between two calls can be read
+pub opened_writer : (sum : List ℕ → ℕ) (w : WriterState) (cache : CacheState) (life : Life) → IsBetweenCalls sum w cache life → IsOpen sum (tail_of w) cache life
+opened_writer sum w cache life between = record {
   stands = record {
-    tail = record { there = ready.can.there; full = pages_full sum w life.present ready.sound; is = refl };
-    can = ready.can;
+    tail = record { there = between.ready.can.there; full = pages_full sum w life.present between.ready.sound; is = refl };
+    can = between.ready.can;
   };
-  size = ready.size;
+  size = between.size;
 }
 
 -- the writer's own reads, through its view
-pub views_read : (sum : List ℕ → ℕ) (w : WriterState) (cache after : CacheState) (old new : Life) → IsReady sum w cache old → OnlyViews sum (tail_of w) cache after old new → OnlyReads sum w cache after old new
-views_read sum w cache after old new ready views =
+pub views_read : (sum : List ℕ → ℕ) (w : WriterState) (cache after : CacheState) (old new : Life) → IsBetweenCalls sum w cache old → OnlyViews sum (tail_of w) cache after old new → OnlyReads sum w cache after old new
+views_read sum w cache after old new between views =
     let held = content w old.present.readable in
     let same : content w new.present.readable ≡ held = views.holds in
-    let left_only : AllOnly sum w.page_size held held new.present = only_later sum w.page_size held old.present new.present views.looked.same ready.only in
+    let left_only : AllOnly sum w.page_size held held new.present = only_later sum w.page_size held old.present new.present views.looked.same between.only in
     record {
-      ready = record {
-        sound = (look_leaves_writers sum old new views.looked w ready.sound).sound;
-        can = views.opened.stands.can;
-        fresh = views.fresh ready.fresh;
-        size = ready.size ∙ sym (ap length same);
+      between = record {
+        ready = record {
+          sound = (look_leaves_writers sum old new views.looked w between.ready.sound).sound;
+          can = views.opened.stands.can;
+          fresh = views.fresh between.ready.fresh;
+        };
+        size = between.size ∙ sym (ap length same);
         only = subst (λ (l : List ℕ). AllOnly sum w.page_size l l new.present) (sym same) left_only;
       };
       tails = views.tails;
@@ -261,23 +263,21 @@ views_read sum w cache after old new ready views =
       holds = same;
       looked = views.looked;
       kept = looked_keeps sum w.page_size old new views.looked;
-      only = looked_leaves sum w.page_size held old new views.looked ready.only;
+      only = looked_leaves sum w.page_size held old new views.looked between.only;
     }
 
 -- so it stays a journal
 pub journals_stay : (sum : List ℕ → ℕ) (t : Tail) (cache after : CacheState) (old new : Life) → OnlyLooks sum t cache after old new → JournalsStay sum cache after old new
 journals_stay sum t cache after old new looks = λ w journal.
-    let ready = ready_of sum w cache old journal in
+    let between = between_of sum w cache old journal in
     let held = content w old.present.readable in
-    let stands = looks.tails (tail_of w) held (opened_writer sum w cache old ready).stands in
+    let stands = looks.tails (tail_of w) held (opened_writer sum w cache old between).stands in
     let same : content w new.present.readable ≡ held = stands.tail.is in
-    let left_only : AllOnly sum w.page_size held held new.present = only_later sum w.page_size held old.present new.present looks.looked.same ready.only in
+    let left_only : AllOnly sum w.page_size held held new.present = only_later sum w.page_size held old.present new.present looks.looked.same between.only in
     record {
       journal = is_journal sum w after new (record {
-        sound = looks.sound w ready.sound;
-        can = stands.can;
-        fresh = looks.fresh ready.fresh;
-        size = ready.size ∙ sym (ap length same);
+        ready = record { sound = looks.sound w between.ready.sound; can = stands.can; fresh = looks.fresh between.ready.fresh };
+        size = between.size ∙ sym (ap length same);
         only = subst (λ (l : List ℕ). AllOnly sum w.page_size l l new.present) (sym same) left_only;
       }) (subst (λ (l : List ℕ). IsWhole l) (sym same) (whole_of sum w cache old journal));
       holds = same;
@@ -314,22 +314,23 @@ not_some (Some bytes) is = cc
 
 -- ---- a reader that was made
 
-pub reader_made : (sum own : List ℕ → ℕ) (w : WriterState) (after : CacheState) (old new : Life) (now : WriterState) (t : Tail) → IsWhole (content w old.present.readable) → GoesOn sum w old [] now new → t ≡ tail_of now
-    → CanRead (tail_of now) after new.present → IsFresh after → StandsOn sum t (content w old.present.readable) after new.present → HasReader sum own w after old new now (record { tail = t; offset = 0 })
-reader_made sum own w after old new now t whole goes is can fresh stands =
+pub reader_made : (sum own : List ℕ → ℕ) (w : WriterState) (after : CacheState) (old new : Life) (now : WriterState) (t : Tail) → IsWhole (content w old.present.readable) → SnapshotGoes sum w after old new (Ok (now, t)) → IsReady sum now after new
+    → HasReader sum own w after old new now (record { tail = t; offset = 0 })
+reader_made sum own w after old new now t whole goes ready =
     let held = content w old.present.readable in
-    let same : content now new.present.readable ≡ held = goes.content ∙ append-nil held in
-    let over : told t new.present.readable ≡ held = stands.tail.is in
+    let holds = goes.holds in
+    let same : content now new.present.readable ≡ held = holds.content ∙ append-nil held in
+    let over : told t new.present.readable ≡ held = goes.stands.tail.is in
     let long : size_of t ≡ length (told t new.present.readable) =
-    ap (λ (u : Tail). size_of u) is ∙ goes.size ∙ ap length same ∙ sym (ap length over) in
+    ap (λ (u : Tail). size_of u) goes.tail ∙ holds.size ∙ ap length same ∙ sym (ap length over) in
     record {
-      journal = is_journal sum now after new (gone_on sum w old [] now after new goes can fresh) (subst (λ (l : List ℕ). IsWhole l) (sym same) whole);
+      journal = is_journal sum now after new (held_on sum w old [] now after new holds ready) (subst (λ (l : List ℕ). IsWhole l) (sym same) whole);
       holds = same;
-      same = goes.same;
+      same = holds.same;
       reader = is_reader sum (record { tail = t; offset = 0 }) after new
-          (record { stands = subst (λ (l : List ℕ). StandsOn sum t l after new.present) (sym over) stands; size = long });
-      id = ap (λ (u : Tail). u.id) is ∙ goes.same.id;
-      below = (let pages : t.full_pages ≡ now.full_pages = ap (λ (u : Tail). u.full_pages) is in omega arith);
+          (record { stands = subst (λ (l : List ℕ). StandsOn sum t l after new.present) (sym over) goes.stands; size = long });
+      id = ap (λ (u : Tail). u.id) goes.tail ∙ holds.same.id;
+      below = (let pages : t.full_pages ≡ now.full_pages = ap (λ (u : Tail). u.full_pages) goes.tail in omega arith);
       over = over;
       all = ap (λ (l : List ℕ). records own l) over;
     }

@@ -8,17 +8,15 @@ use Rattle.disk.specs.declared.error.Error.{Error}
 use Rattle.disk.specs.declared.error.Error.TheVariants.{ReadFailed, OffsetOverflow, OutOfMemory}
 use Rattle.page.specs.Page.{text}
 use Rattle.cache.specs.CacheState.{CacheState}
-use Rattle.cache.specs.Pages.{IsFresh}
 use Rattle.crash.specs.Guard.{IsChanceFree}
 use Rattle.crash.specs.Distinct.{IsDistinct, IsVouched}
 use Rattle.crash.specs.Kept.{AllKeep, Through}
 use Rattle.crash.specs.Looks.{Looked}
-use Rattle.writer_state.specs.Sound.{IsSound, LeavesItsContent, content}
+use Rattle.writer_state.specs.Sound.{LeavesItsContent, content}
 use Rattle.crash.specs.Stays.{KeepsAllFloors, LeavesOnly}
 use Rattle.writer_state.specs.WriterState.{WriterState}
 use Rattle.paged_read.specs.Snapshots.{LeavesOthers, LeavesTails}
-use Rattle.paged_read.specs.Tail.{CanRead}
-use Rattle.paged.specs.Caches.{tail_of}
+use Rattle.paged.specs.Ready.{IsReady}
 use Rattle.paged.specs.Calls.{IsSameWriter, CallCause}
 use Rattle.paged.specs.Reads.{size_of}
 use Rattle.paged.specs.Recovery.{IsDurable}
@@ -29,21 +27,18 @@ use Rattle.journal.specs.declared.frame.Found.{Found}
 use Rattle.journal.specs.Frame.{frame, frame_len, record_of, records, listed, whole_frames}
 use Rattle.journal.specs.Frame.{IsWhole, IsPrefix}
 
--- a writer between two calls, as the last of them left it: it is sound, it can be read with this
--- cache, which holds nothing of blobs that are still to come, its size is that of its content, and
--- chance aside a crash leaves only that
-pub record IsReady (sum : List ℕ → ℕ) (w : WriterState) (cache : CacheState) (life : Life)
+-- a writer between two calls, as the last of them left it: it is ready, its size is that of its
+-- content, and chance aside a crash leaves only that
+pub record IsBetweenCalls (sum : List ℕ → ℕ) (w : WriterState) (cache : CacheState) (life : Life)
     : Type 0 where
-  pub sound : IsSound sum w life.present
-  pub can : CanRead (tail_of w) cache life.present
-  pub fresh : IsFresh cache
+  pub ready : IsReady sum w cache life
   pub size : size_of w ≡ length (content w life.present.readable)
   pub only : LeavesItsContent sum w life.present
 
--- its writer is ready, and its content is whole frames
+-- its writer is so, and its content is whole frames
 pub record StandsAsJournal (sum : List ℕ → ℕ) (w : WriterState) (cache : CacheState) (life : Life)
     : Type 0 where
-  pub ready : IsReady sum w cache life
+  pub between : IsBetweenCalls sum w cache life
   pub whole : IsWhole (content w life.present.readable)
 
 -- a journal between two calls. The word for it in contracts: a caller hands it from call to call,
@@ -72,12 +67,11 @@ IsNewId id cache =
 abbrev pub LeavesContent : (List ℕ → ℕ) → ℕ → List ℕ → Life → Life → Type 0
 LeavesContent sum P content old new = LeavesOnly sum P content content old new
 
--- reads: the writer is ready again, the content is the same, snapshots and whoever reads other
--- blobs stand as they stood, and a crash at any moment since keeps and leaves what one before them
--- did
+-- reads: the writer is so again, the content is the same, snapshots and whoever reads other blobs
+-- stand as they stood, and a crash at any moment since keeps and leaves what one before them did
 pub record OnlyReads (sum : List ℕ → ℕ) (w : WriterState) (cache after : CacheState)
     (old new : Life) : Type 0 where
-  pub ready : IsReady sum w after new
+  pub between : IsBetweenCalls sum w after new
   pub tails : LeavesTails sum w.full_pages cache after old new
   pub others : LeavesOthers w.id cache after
   pub holds : content w new.present.readable ≡ content w old.present.readable
@@ -208,7 +202,7 @@ ReadsRecord own content offset old new (Err e) = ReadRefused old new e
 -- the whole frames are left of a content; these are the records
 pub record IsTrimmed (sum own : List ℕ → ℕ) (w : WriterState) (after : CacheState)
     (old new : Life) (now : WriterState) (found : List (List ℕ)) : Type 0 where
-  pub ready : IsReady sum now after new
+  pub between : IsBetweenCalls sum now after new
   pub holds : content now new.present.readable ≡ whole_frames (content w old.present.readable)
   pub given : found ≡ records own (content w old.present.readable)
   pub page_size : now.page_size ≡ w.page_size

@@ -1,35 +1,23 @@
 // Journals: records over a paged blob.
-<<<<<<< ours
 ghost use Rattle.std.specs.Prelude.{◌≡◌, ◌≤◌, ◌++◌, length};
-ghost use Rattle.std.specs.Prelude.{IfOk, OnOk};
-=======
-ghost use Rattle.std.specs.Prelude.{◌≡◌, ◌+◌, ◌*◌, ◌^◌, ◌<◌, ◌≤◌, ◌++◌, ◌∷◌, [], length};
 ghost use Rattle.std.specs.Prelude.{IfOk};
->>>>>>> theirs
 ghost use Rattle.cache.specs.Pages.{IsFresh};
 ghost use Rattle.crash.specs.Looks.{Looked};
-ghost use Rattle.writer_state.specs.Sound.{IsSound, content};
-ghost use Rattle.crash.specs.Stays.{KeepsAllFloors, LeavesOnly};
-ghost use Rattle.page.specs.Page.{text};
-<<<<<<< ours
-ghost use Rattle.paged.specs.Calls.{Appends, BuffersOver, Syncs, TryAppends};
-=======
-ghost use Rattle.paged.specs.Calls.{IsSettled};
+ghost use Rattle.writer_state.specs.Sound.{content};
+ghost use Rattle.crash.specs.Stays.{LeavesOnly};
+ghost use Rattle.paged.specs.Calls.{BuffersOver, TryAppends};
+ghost use Rattle.paged.specs.Goes.{AppendGoes, SnapshotGoes, SyncAllGoes};
 ghost use Rattle.paged.specs.Owes.{Owes};
-ghost use Rattle.paged.specs.Ready.{IsReady as IsWriterReady};
-ghost use Rattle.paged.specs.Goes.{AppendGoes, SyncAllGoes};
->>>>>>> theirs
+ghost use Rattle.paged.specs.Ready.{IsReady};
 ghost use Rattle.paged.specs.Reads.{size_of};
 ghost use Rattle.paged.specs.Truncate.{KeepsFloorsWithin};
 ghost use Rattle.journal.specs.Frame.{frame, whole_frames};
-ghost use Rattle.paged.specs.Caches.{tail_of, KeepsReads};
-ghost use Rattle.paged.specs.Snapshots.{MakesSnapshot};
-ghost use Rattle.paged_read.specs.Snapshots.{LeavesOthers, LeavesTails, StandsOn};
-ghost use Rattle.paged_read.specs.Tail.{CanRead};
+ghost use Rattle.paged.specs.Caches.{KeepsReads};
+ghost use Rattle.paged_read.specs.Snapshots.{LeavesOthers};
 ghost use Rattle.journal.specs.Journal.{IsJournal, IsNewId, OthersStay, AllStay};
 ghost use Rattle.journal.specs.Journal.{AppendsRecord, CommitGoes};
 ghost use Rattle.journal.specs.Journal.{ReadsRecord, Trims};
-ghost use Rattle.journal.specs.Journal.{RecoversJournal, IsReady, OnlyReads, KeepsCommitted};
+ghost use Rattle.journal.specs.Journal.{RecoversJournal, IsBetweenCalls, OnlyReads, KeepsCommitted};
 ghost use Rattle.journal.specs.Journal.{LeavesItsRecords, LeavesOneMore, KeepsAllRecords};
 ghost use Rattle.journal.specs.Journal.{LeavesAllRecords, BringsBack};
 ghost use Rattle.journal.specs.Reader.{EachReaderStays, IsNewToReaders, IsReader, MakesReader};
@@ -78,7 +66,7 @@ fn trim<B: Blob, H: Sum, R: Sum>(
     cache: &mut CacheRef,
     held: Hand,
 ) -> Result<(Recovery<B, H>, Vec<IoBuf>), Error>
-    requires ready { IsReady H.sum_of recovery cache.old (B.life blob.old) }
+    requires between { IsBetweenCalls H.sum_of recovery cache.old (B.life blob.old) }
     requires held { held.bytes ≡ content recovery (B.life blob.old).present.readable }
     ensures trims { let old = B.life blob.old in let new = B.life blob.new in
         Trims H.sum_of R.sum_of recovery cache.new old new result }
@@ -176,7 +164,7 @@ impl<B: Blob, H: Sum, R: Sum> Journal<B, H, R> {
     fn append(self, blob: &mut B, cache: &mut CacheRef, bytes: &[u8]) -> Result<(Self, u64), Error>
         requires ready { IsReady H.sum_of self cache.old (B.life blob.old) }
         ensures goes { AppendGoes H.sum_of self bytes.now (B.life blob.old) (B.life blob.new) result }
-        ensures ready { IfOk result (λ r. IsWriterReady H.sum_of r.0 cache.new (B.life blob.new)) }
+        ensures ready { IfOk result (λ r. IsReady H.sum_of r.0 cache.new (B.life blob.new)) }
         ensures owes { let all = content self (B.life blob.old).present.readable ++ bytes.now in
             Owes H.sum_of self all cache.old cache.new (B.life blob.old) (B.life blob.new) }
     {
@@ -216,7 +204,7 @@ impl<B: Blob, H: Sum, R: Sum> Journal<B, H, R> {
     fn sync(self, blob: &mut B, cache: &mut CacheRef) -> Result<Self, Error>
         requires ready { IsReady H.sum_of self cache.old (B.life blob.old) }
         ensures goes { SyncAllGoes H.sum_of self (B.life blob.old) (B.life blob.new) result }
-        ensures ready { IfOk result (λ w. IsWriterReady H.sum_of w cache.new (B.life blob.new)) }
+        ensures ready { IfOk result (λ w. IsReady H.sum_of w cache.new (B.life blob.new)) }
         ensures owes { let all = content self (B.life blob.old).present.readable in
             Owes H.sum_of self all cache.old cache.new (B.life blob.old) (B.life blob.new) }
     {
@@ -262,19 +250,11 @@ impl<B: Blob, H: Sum, R: Sum> Journal<B, H, R> {
     // A snapshot of the content.
     fn snapshot(self, blob: &mut B, cache: &mut CacheRef) -> Result<(Self, Sealed<B, H>), Error>
         requires ready { IsReady H.sum_of self cache.old (B.life blob.old) }
-        ensures makes { let old = B.life blob.old in let new = B.life blob.new in
-            MakesSnapshot H.sum_of self old new result }
-        ensures can { let new = B.life blob.new in
-            IfOk result (λ r. CanRead (tail_of r.0) cache.new new.present) }
-        ensures stands { let held = content self (B.life blob.old).present.readable in
-            IfOk result (λ r. StandsOn H.sum_of r.1 held cache.new (B.life blob.new).present) }
-        ensures fresh { IsFresh cache.new }
-        ensures tails { let old = B.life blob.old in let new = B.life blob.new in
-            LeavesTails H.sum_of self.full_pages cache.old cache.new old new }
-        ensures others { LeavesOthers self.id cache.old cache.new }
-        ensures kept { KeepsAllFloors H.sum_of self.page_size (B.life blob.old) (B.life blob.new) }
-        ensures only { let held = content self (B.life blob.old).present.readable in
-            LeavesOnly H.sum_of self.page_size held held (B.life blob.old) (B.life blob.new) }
+        ensures goes { let old = B.life blob.old in let new = B.life blob.new in
+            SnapshotGoes H.sum_of self cache.new old new result }
+        ensures ready { IfOk result (λ r. IsReady H.sum_of r.0 cache.new (B.life blob.new)) }
+        ensures owes { let all = content self (B.life blob.old).present.readable in
+            Owes H.sum_of self all cache.old cache.new (B.life blob.old) (B.life blob.new) }
     {
         let alloc = self.alloc;
         match self.writer.snapshot(blob, cache) {
@@ -345,7 +325,7 @@ impl<B: Blob, H: Sum, R: Sum> Journal<B, H, R> {
 
     // The frame that begins at an offset, or none.
     fn find(&self, blob: &mut B, cache: &mut CacheRef, offset: u64) -> Result<Option<Found>, Error>
-        requires ready { IsReady H.sum_of self.now cache.old (B.life blob.old) }
+        requires between { IsBetweenCalls H.sum_of self.now cache.old (B.life blob.old) }
         ensures reads { let old = B.life blob.old in let new = B.life blob.new in
             ReadsRecord R.sum_of (content self.now old.present.readable) offset old new result }
         ensures leaves { let old = B.life blob.old in let new = B.life blob.new in

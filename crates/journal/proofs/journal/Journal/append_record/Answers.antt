@@ -2,19 +2,13 @@ use Rattle.crash.specs.Moments.{through_start}
 use Rattle.journal.specs.Journal.{Commits}
 use Rattle.std.proofs.Common.{◌≡◌, ◌++◌, ◌∷◌, [], List, ℕ, subst, sym, ◌∙◌}
 use Rattle.writer_state.specs.Sound.{content}
-<<<<<<< ours
 use Rattle.writer_state.specs.WriterState.{WriterState}
-use Rattle.crash.specs.Stays.{KeepsAllFloors, LeavesOnly}
-use Rattle.paged_read.specs.Snapshots.{LeavesOthers, LeavesTails}
-use Rattle.paged.specs.Calls.{Appends}
-=======
 use Rattle.crash.specs.Stays.{LeavesOnly}
 use Rattle.paged.specs.Goes.{AppendGoes}
-use Rattle.paged.proofs.Owing.{owed_floors, owed_only}
->>>>>>> theirs
+use Rattle.paged.specs.Owes.{Owes, owed_floors, owed_only}
+use Rattle.paged.specs.Ready.{IsReady}
 use Rattle.journal.specs.Frame.{frame, records}
-use Rattle.journal.specs.Journal.{IsReady}
-use Rattle.journal.proofs.Journals.{append_goes, append_gives, buffer_refused, buffered, keeps_committed, leaves_records, leaves_still, before_append, after_append, not_fitting, others_stay, ready_of, whole_of}
+use Rattle.journal.proofs.Journals.{append_goes, append_gives, buffer_refused, buffered, keeps_committed, leaves_records, leaves_still, before_append, after_append, between_of, not_fitting, others_stay, ready_of, whole_of}
 use Rattle.journal.proofs.Readers.{other_readers_stay, readers_stay}
 use Rattle.journal.proofs.journal.Journal.append_record.Given.{Over}
 use Rattle.journal.proofs.journal.Journal.append_record.Goals as goal
@@ -41,7 +35,7 @@ returns-in_err-offset-clause-only g c =
     let own = g.R.Sum.sum_of in
     let w = c.args.self in
     let life = g.B.Blob.life c.args.blob.now in
-    leaves_still g.H.Sum.sum_of own w (records own (content w life.present.readable) ++ c.args.bytes.now ∷ []) life (ready_of g.H.Sum.sum_of w c.args.cache.now life c.requires.journal).only
+    leaves_still g.H.Sum.sum_of own w (records own (content w life.present.readable) ++ c.args.bytes.now ∷ []) life (between_of g.H.Sum.sum_of w c.args.cache.now life c.requires.journal).only
     (before_append own (content w life.present.readable) c.args.bytes.now)
 
 pub returns-in-Some-clause-appends : goal.returns-in-Some-clause-appends
@@ -65,7 +59,7 @@ returns-in-Some-clause-only g c =
     let own = g.R.Sum.sum_of in
     let w = c.args.self in
     let life = g.B.Blob.life c.args.blob.now in
-    leaves_still g.H.Sum.sum_of own w (records own (content w life.present.readable) ++ c.args.bytes.now ∷ []) life (ready_of g.H.Sum.sum_of w c.args.cache.now life c.requires.journal).only
+    leaves_still g.H.Sum.sum_of own w (records own (content w life.present.readable) ++ c.args.bytes.now ∷ []) life (between_of g.H.Sum.sum_of w c.args.cache.now life c.requires.journal).only
     (before_append own (content w life.present.readable) c.args.bytes.now)
 
 pub returns-in_err-framed-clause-only : goal.returns-in_err-framed-clause-only
@@ -73,7 +67,7 @@ returns-in_err-framed-clause-only g c =
     let own = g.R.Sum.sum_of in
     let w = c.args.self in
     let life = g.B.Blob.life c.args.blob.now in
-    leaves_still g.H.Sum.sum_of own w (records own (content w life.present.readable) ++ c.args.bytes.now ∷ []) life (ready_of g.H.Sum.sum_of c.args.self c.args.cache.now (g.B.Blob.life c.args.blob.now) c.requires.journal).only
+    leaves_still g.H.Sum.sum_of own w (records own (content w life.present.readable) ++ c.args.bytes.now ∷ []) life (between_of g.H.Sum.sum_of w c.args.cache.now life c.requires.journal).only
     (before_append own (content w life.present.readable) c.args.bytes.now)
 
 pub returns-in_err-framed-clause-kept : goal.returns-in_err-framed-clause-kept
@@ -91,36 +85,38 @@ append-requires g c =
       ready = subst (λ (w : WriterState). IsReady g.H.Sum.sum_of w c.args.cache.now life) (sym same) (ready_of g.H.Sum.sum_of c.args.self c.args.cache.now life c.requires.journal);
     }
 
+-- what the append owes, of the journal as it was
+owed : (g : Over) (c : After-append g) → Owes g.H.Sum.sum_of c.args.self (content c.args.self (g.B.Blob.life c.args.blob.now).present.readable ++ c.deref.result.now) c.args.cache.now c.append.new.cache (g.B.Blob.life c.args.blob.now) (g.B.Blob.life c.append.new.blob)
+owed g c =
+    let old = g.B.Blob.life c.args.blob.now in
+    subst (λ (w : WriterState). Owes g.H.Sum.sum_of w (content w old.present.readable ++ c.deref.result.now) c.args.cache.now c.append.new.cache old (g.B.Blob.life c.append.new.blob)) (same g c) c.append.ensures.owes
+
 pub returns-clause-appends : goal.returns-clause-appends
 returns-clause-appends g c =
     let w = c.args.self in
     let old = g.B.Blob.life c.args.blob.now in
     let new = g.B.Blob.life c.append.new.blob in
     let framed : c.deref.result.now ≡ frame g.R.Sum.sum_of c.args.bytes.now = c.deref.ensures.value ∙ c.in_ok-framed.ensures.framed in
-<<<<<<< ours
-    let appends : Appends g.H.Sum.sum_of w c.deref.result.now old new c.append.result =
-    subst (λ (v : WriterState). Appends g.H.Sum.sum_of v c.deref.result.now old new c.append.result) (same g (goal.at.returns-clause-appends g c).After-append) c.append.ensures.appends in
+    let goes : AppendGoes g.H.Sum.sum_of w c.deref.result.now old new c.append.result =
+    subst (λ (v : WriterState). AppendGoes g.H.Sum.sum_of v c.deref.result.now old new c.append.result) (same g (goal.at.returns-clause-appends g c).After-append) c.append.ensures.goes in
     append_goes g.H.Sum.sum_of g.R.Sum.sum_of w c.args.bytes.now c.append.new.cache old new c.append.result c.requires.short (g.met.R.Sum.small c.args.bytes.now) (whole_of g.H.Sum.sum_of w c.args.cache.now old c.requires.journal)
-    (subst (λ (b : List ℕ). Appends g.H.Sum.sum_of w b old new c.append.result) framed appends) c.append.ensures.can c.append.ensures.fresh
-=======
-    append_goes g.H.Sum.sum_of g.R.Sum.sum_of c.args.self c.args.bytes.now c.append.new.cache old new c.append.result c.requires.short (g.met.R.Sum.small c.args.bytes.now) (whole_of g.H.Sum.sum_of c.args.self c.args.cache.now (g.B.Blob.life c.args.blob.now) c.requires.journal)
-    (subst (λ (b : List ℕ). AppendGoes g.H.Sum.sum_of c.args.self b old new c.append.result) framed c.append.ensures.goes) c.append.ensures.ready
->>>>>>> theirs
+    (subst (λ (b : List ℕ). AppendGoes g.H.Sum.sum_of w b old new c.append.result) framed goes) c.append.ensures.ready
 
 pub returns-clause-journal : goal.returns-clause-journal
 returns-clause-journal g c =
     append_gives g.H.Sum.sum_of g.R.Sum.sum_of c.args.self c.args.bytes.now c.append.new.cache (g.B.Blob.life c.args.blob.now) (g.B.Blob.life c.append.new.blob) c.append.result (returns-clause-appends g c)
 
+pub returns-clause-fresh : goal.returns-clause-fresh
+returns-clause-fresh g c = c.append.ensures.owes.fresh
+
 pub returns-clause-kept : goal.returns-clause-kept
 returns-clause-kept g c =
-<<<<<<< ours
+    let w = c.args.self in
     let old = g.B.Blob.life c.args.blob.now in
     let new = g.B.Blob.life c.append.new.blob in
-    keeps_committed g.H.Sum.sum_of g.R.Sum.sum_of c.args.self.page_size old new
-    (subst (λ (w : WriterState). KeepsAllFloors g.H.Sum.sum_of w.page_size old new) (same g (goal.at.returns-clause-kept g c).After-append) c.append.ensures.kept)
-=======
-    keeps_committed g.H.Sum.sum_of g.R.Sum.sum_of c.args.self.page_size (g.B.Blob.life c.args.blob.now) (g.B.Blob.life c.append.new.blob) (owed_floors g.H.Sum.sum_of c.args.self (content c.args.self (g.B.Blob.life c.args.blob.now).present.readable ++ c.deref.result.now) (g.B.Blob.life c.args.blob.now) (g.B.Blob.life c.append.new.blob) c.append.ensures.owes.through)
->>>>>>> theirs
+    let before = content w old.present.readable in
+    keeps_committed g.H.Sum.sum_of g.R.Sum.sum_of w.page_size old new
+    (owed_floors g.H.Sum.sum_of w.page_size w.full_pages before (before ++ c.deref.result.now) old new (owed g (goal.at.returns-clause-kept g c).After-append).through)
 
 pub returns-clause-only : goal.returns-clause-only
 returns-clause-only g c =
@@ -131,51 +127,20 @@ returns-clause-only g c =
     let new = g.B.Blob.life c.append.new.blob in
     let before = content w old.present.readable in
     let framed : c.deref.result.now ≡ frame own c.args.bytes.now = c.deref.ensures.value ∙ c.in_ok-framed.ensures.framed in
-<<<<<<< ours
     let only : LeavesOnly sum w.page_size before (before ++ c.deref.result.now) old new =
-    subst (λ (v : WriterState). LeavesOnly sum v.page_size (content v old.present.readable) (content v old.present.readable ++ c.deref.result.now) old new) (same g (goal.at.returns-clause-only g c).After-append) c.append.ensures.only in
+    owed_only sum w.page_size w.full_pages before (before ++ c.deref.result.now) old new (owed g (goal.at.returns-clause-only g c).After-append).through in
     leaves_records sum own w.page_size before (before ++ frame own c.args.bytes.now) (records own before ++ c.args.bytes.now ∷ []) old new
     (before_append own before c.args.bytes.now) (after_append own before c.args.bytes.now c.requires.short (g.met.R.Sum.small c.args.bytes.now) (whole_of sum w c.args.cache.now old c.requires.journal))
     (subst (λ (b : List ℕ). LeavesOnly sum w.page_size before (before ++ b) old new) framed only)
 
 pub returns-clause-readers : goal.returns-clause-readers
 returns-clause-readers g c =
-    let old = g.B.Blob.life c.args.blob.now in
-    let new = g.B.Blob.life c.append.new.blob in
-    readers_stay g.H.Sum.sum_of c.args.self c.args.cache.now c.append.new.cache old new
-    (subst (λ (w : WriterState). LeavesTails g.H.Sum.sum_of w.full_pages c.args.cache.now c.append.new.cache old new) (same g (goal.at.returns-clause-readers g c).After-append) c.append.ensures.tails)
+    readers_stay g.H.Sum.sum_of c.args.self c.args.cache.now c.append.new.cache (g.B.Blob.life c.args.blob.now) (g.B.Blob.life c.append.new.blob) (owed g (goal.at.returns-clause-readers g c).After-append).tails
 
 pub returns-clause-others : goal.returns-clause-others
 returns-clause-others g c =
-    others_stay c.args.self.id c.args.cache.now c.append.new.cache
-    (subst (λ (w : WriterState). LeavesOthers w.id c.args.cache.now c.append.new.cache) (same g (goal.at.returns-clause-others g c).After-append) c.append.ensures.others) (λ fresh. c.append.ensures.fresh)
+    let owes = owed g (goal.at.returns-clause-others g c).After-append in
+    others_stay c.args.self.id c.args.cache.now c.append.new.cache owes.others (λ fresh. owes.fresh)
 
 pub returns-clause-their_readers : goal.returns-clause-their_readers
-returns-clause-their_readers g c =
-    other_readers_stay c.args.self.id c.args.cache.now c.append.new.cache
-    (subst (λ (w : WriterState). LeavesOthers w.id c.args.cache.now c.append.new.cache) (same g (goal.at.returns-clause-their_readers g c).After-append) c.append.ensures.others)
-=======
-    leaves_records g.H.Sum.sum_of own w.page_size before (before ++ frame own c.args.bytes.now) (records own before ++ c.args.bytes.now ∷ []) old new
-    (before_append own before c.args.bytes.now) (after_append own before c.args.bytes.now c.requires.short (g.met.R.Sum.small c.args.bytes.now) (whole_of g.H.Sum.sum_of c.args.self c.args.cache.now (g.B.Blob.life c.args.blob.now) c.requires.journal))
-    (subst (λ (b : List ℕ). LeavesOnly g.H.Sum.sum_of w.page_size before (before ++ b) old new) framed (owed_only g.H.Sum.sum_of w (before ++ c.deref.result.now) old new c.append.ensures.owes.through))
-
-pub returns-in_err-framed-clause-kept : goal.returns-in_err-framed-clause-kept
-returns-in_err-framed-clause-kept g c =
-    λ held n commits. through_start (Commits g.H.Sum.sum_of g.R.Sum.sum_of c.args.self.page_size held n) (g.B.Blob.life c.args.blob.now) commits
-
-pub append-requires : goal.append-requires
-append-requires g c = record { ready = ready_of g.H.Sum.sum_of c.args.self c.args.cache.now (g.B.Blob.life c.args.blob.now) c.requires.journal }
-
-pub returns-clause-readers : goal.returns-clause-readers
-returns-clause-readers g c =
-    readers_stay g.H.Sum.sum_of c.args.self c.args.cache.now c.append.new.cache (g.B.Blob.life c.args.blob.now) (g.B.Blob.life c.append.new.blob) c.append.ensures.owes.tails
-
-pub returns-clause-others : goal.returns-clause-others
-returns-clause-others g c = others_stay c.args.self.id c.args.cache.now c.append.new.cache c.append.ensures.owes.others (λ fresh. c.append.ensures.owes.fresh)
-
-pub returns-clause-their_readers : goal.returns-clause-their_readers
-returns-clause-their_readers g c = other_readers_stay c.args.self.id c.args.cache.now c.append.new.cache c.append.ensures.owes.others
-
-pub returns-in_err-framed-clause-fresh : goal.returns-in_err-framed-clause-fresh
-returns-in_err-framed-clause-fresh g c = (ready_of g.H.Sum.sum_of c.args.self c.args.cache.now (g.B.Blob.life c.args.blob.now) c.requires.journal).fresh
->>>>>>> theirs
+returns-clause-their_readers g c = other_readers_stay c.args.self.id c.args.cache.now c.append.new.cache (owed g (goal.at.returns-clause-their_readers g c).After-append).others

@@ -14,7 +14,7 @@ frame_at-requires g c =
     let e : tail_at v.page_size v.id v.tip.now ≡ tail_of c.args.self.now = c.view.ensures.tail ∙ ap (λ (w : WriterState). tail_of w) c.self.view_is in
     record {
       view = c.view.ensures.view;
-      opened = subst (λ (t : Tail). IsOpen g.H.Sum.sum_of t c.args.cache.now life) (sym e) (opened_writer g.H.Sum.sum_of c.args.self.now c.args.cache.now life c.requires.ready);
+      opened = subst (λ (t : Tail). IsOpen g.H.Sum.sum_of t c.args.cache.now life) (sym e) (opened_writer g.H.Sum.sum_of c.args.self.now c.args.cache.now life c.requires.between);
     }
 
 pub returns-clause-reads : goal.returns-clause-reads
@@ -31,5 +31,5 @@ returns-clause-leaves g c =
     let old = g.B.Blob.life c.args.blob.now in
     let new = g.B.Blob.life c.frame_at.new.blob in
     let e : tail_at v.page_size v.id v.tip.now ≡ tail_of c.args.self.now = c.view.ensures.tail ∙ ap (λ (w : WriterState). tail_of w) c.self.view_is in
-    views_read g.H.Sum.sum_of c.args.self.now c.args.cache.now c.frame_at.new.cache old new c.requires.ready
+    views_read g.H.Sum.sum_of c.args.self.now c.args.cache.now c.frame_at.new.cache old new c.requires.between
     (subst (λ (t : Tail). OnlyViews g.H.Sum.sum_of t c.args.cache.now c.frame_at.new.cache old new) e c.frame_at.ensures.leaves)

@@ -1,27 +1,28 @@
-use Rattle.std.proofs.Common.{subst}
-use Rattle.crash.specs.Stays.{KeepsAllFloors}
+use Rattle.std.proofs.Common.{Ok, Err, subst, sym}
+use Rattle.writer_state.specs.Sound.{content}
 use Rattle.writer_state.specs.WriterState.{WriterState}
-use Rattle.paged_read.specs.Snapshots.{LeavesOthers, LeavesTails}
+use Rattle.paged.specs.Goes.{SnapshotGoes}
+use Rattle.paged.specs.Owes.{Owes}
 use Rattle.journal.proofs.journal.Journal.snapshot.Goals as goal
 
-pub returns-in-Ok-clause-tails : goal.returns-in-Ok-clause-tails
-returns-in-Ok-clause-tails g c =
-    subst (λ (v : WriterState). LeavesTails g.H.Sum.sum_of v.full_pages c.args.cache.now c.snapshot.new.cache (g.B.Blob.life c.args.blob.now) (g.B.Blob.life c.snapshot.new.blob)) c.self.view_is c.snapshot.ensures.tails
+pub returns-in-Ok-clause-goes : goal.returns-in-Ok-clause-goes
+returns-in-Ok-clause-goes g c =
+    let old = g.B.Blob.life c.args.blob.now in
+    let new = g.B.Blob.life c.snapshot.new.blob in
+    let t = c.in-Ok.snapshot in
+    subst (λ (w : WriterState). SnapshotGoes g.H.Sum.sum_of w c.snapshot.new.cache old new (Ok (c.new.result, t))) c.self.view_is
+    (subst (λ (v : WriterState). SnapshotGoes g.H.Sum.sum_of c.self.inside.writer c.snapshot.new.cache old new (Ok (v, t))) (sym c.new.ensures) c.in-Ok.ensures.goes)
 
-pub returns-in-Ok-clause-others : goal.returns-in-Ok-clause-others
-returns-in-Ok-clause-others g c = subst (λ (v : WriterState). LeavesOthers v.id c.args.cache.now c.snapshot.new.cache) c.self.view_is c.snapshot.ensures.others
+pub returns-in-Ok-clause-owes : goal.returns-in-Ok-clause-owes
+returns-in-Ok-clause-owes g c =
+    let old = g.B.Blob.life c.args.blob.now in
+    subst (λ (w : WriterState). Owes g.H.Sum.sum_of w (content w old.present.readable) c.args.cache.now c.snapshot.new.cache old (g.B.Blob.life c.snapshot.new.blob)) c.self.view_is c.snapshot.ensures.owes
 
-pub returns-in-Ok-clause-kept : goal.returns-in-Ok-clause-kept
-returns-in-Ok-clause-kept g c =
-    subst (λ (v : WriterState). KeepsAllFloors g.H.Sum.sum_of v.page_size (g.B.Blob.life c.args.blob.now) (g.B.Blob.life c.snapshot.new.blob)) c.self.view_is c.snapshot.ensures.kept
+pub returns-in-Err-clause-goes : goal.returns-in-Err-clause-goes
+returns-in-Err-clause-goes g c =
+    subst (λ (w : WriterState). SnapshotGoes g.H.Sum.sum_of w c.snapshot.new.cache (g.B.Blob.life c.args.blob.now) (g.B.Blob.life c.snapshot.new.blob) (Err c.in-Err.error)) c.self.view_is c.in-Err.ensures.goes
 
-pub returns-in-Err-clause-tails : goal.returns-in-Err-clause-tails
-returns-in-Err-clause-tails g c =
-    subst (λ (v : WriterState). LeavesTails g.H.Sum.sum_of v.full_pages c.args.cache.now c.snapshot.new.cache (g.B.Blob.life c.args.blob.now) (g.B.Blob.life c.snapshot.new.blob)) c.self.view_is c.snapshot.ensures.tails
-
-pub returns-in-Err-clause-others : goal.returns-in-Err-clause-others
-returns-in-Err-clause-others g c = subst (λ (v : WriterState). LeavesOthers v.id c.args.cache.now c.snapshot.new.cache) c.self.view_is c.snapshot.ensures.others
-
-pub returns-in-Err-clause-kept : goal.returns-in-Err-clause-kept
-returns-in-Err-clause-kept g c =
-    subst (λ (v : WriterState). KeepsAllFloors g.H.Sum.sum_of v.page_size (g.B.Blob.life c.args.blob.now) (g.B.Blob.life c.snapshot.new.blob)) c.self.view_is c.snapshot.ensures.kept
+pub returns-in-Err-clause-owes : goal.returns-in-Err-clause-owes
+returns-in-Err-clause-owes g c =
+    let old = g.B.Blob.life c.args.blob.now in
+    subst (λ (w : WriterState). Owes g.H.Sum.sum_of w (content w old.present.readable) c.args.cache.now c.snapshot.new.cache old (g.B.Blob.life c.snapshot.new.blob)) c.self.view_is c.snapshot.ensures.owes
