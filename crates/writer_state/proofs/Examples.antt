@@ -489,10 +489,9 @@ mixed_is_image = torn_is_image longer mixed (
 pub a_mixed_text : text add_sum 4 mixed ≡ 1 ∷ 0 ∷ 0 ∷ []
 a_mixed_text = refl
 
--- it isn't distinct, since in no whole state the slot held these six bytes
-pub a_slot_of_two_writes : IsDistinct add_sum 4 longer mixed → ⊥
-a_slot_of_two_writes distinct =
-    let was = distinct 0 mixed refl Second (omega arith) in
+-- in no whole state the slot held these six bytes
+pub no_slot_of_two_writes : SlotIsDistinct add_sum 4 longer 0 mixed Second 3 → ⊥
+no_slot_of_two_writes was =
     elim was.is_whole [
       | inl old ↦
           let e : 1 ≡ 3 = ap (λ (l : List ℕ). slot_len (slot_of 4 Second l)) (held_is two_bytes was.whole was.held old refl was.there) ∙ ap slot_len was.same in
@@ -501,6 +500,10 @@ a_slot_of_two_writes distinct =
           let e : 10 ≡ 1 = ap (λ (l : List ℕ). slot_crc (slot_of 4 Second l)) (held_is three_bytes was.whole was.held new refl was.there) ∙ ap slot_crc was.same in
           absurd (omega (arith, e))
     ]
+
+-- so it isn't distinct
+pub a_slot_of_two_writes : IsDistinct add_sum 4 longer mixed → ⊥
+a_slot_of_two_writes distinct = no_slot_of_two_writes (distinct 0 mixed refl Second (omega arith))
 
 -- "ef" and a zero isn't: its slot was written, over "efg", which has the same sum
 pub two_strings_of_one_sum : IsDistinct const_sum 4 weak_page weak_torn → ⊥

@@ -10,3 +10,4 @@ pub mod MendLaws
 pub mod TailLaws
 pub mod Examples
 pub mod PartExamples
+pub mod CounterExamples
