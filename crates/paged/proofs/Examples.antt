@@ -98,6 +98,10 @@ after_a_sync = refl
 pub settled : IsSettled (record with_g { tip = 101 ∷ 102 ∷ [] })
 settled = record { clean = refl; short = omega arith; flushed = refl }
 
+-- not one of "abcdefg", of which "g" isn't written
+pub not_settled : IsSettled with_g → ⊥
+not_settled is = omega (arith, is.flushed)
+
 -- a blob of two pages
 abbrev pub old : Life
 old = record { present = at_rest (abcd_page ++ ef_page); past = [] }

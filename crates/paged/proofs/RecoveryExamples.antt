@@ -1,6 +1,6 @@
 -- What opening and recovering a blob keep, at a few bytes. Pages have 4 bytes, and the checksum is their sum.
-use Rattle.std.proofs.Common.{◌≡◌, inl, inr, ℕ, List, [], ◌∷◌, ◌++◌, map, Ok, false, refl, sym, subst, lit<, arith, rules, ◌<◌, length, take, drop}
-use Rattle.std.specs.Prelude.{Some, None}
+use Rattle.std.proofs.Common.{◌≡◌, inl, inr, ℕ, List, [], ◌∷◌, ◌++◌, map, Ok, false, refl, sym, subst, lit<, arith, rules, ◌<◌, length, take, drop, ap}
+use Rattle.std.specs.Prelude.{Some, None, get_or}
 use Rattle.disk.specs.Disk.{Disk, Life, Entry, ReadAt, ResizeTo, SyncAll, Write, applied, next, settled_disk, logged}
 use Rattle.page.specs.Page.{pages, text, verified_len}
 use Rattle.page.specs.declared.slot.Slot.{Slot}
@@ -10,19 +10,20 @@ use Rattle.page.specs.declared.slot.Slot.TheVariants.{First, Second}
 use Rattle.page.specs.declared.slot.ActiveChecksum.{ActiveChecksum}
 use Rattle.writer_state.specs.WriterState.{WriterState}
 use Rattle.writer_state.specs.declared.sync_state.SyncState.TheVariants.{Clean, Dirty}
-use Rattle.crash.specs.Kept.{AllKeep}
+use Rattle.crash.specs.Kept.{AllKeep, AllOnly}
+use Rattle.crash.specs.Moments.{through_end}
 use Rattle.crash.specs.Stays.{KeepsFloors}
-use Rattle.crash.proofs.Promise.{held_verifies}
+use Rattle.crash.proofs.Promise.{held_verifies, whole_is_chance_free}
 use Rattle.crash.proofs.CutLaws.{rest_through_start}
 use Rattle.crash.proofs.Disks.{base_is_image, whole_is_image}
 use Rattle.crash.proofs.FloorLaws.{ReadsImage, floors_none, floors_sync}
 use Rattle.crash.specs.Looks.{looked_start}
 use Rattle.crash.proofs.Texts.{bytes_from_all}
-use Rattle.writer_state.proofs.Examples.{durable, rewritten, seven, before, after}
+use Rattle.writer_state.proofs.Examples.{at_rest, durable, rewritten, six, seven, before, after}
 use Rattle.paged_read.specs.Prefix.{bad_in, prefix_of, last_prefix, prefix_pages}
 use Rattle.paged.specs.Calls.{AsksAtMost, IsSettled}
 use Rattle.paged.specs.Recovery.{IsDurable, IsAsOpened, KeepsText, LeavesText, SoundWhereFull, TailIsMended, opened_bytes, opened_prefix, opened_size, opened_writer, at_prefix}
-use Rattle.paged.specs.Recovers.{recovered_writer, recovered_bytes}
+use Rattle.paged.specs.Recovers.{IsRecovered, recovered_writer, recovered_bytes}
 use Rattle.cache.specs.CacheState.{CacheState, empty_cache}
 use Rattle.paged.specs.Recovery.IsCutBack.{whole}
 use Rattle.paged_read.specs.Searches.{AreWithin, ReadsWithin, scan_bytes}
@@ -122,6 +123,10 @@ the_same_text = refl
 pub all_durable : IsDurable durable
 all_durable = record { since = refl; base = refl }
 
+-- not after a write that isn't synced
+pub not_all_durable : IsDurable rewritten → ⊥
+not_all_durable is = omega (arith, ap length is.since)
+
 -- a call that does nothing keeps the text "abcdef"
 pub a_kept_text : KeepsText add_sum 4 before before
 a_kept_text = keeps_text add_sum 4 before before (floors_none add_sum 4 (text add_sum 4 durable.readable) before before refl)
@@ -129,6 +134,15 @@ a_kept_text = keeps_text add_sum 4 before before (floors_none add_sum 4 (text ad
 -- and leaves no other
 pub no_other_text : LeavesText add_sum 4 before before
 no_other_text = leaves_text add_sum 4 before before (λ rests. rest_through_start add_sum 4 (text add_sum 4 durable.readable) before rests.since rests.base refl)
+
+-- one that leaves the second page alone leaves another: "ef"
+pub another_text : LeavesText add_sum 4 before (next before (at_rest ef_page)) → ⊥
+another_text leaves =
+    let only : AllOnly add_sum 4 six six (at_rest ef_page) = through_end (AllOnly add_sum 4 six six) before (next before (at_rest ef_page)) (leaves all_durable) in
+    elim (only.only ef_page (base_is_image (at_rest ef_page)) (whole_is_chance_free add_sum 4 (at_rest ef_page) ef_page refl)) [
+      | inl is ↦ omega (arith, ap (λ (l : List ℕ). get_or l 0 0) is)
+      | inr is ↦ omega (arith, ap (λ (l : List ℕ). get_or l 0 0) is)
+    ]
 
 -- "abcdefg" is readable, and its last page unsynced: what is readable is one of the things that a crash may leave
 unsynced_image : ReadsImage after
@@ -188,6 +202,13 @@ no_slot_holds keeps =
 -- the recovered writer is settled
 pub a_settled_recovery : IsSettled (at_prefix 4 0 8 (opened_prefix add_sum 4 (abcd_page ++ ef_page ++ no_page)) Clean)
 a_settled_recovery = record { clean = refl; short = omega arith; flushed = refl }
+
+-- a recovery of "abcdef" gives no writer of "abcde", and leaves nothing unsynced
+pub no_byte_is_left_out : IsRecovered add_sum a_cache 8 before before (record { page_size = 4; id = 0; capacity = 8; full_pages = 1; tip = 101 ∷ []; flushed = Some slot_of_ef; durable = Some slot_of_ef; sync = Clean }) → ⊥
+no_byte_is_left_out is = omega (arith, ap length is.content)
+
+pub nothing_is_left_unsynced : (w : WriterState) → IsRecovered add_sum a_cache 8 before after w → ⊥
+nothing_is_left_unsynced w is = not_all_durable is.durable
 
 -- opening the durable blob leaves it as it is; its page below the tip is full, so the writer is sound
 pub a_sound_opening : SoundWhereFull add_sum 4 before before (at_prefix 4 0 8 (opened_prefix add_sum 4 durable.readable) Dirty)

@@ -406,6 +406,14 @@ none_survives = survives add_sum 4 [] [] 0 empty (omega arith) (keeps_nothing ad
 pub empty_does_not : LeadsTo add_sum 4 true empty saved → ⊥
 empty_does_not leads = elim (none_survives.only ab (leads ab ab_comes_back)) [ inl is ↦ omega (arith, ap length is) | inr is ↦ omega (arith, ap length is) ]
 
+-- of what is synced no less comes back, by fair crashes and recoveries or others
+pub no_less_comes_back : (fair : Bool) → ComesBack add_sum 4 fair saved (97 ∷ []) → ⊥
+no_less_comes_back fair comes = omega (arith, ap length (saved_survives.kept fair (97 ∷ []) comes))
+
+-- and of an empty blob no more
+pub no_more_comes_back : ComesBack add_sum 4 true empty ab → ⊥
+no_more_comes_back comes = elim (none_survives.only ab comes) [ inl is ↦ omega (arith, ap length is) | inr is ↦ omega (arith, ap length is) ]
+
 -- ---- a recovery with no crash before it
 
 -- over what isn't durable it isn't fair, nor is one that is cut short

@@ -23,5 +23,7 @@ pub mod PromiseExamples
 pub mod GivesBackExamples
 pub mod RefusedExamples
 pub mod StandingExamples
+pub mod CutExamples
+pub mod StoodExamples
 pub mod Joined
 pub mod WordLaws

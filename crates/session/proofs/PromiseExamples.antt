@@ -1,7 +1,7 @@
 -- Examples of the promise of a run, and of runs that it doesn't hold of: "ab" is appended to an empty blob, and synced. Pages have
 -- 4 bytes, and the checksum is their sum.
 use Rattle.std.proofs.Common.{Bool, lit<, ◌≡◌, ◌+◌, ◌^◌, ◌≤◌, ℕ, Vec, List, [], ◌∷◌, ◌++◌, append-nil, length, refl, sym, ap, subst, ◌∙◌, inl, inr, arith, true, false}
-use Rattle.std.specs.Prelude.{None, get_or, ◌||◌, nat_eq}
+use Rattle.std.specs.Prelude.{Some, None, get_or, ◌||◌, nat_eq}
 use Rattle.std.specs.List.{list_any}
 use Rattle.std.specs.declared.alloc.Global.{Global}
 use Rattle.std.proofs.lemmas.Bool.{eq-eqb, false≢true}
@@ -15,6 +15,7 @@ use Rattle.crash.proofs.Disks.{base_is_image, partial_whole}
 use Rattle.crash.proofs.Promise.{keeps_nothing}
 use Rattle.writer_state.specs.WriterState.{WriterState}
 use Rattle.writer_state.specs.Sound.{Soundness}
+use Rattle.writer_state.specs.declared.sync_state.SyncState.TheVariants.{Pending}
 use Rattle.writer_state.proofs.Soundness.{empty_sound, operated_stays}
 use Rattle.paged.specs.Writer.{physical_blob_size}
 use Rattle.session.specs.declared.steps.Step.{Step}
@@ -49,6 +50,33 @@ it_stands_for_no_other fits = omega (arith, ap (λ (l : List ℕ). get_or l 1 0)
 -- nor as one that has yet to write
 pub it_has_written : WriterStandsFor 4 ab_writer (record (fresh 4 8 ab) { written = false }) saved → ⊥
 it_has_written fits = absurd (false≢true fits.written)
+
+-- nor in pages of another size
+pub it_has_no_other_pages : WriterStandsFor 8 ab_writer (fresh 4 8 ab) saved → ⊥
+it_has_no_other_pages fits = omega (arith, fits.page_size)
+
+-- nor as one that is gone
+pub it_is_there : WriterStandsFor 4 ab_writer (record (fresh 4 8 ab) { has_writer = false }) saved → ⊥
+it_is_there fits = absurd (false≢true fits.has_writer)
+
+-- nor with another content that a refused step would have left
+pub none_was_refused : WriterStandsFor 4 ab_writer (record (fresh 4 8 ab) { otherwise = [] }) saved → ⊥
+none_was_refused fits = omega (arith, ap length fits.otherwise)
+
+-- nor with another buffer than it has
+pub it_has_no_more_room : WriterStandsFor 4 ab_writer (record (fresh 4 8 ab) { capacity = 12 }) saved → ⊥
+it_has_no_more_room fits = omega (arith, fits.capacity)
+
+-- nor with one that can't hold what is buffered
+pub it_holds_what_is_buffered : WriterStandsFor 4 (record ab_writer { capacity = 1 }) (record (fresh 4 8 ab) { capacity = 1 }) saved → ⊥
+it_holds_what_is_buffered fits = omega (arith, fits.within)
+
+-- nor as one that waits for a sync, where it doesn't, or as one that doesn't, where it does
+pub it_awaits_none : WriterStandsFor 4 ab_writer (record (fresh 4 8 ab) { awaited = Some 0 }) saved → ⊥
+it_awaits_none fits = absurd (cc fits.awaited)
+
+pub it_awaits_one : WriterStandsFor 4 (record ab_writer { sync = Pending 0 }) (fresh 4 8 ab) saved → ⊥
+it_awaits_one fits = absurd (cc fits.awaited)
 
 -- nor for more buffered bytes
 pub it_buffers_no_more : WriterStandsFor 4 ab_writer (record (fresh 4 8 ab) { buffered = 3 }) saved → ⊥
@@ -246,12 +274,12 @@ no_slice_past_the_end bytes moments after (first_stood, first, rest, joined, mid
 -- ---- the promise
 
 -- a session without a started sync has no cover
-no_covers : (covers : List (ℕ × ℕ)) → NamesFit [] covers → covers ≡ []
+pub no_covers : (covers : List (ℕ × ℕ)) → NamesFit [] covers → covers ≡ []
 no_covers [] fit = refl
 no_covers (c ∷ cs) fit = absurd (false≢true (fit c.0 ∙ ap (λ (b : Bool). b || list_any (λ (x : ℕ × ℕ). nat_eq x.0 c.0) cs) (eq-eqb c.0 c.0 refl)))
 
 -- two standings of the same parts are one
-same_standing : (a b : Standing) → a.has_writer ≡ b.has_writer → a.recovering ≡ b.recovering → a.content ≡ b.content → a.floor ≡ b.floor → a.otherwise ≡ b.otherwise → a.capacity ≡ b.capacity → a.buffered ≡ b.buffered → a.written ≡ b.written
+pub same_standing : (a b : Standing) → a.has_writer ≡ b.has_writer → a.recovering ≡ b.recovering → a.content ≡ b.content → a.floor ≡ b.floor → a.otherwise ≡ b.otherwise → a.capacity ≡ b.capacity → a.buffered ≡ b.buffered → a.written ≡ b.written
     → a.awaited ≡ b.awaited → a.covers ≡ b.covers → a.snapshots ≡ b.snapshots → a.replays ≡ b.replays → a ≡ b
 same_standing a b e1 e2 e3 e4 e5 e6 e7 e8 e9 e10 e11 e12 = rw (e1, e2, e3, e4, e5, e6, e7, e8, e9, e10, e11, e12) refl
 
@@ -275,39 +303,38 @@ a_promise bytes is P before stands =
     (subst (λ (s : Standing). Told add_sum 4 (steps_of bytes) (session_of ab_writer) (life_of empty) life_then [] replies_of s) (sym stood.1) (it_is_told bytes is))
 
 -- the moments of a life that a run tells are those that it had
-told_by : (steps : List Step) (now : SessionState) (replies : List Reply) (moments : List Disk) → Told add_sum 4 steps now (life_of empty) (life_after (life_of empty) moments) [] replies (fresh 4 8 [])
-    → (after : Standing) × Tells add_sum 4 steps replies empty moments (fresh 4 8 []) after
-told_by steps now replies moments told =
-    let same : told.moments ≡ moments = (same_moments (life_of empty) (life_of empty) told.moments moments refl (sym told.goes)).1 in (
+pub told_by : (d : Disk) (s : Standing) (steps : List Step) (now : SessionState) (replies : List Reply) (moments : List Disk) → Told add_sum 4 steps now (life_of d) (life_after (life_of d) moments) [] replies s
+    → (after : Standing) × Tells add_sum 4 steps replies d moments s after
+told_by d s steps now replies moments told =
+    let same : told.moments ≡ moments = (same_moments (life_of d) (life_of d) told.moments moments refl (sym told.goes)).1 in (
       told.after,
-      subst (λ (rs : List Reply). Tells add_sum 4 steps rs empty moments (fresh 4 8 []) told.after) (sym told.adds)
-          (subst (λ (ds : List Disk). Tells add_sum 4 steps told.added empty ds (fresh 4 8 []) told.after) same told.tells),
+      subst (λ (rs : List Reply). Tells add_sum 4 steps rs d moments s told.after) (sym told.adds) (subst (λ (ds : List Disk). Tells add_sum 4 steps told.added d ds s told.after) same told.tells),
     )
 
 -- not without the sync, whatever the session is then
 pub no_promise_without_the_sync : (bytes : Vec ℕ Global) (now : SessionState) → bytes.items ≡ ab → Promises add_sum (steps_of bytes) (session_of empty_writer) now (life_of empty) (life_after (life_of empty) (unsynced ∷ [])) [] replies_of → ⊥
 no_promise_without_the_sync bytes now are promise =
-    let told = told_by (steps_of bytes) now replies_of (unsynced ∷ []) (promise 4 (fresh 4 8 []) empty_stands) in
+    let told = told_by empty (fresh 4 8 []) (steps_of bytes) now replies_of (unsynced ∷ []) (promise 4 (fresh 4 8 []) empty_stands) in
     no_run_without_the_sync bytes told.0 are told.1
 
 -- nor where another byte was appended than the blob says
 pub no_promise_of_another_byte : (bytes : Vec ℕ Global) (now : SessionState) → bytes.items ≡ 97 ∷ 99 ∷ [] → Promises add_sum (steps_of bytes) (session_of empty_writer) now (life_of empty) life_then [] replies_of → ⊥
 no_promise_of_another_byte bytes now are promise =
-    let told = told_by (steps_of bytes) now replies_of moments_of (promise 4 (fresh 4 8 []) empty_stands) in
+    let told = told_by empty (fresh 4 8 []) (steps_of bytes) now replies_of moments_of (promise 4 (fresh 4 8 []) empty_stands) in
     let s : Survives add_sum 4 (97 ∷ 99 ∷ []) (97 ∷ 99 ∷ []) 2 saved = survives_so bytes (97 ∷ 99 ∷ []) moments_of told.0 are told.1 in
     omega (arith, ap (λ (l : List ℕ). get_or l 1 0) (s.kept true ab ab_comes_back))
 
 -- or one less
 pub no_promise_of_a_byte_less : (bytes : Vec ℕ Global) (now : SessionState) → bytes.items ≡ 97 ∷ [] → Promises add_sum (steps_of bytes) (session_of empty_writer) now (life_of empty) life_then [] replies_of → ⊥
 no_promise_of_a_byte_less bytes now are promise =
-    let told = told_by (steps_of bytes) now replies_of moments_of (promise 4 (fresh 4 8 []) empty_stands) in
+    let told = told_by empty (fresh 4 8 []) (steps_of bytes) now replies_of moments_of (promise 4 (fresh 4 8 []) empty_stands) in
     let s : Survives add_sum 4 (97 ∷ []) (97 ∷ []) 1 saved = survives_so bytes (97 ∷ []) moments_of told.0 are told.1 in
     elim (s.only ab ab_comes_back) [ inl is ↦ omega (arith, ap length is) | inr is ↦ omega (arith, ap length is) ]
 
 -- nor with another reply
 pub no_promise_of_another_offset : (bytes : Vec ℕ Global) (now : SessionState) (moments : List Disk) → Promises add_sum (steps_of bytes) (session_of empty_writer) now (life_of empty) (life_after (life_of empty) moments) [] (At 1 ∷ Done ∷ []) → ⊥
 no_promise_of_another_offset bytes now moments promise =
-    let told = told_by (steps_of bytes) now (At 1 ∷ Done ∷ []) moments (promise 4 (fresh 4 8 []) empty_stands) in
+    let told = told_by empty (fresh 4 8 []) (steps_of bytes) now (At 1 ∷ Done ∷ []) moments (promise 4 (fresh 4 8 []) empty_stands) in
     no_other_offset bytes moments told.0 told.1
 
 -- nor with a moment of another life

@@ -26,12 +26,12 @@ use Rattle.session.proofs.ComesBackExamples.{ab, ab_page, empty, unsynced, saved
 use Rattle.session.proofs.PromiseExamples.{nothing_yet, steps_of, unsynced_only, unsynced_survives, within_a_page}
 
 -- where one step is told, its moments are all that there are
-one_step : (step : Step) (reply : Reply) (from : Disk) (moments : List Disk) (s after : Standing) (told : Tells add_sum 4 (step ∷ []) (reply ∷ []) from moments s after) → last from moments ≡ last from told.1
+pub one_step : (step : Step) (reply : Reply) (from : Disk) (moments : List Disk) (s after : Standing) (told : Tells add_sum 4 (step ∷ []) (reply ∷ []) from moments s after) → last from moments ≡ last from told.1
 one_step step reply from moments s after told =
     ap (λ (l : List Disk). last from l) told.3 ∙ ap (λ (l : List Disk). last from (told.1 ++ l)) told.7.0 ∙ ap (λ (l : List Disk). last from l) (append-nil told.1)
 
 -- a disk that has what the unsynced one has, but for its log and its started syncs
-alike : (d : Disk) → d.base ≡ [] → d.since ≡ unsynced.since → Survives add_sum 4 ab ab 0 d × AllOnly add_sum 4 ab ab d
+pub alike : (d : Disk) → d.base ≡ [] → d.since ≡ unsynced.since → Survives add_sum 4 ab ab 0 d × AllOnly add_sum 4 ab ab d
 alike d base since =
     let only : AllOnly add_sum 4 ab ab d = record {
       only = λ image is_image free. unsynced_only.only image (same_image d unsynced image (sym base) (sym since) is_image) (rw (base, since) at free);
@@ -131,7 +131,7 @@ ab_started = starting 4 (Named 0) (appended 4 ab (fresh 4 8 []))
 abbrev pub ab_waited : Standing
 ab_waited = record (waited ab_started) { floor = 2 }
 
-complete_survives : (floor : ℕ) → floor ≤ 2 → Survives add_sum 4 ab ab floor complete
+pub complete_survives : (floor : ℕ) → floor ≤ 2 → Survives add_sum 4 ab ab floor complete
 complete_survives floor enough = survives add_sum 4 ab ab floor complete enough (keeps_fewer add_sum 4 ab floor 2 complete enough (keeps_at_rest add_sum 4 complete refl)) (rests ab ab ab complete refl refl refl)
 
 -- before the wait nothing is kept, and after it "ab" is

@@ -5,16 +5,17 @@ use Rattle.std.specs.Prelude.{Some, None, get_or}
 use Rattle.std.specs.declared.alloc.Global.{Global}
 use Rattle.std.proofs.lemmas.Bool.{false≢true}
 use Rattle.disk.specs.Disk.{Disk, failed_at}
-use Rattle.disk.specs.declared.error.Error.TheVariants.{WriteFailed, OutOfMemory}
+use Rattle.disk.specs.declared.error.Error.TheVariants.{WriteFailed, BlobInsufficientLength, OutOfMemory}
 use Rattle.page.specs.Geometry.{EndWithin}
 use Rattle.page.specs.Sums.{add_sum}
 use Rattle.writer_state.specs.declared.sync_state.SyncState.TheVariants.{Clean, Dirty, Pending}
 use Rattle.writer_state.proofs.Examples.{durable, six, seven, flush_started, all_is_covered, rewritten}
 use Rattle.paged_read.specs.Tail.{Tail}
 use Rattle.paged_read.specs.Replay.{new_replay}
-use Rattle.session.specs.declared.steps.Step.TheVariants.{Append, Sync, Read, Truncate}
-use Rattle.session.specs.declared.steps.Reply.TheVariants.{Closed, NotAppending}
+use Rattle.session.specs.declared.steps.Step.TheVariants.{Append, Sync, Size, Read, Seek, Truncate}
+use Rattle.session.specs.declared.steps.Reply.TheVariants.{Length, Fault, Closed, NotAppending}
 use Rattle.session.specs.Run.{Replayed, Standing, has_room, written_after, moved, forgetting, raised_floor, lowered, has_name, numbered, has_snapshot, has_replay, replay_size, in_order_from, unless_appending, ended}
+use Rattle.session.specs.Run.{is_complete, NamesFit, RiseBelow, PassesEnd, Foretells, Allocates, faults, Refuses, Takes, Answers}
 use Rattle.session.specs.Run.{Slices, SlicesUpTo, SlicesAll, NumbersSome, HasFetched, HasCompleted, Overflows, HadFailed, HadNoRoom, content_after, other_content, AllCover, pending_in, WriterFits, replayed}
 use Rattle.session.specs.Promise.{fresh}
 use Rattle.session.proofs.Examples.{six_stand, none_synced, six_started}
@@ -65,6 +66,12 @@ none_to_complete = tt
 pub not_yet_complete : HasCompleted (Some 0) started → ⊥
 not_yet_complete is = absurd (false≢true is)
 
+pub it_is_complete : is_complete complete 0 ≡ true
+it_is_complete = refl
+
+pub no_other_is : is_complete complete 1 ≡ false
+no_other_is = refl
+
 -- a sync that was started after "abcdefg" was written covers it; one that wasn't started covers nothing
 pub all_seven_are_covered : AllCover add_sum 4 seven ((0, 7) ∷ []) flush_started
 all_seven_are_covered zero c lt = all_is_covered
@@ -80,6 +87,13 @@ its_name = refl
 
 pub no_second_name : has_name six_started 1 ≡ false
 no_second_name = refl
+
+-- a session that was given that name fits, and one that was given another doesn't
+pub the_name_fits : NamesFit (0 ∷ []) six_started.covers
+the_name_fits = λ name. refl
+
+pub another_name_does_not : NamesFit (1 ∷ []) six_started.covers → ⊥
+another_name_does_not fit = absurd (false≢true (fit 0))
 
 pub the_first_of_two : numbered (Some ab ∷ None ∷ []) 0 ≡ Some ab
 the_first_of_two = refl
@@ -209,6 +223,16 @@ one_and_two = (both_within, refl)
 pub not_the_other_way : SlicesAll six a_and_ef (101 ∷ 102 ∷ 97 ∷ []) → ⊥
 not_the_other_way slices = omega (arith, ap (λ (l : List ℕ). get_or l 0 0) slices.1)
 
+-- numbers of three ranges rise; none comes twice, and none is past them
+pub two_numbers_rise : RiseBelow 0 3 (0 ∷ 2 ∷ [])
+two_numbers_rise = (omega arith, omega arith, (omega arith, omega arith, tt))
+
+pub none_comes_twice : RiseBelow 0 3 (1 ∷ 1 ∷ []) → ⊥
+none_comes_twice rise = omega (arith, rise.2.0)
+
+pub none_is_past_them : RiseBelow 0 3 (3 ∷ []) → ⊥
+none_is_past_them rise = omega (arith, rise.1)
+
 pub the_second_is_missed : NumbersSome six a_and_ef (1 ∷ [])
 the_second_is_missed = ((omega arith, omega arith, tt), inl both_within)
 
@@ -222,6 +246,51 @@ past_all_numbers = omega arith
 
 pub within_the_numbers : Overflows 4 (Read 0 6) six_stand → ⊥
 within_the_numbers over = omega (arith, over)
+
+-- three bytes from the fifth on pass the end, and two end there
+pub three_pass_the_end : PassesEnd (Read 4 3) six_stand
+three_pass_the_end = (omega arith, omega arith)
+
+pub two_do_not : PassesEnd (Read 4 2) six_stand → ⊥
+two_do_not passes = omega (arith, passes.1)
+
+-- so the standing alone tells the fault, before any other
+pub the_end_is_foretold : Foretells 4 (Read 4 3) (Fault BlobInsufficientLength) six_stand
+the_end_is_foretold = (λ over. absurd (omega (arith, over)), λ passes. refl)
+
+pub no_other_fault_is : Foretells 4 (Read 4 3) (Fault OutOfMemory) six_stand → ⊥
+no_other_fault_is foretold = let is : Fault OutOfMemory ≡ Fault BlobInsufficientLength = foretold.1 three_pass_the_end in absurd (cc is)
+
+-- a sync that has something to do may ask for memory
+pub a_sync_allocates : Allocates Sync none_synced
+a_sync_allocates = refl
+
+pub a_seek_has_one_fault : faults (Seek 0 7) ≡ BlobInsufficientLength ∷ []
+a_seek_has_one_fault = refl
+
+-- a refused read doesn't end the writer, and a refused sync does
+pub a_read_ends_nothing : Refuses (Read 4 3) BlobInsufficientLength durable durable six_stand (ended six six_stand) → ⊥
+a_read_ends_nothing is = absurd (false≢true (ap (λ (s : Standing). s.has_writer) is))
+
+pub a_sync_ends_the_writer : Refuses Sync WriteFailed durable durable six_stand six_stand → ⊥
+a_sync_ends_the_writer is = absurd (false≢true (sym (ap (λ (s : Standing). s.has_writer) is)))
+
+-- ---- replies
+
+pub a_size_is_taken : Takes add_sum 4 Size (Length 6) durable durable six_stand six_stand
+a_size_is_taken = (refl, refl)
+
+pub and_answered : Answers add_sum 4 Size (Length 6) durable durable six_stand six_stand
+and_answered = ((refl, refl), (λ over. absurd over, λ passes. absurd passes))
+
+-- where there is no writer it is turned away
+pub or_turned_away : Answers add_sum 4 Size Closed durable durable (ended six six_stand) (ended six six_stand)
+or_turned_away = (refl, refl)
+
+pub and_not_answered : Answers add_sum 4 Size (Length 6) durable durable (ended six six_stand) (ended six six_stand) → ⊥
+and_not_answered answers = absurd (cc answers.0)
+
+-- ---- failures
 
 -- the started sync, after a wait for it failed
 abbrev pub failed_sync : Disk
