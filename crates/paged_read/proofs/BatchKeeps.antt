@@ -4,7 +4,7 @@ use Rattle.std.specs.Prelude.{All, slice_get, Some, Option}
 use Rattle.std.specs.Option.{option_map}
 use Rattle.std.proofs.lemmas.Bool.{cases_eq, cases_lt}
 use Rattle.std.proofs.lemmas.Option.{same_Some, slice_get-map, slice_get-get_or, slice_get_within, get_or_from_slice_get}
-use Rattle.std.proofs.lemmas.List.{get_or-set_same, get_or-set_other, get_or_default, take_more, map-append, length-take-le, length-map}
+use Rattle.std.proofs.lemmas.List.{get_or-set_same, get_or-set_other, get_or_default, take_more, map-append, length-take-le, length-map, length-take, get_or-take, get_or-map}
 use borrow.Rule.Slice.PartMut.{put_mid, post_of, Post-is}
 use Rattle.disk.specs.Disk.{Life, Delivers, bytes_of}
 use Rattle.crash.specs.Looks.{Looked, looked_start}
@@ -15,7 +15,8 @@ use Rattle.cache.specs.declared.piece.Piece.{Piece}
 use Rattle.paged_read.specs.Tail.{Tail, told, CanRead}
 use Rattle.paged_read.specs.Ranges.{LeavesAll, page_ranges, page_at}
 use Rattle.paged_read.specs.Parts.{with_told, ArePagesFull, PagesFault}
-use Rattle.paged_read.specs.Batch.{AreMarked, IsDelivered, KeepsFault, IsReady, IsTold, IsLack, pieces_in, bytes_found, DeliversPages}
+use Rattle.paged_read.specs.Puts.{PutsPages, PutsFirst, numbered}
+use Rattle.paged_read.specs.Batch.{KeepsPage, AreMarked, IsDelivered, KeepsFault, IsReady, IsTold, IsLack, pieces_in, bytes_found, DeliversPages}
 use Rattle.paged_read.specs.declared.lack.Lack.{Lack}
 use Rattle.paged_read.proofs.Leaving.{leaves_put, leaves_joins, leaves_cache, length-page_at, payload_told}
 use Rattle.crash.proofs.Lists.{within_take}
@@ -23,6 +24,7 @@ use Rattle.disk.specs.declared.error.Error.{Error}
 use Rattle.disk.specs.declared.error.Error.TheVariants.{ReadFailed, WriteFailed, ResizeFailed, SyncFailed, InvalidChecksum, BlobInsufficientLength, OffsetOverflow, OutOfMemory, IdsExhausted}
 use Rattle.paged_read.proofs.BatchReads.{length-page_ranges}
 use Rattle.paged_read.proofs.BatchSteps.{told_push}
+use Rattle.paged_read.proofs.PutLaws.{puts_joins, puts_one, numbered_more, numbered_first}
 
 -- ---- pages that are kept
 
@@ -97,6 +99,60 @@ leaves_more t cache between after life pages out k bytes page before below deliv
     sym (bytes_is d) ∙ delivered_bytes t.page_size pages life.present.readable out k d page delivers there (slice_get-get_or pages (get_or out k d).0 0 number ∙ ap (λ (p : ℕ). Some p) (sym here)) in
     leaves_joins t cache between after life life life before
     (leaves_put t between after life life page (take t.page_size bytes) before.can (looked_start life) less (ap (λ (l : List ℕ). take t.page_size l) is) puts)
+
+-- so it is put
+pub puts_more : (t : Tail) (cache between after : CacheState) (readable pages : List ℕ) (out : List (ℕ × List ℕ)) (k : ℕ) (bytes : List ℕ) (page : ℕ) → t.full_pages * (t.page_size + 12) ≤ length readable → between.page_size ≡ t.page_size
+    → All (λ page. page < t.full_pages) pages → Delivers (page_ranges t.page_size pages) readable out → k < length out → ((d : ℕ × List ℕ) → (get_or out k d).1 ≡ bytes)
+    → ((d : ℕ × List ℕ) → page ≡ get_or pages (get_or out k d).0 0) → Puts (t.id, page) (take t.page_size bytes) between after
+    → PutsPages t.id (told t readable) (numbered pages (take k out)) cache between → PutsPages t.id (told t readable) (numbered pages (take (k + 1) out)) cache after
+puts_more t cache between after readable pages out k bytes page reach size below delivers there bytes_is page_is puts before =
+    let d : ℕ × List ℕ = (0, []) in
+    let content = told t readable in
+    let number = delivered_number t.page_size pages readable out k d delivers there in
+    let here : page ≡ get_or pages (get_or out k d).0 0 = page_is d in
+    let less : page < t.full_pages = omega (arith, here, below (get_or out k d).0 0 number) in
+    let is : bytes ≡ page_at t.page_size page readable =
+    sym (bytes_is d) ∙ delivered_bytes t.page_size pages readable out k d page delivers there (slice_get-get_or pages (get_or out k d).0 0 number ∙ ap (λ (p : ℕ). Some p) (sym here)) in
+    let payload : take t.page_size bytes ≡ page_of_content between.page_size content page =
+    ap (λ (l : List ℕ). take t.page_size l) is ∙ payload_told t readable reach page less ∙ ap (λ (P : ℕ). page_of_content P content page) (sym size) in
+    let one = puts_one t.id page content (take t.page_size bytes) between after payload puts in
+    subst (λ (l : List ℕ). PutsPages t.id content l cache after) (sym (numbered_more pages out k d there))
+    (puts_joins t.id content (numbered pages (take k out)) (get_or pages (get_or out k d).0 0 ∷ []) cache between after before (subst (λ (p : ℕ). PutsPages t.id content (p ∷ []) between after) here one))
+
+-- the pages that were put are full
+pub kept_full : (sum : List ℕ → ℕ) (P : ℕ) (pages readable : List ℕ) (out : List (ℕ × List ℕ)) (k : ℕ) → Delivers (page_ranges P pages) readable out → ((j : ℕ) (d : ℕ × List ℕ) → j < k → value_len sum P (get_or out j d).1 ≡ P)
+    → ArePagesFull sum P (take k (numbered pages out)) readable
+kept_full sum P pages readable out k delivers full = λ page (j, within, is).
+    let d : ℕ × List ℕ = (0, []) in
+    let f : ℕ × List ℕ → ℕ = λ r. get_or pages r.0 0 in
+    let size = length-take k (numbered pages out) in
+    let less : j < k = omega (arith, within, size) in
+    let there : j < length out = omega (arith, within, size, length-map out f) in
+    let same : get_or pages (get_or out j d).0 0 ≡ page = sym (get_or-map f out j d page there) ∙ sym (get_or-take k (numbered pages out) j page less) ∙ is in
+    let number = delivered_number P pages readable out j d delivers there in
+    let bytes = delivered_bytes P pages readable out j d page delivers there (slice_get-get_or pages (get_or out j d).0 0 number ∙ ap (λ (p : ℕ). Some p) same) in
+    sym (ap (λ (l : List ℕ). value_len sum P l) bytes) ∙ full j d less
+
+-- where one is refused, those before it were put
+pub puts_refused : (sum : List ℕ → ℕ) (t : Tail) (cache between after : CacheState) (pages readable : List ℕ) (out : List (ℕ × List ℕ)) (k : ℕ) → Delivers (page_ranges t.page_size pages) readable out
+    → ((j : ℕ) (d : ℕ × List ℕ) → j < k → value_len sum t.page_size (get_or out j d).1 ≡ t.page_size) → PutsPages t.id (told t readable) (numbered pages (take k out)) cache between → after ≡ between → PutsFirst sum t (numbered pages out) readable cache after
+puts_refused sum t cache between after pages readable out k delivers full puts same = record {
+  count = k;
+  full = kept_full sum t.page_size pages readable out k delivers full;
+  puts = subst (λ (l : List ℕ). PutsPages t.id (told t readable) l cache after) (sym (numbered_first pages out k)) (subst (λ (c : CacheState). PutsPages t.id (told t readable) (numbered pages (take k out)) cache c) (sym same) puts);
+}
+
+-- a page that is refused isn't put
+pub refused_not_put : (sum : List ℕ → ℕ) (P : ℕ) (key : ℕ × ℕ) (bytes : List ℕ) (old new : CacheState) (e : Error) → KeepsPage sum P key bytes old new (Err e) → new ≡ old
+refused_not_put sum P key bytes old new ReadFailed keeps = absurd keeps
+refused_not_put sum P key bytes old new WriteFailed keeps = absurd keeps
+refused_not_put sum P key bytes old new ResizeFailed keeps = absurd keeps
+refused_not_put sum P key bytes old new SyncFailed keeps = absurd keeps
+refused_not_put sum P key bytes old new InvalidChecksum keeps = keeps.1
+refused_not_put sum P key bytes old new BlobInsufficientLength keeps = absurd keeps
+refused_not_put sum P key bytes old new OffsetOverflow keeps = absurd keeps
+refused_not_put sum P key bytes old new OutOfMemory keeps = absurd keeps
+refused_not_put sum P key bytes old new IdsExhausted keeps = absurd keeps
 
 -- ---- pieces that are copied
 

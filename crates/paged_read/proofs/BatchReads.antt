@@ -44,7 +44,7 @@ asked_together : (ranges : List (ℕ × ℕ)) (failed : Bool) (old new : Life) �
 asked_together [] failed old new some asked = absurd (omega arith)
 asked_together (range ∷ ranges) failed old new some asked = inr (failed, asked)
 
-not_asked : (ranges : List (ℕ × ℕ)) (old new : Life) → new ≡ old → AsksTogether ranges old new
+pub not_asked : (ranges : List (ℕ × ℕ)) (old new : Life) → new ≡ old → AsksTogether ranges old new
 not_asked [] old new is = is
 not_asked (range ∷ ranges) old new is = inl is
 

@@ -52,6 +52,10 @@ module _ (t : Tail) (cache : CacheState) (offset len : ℕ) (some : 0 < t.page_s
       is ∙ told_agrees P content (pieces_left cache t.id pieces) (with_pieces cache t.id pieces buf) wanted copied.size (left_fit P content wanted cache t.id pieces fit)
       (λ i under. elim (copied.agrees i under) [ inl right ↦ inl right | inr (inl left) ↦ inr left | inr (inr none) ↦ absurd none ])
 
+  -- whose pages are the missing ones
+  pub left_pages : (pieces left : List Piece) → pieces ≡ pieces_of t.page_size (offset, len) 0 → left ≡ pieces_left cache t.id pieces → pages_of left ≡ missing cache t ((offset, len) ∷ [])
+  left_pages pieces left all is = ap pages_of (is ∙ ap (λ (l : List Piece). pieces_left cache t.id l) all) ∙ sym (missing_pages cache t offset len 0 some below)
+
   -- so the range is read
   pub missing_read : (sum : List ℕ → ℕ) (old new : Life) (left pieces : List Piece) (buf mid after : List ℕ) (result : Result (Unit {0}) Error) → CanRead t cache old.present → length buf ≡ len
       → pieces ≡ pieces_of t.page_size (offset, len) 0 → left ≡ pieces_left cache t.id pieces → mid ≡ with_pieces cache t.id pieces buf
@@ -83,6 +87,9 @@ module _ (t : Tail) (cache : CacheState) (offset len : ℕ) (some : 0 < t.page_s
   -- so one page is missing
   pub only_many : (piece : Piece) → held cache (t.id, piece.page) ≡ None → pieces_of t.page_size (offset, len) 0 ≡ piece ∷ [] → length (missing cache t ((offset, len) ∷ [])) ≡ 1
   only_many piece lacks is = sym left_many ∙ ap (λ (l : List Piece). length (pieces_left cache t.id l)) is ∙ ap length (only_left piece lacks)
+
+  pub only_page : (piece : Piece) → held cache (t.id, piece.page) ≡ None → pieces_of t.page_size (offset, len) 0 ≡ piece ∷ [] → piece.page ∷ [] ≡ missing cache t ((offset, len) ∷ [])
+  only_page piece lacks is = left_pages (piece ∷ []) (piece ∷ []) (sym is) (sym (only_left piece lacks))
 
   -- and where it is read, the range is
   pub only_read : (sum : List ℕ → ℕ) (old new : Life) (piece : Piece) (buf after : List ℕ) (result : Result (Unit {0}) Error) → CanRead t cache old.present → length buf ≡ len

@@ -1,14 +1,18 @@
 -- Reads of a tail whose pages are full find each of them full.
-use Rattle.std.proofs.Common.{◌≡◌, inl, inr, ℕ, zero, suc, ◌+◌, ◌<◌, List, [], ◌∷◌, refl, ap, subst, arith, Bool, true, false, cond}
+use Rattle.std.proofs.Common.{◌≡◌, inl, inr, ℕ, zero, suc, ◌+◌, ◌<◌, ◌≤◌, List, [], ◌∷◌, refl, ap, subst, arith, Bool, true, false, cond}
 use Rattle.std.specs.Prelude.{Result, Vec, IsErrOf}
 use Rattle.std.specs.List.{Contains, filter, range_with_len}
 use Rattle.std.specs.declared.alloc.Global.{Global}
-use Rattle.disk.specs.Disk.{Life}
+use Rattle.disk.specs.Disk.{Disk, Life}
 use Rattle.disk.specs.declared.error.Error.{Error}
 use Rattle.disk.specs.declared.error.Error.TheVariants.{InvalidChecksum}
 use Rattle.cache.specs.CacheState.{CacheState}
 use Rattle.crash.proofs.Texts.{AreFull_page}
-use Rattle.paged_read.specs.Ranges.{ReadFault, Reads, ReadsUpTo, ReadsMany, range_up_to}
+use Rattle.page.specs.Page.{value_len}
+use Rattle.writer_state.specs.WriterState.{WriterState}
+use Rattle.writer_state.specs.Sound.{IsSound}
+use Rattle.writer_state.proofs.FlushLaws.{tip_reach}
+use Rattle.paged_read.specs.Ranges.{page_at, ReadFault, Reads, ReadsUpTo, ReadsMany, range_up_to}
 use Rattle.paged_read.specs.Tail.{Tail, HasPages, HasFullPages}
 use Rattle.paged_read.proofs.PageReads.{first_or_later, has_first, has_later}
 
@@ -38,14 +42,35 @@ counted a (suc n) x has = elim (first_or_later a x (range_with_len (a + 1) n) ha
   | inr later ↦ omega (arith, counted (a + 1) n x later)
 ]
 
+-- each page below a tail is full
+abbrev pub EachFull : (List ℕ → ℕ) → Tail → Disk → Type 0
+EachFull sum t d =
+    (page : ℕ) → page < t.full_pages
+    → value_len sum t.page_size (page_at t.page_size page d.readable) ≡ t.page_size
+
+-- where its pages are full, and where the blob has a sound writer with as many
+pub full_of_tail : (sum : List ℕ → ℕ) (t : Tail) (d : Disk) → HasPages t d → HasFullPages sum t d
+    → EachFull sum t d
+full_of_tail sum t d there full page below =
+    AreFull_page sum t.page_size t.full_pages page d.readable full there below
+
+pub full_of_sound : (sum : List ℕ → ℕ) (t : Tail) (w : WriterState) (d : Disk) → IsSound sum w d
+    → w.page_size ≡ t.page_size → t.full_pages ≤ w.full_pages → EachFull sum t d
+unfolding IsSound
+full_of_sound sum t w d sound size fewer page below =
+    let reach = tip_reach sum w.page_size w.full_pages w.tip d.readable w.flushed sound.stands.tip_page in
+    subst (λ (P : ℕ). value_len sum P (page_at P page d.readable) ≡ P) size
+    (AreFull_page sum w.page_size w.full_pages page d.readable sound.stands.full reach.0
+    (omega (arith, below, fewer)))
+
 module _ (sum : List ℕ → ℕ) (t : Tail) (cache : CacheState) (old new : Life)
-    (there : HasPages t old.present) (full : HasFullPages sum t old.present) where
+    (full : EachFull sum t old.present) where
   -- so no missing page is refused
   pub no_fault : (ranges : List (ℕ × ℕ)) → ReadFault sum cache t ranges old new InvalidChecksum → ⊥
   no_fault ranges (page, among, part) =
       let below : page < t.full_pages =
       omega (arith, counted 0 t.full_pages page (filtered _ (range_with_len 0 t.full_pages) page among)) in
-      part (AreFull_page sum t.page_size t.full_pages page old.present.readable full there below)
+      part (full page below)
 
   pub full_reads : {A : Type 0} (range : ℕ × ℕ) (bytes : A → List ℕ) (result : Result A Error)
       → Reads sum t cache range bytes old new result → IsErrOf result InvalidChecksum → ⊥

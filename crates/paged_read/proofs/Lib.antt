@@ -7,6 +7,7 @@ pub mod Leaving
 pub mod CachedBytes
 pub mod PageReads
 pub mod BelowReads
+pub mod PutLaws
 pub mod WholeReads
 pub mod RangedPages
 pub mod RangedLists
@@ -25,6 +26,7 @@ pub mod ReadAheads
 pub mod Replays
 pub mod ReplayExamples
 pub mod OutlivingReplays
+pub mod ReadLaws
 pub mod Scanning
 pub mod RawReading
 pub mod Keeping

@@ -16,7 +16,8 @@ use Rattle.crash.specs.Started.{CoversStay}
 use Rattle.crash.specs.Stays.{Stays}
 use Rattle.crash.proofs.BelowLaws.{fewer_stay, pages_there, full_still, stored_still}
 use Rattle.crash.proofs.LookLaws.{looked_readable}
-use Rattle.crash.proofs.Moments.{stays_alike, stays_itself}
+use Rattle.crash.proofs.Moments.{kept_through, only_through, stays_alike, stays_itself}
+use Rattle.writer_state.proofs.FloorLaws.{floors_of_sound}
 use Rattle.writer_state.proofs.Soundness.{looked_sound}
 use Rattle.writer_state.proofs.StartedLaws.{alike_covers}
 use Rattle.page.specs.Page.{pages}
@@ -189,19 +190,23 @@ pub look_leaves_writers : (sum : List ℕ → ℕ) (old new : Life) → Looked o
 unfolding IsSound
 look_leaves_writers sum old new looked w sound =
     let held = content w old.present.readable in
+    let stays = through_then (SameButLog old.present) (Stays sum w.page_size held old.present) old new
+    (λ d same. stays_alike sum w.page_size held old.present old.present d
+    (ap (λ (x : Disk). x.base) same) (ap (λ (x : Disk). x.since) same)
+    (stays_itself sum w.page_size held old.present sound.truthful sound.vouched)) looked.through in
     record {
       sound = looked_sound sum w old new sound looked;
       readable = looked_readable old new looked;
-      stays = through_then (SameButLog old.present) (Stays sum w.page_size held old.present) old new
-          (λ d same. stays_alike sum w.page_size held old.present old.present d
-          (ap (λ (x : Disk). x.base) same) (ap (λ (x : Disk). x.since) same)
-          (stays_itself sum w.page_size held old.present sound.truthful sound.vouched)) looked.through;
+      stays = stays;
       covers = through_then (SameButLog old.present)
           (CoversStay sum w.page_size held old.present) old new
           (λ d same. alike_covers sum w.page_size held old.present d
           (ap (λ (x : Disk). x.base) same) (ap (λ (x : Disk). x.since) same)
           (ap (λ (x : Disk). x.settled) same) (ap (λ (x : Disk). coverings x) same))
           looked.through;
+      kept = floors_of_sound sum w old new sound
+          (λ floor enough keeps. kept_through sum w.page_size held old new stays floor enough keeps);
+      only = only_through sum w.page_size held held old new stays;
     }
 
 -- ---- calls that change no byte, and calls that put nothing

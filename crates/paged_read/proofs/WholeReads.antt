@@ -38,7 +38,7 @@ reads_fault sum t cache range bytes old new IdsExhausted cause = cause
 
 module _ (t : Tail) (cache : CacheState) (offset len below : ℕ) (is : below ≡ min len (t.full_pages * t.page_size - offset)) where
   -- the part below finds missing what the whole does
-  part_missing : missing cache t ((offset, len) ∷ []) ≡ missing cache t ((offset, below) ∷ [])
+  pub part_missing : missing cache t ((offset, len) ∷ []) ≡ missing cache t ((offset, below) ∷ [])
   part_missing = missing_below cache t offset len ∙ ap (λ n. missing cache t ((offset, n) ∷ [])) (sym is)
 
   pub part_asks : (old new : Life) → AsksForMissing cache t (offset, below) old new → AsksForMissing cache t (offset, len) old new

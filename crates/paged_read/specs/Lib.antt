@@ -2,6 +2,7 @@ pub mod Tail
 pub mod Ranges
 pub mod Pieces
 pub mod Parts
+pub mod Puts
 pub mod Batch
 pub mod Prefix
 pub mod Searches
@@ -10,5 +11,6 @@ pub mod Snapshots
 pub mod Hand
 pub mod ReadAhead
 pub mod Replay
+pub mod Reads
 pub mod Scans
 pub mod RawReads

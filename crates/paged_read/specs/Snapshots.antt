@@ -7,7 +7,7 @@ use Rattle.cache.specs.CacheState.{CacheState}
 use Rattle.writer_state.specs.WriterState.{WriterState}
 use Rattle.writer_state.specs.Sound.{IsSound, content}
 use Rattle.crash.specs.Started.{CoversThrough}
-use Rattle.crash.specs.Stays.{StaysThrough}
+use Rattle.crash.specs.Stays.{KeepsAllFloors, LeavesOnly, StaysThrough}
 use Rattle.paged_read.specs.Tail.{Tail, told, IsView, HasPages, HasFullPages, CanRead}
 
 -- what holds of a snapshot's own bytes: they begin after whole pages, are less than one, and have
@@ -59,14 +59,19 @@ LeavesOthers id cache after =
 abbrev pub LeavesReads : CacheState → CacheState → Type 0
 LeavesReads cache after = (t : Tail) (d : Disk) → CanRead t cache d → CanRead t after d
 
--- a call behind the back of a blob's writer: it stays sound, the pages below its tip stay there,
--- and each moment owes to it what it would in a call of its own
+-- a call behind the back of a blob's writer: the writer stays sound, and the blob's bytes stay. Each
+-- moment of the call keeps what a moment of a call of the writer would: floors, what a crash may
+-- leave, and what started syncs cover.
 pub record LeavesWriter (sum : List ℕ → ℕ) (w : WriterState) (old new : Life) : Type 0 where
   pub sound : IsSound sum w new.present
   pub readable : new.present.readable ≡ old.present.readable
   pub stays : StaysThrough sum w.page_size (content w old.present.readable) old new
   pub covers : CoversThrough sum w.page_size (content w old.present.readable) old new
+  pub kept : KeepsAllFloors sum w.page_size old new
+  pub only : LeavesOnly sum w.page_size (content w old.present.readable)
+      (content w old.present.readable) old new
 
+-- so for each sound writer
 abbrev pub LeavesWriters : (List ℕ → ℕ) → Life → Life → Type 0
 LeavesWriters sum old new =
     (w : WriterState) → IsSound sum w old.present → LeavesWriter sum w old new

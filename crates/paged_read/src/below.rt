@@ -5,7 +5,8 @@ ghost use Rattle.cache.specs.CacheState.{IsMissing};
 ghost use Rattle.paged_read.specs.Tail.{tail_at, IsView, CanRead};
 ghost use Rattle.paged_read.specs.Ranges.{LeavesAll, AsksForMissing, missing, is_served};
 ghost use Rattle.std.specs.Prelude.{Ok, true};
-ghost use Rattle.paged_read.specs.Parts.{IsPieceOf, ReadsPieces, ReadsBelow};
+ghost use Rattle.paged_read.specs.Parts.{IsPieceOf, ReadsPieces, ReadsBelow, pages_of};
+ghost use Rattle.paged_read.specs.Puts.{PutsInOrder, PutsPage};
 
 use crate::View;
 use crate::full::read_page;
@@ -35,6 +36,8 @@ impl<B: Blob, H: Sum> View<'_, B, H> {
             length new.present.log ≤ length old.present.log + 1 }
         ensures leaves { let t = tail_at self.entry.page_size self.entry.id self.entry.tip.now in
             LeavesAll t cache.old cache.new (B.life blob.old) (B.life blob.new) }
+        ensures puts { let t = tail_at self.entry.page_size self.entry.id self.entry.tip.now in
+            PutsPage t piece.page (B.life blob.old).present.readable cache.old cache.new result }
         ensures size { length buf.new ≡ length buf.old }
     {
         let bytes = read_page::<B, H>(self.alloc, self.page_size, blob, piece.page)?;
@@ -66,6 +69,9 @@ impl<B: Blob, H: Sum> View<'_, B, H> {
             length new.present.log ≤ length old.present.log + length pieces.now }
         ensures leaves { let t = tail_at self.entry.page_size self.entry.id self.entry.tip.now in
             LeavesAll t cache.old cache.new (B.life blob.old) (B.life blob.new) }
+        ensures puts { let t = tail_at self.entry.page_size self.entry.id self.entry.tip.now in
+            let readable = (B.life blob.old).present.readable in
+            PutsInOrder H.sum_of t (pages_of pieces.now) readable cache.old cache.new result }
         ensures size { length buf.new ≡ length buf.old }
     {
         for piece in pieces {
@@ -100,6 +106,10 @@ impl<B: Blob, H: Sum> View<'_, B, H> {
             length new.present.log ≤ length old.present.log + count }
         ensures leaves { let t = tail_at self.entry.page_size self.entry.id self.entry.tip.now in
             LeavesAll t cache.old cache.new (B.life blob.old) (B.life blob.new) }
+        ensures puts { let t = tail_at self.entry.page_size self.entry.id self.entry.tip.now in
+            let pages = missing cache.old t ((offset, length buf.old) ∷ []) in
+            let readable = (B.life blob.old).present.readable in
+            PutsInOrder H.sum_of t pages readable cache.old cache.new result }
         ensures size { length buf.new ≡ length buf.old }
     {
         if let Some(piece) = only_piece(self.page_size, offset, buf.len()) {
@@ -133,6 +143,10 @@ impl<B: Blob, H: Sum> View<'_, B, H> {
             AsksForMissing cache.old t (offset, length buf.old) old new }
         ensures leaves { let t = tail_at self.entry.page_size self.entry.id self.entry.tip.now in
             LeavesAll t cache.old cache.new (B.life blob.old) (B.life blob.new) }
+        ensures puts { let t = tail_at self.entry.page_size self.entry.id self.entry.tip.now in
+            let pages = missing cache.old t ((offset, length buf.old) ∷ []) in
+            let readable = (B.life blob.old).present.readable in
+            PutsInOrder H.sum_of t pages readable cache.old cache.new result }
         ensures served { let t = tail_at self.entry.page_size self.entry.id self.entry.tip.now in
             is_served cache.old t (offset, length buf.old) ≡ true → result ≡ Ok tt }
         ensures size { length buf.new ≡ length buf.old }

@@ -11,6 +11,7 @@ ghost use Rattle.paged_read.specs.Parts.{with_told};
 ghost use Rattle.paged_read.specs.Batch.{DeliversPages, KeepsPage, IsDelivered, AreMarked};
 ghost use Rattle.paged_read.specs.Batch.{KeepsFault, IsReady, IsTold, IsLack, ReadsLacks};
 ghost use Rattle.paged_read.specs.Batch.{pieces_in};
+ghost use Rattle.paged_read.specs.Puts.{PutsInOrder, PutsSome, numbered};
 
 use crate::View;
 use crate::batch::Batch;
@@ -93,6 +94,11 @@ impl<B, H: Sum> View<'_, B, H> {
             (life : Life) → CanRead t cache.old life.present
             → Delivers (page_ranges t.page_size pages.now) life.present.readable out.now
             → LeavesAll t cache.old cache.new life life }
+        ensures puts { let t = tail_at self.entry.page_size self.entry.id self.entry.tip.now in
+            (life : Life) → CanRead t cache.old life.present
+            → Delivers (page_ranges t.page_size pages.now) life.present.readable out.now
+            → PutsInOrder H.sum_of t (numbered pages.now out.now) life.present.readable cache.old
+            cache.new result }
         ensures full { let P = non_zero_u16_get self.entry.page_size in
             OnOk result (All (λ page. value_len H.sum_of P page.1 ≡ P) out.now) }
         ensures found { IfOk result (λ at. AreMarked at.items out.now (length out.now)) }
@@ -152,6 +158,9 @@ impl<B: Blob, H: Sum> View<'_, B, H> {
             AsksTogether asked (B.life blob.old) (B.life blob.new) }
         ensures leaves { let t = tail_at self.entry.page_size self.entry.id self.entry.tip.now in
             LeavesAll t cache.old cache.new (B.life blob.old) (B.life blob.new) }
+        ensures puts { let t = tail_at self.entry.page_size self.entry.id self.entry.tip.now in
+            let readable = (B.life blob.old).present.readable in
+            PutsSome H.sum_of t batch.now.pages.items readable cache.old cache.new result }
         ensures size { length buf.new ≡ length buf.old }
     {
         let out = fetch(self.alloc, self.page_size, blob, &batch.pages)?;

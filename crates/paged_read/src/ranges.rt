@@ -7,7 +7,7 @@ ghost use Rattle.disk.specs.Disk.{Disk};
 ghost use Rattle.page.specs.Geometry.{AreInOrder, EndWithin, RangesGo};
 ghost use Rattle.paged_read.specs.Tail.{tail_at, IsView, size_of, told, CanRead};
 ghost use Rattle.paged_read.specs.Ranges.{is_served, served, missed_from, Misses, HasServed};
-ghost use Rattle.paged_read.specs.Ranges.{ReadsMany, AsksOnce, LeavesAll};
+ghost use Rattle.paged_read.specs.Reads.{ReadLeaves, ReadManyCosts, ReadManyGoes};
 ghost use Rattle.paged_read.specs.Batch.{Gathered, ranges_of};
 
 use crate::View;
@@ -317,14 +317,14 @@ impl<B: Blob, H: Sum> View<'_, B, H> {
             CanRead t cache.old (B.life blob.old).present }
         requires in_order { AreInOrder ranges.now }
         requires filled { length buf.old ≡ sum_by (λ range. range.1) ranges.now }
-        ensures reads { let t = tail_at self.entry.page_size self.entry.id self.entry.tip.now in
+        ensures goes { let t = tail_at self.entry.page_size self.entry.id self.entry.tip.now in
             let old = B.life blob.old in let new = B.life blob.new in
-            ReadsMany H.sum_of t cache.old ranges.now buf.new old new result }
-        ensures asks { let t = tail_at self.entry.page_size self.entry.id self.entry.tip.now in
-            AsksOnce cache.old t ranges.now (B.life blob.old) (B.life blob.new) }
+            ReadManyGoes H.sum_of t cache.old ranges.now buf.old buf.new old new result }
         ensures leaves { let t = tail_at self.entry.page_size self.entry.id self.entry.tip.now in
-            LeavesAll t cache.old cache.new (B.life blob.old) (B.life blob.new) }
-        ensures size { length buf.new ≡ length buf.old }
+            ReadLeaves H.sum_of t cache.old cache.new (B.life blob.old) (B.life blob.new) }
+        ensures costs { let t = tail_at self.entry.page_size self.entry.id self.entry.tip.now in
+            let old = B.life blob.old in let new = B.life blob.new in
+            ReadManyCosts H.sum_of t ranges.now cache.old cache.new old new result }
     {
         validate_read_ranges(buf.len(), ranges, self.size())?;
         let batch = self.gather(cache, buf, ranges)?;
@@ -346,16 +346,16 @@ impl<B: Blob, H: Sum> View<'_, B, H> {
             CanRead t cache.old (B.life blob.old).present }
         requires in_order { AreInOrder (ranges_of (non_zero_usize_get len) offsets.now) }
         requires filled { length buf.old ≡ length offsets.now * non_zero_usize_get len }
-        ensures reads { let t = tail_at self.entry.page_size self.entry.id self.entry.tip.now in
+        ensures goes { let t = tail_at self.entry.page_size self.entry.id self.entry.tip.now in
             let ranges = ranges_of (non_zero_usize_get len) offsets.now in
             let old = B.life blob.old in let new = B.life blob.new in
-            ReadsMany H.sum_of t cache.old ranges buf.new old new result }
-        ensures asks { let t = tail_at self.entry.page_size self.entry.id self.entry.tip.now in
-            let ranges = ranges_of (non_zero_usize_get len) offsets.now in
-            AsksOnce cache.old t ranges (B.life blob.old) (B.life blob.new) }
+            ReadManyGoes H.sum_of t cache.old ranges buf.old buf.new old new result }
         ensures leaves { let t = tail_at self.entry.page_size self.entry.id self.entry.tip.now in
-            LeavesAll t cache.old cache.new (B.life blob.old) (B.life blob.new) }
-        ensures size { length buf.new ≡ length buf.old }
+            ReadLeaves H.sum_of t cache.old cache.new (B.life blob.old) (B.life blob.new) }
+        ensures costs { let t = tail_at self.entry.page_size self.entry.id self.entry.tip.now in
+            let ranges = ranges_of (non_zero_usize_get len) offsets.now in
+            let old = B.life blob.old in let new = B.life blob.new in
+            ReadManyCosts H.sum_of t ranges cache.old cache.new old new result }
     {
         validate_offsets(offsets, len.get(), self.size())?;
         let ranges = ranges_of(self.alloc, offsets, len.get())?;

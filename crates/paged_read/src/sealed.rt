@@ -5,17 +5,12 @@ ghost use Rattle.std.specs.Int.NonZero.{non_zero_u16_get, non_zero_usize_get};
 ghost use Rattle.std.specs.List.{concat};
 ghost use Rattle.disk.specs.Disk.{Disk};
 ghost use Rattle.page.specs.Geometry.{AreInOrder, EndWithin};
-ghost use Rattle.crash.specs.Looks.{Looked};
 ghost use Rattle.paged_read.specs.Batch.{ranges_of};
-ghost use Rattle.paged_read.specs.Ranges.{AsksForMissing, AsksOnce, HasServed, LeavesAll, Misses};
-ghost use Rattle.paged_read.specs.Ranges.{is_served};
-ghost use Rattle.std.specs.Prelude.{Ok, true, IfErr};
-ghost use Rattle.paged_read.specs.Ranges.{range_up_to, Reads, ReadsMany, ReadsUpTo, TriesRead};
-ghost use Rattle.paged_read.specs.Replay.{LeavesAllReplays};
-ghost use Rattle.paged_read.specs.Snapshots.{IsSealed, LeavesAllReads, LeavesAllTails};
-ghost use Rattle.paged_read.specs.Snapshots.{LeavesOthers, LeavesWriters};
-ghost use Rattle.paged_read.specs.Tail.{CanRead, HasFullPages, IsView, size_of, Tail, tail_at};
-ghost use Rattle.paged_read.specs.Tail.{told};
+ghost use Rattle.paged_read.specs.Ranges.{HasServed, Misses, range_up_to, TriesRead};
+ghost use Rattle.paged_read.specs.Reads.{ReadCosts, ReadGoes, ReadIntoGoes, ReadLeaves};
+ghost use Rattle.paged_read.specs.Reads.{ReadManyCosts, ReadManyGoes, ReadUpToGoes};
+ghost use Rattle.paged_read.specs.Snapshots.{IsSealed};
+ghost use Rattle.paged_read.specs.Tail.{CanRead, IsView, size_of, Tail, tail_at, told};
 
 use crate::View;
 use cache::CacheRef;
@@ -206,35 +201,12 @@ impl<B: Blob, H: Sum> Sealed<B, H> {
         offset: u64,
     ) -> Result<(), Error>
         requires can { CanRead self.now cache.old (B.life blob.old).present }
-        ensures reads { let old = B.life blob.old in let new = B.life blob.new in
-            Reads H.sum_of self.now cache.old (offset, length buf.old) (λ _. buf.new) old new
-            result }
-        ensures overflow { 2 ^ 64 ≤ offset + length buf.old → result ≡ Err Error.OffsetOverflow }
-        ensures end { offset + length buf.old < 2 ^ 64 → size_of self.now < offset + length buf.old
-            → result ≡ Err Error.BlobInsufficientLength }
-        ensures asks { let old = B.life blob.old in let new = B.life blob.new in
-            AsksForMissing cache.old self.now (offset, length buf.old) old new }
-        ensures served { offset + length buf.old < 2 ^ 64
-            → offset + length buf.old ≤ size_of self.now
-            → is_served cache.old self.now (offset, length buf.old) ≡ true → result ≡ Ok tt }
-        ensures size { length buf.new ≡ length buf.old }
+        ensures goes { let old = B.life blob.old in let new = B.life blob.new in
+            ReadIntoGoes H.sum_of self.now cache.old offset buf.old buf.new old new result }
         ensures leaves { let old = B.life blob.old in let new = B.life blob.new in
-            LeavesAll self.now cache.old cache.new old new }
-        ensures looked { Looked (B.life blob.old) (B.life blob.new) }
-
-        // Where its pages are full, as they are of a sound writer's blob.
-        ensures never { HasFullPages H.sum_of self.now (B.life blob.old).present
-            → IsErrOf result Error.InvalidChecksum → ⊥ }
-
-        // The blob's writer stays as it is, each snapshot and each replay stands as it stood, what
-        // can be read can be read on, and so can other blobs.
-        ensures writers { LeavesWriters H.sum_of (B.life blob.old) (B.life blob.new) }
-        ensures tails { let old = B.life blob.old in let new = B.life blob.new in
-            LeavesAllTails H.sum_of cache.old cache.new old new }
-        ensures can_read { let old = B.life blob.old in let new = B.life blob.new in
-            LeavesAllReads cache.old cache.new old new }
-        ensures replays { LeavesAllReplays (B.life blob.old) (B.life blob.new) }
-        ensures others { LeavesOthers self.now.id cache.old cache.new }
+            ReadLeaves H.sum_of self.now cache.old cache.new old new }
+        ensures costs { let old = B.life blob.old in let new = B.life blob.new in
+            ReadCosts H.sum_of self.now (offset, length buf.old) cache.old cache.new old new result }
     {
         self.view().read_into(blob, cache, buf, offset)
     }
@@ -249,30 +221,12 @@ impl<B: Blob, H: Sum> Sealed<B, H> {
         len: usize,
     ) -> Result<IoBufs, Error>
         requires can { CanRead self.now cache.old (B.life blob.old).present }
-        ensures reads { let old = B.life blob.old in let new = B.life blob.new in
-            Reads H.sum_of self.now cache.old (offset, len) concat old new result }
-        ensures overflow { 2 ^ 64 ≤ offset + len → result ≡ Err Error.OffsetOverflow }
-        ensures end { offset + len < 2 ^ 64 → size_of self.now < offset + len
-            → result ≡ Err Error.BlobInsufficientLength }
-        ensures asks { let old = B.life blob.old in let new = B.life blob.new in
-            AsksForMissing cache.old self.now (offset, len) old new }
+        ensures goes { let old = B.life blob.old in let new = B.life blob.new in
+            ReadGoes H.sum_of self.now cache.old (offset, len) concat old new result }
         ensures leaves { let old = B.life blob.old in let new = B.life blob.new in
-            LeavesAll self.now cache.old cache.new old new }
-        ensures looked { Looked (B.life blob.old) (B.life blob.new) }
-
-        // Where its pages are full, as they are of a sound writer's blob.
-        ensures never { HasFullPages H.sum_of self.now (B.life blob.old).present
-            → IsErrOf result Error.InvalidChecksum → ⊥ }
-
-        // The blob's writer stays as it is, each snapshot and each replay stands as it stood, what
-        // can be read can be read on, and so can other blobs.
-        ensures writers { LeavesWriters H.sum_of (B.life blob.old) (B.life blob.new) }
-        ensures tails { let old = B.life blob.old in let new = B.life blob.new in
-            LeavesAllTails H.sum_of cache.old cache.new old new }
-        ensures can_read { let old = B.life blob.old in let new = B.life blob.new in
-            LeavesAllReads cache.old cache.new old new }
-        ensures replays { LeavesAllReplays (B.life blob.old) (B.life blob.new) }
-        ensures others { LeavesOthers self.now.id cache.old cache.new }
+            ReadLeaves H.sum_of self.now cache.old cache.new old new }
+        ensures costs { let old = B.life blob.old in let new = B.life blob.new in
+            ReadCosts H.sum_of self.now (offset, len) cache.old cache.new old new result }
     {
         self.view().read_at(blob, cache, offset, len)
     }
@@ -291,30 +245,13 @@ impl<B: Blob, H: Sum> Sealed<B, H> {
         bytes: Vec<u8>,
     ) -> Result<(Vec<u8>, usize), Error>
         requires can { CanRead self.now cache.old (B.life blob.old).present }
-        ensures reads { let old = B.life blob.old in let new = B.life blob.new in
-            ReadsUpTo H.sum_of self.now cache.old offset len old new result }
-        ensures end { len ≢ 0 → size_of self.now ≤ offset
-            → result ≡ Err Error.BlobInsufficientLength }
-        ensures asks { let old = B.life blob.old in let new = B.life blob.new in
-            AsksForMissing cache.old self.now (range_up_to self.now offset len) old new }
-        ensures none { IfErr result (λ e. len ≢ 0) }
+        ensures goes { let old = B.life blob.old in let new = B.life blob.new in
+            ReadUpToGoes H.sum_of self.now cache.old offset len old new result }
         ensures leaves { let old = B.life blob.old in let new = B.life blob.new in
-            LeavesAll self.now cache.old cache.new old new }
-        ensures looked { Looked (B.life blob.old) (B.life blob.new) }
-
-        // Where its pages are full, as they are of a sound writer's blob.
-        ensures never { HasFullPages H.sum_of self.now (B.life blob.old).present
-            → IsErrOf result Error.InvalidChecksum → ⊥ }
-
-        // The blob's writer stays as it is, each snapshot and each replay stands as it stood, what
-        // can be read can be read on, and so can other blobs.
-        ensures writers { LeavesWriters H.sum_of (B.life blob.old) (B.life blob.new) }
-        ensures tails { let old = B.life blob.old in let new = B.life blob.new in
-            LeavesAllTails H.sum_of cache.old cache.new old new }
-        ensures can_read { let old = B.life blob.old in let new = B.life blob.new in
-            LeavesAllReads cache.old cache.new old new }
-        ensures replays { LeavesAllReplays (B.life blob.old) (B.life blob.new) }
-        ensures others { LeavesOthers self.now.id cache.old cache.new }
+            ReadLeaves H.sum_of self.now cache.old cache.new old new }
+        ensures costs { let old = B.life blob.old in let new = B.life blob.new in
+            ReadCosts H.sum_of self.now (range_up_to self.now offset len) cache.old cache.new old new
+            result }
     {
         self.view().read_up_to(blob, cache, offset, len, bytes)
     }
@@ -338,28 +275,12 @@ impl<B: Blob, H: Sum> Sealed<B, H> {
         requires can { CanRead self.now cache.old (B.life blob.old).present }
         requires in_order { AreInOrder ranges.now }
         requires filled { length buf.old ≡ sum_by (λ range. range.1) ranges.now }
-        ensures reads { let old = B.life blob.old in let new = B.life blob.new in
-            ReadsMany H.sum_of self.now cache.old ranges.now buf.new old new result }
-        ensures asks { let old = B.life blob.old in let new = B.life blob.new in
-            AsksOnce cache.old self.now ranges.now old new }
-        ensures size { length buf.new ≡ length buf.old }
+        ensures goes { let old = B.life blob.old in let new = B.life blob.new in
+            ReadManyGoes H.sum_of self.now cache.old ranges.now buf.old buf.new old new result }
         ensures leaves { let old = B.life blob.old in let new = B.life blob.new in
-            LeavesAll self.now cache.old cache.new old new }
-        ensures looked { Looked (B.life blob.old) (B.life blob.new) }
-
-        // Where its pages are full, as they are of a sound writer's blob.
-        ensures never { HasFullPages H.sum_of self.now (B.life blob.old).present
-            → IsErrOf result Error.InvalidChecksum → ⊥ }
-
-        // The blob's writer stays as it is, each snapshot and each replay stands as it stood, what
-        // can be read can be read on, and so can other blobs.
-        ensures writers { LeavesWriters H.sum_of (B.life blob.old) (B.life blob.new) }
-        ensures tails { let old = B.life blob.old in let new = B.life blob.new in
-            LeavesAllTails H.sum_of cache.old cache.new old new }
-        ensures can_read { let old = B.life blob.old in let new = B.life blob.new in
-            LeavesAllReads cache.old cache.new old new }
-        ensures replays { LeavesAllReplays (B.life blob.old) (B.life blob.new) }
-        ensures others { LeavesOthers self.now.id cache.old cache.new }
+            ReadLeaves H.sum_of self.now cache.old cache.new old new }
+        ensures costs { let old = B.life blob.old in let new = B.life blob.new in
+            ReadManyCosts H.sum_of self.now ranges.now cache.old cache.new old new result }
     {
         self.view().read_ranges_into(blob, cache, buf, ranges)
     }
@@ -376,29 +297,14 @@ impl<B: Blob, H: Sum> Sealed<B, H> {
         requires can { CanRead self.now cache.old (B.life blob.old).present }
         requires in_order { AreInOrder (ranges_of (non_zero_usize_get len) offsets.now) }
         requires filled { length buf.old ≡ length offsets.now * non_zero_usize_get len }
-        ensures reads { let ranges = ranges_of (non_zero_usize_get len) offsets.now in
-            let old = B.life blob.old in let new = B.life blob.new in
-            ReadsMany H.sum_of self.now cache.old ranges buf.new old new result }
-        ensures asks { let ranges = ranges_of (non_zero_usize_get len) offsets.now in
-            AsksOnce cache.old self.now ranges (B.life blob.old) (B.life blob.new) }
-        ensures size { length buf.new ≡ length buf.old }
+        ensures goes { let old = B.life blob.old in let new = B.life blob.new in
+            let ranges = ranges_of (non_zero_usize_get len) offsets.now in
+            ReadManyGoes H.sum_of self.now cache.old ranges buf.old buf.new old new result }
         ensures leaves { let old = B.life blob.old in let new = B.life blob.new in
-            LeavesAll self.now cache.old cache.new old new }
-        ensures looked { Looked (B.life blob.old) (B.life blob.new) }
-
-        // Where its pages are full, as they are of a sound writer's blob.
-        ensures never { HasFullPages H.sum_of self.now (B.life blob.old).present
-            → IsErrOf result Error.InvalidChecksum → ⊥ }
-
-        // The blob's writer stays as it is, each snapshot and each replay stands as it stood, what
-        // can be read can be read on, and so can other blobs.
-        ensures writers { LeavesWriters H.sum_of (B.life blob.old) (B.life blob.new) }
-        ensures tails { let old = B.life blob.old in let new = B.life blob.new in
-            LeavesAllTails H.sum_of cache.old cache.new old new }
-        ensures can_read { let old = B.life blob.old in let new = B.life blob.new in
-            LeavesAllReads cache.old cache.new old new }
-        ensures replays { LeavesAllReplays (B.life blob.old) (B.life blob.new) }
-        ensures others { LeavesOthers self.now.id cache.old cache.new }
+            ReadLeaves H.sum_of self.now cache.old cache.new old new }
+        ensures costs { let old = B.life blob.old in let new = B.life blob.new in
+            let ranges = ranges_of (non_zero_usize_get len) offsets.now in
+            ReadManyCosts H.sum_of self.now ranges cache.old cache.new old new result }
     {
         self.view().read_many_into(blob, cache, buf, offsets, len)
     }

@@ -4,10 +4,10 @@ ghost use Rattle.std.specs.Prelude.{drop, Err};
 ghost use Rattle.std.specs.Int.NonZero.{non_zero_u16_get};
 ghost use Rattle.std.specs.List.{concat};
 ghost use Rattle.paged_read.specs.Tail.{tail_at, size_of, IsView, CanRead};
-ghost use Rattle.paged_read.specs.Ranges.{Reads, ReadsUpTo, range_up_to, AsksForMissing, LeavesAll};
-ghost use Rattle.paged_read.specs.Ranges.{TriesRead, is_served};
-ghost use Rattle.std.specs.Prelude.{Ok, true, IfErr};
+ghost use Rattle.paged_read.specs.Ranges.{TriesRead, range_up_to};
 ghost use Rattle.paged_read.specs.Parts.{TriesBelow};
+ghost use Rattle.paged_read.specs.Reads.{ReadCosts, ReadGoes, ReadIntoGoes, ReadLeaves};
+ghost use Rattle.paged_read.specs.Reads.{ReadUpToGoes};
 
 use cache::CacheRef;
 use disk::{Blob, Error, IoBufs};
@@ -97,22 +97,14 @@ impl<B: Blob, H: Sum> View<'_, B, H> {
         requires view { IsView (non_zero_u16_get self.page_size) self.tip.now }
         requires can { let t = tail_at self.page_size self.id self.tip.now in
             CanRead t cache.old (B.life blob.old).present }
-        ensures reads { let t = tail_at self.entry.page_size self.entry.id self.entry.tip.now in
+        ensures goes { let t = tail_at self.entry.page_size self.entry.id self.entry.tip.now in
             let old = B.life blob.old in let new = B.life blob.new in
-            Reads H.sum_of t cache.old (offset, length buf.old) (λ _. buf.new) old new result }
-        ensures overflow { 2 ^ 64 ≤ offset + length buf.old → result ≡ Err Error.OffsetOverflow }
-        ensures end { let t = tail_at self.entry.page_size self.entry.id self.entry.tip.now in
-            offset + length buf.old < 2 ^ 64 → size_of t < offset + length buf.old
-            → result ≡ Err Error.BlobInsufficientLength }
-        ensures asks { let t = tail_at self.entry.page_size self.entry.id self.entry.tip.now in
-            let old = B.life blob.old in let new = B.life blob.new in
-            AsksForMissing cache.old t (offset, length buf.old) old new }
-        ensures served { let t = tail_at self.entry.page_size self.entry.id self.entry.tip.now in
-            offset + length buf.old < 2 ^ 64 → offset + length buf.old ≤ size_of t
-            → is_served cache.old t (offset, length buf.old) ≡ true → result ≡ Ok tt }
+            ReadIntoGoes H.sum_of t cache.old offset buf.old buf.new old new result }
         ensures leaves { let t = tail_at self.entry.page_size self.entry.id self.entry.tip.now in
-            LeavesAll t cache.old cache.new (B.life blob.old) (B.life blob.new) }
-        ensures size { length buf.new ≡ length buf.old }
+            ReadLeaves H.sum_of t cache.old cache.new (B.life blob.old) (B.life blob.new) }
+        ensures costs { let t = tail_at self.entry.page_size self.entry.id self.entry.tip.now in
+            let old = B.life blob.old in let new = B.life blob.new in
+            ReadCosts H.sum_of t (offset, length buf.old) cache.old cache.new old new result }
     {
         let end = offset
             .checked_add(buf.len() as u64)
@@ -138,18 +130,14 @@ impl<B: Blob, H: Sum> View<'_, B, H> {
         requires view { IsView (non_zero_u16_get self.page_size) self.tip.now }
         requires can { let t = tail_at self.page_size self.id self.tip.now in
             CanRead t cache.old (B.life blob.old).present }
-        ensures reads { let t = tail_at self.entry.page_size self.entry.id self.entry.tip.now in
+        ensures goes { let t = tail_at self.entry.page_size self.entry.id self.entry.tip.now in
             let old = B.life blob.old in let new = B.life blob.new in
-            Reads H.sum_of t cache.old (offset, len) concat old new result }
-        ensures overflow { 2 ^ 64 ≤ offset + len → result ≡ Err Error.OffsetOverflow }
-        ensures end { let t = tail_at self.entry.page_size self.entry.id self.entry.tip.now in
-            offset + len < 2 ^ 64 → size_of t < offset + len
-            → result ≡ Err Error.BlobInsufficientLength }
-        ensures asks { let t = tail_at self.entry.page_size self.entry.id self.entry.tip.now in
-            let old = B.life blob.old in let new = B.life blob.new in
-            AsksForMissing cache.old t (offset, len) old new }
+            ReadGoes H.sum_of t cache.old (offset, len) concat old new result }
         ensures leaves { let t = tail_at self.entry.page_size self.entry.id self.entry.tip.now in
-            LeavesAll t cache.old cache.new (B.life blob.old) (B.life blob.new) }
+            ReadLeaves H.sum_of t cache.old cache.new (B.life blob.old) (B.life blob.new) }
+        ensures costs { let t = tail_at self.entry.page_size self.entry.id self.entry.tip.now in
+            let old = B.life blob.old in let new = B.life blob.new in
+            ReadCosts H.sum_of t (offset, len) cache.old cache.new old new result }
     {
         let Some(end) = offset.checked_add(len as u64) else {
             return Err(Error::OffsetOverflow);
@@ -181,17 +169,14 @@ impl<B: Blob, H: Sum> View<'_, B, H> {
         requires view { IsView (non_zero_u16_get self.page_size) self.tip.now }
         requires can { let t = tail_at self.page_size self.id self.tip.now in
             CanRead t cache.old (B.life blob.old).present }
-        ensures reads { let t = tail_at self.entry.page_size self.entry.id self.entry.tip.now in
+        ensures goes { let t = tail_at self.entry.page_size self.entry.id self.entry.tip.now in
             let old = B.life blob.old in let new = B.life blob.new in
-            ReadsUpTo H.sum_of t cache.old offset len old new result }
-        ensures end { let t = tail_at self.entry.page_size self.entry.id self.entry.tip.now in
-            len ≢ 0 → size_of t ≤ offset → result ≡ Err Error.BlobInsufficientLength }
-        ensures asks { let t = tail_at self.entry.page_size self.entry.id self.entry.tip.now in
-            let old = B.life blob.old in let new = B.life blob.new in
-            AsksForMissing cache.old t (range_up_to t offset len) old new }
-        ensures none { IfErr result (λ e. len ≢ 0) }
+            ReadUpToGoes H.sum_of t cache.old offset len old new result }
         ensures leaves { let t = tail_at self.entry.page_size self.entry.id self.entry.tip.now in
-            LeavesAll t cache.old cache.new (B.life blob.old) (B.life blob.new) }
+            ReadLeaves H.sum_of t cache.old cache.new (B.life blob.old) (B.life blob.new) }
+        ensures costs { let t = tail_at self.entry.page_size self.entry.id self.entry.tip.now in
+            let old = B.life blob.old in let new = B.life blob.new in
+            ReadCosts H.sum_of t (range_up_to t offset len) cache.old cache.new old new result }
     {
         bytes.clear();
         if len == 0 {

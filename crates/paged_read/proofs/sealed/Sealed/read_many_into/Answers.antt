@@ -1,52 +1,15 @@
 use Rattle.std.proofs.Common.{subst}
+use Rattle.paged_read.specs.Reads.{ReadLeaves, ReadManyCosts, ReadManyGoes}
 use Rattle.std.specs.Int.NonZero.{non_zero_usize_get}
 use Rattle.paged_read.specs.Batch.{ranges_of}
 use Rattle.paged_read.specs.Tail.{Tail}
-use Rattle.paged_read.specs.Ranges.{LeavesAll, ReadsMany}
-use Rattle.paged_read.proofs.FullReads.{full_reads_many}
-use Rattle.paged_read.proofs.Outliving.{look_leaves_writers, read_leaves_all_tails, read_leaves_all_reads, read_leaves_others}
-use Rattle.paged_read.proofs.OutlivingReplays.{look_leaves_replays}
 use Rattle.paged_read.proofs.sealed.Sealed.read_many_into.Goals as goal
 
-pub returns-clause-never : goal.returns-clause-never
-returns-clause-never g c = λ full is.
-    full_reads_many g.H.Sum.sum_of c.args.self.now c.args.cache.now (g.B.Blob.life c.args.blob.now)
-    (g.B.Blob.life c.read_many_into.new.blob) c.requires.can.there full (ranges_of (non_zero_usize_get c.args.len) c.args.offsets.now) c.read_many_into.new.buf c.read_many_into.result
-    (subst (λ (t : Tail). ReadsMany g.H.Sum.sum_of t c.args.cache.now (ranges_of (non_zero_usize_get c.args.len) c.args.offsets.now) c.read_many_into.new.buf (g.B.Blob.life c.args.blob.now) (g.B.Blob.life c.read_many_into.new.blob) c.read_many_into.result)
-    c.view.ensures.tail c.read_many_into.ensures.reads) is
+pub returns-clause-goes : goal.returns-clause-goes
+returns-clause-goes g c = subst (λ (t : Tail). ReadManyGoes g.H.Sum.sum_of t c.args.cache.now (ranges_of (non_zero_usize_get c.args.len) c.args.offsets.now) c.args.buf.now c.read_many_into.new.buf (g.B.Blob.life c.args.blob.now) (g.B.Blob.life c.read_many_into.new.blob) c.read_many_into.result) c.view.ensures.tail c.read_many_into.ensures.goes
 
-pub returns-clause-writers : goal.returns-clause-writers
-returns-clause-writers g c =
-    look_leaves_writers g.H.Sum.sum_of (g.B.Blob.life c.args.blob.now) (g.B.Blob.life c.read_many_into.new.blob)
-    c.read_many_into.ensures.leaves.looked
+pub returns-clause-leaves : goal.returns-clause-leaves
+returns-clause-leaves g c = subst (λ (t : Tail). ReadLeaves g.H.Sum.sum_of t c.args.cache.now c.read_many_into.new.cache (g.B.Blob.life c.args.blob.now) (g.B.Blob.life c.read_many_into.new.blob)) c.view.ensures.tail c.read_many_into.ensures.leaves
 
-pub returns-clause-tails : goal.returns-clause-tails
-returns-clause-tails g c =
-    read_leaves_all_tails g.H.Sum.sum_of c.args.self.now c.args.cache.now c.read_many_into.new.cache
-    (g.B.Blob.life c.args.blob.now) (g.B.Blob.life c.read_many_into.new.blob) c.requires.can
-    (subst (λ (t : Tail). LeavesAll t c.args.cache.now c.read_many_into.new.cache
-    (g.B.Blob.life c.args.blob.now) (g.B.Blob.life c.read_many_into.new.blob))
-    c.view.ensures.tail c.read_many_into.ensures.leaves)
-    c.view.ensures.short
-
-pub returns-clause-can_read : goal.returns-clause-can_read
-returns-clause-can_read g c =
-    read_leaves_all_reads g.H.Sum.sum_of c.args.self.now c.args.cache.now c.read_many_into.new.cache
-    (g.B.Blob.life c.args.blob.now) (g.B.Blob.life c.read_many_into.new.blob) c.requires.can
-    (subst (λ (t : Tail). LeavesAll t c.args.cache.now c.read_many_into.new.cache
-    (g.B.Blob.life c.args.blob.now) (g.B.Blob.life c.read_many_into.new.blob))
-    c.view.ensures.tail c.read_many_into.ensures.leaves)
-    c.view.ensures.short
-
-pub returns-clause-others : goal.returns-clause-others
-returns-clause-others g c =
-    read_leaves_others g.H.Sum.sum_of c.args.self.now c.args.cache.now c.read_many_into.new.cache
-    (g.B.Blob.life c.args.blob.now) (g.B.Blob.life c.read_many_into.new.blob) c.requires.can
-    (subst (λ (t : Tail). LeavesAll t c.args.cache.now c.read_many_into.new.cache
-    (g.B.Blob.life c.args.blob.now) (g.B.Blob.life c.read_many_into.new.blob))
-    c.view.ensures.tail c.read_many_into.ensures.leaves)
-
-pub returns-clause-replays : goal.returns-clause-replays
-returns-clause-replays g c =
-    look_leaves_replays (g.B.Blob.life c.args.blob.now) (g.B.Blob.life c.read_many_into.new.blob)
-    c.read_many_into.ensures.leaves.looked
+pub returns-clause-costs : goal.returns-clause-costs
+returns-clause-costs g c = subst (λ (t : Tail). ReadManyCosts g.H.Sum.sum_of t (ranges_of (non_zero_usize_get c.args.len) c.args.offsets.now) c.args.cache.now c.read_many_into.new.cache (g.B.Blob.life c.args.blob.now) (g.B.Blob.life c.read_many_into.new.blob) c.read_many_into.result) c.view.ensures.tail c.read_many_into.ensures.costs

@@ -1,11 +1,13 @@
-use Rattle.std.proofs.Common.{◌+◌, ◌≤◌, ◌∙◌, [], ◌∷◌, length, sym, subst, arith, refl, ◌≡◌}
+use Rattle.std.proofs.Common.{◌+◌, ◌≤◌, ◌∙◌, [], ◌∷◌, List, ℕ, Ok, length, sym, subst, arith, refl, ◌≡◌}
 use Rattle.std.proofs.lemmas.Bool.Decides.{nat_tests}
 use Rattle.paged_read.specs.Tail.{tail_at}
 use Rattle.paged_read.specs.Ranges.{missing}
 use Rattle.paged_read.specs.Parts.{ReadsBelow}
 use Rattle.paged_read.proofs.Leaving.{leaves_none}
 use Rattle.paged_read.proofs.BelowReads.{below_joins, asks_joins, cached_reads, cached_tries, rest_many}
-use Rattle.paged_read.proofs.CachedBytes.{cached_within}
+use Rattle.paged_read.proofs.CachedBytes.{cached_within, cached_all, missing_rest}
+use Rattle.paged_read.proofs.PutLaws.{puts_empty}
+use Rattle.paged_read.specs.Puts.{PutsInOrder}
 use Rattle.paged_read.proofs.view.View.read_below.Goals as goal
 
 pub returns-then-count-buf-clause-reads : goal.returns-then-count-buf-clause-reads
@@ -55,3 +57,19 @@ returns-clause-served g c = λ served.
     let all = tries.0 ∙ served in
     let same : c.read_cached-count.result ≡ length c.read_cached-count.new.buf = grind (arith, nat_tests, all) in
     absurd (c.if-count-buf.false same)
+
+pub returns-then-count-buf-clause-puts : goal.returns-then-count-buf-clause-puts
+returns-then-count-buf-clause-puts g c =
+    let t = tail_at c.args.self.page_size c.args.self.id c.args.self.tip.now in
+    puts_empty {A = Unit {0}} g.H.Sum.sum_of t (missing c.args.cache.now t ((c.args.offset, length c.args.buf.now) ∷ [])) (g.B.Blob.life c.args.blob.now).present.readable c.args.cache.now (Ok tt)
+    (cached_all c.args.cache.now t.id c.args.offset c.args.buf.now c.read_cached-count.new.buf c.read_cached-count.result c.read_cached-count.ensures t refl c.requires.can.page_size c.args.self.page_size.ok (c.if-count-buf.true ∙ c.read_cached-count.ensures.size))
+
+pub returns-clause-puts : goal.returns-clause-puts
+returns-clause-puts g c =
+    let t = tail_at c.args.self.page_size c.args.self.id c.args.self.tip.now in
+    let readable = (g.B.Blob.life c.args.blob.now).present.readable in
+    let count = c.read_cached-count.result in
+    let many = rest_many c.args.buf.now c.read_cached-count.new.buf count c.read_cached-count.ensures.size in
+    subst (λ (l : List ℕ). PutsInOrder g.H.Sum.sum_of t l readable c.args.cache.now c.read_missing.new.cache c.read_missing.result)
+    (sym (missing_rest c.args.cache.now t.id c.args.offset c.args.buf.now c.read_cached-count.new.buf count c.read_cached-count.ensures t refl c.requires.can.page_size c.args.self.page_size.ok))
+    (subst (λ n. PutsInOrder g.H.Sum.sum_of t (missing c.args.cache.now t ((c.args.offset + count, n) ∷ [])) readable c.args.cache.now c.read_missing.new.cache c.read_missing.result) many c.read_missing.ensures.puts)

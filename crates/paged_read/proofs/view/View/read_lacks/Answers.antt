@@ -1,4 +1,4 @@
-use Rattle.std.proofs.Common.{◌≡◌, ◌∙◌, refl, sym, ap, subst, ℕ, List, length}
+use Rattle.std.proofs.Common.{◌≡◌, ◌∙◌, refl, sym, ap, subst, ℕ, List, length, IsPermutation}
 use Rattle.std.specs.Prelude.{All}
 use Rattle.std.proofs.lemmas.Result.{err_from_is_err_and}
 use Rattle.crash.proofs.LookLaws.{looked_readable}
@@ -8,6 +8,9 @@ use Rattle.paged_read.specs.Batch.{KeepsFault, pieces_in}
 use Rattle.paged_read.specs.Parts.{with_told}
 use Rattle.paged_read.specs.declared.lack.Lack.{Lack}
 use Rattle.paged_read.proofs.BatchKeeps.{delivers_same, whole_same, ready_same, told_same, marked_same, leaves_kept, delivered_whole, lacks_ready, lacks_told, pages_full, keeps_fault}
+use Rattle.paged_read.proofs.PutLaws.{puts_none, numbered_each}
+use Rattle.std.proofs.lemmas.List.Sorted.{IsPermutation-refl}
+use Rattle.paged_read.specs.Puts.{PutsSome, numbered}
 use Rattle.paged_read.proofs.view.View.read_lacks.Goals as goal
 
 pub keep_all-requires-clause-delivered : goal.keep_all-requires-clause-delivered
@@ -83,3 +86,33 @@ returns-clause-leaves g c =
     let delivers = delivers_same t.page_size c.deref.result.now pages old.present.readable old.present.readable out out (sym c.deref.ensures.value) refl refl c.in_ok-out.ensures.reads in
     leaves_kept t c.args.cache.now c.keep_all.new.cache old new c.requires.can c.fetch.ensures.looked
     (λ can. c.keep_all.ensures.leaves new can (delivers_same t.page_size pages c.deref-2.result.now old.present.readable new.present.readable out c.deref-3.result.now c.deref-2.ensures.value (looked_readable old new c.fetch.ensures.looked) c.deref-3.ensures.value delivers))
+
+pub returns-in_err-out-clause-puts : goal.returns-in_err-out-clause-puts
+returns-in_err-out-clause-puts g c =
+    let t = tail_at c.args.self.page_size c.args.self.id c.args.self.tip.now in
+    let pages = c.args.batch.now.pages.items in
+    let p = err_from_is_err_and c.from_residual.result c.from_residual.ensures.1 in
+    rw p.1 (record { order = pages; each = IsPermutation-refl pages; puts = puts_none g.H.Sum.sum_of t pages (g.B.Blob.life c.args.blob.now).present.readable c.args.cache.now })
+
+pub returns-in_err-at-clause-puts : goal.returns-in_err-at-clause-puts
+returns-in_err-at-clause-puts g c =
+    let t = tail_at c.args.self.page_size c.args.self.id c.args.self.tip.now in
+    let old = g.B.Blob.life c.args.blob.now in
+    let pages = c.args.batch.now.pages.items in
+    let out = c.in_ok-out.out.items in
+    let delivers = delivers_same t.page_size c.deref.result.now pages old.present.readable old.present.readable out out (sym c.deref.ensures.value) refl refl c.in_ok-out.ensures.reads in
+    let there = delivers_same t.page_size pages c.deref-2.result.now old.present.readable old.present.readable out c.deref-3.result.now c.deref-2.ensures.value refl c.deref-3.ensures.value delivers in
+    let each = subst (λ (l : List ℕ). IsPermutation l (numbered c.deref-2.result.now c.deref-3.result.now)) c.deref-2.ensures.value (numbered_each t.page_size c.deref-2.result.now old.present.readable c.deref-3.result.now there) in
+    let p = err_from_is_err_and c.from_residual-in_err-at.result c.from_residual-in_err-at.ensures.1 in
+    rw p.1 (record { order = numbered c.deref-2.result.now c.deref-3.result.now; each = each; puts = c.in_err-at.ensures.puts old c.requires.can there })
+
+pub returns-clause-puts : goal.returns-clause-puts
+returns-clause-puts g c =
+    let t = tail_at c.args.self.page_size c.args.self.id c.args.self.tip.now in
+    let old = g.B.Blob.life c.args.blob.now in
+    let pages = c.args.batch.now.pages.items in
+    let out = c.in_ok-out.out.items in
+    let delivers = delivers_same t.page_size c.deref.result.now pages old.present.readable old.present.readable out out (sym c.deref.ensures.value) refl refl c.in_ok-out.ensures.reads in
+    let there = delivers_same t.page_size pages c.deref-2.result.now old.present.readable old.present.readable out c.deref-3.result.now c.deref-2.ensures.value refl c.deref-3.ensures.value delivers in
+    let each = subst (λ (l : List ℕ). IsPermutation l (numbered c.deref-2.result.now c.deref-3.result.now)) c.deref-2.ensures.value (numbered_each t.page_size c.deref-2.result.now old.present.readable c.deref-3.result.now there) in
+    record { order = numbered c.deref-2.result.now c.deref-3.result.now; each = each; puts = c.in_ok-at.ensures.puts old c.requires.can there }

@@ -1,4 +1,4 @@
-use Rattle.std.proofs.Common.{◌≡◌, ◌<◌, ◌+◌, ◌∙◌, List, ◌++◌, length, sym, ap, subst, arith, refl}
+use Rattle.std.proofs.Common.{◌≡◌, ◌<◌, ◌+◌, ◌∙◌, List, [], ◌∷◌, ℕ, ◌++◌, length, sym, ap, subst, arith, refl}
 use Rattle.std.specs.Prelude.{All}
 use Rattle.cache.specs.CacheState.{IsPiece, pieces_left}
 use Rattle.cache.specs.declared.piece.Piece.{Piece}
@@ -6,7 +6,11 @@ use Rattle.paged_read.specs.Tail.{tail_at}
 use Rattle.paged_read.specs.Pieces.{pieces_of}
 use Rattle.paged_read.specs.Parts.{IsPieceOf}
 use Rattle.paged_read.proofs.Leaving.{leaves_none}
-use Rattle.paged_read.proofs.BelowReads.{pieces_are, left_are, left_many, missing_read, page_lacks, only_is, only_many, only_read, offsets_fit}
+use Rattle.paged_read.proofs.BelowReads.{pieces_are, left_are, left_many, missing_read, page_lacks, left_pages, only_page, only_is, only_many, only_read, offsets_fit}
+use Rattle.paged_read.proofs.PutLaws.{puts_none, puts_page}
+use Rattle.paged_read.specs.Puts.{PutsInOrder}
+use Rattle.paged_read.specs.Ranges.{missing}
+use Rattle.std.proofs.lemmas.Result.{err_from_is_err_and}
 use Rattle.paged_read.proofs.view.View.read_missing.Goals as goal
 
 pub returns-in_err-push_pieces-clause-leaves : goal.returns-in_err-push_pieces-clause-leaves
@@ -71,3 +75,36 @@ returns-in-Some-clause-asks g c =
     let fits = offsets_fit t.page_size t.full_pages (c.args.offset + len) c.requires.view.fits c.requires.below in
     let lacks = page_lacks t c.args.cache.now c.args.offset len c.args.self.page_size.ok c.requires.below c.in-Some.piece.page c.in-Some.ensures.0 c.requires.some fits c.requires.can.page_size c.requires.lacks in
     omega (arith, c.read_piece.ensures.asks, only_many t c.args.cache.now c.args.offset len c.args.self.page_size.ok c.requires.below c.in-Some.piece lacks c.in-Some.ensures.1)
+
+pub returns-in_err-push_pieces-clause-puts : goal.returns-in_err-push_pieces-clause-puts
+returns-in_err-push_pieces-clause-puts g c =
+    let t = tail_at c.args.self.page_size c.args.self.id c.args.self.tip.now in
+    let p = err_from_is_err_and c.from_residual.result c.from_residual.ensures.1 in
+    rw p.1 (puts_none g.H.Sum.sum_of t (missing c.args.cache.now t ((c.args.offset, length c.args.buf.now) ∷ [])) (g.B.Blob.life c.args.blob.now).present.readable c.args.cache.now)
+
+pub returns-in_err-left-clause-puts : goal.returns-in_err-left-clause-puts
+returns-in_err-left-clause-puts g c =
+    let t = tail_at c.args.self.page_size c.args.self.id c.args.self.tip.now in
+    let p = err_from_is_err_and c.from_residual-in_err-left.result c.from_residual-in_err-left.ensures.1 in
+    rw p.1 (puts_none g.H.Sum.sum_of t (missing c.args.cache.now t ((c.args.offset, length c.args.buf.now) ∷ [])) (g.B.Blob.life c.args.blob.now).present.readable c.args.cache.now)
+
+pub returns-in-Some-clause-puts : goal.returns-in-Some-clause-puts
+returns-in-Some-clause-puts g c =
+    let t = tail_at c.args.self.page_size c.args.self.id c.args.self.tip.now in
+    let len = length c.args.buf.now in
+    let readable = (g.B.Blob.life c.args.blob.now).present.readable in
+    let fits = offsets_fit t.page_size t.full_pages (c.args.offset + len) c.requires.view.fits c.requires.below in
+    let lacks = page_lacks t c.args.cache.now c.args.offset len c.args.self.page_size.ok c.requires.below c.in-Some.piece.page c.in-Some.ensures.0 c.requires.some fits c.requires.can.page_size c.requires.lacks in
+    subst (λ (l : List ℕ). PutsInOrder g.H.Sum.sum_of t l readable c.args.cache.now c.read_piece.new.cache c.read_piece.result)
+    (only_page t c.args.cache.now c.args.offset len c.args.self.page_size.ok c.requires.below c.in-Some.piece lacks c.in-Some.ensures.1)
+    (puts_page g.H.Sum.sum_of t c.in-Some.piece.page readable c.args.cache.now c.read_piece.new.cache c.read_piece.result c.read_piece.ensures.puts)
+
+pub returns-clause-puts : goal.returns-clause-puts
+returns-clause-puts g c =
+    let t = tail_at c.args.self.page_size c.args.self.id c.args.self.tip.now in
+    let len = length c.args.buf.now in
+    let readable = (g.B.Blob.life c.args.blob.now).present.readable in
+    let items : c.deref.result.now ≡ pieces_of t.page_size (c.args.offset, len) 0 = c.deref.ensures.value ∙ c.in_ok-push_pieces.ensures.ok ∙ ap (λ (l : List Piece). l ++ pieces_of t.page_size (c.args.offset, len) 0) c.new-pieces.ensures.items in
+    subst (λ (l : List ℕ). PutsInOrder g.H.Sum.sum_of t l readable c.args.cache.now c.read_pieces.new.cache c.read_pieces.result)
+    (left_pages t c.args.cache.now c.args.offset len c.args.self.page_size.ok c.requires.below c.deref.result.now c.deref-2.result.now items (c.deref-2.ensures.value ∙ c.in_ok-left.ensures.reads.0))
+    c.read_pieces.ensures.puts

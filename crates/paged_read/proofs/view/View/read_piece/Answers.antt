@@ -1,9 +1,11 @@
 use Rattle.std.proofs.Common.{◌≡◌, ◌+◌, ◌-◌, ◌∙◌, List, ℕ, take, drop, length, sym, ap, arith}
 use Rattle.std.proofs.lemmas.List.{length-take-le}
-use Rattle.paged_read.specs.Tail.{tail_at}
+use Rattle.cache.specs.Pages.{page_of_content}
+use Rattle.paged_read.specs.Tail.{tail_at, told}
 use Rattle.paged_read.specs.Ranges.{page_at}
-use Rattle.paged_read.proofs.Leaving.{piece_told, length-page_at, leaves_put}
+use Rattle.paged_read.proofs.Leaving.{piece_told, length-page_at, leaves_put, payload_told}
 use Rattle.paged_read.proofs.PageReads.{page_full}
+use Rattle.paged_read.proofs.PutLaws.{puts_one}
 use Rattle.paged_read.proofs.view.View.read_piece.Goals as goal
 
 pub keep-requires : goal.keep-requires
@@ -35,3 +37,15 @@ returns-clause-leaves g c =
     let size : c.from.result ≡ t.page_size = c.from.ensures ∙ c.get.ensures.value in
     leaves_put t c.args.cache.now c.keep.new.self (g.B.Blob.life c.args.blob.now) (g.B.Blob.life c.read_page.new.blob) c.args.piece.page (take c.from.result c.as_ref.result.now) c.requires.can c.read_page.ensures.looked c.requires.piece.below
     (ap (λ k. take k c.as_ref.result.now) size ∙ ap (λ (l : List ℕ). take t.page_size l) (c.as_ref.ensures ∙ c.in_ok-bytes.ensures.reads.0)) c.keep.ensures.puts
+
+pub returns-clause-puts : goal.returns-clause-puts
+returns-clause-puts g c =
+    let t = tail_at c.args.self.page_size c.args.self.id c.args.self.tip.now in
+    let readable = (g.B.Blob.life c.args.blob.now).present.readable in
+    let page = c.args.piece.page in
+    let size : c.from.result ≡ t.page_size = c.from.ensures ∙ c.get.ensures.value in
+    let payload = take c.from.result c.as_ref.result.now in
+    let is : payload ≡ page_of_content c.args.cache.now.page_size (told t readable) page =
+    ap (λ k. take k c.as_ref.result.now) size ∙ ap (λ (l : List ℕ). take t.page_size l) (c.as_ref.ensures ∙ c.in_ok-bytes.ensures.reads.0)
+    ∙ payload_told t readable c.requires.can.there page c.requires.piece.below ∙ ap (λ P. page_of_content P (told t readable) page) (sym c.requires.can.page_size) in
+    puts_one t.id page (told t readable) payload c.args.cache.now c.keep.new.self is c.keep.ensures.puts

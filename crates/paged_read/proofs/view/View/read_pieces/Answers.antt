@@ -8,6 +8,7 @@ use Rattle.paged_read.specs.Tail.{tail_at, told}
 use Rattle.paged_read.specs.Parts.{with_told, pages_of, ArePagesFull}
 use Rattle.paged_read.proofs.Leaving.{leaves_none, leaves_joins, told_later}
 use Rattle.paged_read.proofs.PageReads.{one_page, piece_among, told_step, full_step, full_same, faults_later}
+use Rattle.paged_read.proofs.PutLaws.{puts_all_pieces, puts_first_pieces, puts_piece_more}
 use Rattle.paged_read.proofs.view.View.read_pieces.Goals as goal
 
 none_full : (sum : List ℕ → ℕ) (P : ℕ) (readable : List ℕ) → ArePagesFull sum P [] readable
@@ -19,6 +20,7 @@ loop-piece-init g c = record {
   size = refl;
   full = none_full g.H.Sum.sum_of (tail_at c.args.self.page_size c.args.self.id c.args.self.tip.now).page_size (g.B.Blob.life c.args.blob.now).present.readable;
   asks = omega arith;
+  puts = refl;
   leaves = leaves_none (tail_at c.args.self.page_size c.args.self.id c.args.self.tip.now) c.args.cache.now (g.B.Blob.life c.args.blob.now) c.requires.can;
 }
 
@@ -56,6 +58,7 @@ loop-piece-preserved g c =
           full_step g.H.Sum.sum_of t.page_size c.args.pieces.now k d old.present.readable c.loop-piece-test.true c.loop-piece.invariant.full
           (full_same g.H.Sum.sum_of t.page_size (item.page ∷ []) mid.present.readable old.present.readable (sym (looked_readable old mid looked)) c.in_ok-read_piece.ensures.reads.1);
       asks = omega (arith, c.loop-piece.invariant.asks, c.read_piece.ensures.asks);
+      puts = puts_piece_more t c.args.pieces.now k d (told t old.present.readable) (told t mid.present.readable) c.args.cache.now c.loop-piece.cache c.read_piece.new.cache c.loop-piece-test.true (told_later t old mid looked) c.loop-piece.invariant.puts c.in_ok-read_piece.ensures.puts;
       leaves = leaves_joins t c.args.cache.now c.loop-piece.cache c.read_piece.new.cache old mid (g.B.Blob.life c.read_piece.new.blob) c.loop-piece.invariant.leaves c.read_piece.ensures.leaves;
     }
 
@@ -69,3 +72,14 @@ returns-clause-reads g c =
       sym (ap (λ (l : List Piece). with_told t.page_size (told t old.present.readable) l c.loop-piece.buf) none) ∙ c.loop-piece.invariant.bytes,
       subst (λ (l : List Piece). ArePagesFull g.H.Sum.sum_of t.page_size (pages_of l) old.present.readable) all c.loop-piece.invariant.full,
     )
+
+pub returns-in_err-read_piece-clause-puts : goal.returns-in_err-read_piece-clause-puts
+returns-in_err-read_piece-clause-puts g c =
+    let t = tail_at c.args.self.page_size c.args.self.id c.args.self.tip.now in
+    let p = err_from_is_err_and c.from_residual.result c.from_residual.ensures.1 in
+    rw p.1 (puts_first_pieces t c.args.pieces.now c.loop-piece.piece-index g.H.Sum.sum_of (g.B.Blob.life c.args.blob.now).present.readable c.args.cache.now c.loop-piece.cache c.read_piece.new.cache c.loop-piece.invariant.full c.loop-piece.invariant.puts c.in_err-read_piece.ensures.puts)
+
+pub returns-clause-puts : goal.returns-clause-puts
+returns-clause-puts g c =
+    let t = tail_at c.args.self.page_size c.args.self.id c.args.self.tip.now in
+    puts_all_pieces t c.args.pieces.now c.loop-piece.piece-index (told t (g.B.Blob.life c.args.blob.now).present.readable) c.args.cache.now c.loop-piece.cache c.loop-piece-test.false c.loop-piece.invariant.puts

@@ -2,6 +2,7 @@ use Rattle.std.proofs.Common.{◌≡◌, ◌≤◌, ◌+◌, length, take, drop}
 use Rattle.paged_read.specs.Tail.{tail_at, told}
 use Rattle.paged_read.specs.Ranges.{LeavesAll}
 use Rattle.paged_read.specs.Parts.{with_told, pages_of, ArePagesFull}
+use Rattle.paged_read.specs.Puts.{PutsPages}
 use Rattle.paged_read.proofs.view.View.read_pieces.Given as goal
 
 abbrev pub invariant-loop-piece : goal.invariant-loop-piece
@@ -14,5 +15,6 @@ invariant-loop-piece g l =
       size : length l.buf ≡ length l.initial.buf;
       full : ArePagesFull g.H.Sum.sum_of t.page_size (pages_of (take l.piece-index l.pieces)) old.present.readable;
       asks : length (g.B.Blob.life l.blob).present.log ≤ length old.present.log + l.piece-index;
+      puts : PutsPages t.id content (pages_of (take l.piece-index l.pieces)) l.initial.cache l.cache;
       leaves : LeavesAll t l.initial.cache l.cache old (g.B.Blob.life l.blob);
     }

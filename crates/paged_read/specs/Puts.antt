@@ -1,0 +1,46 @@
+-- What a read puts in the cache: the pages that it read.
+use Rattle.std.specs.Prelude.{◌≡◌, ℕ, List, [], ◌∷◌, take, map, slice_index_or, IsPermutation}
+use Rattle.std.specs.Prelude.{Result, Ok, Err}
+use Rattle.disk.specs.declared.error.Error.{Error}
+use Rattle.cache.specs.CacheState.{CacheState, Puts}
+use Rattle.cache.specs.Pages.{page_of_content}
+use Rattle.paged_read.specs.Tail.{Tail, told}
+use Rattle.paged_read.specs.Parts.{ArePagesFull}
+
+-- these pages of a blob's content are put, one after the other
+abbrev pub PutsPages : (id : ℕ) → (content pages : List ℕ) → CacheState → CacheState → Type 0
+PutsPages id content [] old new = new ≡ old
+PutsPages id content (page ∷ pages) old new =
+    (mid : CacheState) × Puts (id, page) (page_of_content old.page_size content page) old mid
+    × PutsPages id content pages mid new
+
+-- the first of these pages of a tail are put, so many, and each of those is full
+pub record PutsFirst (sum : List ℕ → ℕ) (t : Tail) (pages readable : List ℕ) (old new : CacheState)
+    : Type 0 where
+  pub count : ℕ
+  pub full : ArePagesFull sum t.page_size (take count pages) readable
+  pub puts : PutsPages t.id (told t readable) (take count pages) old new
+
+-- a read of these pages puts all of them, in this order. Where it fails it puts the first ones.
+abbrev pub PutsInOrder : {A : Type 0} → (List ℕ → ℕ) → Tail → (pages readable : List ℕ)
+    → CacheState → CacheState → Result A Error → Type 0
+PutsInOrder sum t pages readable old new (Ok _) = PutsPages t.id (told t readable) pages old new
+PutsInOrder sum t pages readable old new (Err _) = PutsFirst sum t pages readable old new
+
+-- a read of these pages puts them so, in some order
+pub record PutsSome {A : Type 0} (sum : List ℕ → ℕ) (t : Tail) (pages readable : List ℕ)
+    (old new : CacheState) (result : Result A Error) : Type 0 where
+  pub order : List ℕ
+  pub each : IsPermutation pages order
+  pub puts : PutsInOrder sum t order readable old new result
+
+-- a read of one page puts it. Where it fails it puts nothing.
+abbrev pub PutsPage : {A : Type 0} → Tail → (page : ℕ) → List ℕ → CacheState → CacheState
+    → Result A Error → Type 0
+PutsPage t page readable old new (Ok _) =
+    PutsPages t.id (told t readable) (page ∷ []) old new
+PutsPage t page readable old new (Err _) = new ≡ old
+
+-- the pages that were delivered, in the order in which they came
+abbrev pub numbered : (pages : List ℕ) → List (ℕ × List ℕ) → List ℕ
+numbered pages out = map (λ page. slice_index_or pages page.0 0) out

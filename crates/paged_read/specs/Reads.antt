@@ -1,0 +1,112 @@
+-- What the calls that read answer, leave and cost, a record for each.
+use Rattle.std.specs.Prelude.{◌≡◌, ◌≢◌, ◌≤◌, ◌<◌, ◌+◌, ◌^◌, ℕ, true, List, [], ◌∷◌, length}
+use Rattle.std.specs.Prelude.{Result, Ok, Err, Vec, IfErr, IsErrOf}
+use Rattle.std.specs.declared.alloc.Global.{Global}
+use Rattle.disk.specs.Disk.{Disk, Life}
+use Rattle.disk.specs.declared.error.Error.{Error}
+use Rattle.disk.specs.declared.error.Error.TheVariants.{InvalidChecksum, OffsetOverflow}
+use Rattle.disk.specs.declared.error.Error.TheVariants.{BlobInsufficientLength}
+use Rattle.cache.specs.CacheState.{CacheState}
+use Rattle.cache.specs.Pages.{CachesOnly, IsFresh}
+use Rattle.crash.specs.Looks.{Looked}
+use Rattle.writer_state.specs.WriterState.{WriterState}
+use Rattle.writer_state.specs.Sound.{IsSound}
+use Rattle.paged_read.specs.Tail.{Tail, told, size_of, HasFullPages}
+use Rattle.paged_read.specs.Ranges.{Reads, ReadsUpTo, ReadsMany, missing, is_served}
+use Rattle.paged_read.specs.Ranges.{AsksForMissing, AsksOnce}
+use Rattle.paged_read.specs.Puts.{PutsInOrder, PutsSome}
+use Rattle.paged_read.specs.Replay.{LeavesAllReplays}
+use Rattle.paged_read.specs.Snapshots.{LeavesAllReads, LeavesAllTails, LeavesOthers}
+use Rattle.paged_read.specs.Snapshots.{LeavesWriters}
+
+-- ---- what a read answers
+
+-- no page is found that isn't full, where the pages of the tail are full
+abbrev pub NeverBad : {A : Type 0} → (List ℕ → ℕ) → Tail → Disk → Result A Error → Type 0
+NeverBad sum t d result = HasFullPages sum t d → IsErrOf result InvalidChecksum → ⊥
+
+-- the same, where the blob has a sound writer with at least the tail's pages
+abbrev pub NeverBadIfSound : {A : Type 0} → (List ℕ → ℕ) → Tail → Disk → Result A Error → Type 0
+NeverBadIfSound sum t d result =
+    (w : WriterState) → IsSound sum w d → w.page_size ≡ t.page_size
+    → t.full_pages ≤ w.full_pages → IsErrOf result InvalidChecksum → ⊥
+
+-- a read of one range
+pub record ReadGoes {A : Type 0} (sum : List ℕ → ℕ) (t : Tail) (cache : CacheState)
+    (range : ℕ × ℕ) (bytes : A → List ℕ) (old new : Life) (result : Result A Error) : Type 0 where
+  pub answers : Reads sum t cache range bytes old new result
+  pub overflow : 2 ^ 64 ≤ range.0 + range.1 → result ≡ Err OffsetOverflow
+  pub end : range.0 + range.1 < 2 ^ 64 → size_of t < range.0 + range.1
+      → result ≡ Err BlobInsufficientLength
+  pub never : NeverBad sum t old.present result
+  pub never_if_sound : NeverBadIfSound sum t old.present result
+
+-- a read into a buffer: where the cache holds all pages it needs no memory
+pub record ReadIntoGoes (sum : List ℕ → ℕ) (t : Tail) (cache : CacheState) (offset : ℕ)
+    (buf after : List ℕ) (old new : Life) (result : Result (Unit {0}) Error) : Type 0 where
+  pub answers : Reads sum t cache (offset, length buf) (λ _. after) old new result
+  pub overflow : 2 ^ 64 ≤ offset + length buf → result ≡ Err OffsetOverflow
+  pub end : offset + length buf < 2 ^ 64 → size_of t < offset + length buf
+      → result ≡ Err BlobInsufficientLength
+  pub served : offset + length buf < 2 ^ 64 → offset + length buf ≤ size_of t
+      → is_served cache t (offset, length buf) ≡ true → result ≡ Ok tt
+  pub never : NeverBad sum t old.present result
+  pub never_if_sound : NeverBadIfSound sum t old.present result
+  pub size : length after ≡ length buf
+
+-- a read of as many bytes as there are, up to so many: none are read without fail
+pub record ReadUpToGoes (sum : List ℕ → ℕ) (t : Tail) (cache : CacheState) (offset len : ℕ)
+    (old new : Life) (result : Result (Vec ℕ Global × ℕ) Error) : Type 0 where
+  pub answers : ReadsUpTo sum t cache offset len old new result
+  pub end : len ≢ 0 → size_of t ≤ offset → result ≡ Err BlobInsufficientLength
+  pub none : IfErr result (λ e. len ≢ 0)
+  pub never : NeverBad sum t old.present result
+  pub never_if_sound : NeverBadIfSound sum t old.present result
+
+-- a read of many ranges into a buffer
+pub record ReadManyGoes (sum : List ℕ → ℕ) (t : Tail) (cache : CacheState)
+    (ranges : List (ℕ × ℕ)) (buf after : List ℕ) (old new : Life) (result : Result ℕ Error)
+    : Type 0 where
+  pub answers : ReadsMany sum t cache ranges after old new result
+  pub never : NeverBad sum t old.present result
+  pub never_if_sound : NeverBadIfSound sum t old.present result
+  pub size : length after ≡ length buf
+
+-- ---- what a read leaves
+
+-- the disk is as it was except for its log, and the cache except for pages of the content that
+-- were put, and pages that went for them. So each writer, snapshot, replay and read that was valid
+-- before the call still is, of this blob and of others.
+pub record ReadLeaves (sum : List ℕ → ℕ) (t : Tail) (cache after : CacheState) (old new : Life)
+    : Type 0 where
+  pub looked : Looked old new
+  pub cached : CachesOnly t.id 0 (told t old.present.readable) cache after
+  pub fresh : IsFresh cache → IsFresh after
+  pub writers : LeavesWriters sum old new
+  pub tails : LeavesAllTails sum cache after old new
+  pub can_read : LeavesAllReads cache after old new
+  pub replays : LeavesAllReplays old new
+  pub others : LeavesOthers t.id cache after
+
+-- a call that only looks at a blob, without a cache, leaves all of it
+pub record LookLeaves (sum : List ℕ → ℕ) (old new : Life) : Type 0 where
+  pub looked : Looked old new
+  pub writers : LeavesWriters sum old new
+  pub tails : (cache : CacheState) → LeavesAllTails sum cache cache old new
+  pub can_read : (cache : CacheState) → LeavesAllReads cache cache old new
+  pub replays : LeavesAllReplays old new
+
+-- ---- what a read costs
+
+-- a read of one range: device calls, and pages that are put in the cache
+pub record ReadCosts {A : Type 0} (sum : List ℕ → ℕ) (t : Tail) (range : ℕ × ℕ)
+    (cache after : CacheState) (old new : Life) (result : Result A Error) : Type 0 where
+  pub asks : AsksForMissing cache t range old new
+  pub puts : PutsInOrder sum t (missing cache t (range ∷ [])) old.present.readable cache after
+      result
+
+-- a read of many
+pub record ReadManyCosts {A : Type 0} (sum : List ℕ → ℕ) (t : Tail) (ranges : List (ℕ × ℕ))
+    (cache after : CacheState) (old new : Life) (result : Result A Error) : Type 0 where
+  pub asks : AsksOnce cache t ranges old new
+  pub puts : PutsSome sum t (missing cache t ranges) old.present.readable cache after result
