@@ -1,5 +1,5 @@
 -- Ranges one by one.
-use Rattle.std.proofs.Common.{◌≡◌, ℕ, zero, suc, ◌+◌, ◌<◌, ◌≤◌, List, [], ◌∷◌, ◌++◌, length, take, drop, get_or, refl, sym, ap, ◌∙◌, subst, arith, Bool, true, false, cond, inr, length-append, length-drop, ◌*◌, ◌^◌}
+use Rattle.std.proofs.Common.{inl, ◌≡◌, ℕ, zero, suc, ◌+◌, ◌<◌, ◌≤◌, List, [], ◌∷◌, ◌++◌, length, take, drop, get_or, refl, sym, ap, ◌∙◌, subst, arith, Bool, true, false, cond, inr, length-append, length-drop, ◌*◌, ◌^◌}
 use Rattle.std.specs.Prelude.{sum_by, is_ok, IfOk, OnOk, Vec, Result, Ok, Err}
 use Rattle.std.specs.declared.alloc.Global.{Global}
 use Rattle.std.specs.List.{filter, range_with_len}
@@ -193,6 +193,11 @@ range_push n = sym (range_split 0 n 1 (n + 1) n refl (omega arith))
 pub misses_all : (t : Tail) (ranges : List (ℕ × ℕ)) (cache : CacheState) (result : Result (Vec ℕ Global) Error) → (EndWithin (size_of t) ranges → ⊥) → IfOk result (λ all. all.items ≡ range_with_len 0 (length ranges)) → IfOk result (λ missed. Misses t ranges cache missed.items)
 misses_all t ranges cache (Ok all) refused is = inr (refused, is)
 misses_all t ranges cache (Err e) refused is = is
+
+-- where none is, those that aren't served are
+pub misses_within : (t : Tail) (ranges : List (ℕ × ℕ)) (cache : CacheState) (result : Result (Vec ℕ Global) Error) → EndWithin (size_of t) ranges → IfOk result (λ missed. missed.items ≡ missed_from 0 cache t ranges) → IfOk result (λ missed. Misses t ranges cache missed.items)
+misses_within t ranges cache (Ok missed) within is = inl (within, is)
+misses_within t ranges cache (Err e) within is = is
 
 -- and nothing is said of the bytes
 pub on_refused : {A : Type 0} (result : Result A Error) (P Q : Type 0) → (P → ⊥) → OnOk result (P → Q)

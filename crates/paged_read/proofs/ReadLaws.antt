@@ -1,11 +1,11 @@
 -- What the records that the calls of a read promise follow from.
 use Rattle.std.proofs.Common.{◌≡◌, ◌≢◌, inl, inr, ℕ, zero, suc, ◌+◌, ◌-◌, ◌*◌, ◌^◌, ◌<◌, ◌≤◌, true, List, [], ◌∷◌, ◌++◌, length, take, min, refl, sym, ap, ◌∙◌, subst, arith, Ok, Err, Result, IsPermutation}
-use Rattle.std.specs.Prelude.{All, Vec, IfErr, IsErrOf}
+use Rattle.std.specs.Prelude.{IfOk, OnOk, IsOkUnless, Vec, IfErr, IsErrOf}
 use Rattle.std.specs.List.{Contains}
 use Rattle.std.specs.declared.alloc.Global.{Global}
 use Rattle.std.proofs.lemmas.List.Sorted.{IsPermutation-refl, IsPermutation-sym, Contains-permutation}
 use Rattle.std.proofs.lemmas.List.{take_all}
-use Rattle.disk.specs.Disk.{Life}
+use Rattle.disk.specs.Disk.{Disk, Life}
 use Rattle.disk.specs.declared.error.Error.{Error}
 use Rattle.disk.specs.declared.error.Error.TheVariants.{ReadFailed, WriteFailed, ResizeFailed, SyncFailed, InvalidChecksum, BlobInsufficientLength, OffsetOverflow, OutOfMemory, IdsExhausted}
 use Rattle.cache.specs.CacheState.{CacheState}
@@ -13,10 +13,10 @@ use Rattle.cache.specs.Pages.{page_of_content}
 use Rattle.cache.proofs.CacheLaws.{longer_true, fresh_stays}
 use Rattle.crash.specs.Looks.{Looked, looked_start}
 use Rattle.paged_read.specs.Tail.{Tail, told, size_of, CanRead}
-use Rattle.paged_read.specs.Ranges.{AsksForMissing, AsksTogether, ReadFault, Reads, ReadsUpTo, ReadsMany, AreMissingFull, missing, is_served, page_ranges}
+use Rattle.paged_read.specs.Ranges.{AsksForMissing, AsksTogether, ReadFault, Reads, ReadsUpTo, ReadsMany, AreMissingFull, HasServed, Misses, missing, is_served, page_ranges}
 use Rattle.paged_read.specs.Puts.{PutsPages, PutsFirst, PutsInOrder, PutsSome}
 use Rattle.paged_read.specs.Parts.{ArePagesFull, PagesFault}
-use Rattle.paged_read.specs.Reads.{ReadGoes, ReadIntoGoes, ReadUpToGoes, ReadManyGoes, ReadLeaves, ReadCosts, ReadManyCosts, LookLeaves}
+use Rattle.paged_read.specs.Reads.{ReadGoes, ReadIntoGoes, ReadUpToGoes, ReadManyGoes, ReadLeaves, ReadCosts, ReadManyCosts, LookLeaves, TriesMany}
 use Rattle.paged_read.proofs.BatchReads.{not_asked}
 use Rattle.paged_read.proofs.FullReads.{full_reads, full_reads_up_to, full_reads_many, full_of_tail, full_of_sound}
 use Rattle.paged_read.proofs.Leaving.{length-told, payload_told, leaves_of}
@@ -81,6 +81,17 @@ module _ (sum : List ℕ → ℕ) (t : Tail) (cache : CacheState) (old new : Lif
     never_if_sound = λ w sound P fewer. full_reads_many sum t cache old new (full_of_sound sum t w old.present sound P fewer) ranges after result answers;
     size = size;
   }
+
+-- what holds where all ranges are within holds without
+pub on_also : {A : Type 0} (result : Result A Error) (P Q : Type 0) → OnOk result P → OnOk result (Q → P)
+on_also (Ok a) P Q holds = λ also. holds
+on_also (Err e) P Q holds = tt
+
+-- what a read that asks no device answers
+pub tries_many : (t : Tail) (ranges : List (ℕ × ℕ)) (cache : CacheState) (buf after : List ℕ) (result : Result (Vec ℕ Global) Error) → IfOk result (λ missed. Misses t ranges cache missed.items)
+    → OnOk result (EndWithin (size_of t) ranges → (d : Disk) → CanRead t cache d → HasServed cache t ranges (told t d.readable) after) → length after ≡ length buf → IsOkUnless result OutOfMemory → TriesMany t ranges cache buf after result
+tries_many t ranges cache buf after (Ok missed) misses served size is = record { missed = misses; served = served; size = size }
+tries_many t ranges cache buf after (Err e) misses served size is = subst (λ (x : Error). TriesMany t ranges cache buf after (Err x)) (sym is) size
 
 -- ---- what a read leaves
 

@@ -5,7 +5,7 @@ use Rattle.std.proofs.lemmas.Nat.{div_below, mod_below, div-add-mod', le-div}
 use Rattle.std.proofs.lemmas.List.{drop_all, drop-drop, drop-take, take-take, take_all, take-append-le, drop-append-le, length-take-le}
 use Rattle.std.proofs.Math.Nat.{le-div_iff_mul-le, mul-div_cancel, mul-le-mul_right, mul-mod_left, suc-mul}
 use Rattle.std.proofs.Math.Seq.{take-add}
-use Rattle.std.specs.Prelude.{IsOkUnless, OnErr, OnOk}
+use Rattle.std.specs.Prelude.{IfErr, IfOk, IsOkUnless, OnErr, OnOk}
 use Rattle.disk.specs.Disk.{Disk, Life}
 use Rattle.disk.specs.declared.error.Error.{Error}
 use Rattle.disk.specs.declared.error.Error.TheVariants.{ReadFailed, InvalidChecksum, OutOfMemory}
@@ -19,10 +19,11 @@ use Rattle.crash.proofs.Pages.{drop-stored, fewer_fit, length-stored, stored_sam
 use Rattle.crash.proofs.Texts.{AreFull_page}
 use Rattle.paged_read.specs.Hand.{payloads}
 use Rattle.paged_read.specs.ReadAhead.{AddsBatch, AreFullPages, AreNext, after, Follow, IsBatch, IsQueue, ReadsBatch}
-use Rattle.paged_read.specs.Replay.{IsHad, advanced, CanReplay, end_of, Ensures, FillFault, Fills, FillsOnce, HasFilled, IsAhead, IsReplay, IsReplayOf, IsToppedUp, new_replay, ReplaysOn, ReplaysThrough, ReplayState}
+use Rattle.paged_read.specs.Replay.{IsHad, advanced, CanReplay, CopiesBytes, CopiesToSlice, Gives, end_of, Ensures, FillFault, Fills, FillsOnce, HasFilled, IsAhead, IsReplay, IsReplayOf, IsToppedUp, new_replay, ReplaysOn, ReplaysThrough, ReplayState}
 use Rattle.paged_read.specs.Snapshots.{IsTailOf}
 use Rattle.paged_read.specs.Tail.{HasFullPages, size_of, Tail, told}
 use Rattle.paged_read.specs.declared.ahead.Ahead.{Ahead}
+use Rattle.paged_read.specs.declared.hand.TooFew.{TooFew}
 use Rattle.paged_read.proofs.Hands.{payloads_first, payloads_none, payloads_short}
 use Rattle.paged_read.proofs.Leaving.{length-told, told_in_tip}
 use Rattle.paged_read.proofs.ReadAheads.{one_run}
@@ -584,3 +585,28 @@ filled_replays r now old new fills can looked sum content is =
       can = can;
       hand = can.hand ∙ ap (λ (l : List ℕ). take (length now.hand) (drop now.position l)) told_is;
     }
+
+-- ---- bytes that are taken
+
+-- the first bytes at hand are the content's
+gives_first : (r : ReplayState) (count : ℕ) (bytes : List ℕ) → count ≤ length r.hand → bytes ≡ take count r.hand → (length bytes ≡ count) × Gives r bytes
+gives_first r count bytes enough first =
+    let size : length bytes ≡ count = ap (λ (l : List ℕ). length l) first ∙ length-take-le count r.hand enough in
+    (size, λ sum content d is.
+    first ∙ ap (λ (l : List ℕ). take count l) is.hand ∙ take-take count (length r.hand) (drop r.position content) enough
+    ∙ ap (λ (n : ℕ). take n (drop r.position content)) (sym size))
+
+-- what a copy answers, by what each of its exits says
+pub copies_bytes : (r : ReplayState) (count : ℕ) (now : ReplayState) (result : Result (List ℕ) Error) → count ≤ length r.hand → IfOk result (λ bytes. bytes ≡ take count r.hand) → OnOk result (now ≡ advanced count r)
+    → OnErr result (now ≡ r) → IsOkUnless result OutOfMemory → CopiesBytes r count now result
+copies_bytes r count now (Ok bytes) enough first moves same is =
+    let gives = gives_first r count bytes enough first in
+    record { enough = enough; size = gives.0; first = first; moves = moves; gives = gives.1 }
+copies_bytes r count now (Err e) enough first moves same is = subst (λ (x : Error). CopiesBytes r count now (Err x)) (sym is) same
+
+pub copies_to_slice : (r now : ReplayState) (out after : List ℕ) (result : Result (Unit {0}) TooFew) → OnOk result (after ≡ take (length out) r.hand) → OnOk result (now ≡ advanced (length out) r) → OnOk result (length out ≤ length r.hand)
+    → OnErr result ((now ≡ r) × (after ≡ out)) → IfErr result (λ few. (few.requested ≡ length out) × (few.available ≡ length r.hand) × (few.available < few.requested)) → CopiesToSlice r now out after result
+copies_to_slice r now out after (Ok u) first moves enough same few =
+    let gives = gives_first r (length out) after enough first in
+    record { enough = enough; size = gives.0; first = first; moves = moves; gives = gives.1 }
+copies_to_slice r now out after (Err few) first moves enough same is = record { same = same.0; slice = same.1; requested = is.0; available = is.1; fewer = is.2 }

@@ -5,15 +5,16 @@ use Rattle.std.specs.declared.alloc.Global.{Global}
 use Rattle.disk.specs.Disk.{Disk, Life}
 use Rattle.disk.specs.declared.error.Error.{Error}
 use Rattle.disk.specs.declared.error.Error.TheVariants.{InvalidChecksum, OffsetOverflow}
-use Rattle.disk.specs.declared.error.Error.TheVariants.{BlobInsufficientLength}
+use Rattle.disk.specs.declared.error.Error.TheVariants.{BlobInsufficientLength, OutOfMemory}
+use Rattle.page.specs.Geometry.{EndWithin}
 use Rattle.cache.specs.CacheState.{CacheState}
 use Rattle.cache.specs.Pages.{CachesOnly, IsFresh}
 use Rattle.crash.specs.Looks.{Looked}
 use Rattle.writer_state.specs.WriterState.{WriterState}
 use Rattle.writer_state.specs.Sound.{IsSound}
-use Rattle.paged_read.specs.Tail.{Tail, told, size_of, HasFullPages}
+use Rattle.paged_read.specs.Tail.{Tail, told, size_of, CanRead, HasFullPages}
 use Rattle.paged_read.specs.Ranges.{Reads, ReadsUpTo, ReadsMany, missing, is_served}
-use Rattle.paged_read.specs.Ranges.{AsksForMissing, AsksOnce}
+use Rattle.paged_read.specs.Ranges.{AsksForMissing, AsksOnce, HasServed, Misses}
 use Rattle.paged_read.specs.Puts.{PutsInOrder, PutsSome}
 use Rattle.paged_read.specs.Replay.{LeavesAllReplays}
 use Rattle.paged_read.specs.Snapshots.{LeavesAllReads, LeavesAllTails, LeavesOthers}
@@ -71,6 +72,22 @@ pub record ReadManyGoes (sum : List ℕ → ℕ) (t : Tail) (cache : CacheState)
   pub never : NeverBad sum t old.present result
   pub never_if_sound : NeverBadIfSound sum t old.present result
   pub size : length after ≡ length buf
+
+-- a read of many ranges that asks no device: which of them would need one, and the bytes of the
+-- others, over each disk with which the cache agrees
+pub record TriedMany (t : Tail) (ranges : List (ℕ × ℕ)) (cache : CacheState) (buf after : List ℕ)
+    (indices : List ℕ) : Type 0 where
+  pub missed : Misses t ranges cache indices
+  pub served : EndWithin (size_of t) ranges → (d : Disk) → CanRead t cache d
+      → HasServed cache t ranges (told t d.readable) after
+  pub size : length after ≡ length buf
+
+-- its only error is refused memory
+abbrev pub TriesMany : Tail → List (ℕ × ℕ) → CacheState → (buf after : List ℕ)
+    → Result (Vec ℕ Global) Error → Type 0
+TriesMany t ranges cache buf after (Ok missed) = TriedMany t ranges cache buf after missed.items
+TriesMany t ranges cache buf after (Err OutOfMemory) = length after ≡ length buf
+TriesMany t ranges cache buf after (Err _) = ⊥
 
 -- ---- what a read leaves
 

@@ -10,6 +10,7 @@ use Rattle.paged_read.specs.Tail.{Tail, told, size_of, HasPages, HasFullPages}
 use Rattle.paged_read.specs.ReadAhead.{batch_of, AreFullPages, AreNext, IsBatch, IsQueue}
 use Rattle.paged_read.specs.Snapshots.{IsTailOf}
 use Rattle.paged_read.specs.declared.ahead.Ahead.{Ahead}
+use Rattle.paged_read.specs.declared.hand.TooFew.{TooFew}
 
 -- the tail as it was when the replay began, how many pages are read at once, where the replay
 -- stands, the bytes at hand from there on, the batches that are queued, and whether it said that
@@ -160,12 +161,52 @@ Ensures sum r count now old new (Err e) =
     × (length now.hand ≤ max (length r.hand) (count + r.batch * r.tail.page_size))
     × (now.exhausted ≡ r.exhausted)
 
+-- a call that gets so many bytes at hand: the replay gives what it gave
+pub record EnsureGoes (sum : List ℕ → ℕ) (r : ReplayState) (count : ℕ) (now : ReplayState)
+    (old new : Life) (result : Result Bool Error) : Type 0 where
+  pub answers : Ensures sum r count now old new result
+  pub replays : ReplaysThrough r now old new
+  pub can : CanReplay now new.present
+
+-- it asks no device where it needs none
+pub record EnsureCosts (r : ReplayState) (count : ℕ) (old new : Life) : Type 0 where
+  pub idle : IsHad r count → new ≡ old
+
 -- so many bytes of those at hand are passed over, or all
 abbrev pub advanced : ℕ → ReplayState → ReplayState
 advanced count r = record r {
   position = r.position + min count (length r.hand);
   hand = drop count r.hand;
 }
+
+-- so many bytes are taken, all of which are at hand
+pub record Takes (r : ReplayState) (count : ℕ) (now : ReplayState) (bytes : List ℕ) : Type 0 where
+  pub enough : count ≤ length r.hand
+  pub size : length bytes ≡ count
+  pub first : bytes ≡ take count r.hand
+  pub moves : now ≡ advanced count r
+  pub gives : Gives r bytes
+
+-- they are taken, or memory is refused and nothing changes
+abbrev pub CopiesBytes : (r : ReplayState) (count : ℕ) (now : ReplayState)
+    → Result (List ℕ) Error → Type 0
+CopiesBytes r count now (Ok bytes) = Takes r count now bytes
+CopiesBytes r count now (Err OutOfMemory) = now ≡ r
+CopiesBytes r count now (Err _) = ⊥
+
+-- nothing is taken, since fewer bytes are at hand than a slice has room for
+pub record TakesNone (r now : ReplayState) (out after : List ℕ) (few : TooFew) : Type 0 where
+  pub same : now ≡ r
+  pub slice : after ≡ out
+  pub requested : few.requested ≡ length out
+  pub available : few.available ≡ length r.hand
+  pub fewer : few.available < few.requested
+
+-- as many as a slice has room for are taken, or none
+abbrev pub CopiesToSlice : (r now : ReplayState) (out after : List ℕ) → Result (Unit {0}) TooFew
+    → Type 0
+CopiesToSlice r now out after (Ok _) = Takes r (length out) now after
+CopiesToSlice r now out after (Err few) = TakesNone r now out after few
 
 -- it goes to an offset; what is queued stays
 abbrev pub Seeks : ReplayState → (offset : ℕ) → ReplayState → Result (Unit {0}) Error → Type 0

@@ -6,8 +6,8 @@ ghost use Rattle.std.specs.Int.NonZero.{non_zero_u16_get, non_zero_usize_get};
 ghost use Rattle.disk.specs.Disk.{Disk};
 ghost use Rattle.page.specs.Geometry.{AreInOrder, EndWithin, RangesGo};
 ghost use Rattle.paged_read.specs.Tail.{tail_at, IsView, size_of, told, CanRead};
-ghost use Rattle.paged_read.specs.Ranges.{is_served, served, missed_from, Misses, HasServed};
-ghost use Rattle.paged_read.specs.Reads.{ReadLeaves, ReadManyCosts, ReadManyGoes};
+ghost use Rattle.paged_read.specs.Ranges.{is_served, served, missed_from, HasServed};
+ghost use Rattle.paged_read.specs.Reads.{ReadLeaves, ReadManyCosts, ReadManyGoes, TriesMany};
 ghost use Rattle.paged_read.specs.Batch.{Gathered, ranges_of};
 
 use crate::View;
@@ -251,13 +251,8 @@ impl<B, H> View<'_, B, H> {
         requires page_size { cache.now.page_size ≡ non_zero_u16_get self.page_size }
         requires in_order { AreInOrder ranges.now }
         requires filled { length buf.old ≡ sum_by (λ range. range.1) ranges.now }
-        ensures missed { let t = tail_at self.entry.page_size self.entry.id self.entry.tip.now in
-            IfOk result (λ missed. Misses t ranges.now cache.now missed.items) }
-        ensures served { let t = tail_at self.entry.page_size self.entry.id self.entry.tip.now in
-            OnOk result (EndWithin (size_of t) ranges.now → (d : Disk) → CanRead t cache.now d
-            → HasServed cache.now t ranges.now (told t d.readable) buf.new) }
-        ensures size { length buf.new ≡ length buf.old }
-        ensures err { IsOkUnless result Error.OutOfMemory }
+        ensures goes { let t = tail_at self.entry.page_size self.entry.id self.entry.tip.now in
+            TriesMany t ranges.now cache.now buf.old buf.new result }
     {
         if validate_read_ranges(buf.len(), ranges, self.size()).is_err() {
             return all_below(self.alloc, ranges.len());
@@ -277,15 +272,9 @@ impl<B, H> View<'_, B, H> {
         requires page_size { cache.now.page_size ≡ non_zero_u16_get self.page_size }
         requires in_order { AreInOrder (ranges_of (non_zero_usize_get len) offsets.now) }
         requires filled { length buf.old ≡ length offsets.now * non_zero_usize_get len }
-        ensures missed { let t = tail_at self.entry.page_size self.entry.id self.entry.tip.now in
+        ensures goes { let t = tail_at self.entry.page_size self.entry.id self.entry.tip.now in
             let ranges = ranges_of (non_zero_usize_get len) offsets.now in
-            IfOk result (λ missed. Misses t ranges cache.now missed.items) }
-        ensures served { let t = tail_at self.entry.page_size self.entry.id self.entry.tip.now in
-            let ranges = ranges_of (non_zero_usize_get len) offsets.now in
-            OnOk result (EndWithin (size_of t) ranges → (d : Disk) → CanRead t cache.now d
-            → HasServed cache.now t ranges (told t d.readable) buf.new) }
-        ensures size { length buf.new ≡ length buf.old }
-        ensures err { IsOkUnless result Error.OutOfMemory }
+            TriesMany t ranges cache.now buf.old buf.new result }
     {
         let ranges = ranges_of(self.alloc, offsets, len.get())?;
         self.try_read_ranges_sync_into(cache, buf, &ranges)

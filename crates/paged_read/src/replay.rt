@@ -1,17 +1,15 @@
 // Replays.
-ghost use Rattle.std.specs.Prelude.{◌≡◌, ◌≤◌, ◌<◌, ◌+◌, ◌*◌, [], ℕ, List, length, take, IfErr};
+ghost use Rattle.std.specs.Prelude.{◌≡◌, ◌≤◌, ◌<◌, ◌+◌, ◌*◌, [], ℕ, List, length, take};
 ghost use Rattle.std.specs.Prelude.{IfOk};
-ghost use Rattle.std.specs.Prelude.{IsOkUnless, OnErr, OnOk};
+ghost use Rattle.std.specs.Prelude.{IsOkUnless};
 ghost use Rattle.std.specs.Int.NonZero.{non_zero_usize_get};
-ghost use Rattle.cache.specs.CacheState.{CacheState};
 ghost use Rattle.crash.specs.Looks.{Looked};
 ghost use Rattle.disk.specs.Disk.{Disk};
-ghost use Rattle.paged_read.specs.Snapshots.{IsTailOf, LeavesAllReads, LeavesAllTails};
-ghost use Rattle.paged_read.specs.Snapshots.{LeavesWriters};
-ghost use Rattle.paged_read.specs.Replay.{advanced, CanReplay, Ensures, Gives, IsReplayOf};
-ghost use Rattle.paged_read.specs.Replay.{IsHad, new_replay};
-ghost use Rattle.paged_read.specs.Replay.{end_of, FillsOnce, LeavesAllReplays, ReplaysOn};
-ghost use Rattle.paged_read.specs.Replay.{ReplaysThrough, Seeks};
+ghost use Rattle.paged_read.specs.Reads.{LookLeaves};
+ghost use Rattle.paged_read.specs.Replay.{advanced, CanReplay, CopiesBytes, CopiesToSlice};
+ghost use Rattle.paged_read.specs.Replay.{end_of, EnsureCosts, EnsureGoes, FillsOnce, Gives};
+ghost use Rattle.paged_read.specs.Replay.{IsReplayOf, new_replay, ReplaysOn, Seeks};
+ghost use Rattle.paged_read.specs.Snapshots.{IsTailOf};
 ghost use Rattle.paged_read.specs.Tail.{size_of};
 
 use crate::ahead::{Ahead, Batches, MAX_READ_AHEAD};
@@ -165,11 +163,7 @@ impl<B, H> Replay<B, H> {
     /// copied. `OutOfMemory` alone, and then nothing is taken.
     pub fn copy_to_bytes(&mut self, count: usize) -> Result<IoBuf, Error>
         requires { count ≤ length self.old.hand }
-        ensures bytes { IfOk result (λ bytes. bytes ≡ take count self.old.hand) }
-        ensures taken { OnOk result (self.new ≡ advanced count self.old) }
-        ensures same { OnErr result (self.new ≡ self.old) }
-        ensures err { IsOkUnless result Error.OutOfMemory }
-        ensures gives { IfOk result (λ bytes. (length bytes ≡ count) × Gives self.old bytes) }
+        ensures goes { CopiesBytes self.old count self.new result }
         ensures replays { ReplaysOn self.old self.new }
     {
         let bytes = self.hand.copy_to_bytes(count)?;
@@ -180,13 +174,7 @@ impl<B, H> Replay<B, H> {
     /// Takes as many of the bytes at hand as the slice has room for. Where fewer remain nothing
     /// changes.
     pub fn try_copy_to_slice(&mut self, out: &mut [u8]) -> Result<(), TooFew>
-        ensures bytes { OnOk result (out.new ≡ take (length out.old) self.old.hand) }
-        ensures taken { OnOk result (self.new ≡ advanced (length out.old) self.old) }
-        ensures enough { OnOk result (length out.old ≤ length self.old.hand) }
-        ensures same { OnErr result ((self.new ≡ self.old) × (out.new ≡ out.old)) }
-        ensures few { IfErr result (λ few. (few.requested ≡ length out.old)
-            × (few.available ≡ length self.old.hand) × (few.available < few.requested)) }
-        ensures gives { OnOk result (Gives self.old out.new) }
+        ensures goes { CopiesToSlice self.old self.new out.old out.new result }
         ensures replays { ReplaysOn self.old self.new }
     {
         let count = out.len();
@@ -208,22 +196,10 @@ impl<B: Blob, H: Sum> Replay<B, H> {
     /// less at hand, and may be asked again.
     pub fn ensure(&mut self, blob: &mut B, count: usize) -> Result<bool, Error>
         requires can { CanReplay self.old (B.life blob.old).present }
-        ensures fetches { let old = B.life blob.old in let new = B.life blob.new in
-            Ensures H.sum_of self.old count self.new old new result }
-        ensures idle { IsHad self.old count → B.life blob.new ≡ B.life blob.old }
-        ensures replays { let old = B.life blob.old in let new = B.life blob.new in
-            ReplaysThrough self.old self.new old new }
-        ensures can { CanReplay self.new (B.life blob.new).present }
-        ensures looked { Looked (B.life blob.old) (B.life blob.new) }
-
-        // The blob's writer stays as it is, each snapshot and each other replay stands as it stood,
-        // and what can be read can be read on.
-        ensures writers { LeavesWriters H.sum_of (B.life blob.old) (B.life blob.new) }
-        ensures tails { (cache : CacheState)
-            → LeavesAllTails H.sum_of cache cache (B.life blob.old) (B.life blob.new) }
-        ensures can_read { (cache : CacheState)
-            → LeavesAllReads cache cache (B.life blob.old) (B.life blob.new) }
-        ensures others { LeavesAllReplays (B.life blob.old) (B.life blob.new) }
+        ensures goes { let old = B.life blob.old in let new = B.life blob.new in
+            EnsureGoes H.sum_of self.old count self.new old new result }
+        ensures leaves { LookLeaves H.sum_of (B.life blob.old) (B.life blob.new) }
+        ensures costs { EnsureCosts self.old count (B.life blob.old) (B.life blob.new) }
     {
         while self.hand.remaining() < count && self.end() < self.sealed.size() {
             self.fill(blob)?;

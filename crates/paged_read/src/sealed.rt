@@ -1,16 +1,15 @@
 // Snapshots.
-ghost use Rattle.std.specs.Prelude.{◌≡◌, ◌≢◌, ◌+◌, ◌*◌, ◌<◌, ◌≤◌, ◌^◌, length, Err, IfOk, OnOk};
-ghost use Rattle.std.specs.Prelude.{IsErrOf, IsOkUnless, sum_by};
+ghost use Rattle.std.specs.Prelude.{◌≡◌, ◌+◌, ◌*◌, ◌<◌, ◌^◌, length, IfOk};
+ghost use Rattle.std.specs.Prelude.{IsOkUnless, sum_by};
 ghost use Rattle.std.specs.Int.NonZero.{non_zero_u16_get, non_zero_usize_get};
 ghost use Rattle.std.specs.List.{concat};
-ghost use Rattle.disk.specs.Disk.{Disk};
-ghost use Rattle.page.specs.Geometry.{AreInOrder, EndWithin};
+ghost use Rattle.page.specs.Geometry.{AreInOrder};
 ghost use Rattle.paged_read.specs.Batch.{ranges_of};
-ghost use Rattle.paged_read.specs.Ranges.{HasServed, Misses, range_up_to, TriesRead};
+ghost use Rattle.paged_read.specs.Ranges.{range_up_to, TriesRead};
 ghost use Rattle.paged_read.specs.Reads.{ReadCosts, ReadGoes, ReadIntoGoes, ReadLeaves};
-ghost use Rattle.paged_read.specs.Reads.{ReadManyCosts, ReadManyGoes, ReadUpToGoes};
+ghost use Rattle.paged_read.specs.Reads.{ReadManyCosts, ReadManyGoes, ReadUpToGoes, TriesMany};
 ghost use Rattle.paged_read.specs.Snapshots.{IsSealed};
-ghost use Rattle.paged_read.specs.Tail.{CanRead, IsView, size_of, Tail, tail_at, told};
+ghost use Rattle.paged_read.specs.Tail.{CanRead, IsView, size_of, Tail, tail_at};
 
 use crate::View;
 use cache::CacheRef;
@@ -147,13 +146,7 @@ impl<B, H> Sealed<B, H> {
         requires page_size { cache.now.page_size ≡ self.now.page_size }
         requires in_order { AreInOrder ranges.now }
         requires filled { length buf.old ≡ sum_by (λ range. range.1) ranges.now }
-        ensures missed { IfOk result (λ missed.
-            Misses self.now ranges.now cache.now missed.items) }
-        ensures served { let t = self.now in
-            OnOk result (EndWithin (size_of t) ranges.now → (d : Disk) → CanRead t cache.now d
-            → HasServed cache.now t ranges.now (told t d.readable) buf.new) }
-        ensures size { length buf.new ≡ length buf.old }
-        ensures err { IsOkUnless result Error.OutOfMemory }
+        ensures goes { TriesMany self.now ranges.now cache.now buf.old buf.new result }
     {
         self.view().try_read_ranges_sync_into(cache, buf, ranges)
     }
@@ -169,14 +162,8 @@ impl<B, H> Sealed<B, H> {
         requires page_size { cache.now.page_size ≡ self.now.page_size }
         requires in_order { AreInOrder (ranges_of (non_zero_usize_get len) offsets.now) }
         requires filled { length buf.old ≡ length offsets.now * non_zero_usize_get len }
-        ensures missed { let ranges = ranges_of (non_zero_usize_get len) offsets.now in
-            IfOk result (λ missed. Misses self.now ranges cache.now missed.items) }
-        ensures served { let ranges = ranges_of (non_zero_usize_get len) offsets.now in
-            let t = self.now in
-            OnOk result (EndWithin (size_of t) ranges → (d : Disk) → CanRead t cache.now d
-            → HasServed cache.now t ranges (told t d.readable) buf.new) }
-        ensures size { length buf.new ≡ length buf.old }
-        ensures err { IsOkUnless result Error.OutOfMemory }
+        ensures goes { let ranges = ranges_of (non_zero_usize_get len) offsets.now in
+            TriesMany self.now ranges cache.now buf.old buf.new result }
     {
         self.view()
             .try_read_many_sync_into(cache, buf, offsets, len)

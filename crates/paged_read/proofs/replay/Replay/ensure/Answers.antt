@@ -1,10 +1,9 @@
-use Rattle.std.proofs.Common.{◌≡◌, ◌<◌, ◌∙◌, ap, arith, length, subst, sym, true}
+use Rattle.std.proofs.Common.{rules, ◌≡◌, ◌<◌, ◌∙◌, ap, arith, length, subst, sym, true}
 use Rattle.std.proofs.lemmas.Result.{err_from_is_err_and}
 use Rattle.crash.specs.Looks.{looked_joins}
-use Rattle.paged_read.specs.Replay.{end_of, IsReplay, ReplayState}
+use Rattle.paged_read.specs.Replay.{end_of, Ensures, IsReplay, ReplayState}
 use Rattle.paged_read.specs.Tail.{size_of}
-use Rattle.paged_read.proofs.Outliving.{look_leaves_reads, look_leaves_tails, look_leaves_writers}
-use Rattle.paged_read.proofs.OutlivingReplays.{look_leaves_replays}
+use Rattle.paged_read.proofs.ReadLaws.{look_leaves}
 use Rattle.paged_read.proofs.Replays.{Reached, filled_replays, reach_ends, reach_fails, reach_idle, reach_more, reach_start}
 use Rattle.paged_read.proofs.replay.Replay.ensure.Goals as goal
 use Rattle.paged_read.proofs.replay.Replay.ensure.Goals.{After-remaining-2, then-loop-self-test+else-end-size, else-loop-self-test}
@@ -29,16 +28,18 @@ loop-self-preserved g c =
     ))
     c.in_ok-fill.ensures.fills c.fill.ensures.idle c.fill.ensures.can c.fill.ensures.looked
 
-pub returns-in_err-fill-clause-fetches : goal.returns-in_err-fill-clause-fetches
-returns-in_err-fill-clause-fetches g c =
+pub returns-in_err-fill-clause-goes : goal.returns-in_err-fill-clause-goes
+returns-in_err-fill-clause-goes g c =
     let error = err_from_is_err_and c.from_residual.result c.from_residual.ensures.1 in
+    let answers : Ensures g.H.Sum.sum_of c.args.self.now c.args.count c.fill.new.self (g.B.Blob.life c.args.blob.now) (g.B.Blob.life c.fill.new.blob) c.from_residual.result =
     rw (error.1, error.2) (reach_fails g.H.Sum.sum_of c.args.self.now c.args.count c.loop-self.self c.fill.new.self
     (g.B.Blob.life c.args.blob.now) (g.B.Blob.life c.loop-self.blob)
     (g.B.Blob.life c.fill.new.blob) c.in_err-fill.field-0.0 c.loop-self.invariant
-    c.in_err-fill.ensures.fills)
+    c.in_err-fill.ensures.fills) in
+    record { answers = answers; replays = search rules; can = c.fill.ensures.can }
 
-pub returns-in_err-fill-clause-idle : goal.returns-in_err-fill-clause-idle
-returns-in_err-fill-clause-idle g c =
+pub returns-in_err-fill-clause-costs : goal.returns-in_err-fill-clause-costs
+returns-in_err-fill-clause-costs g c = record { idle =
     reach_idle g.H.Sum.sum_of c.args.self.now c.args.count c.loop-self.self
     (g.B.Blob.life c.args.blob.now) (g.B.Blob.life c.loop-self.blob) (g.B.Blob.life c.fill.new.blob)
     c.loop-self.invariant
@@ -48,12 +49,21 @@ returns-in_err-fill-clause-idle g c =
       c.remaining.ensures,
       ap (λ (r : ReplayState). length r.hand) c.self.view_is,
     ))
-    c.fill.ensures.idle
+    c.fill.ensures.idle;
+}
 
-pub returns-in_err-fill-clause-looked : goal.returns-in_err-fill-clause-looked
-returns-in_err-fill-clause-looked g c =
-    looked_joins (g.B.Blob.life c.args.blob.now) (g.B.Blob.life c.loop-self.blob)
-    (g.B.Blob.life c.fill.new.blob) c.loop-self.invariant.looked c.fill.ensures.looked
+pub returns-in_err-fill-clause-leaves : goal.returns-in_err-fill-clause-leaves
+returns-in_err-fill-clause-leaves g c =
+    look_leaves g.H.Sum.sum_of (g.B.Blob.life c.args.blob.now) (g.B.Blob.life c.fill.new.blob)
+    (looked_joins (g.B.Blob.life c.args.blob.now) (g.B.Blob.life c.loop-self.blob)
+    (g.B.Blob.life c.fill.new.blob) c.loop-self.invariant.looked c.fill.ensures.looked)
+
+pub returns-then-count-remaining-clause-goes : goal.returns-then-count-remaining-clause-goes
+returns-then-count-remaining-clause-goes g c = record { answers = search rules; replays = search rules; can = search rules }
+
+pub returns-then-count-remaining-clause-leaves : goal.returns-then-count-remaining-clause-leaves
+returns-then-count-remaining-clause-leaves g c =
+    look_leaves g.H.Sum.sum_of (g.B.Blob.life c.args.blob.now) (g.B.Blob.life c.loop-self.blob) c.loop-self.invariant.looked
 
 -- the replay after the loop
 abbrev left : (g : Over) (c : After-remaining-2 g) → ReplayState
@@ -88,93 +98,31 @@ ends g c few = elim c.loop-self-test.branch [
       absurd (omega (arith, enough, c.remaining.ensures, same, few))
 ]
 
-pub returns-clause-fetches : goal.returns-clause-fetches
-returns-clause-fetches g c =
-    let here = (goal.at.returns-clause-fetches g c).After-remaining-2 in
+pub returns-clause-goes : goal.returns-clause-goes
+returns-clause-goes g c =
+    let here = (goal.at.returns-clause-goes g c).After-remaining-2 in
     let few = c.if-count-remaining.false in
     let fewer : length c.self-2.inside.hand.bytes < c.args.count =
     omega (arith, few, c.remaining-2.ensures) in
-    reach_ends g.H.Sum.sum_of c.args.self.now c.args.count (left g here)
-    (g.B.Blob.life c.args.blob.now) (g.B.Blob.life c.loop-self.blob) (reached g here) fewer
-    (ends g here fewer)
+    let so_far = reached g here in
+    let now = left g here in
+    record {
+      answers = reach_ends g.H.Sum.sum_of c.args.self.now c.args.count now
+          (g.B.Blob.life c.args.blob.now) (g.B.Blob.life c.loop-self.blob) so_far fewer
+          (ends g here fewer);
+      replays = filled_replays c.args.self.now (record now { exhausted = true })
+          (g.B.Blob.life c.args.blob.now) (g.B.Blob.life c.loop-self.blob)
+          (record {
+            tail = so_far.fills.tail;
+            batch = so_far.fills.batch;
+            position = so_far.fills.position;
+            hand = so_far.fills.hand;
+          })
+          (record { there = so_far.can.there; hand = so_far.can.hand; queue = so_far.can.queue })
+          so_far.looked;
+      can = record { there = so_far.can.there; hand = so_far.can.hand; queue = so_far.can.queue };
+    }
 
-pub returns-clause-can : goal.returns-clause-can
-returns-clause-can g c =
-    let can = (reached g (goal.at.returns-clause-can g c).After-remaining-2).can in
-    record { there = can.there; hand = can.hand; queue = can.queue }
-
-pub returns-clause-replays : goal.returns-clause-replays
-returns-clause-replays g c =
-    let so_far = reached g (goal.at.returns-clause-replays g c).After-remaining-2 in
-    let now = left g (goal.at.returns-clause-replays g c).After-remaining-2 in
-    filled_replays c.args.self.now (record now { exhausted = true })
-    (g.B.Blob.life c.args.blob.now) (g.B.Blob.life c.loop-self.blob)
-    (record {
-      tail = so_far.fills.tail;
-      batch = so_far.fills.batch;
-      position = so_far.fills.position;
-      hand = so_far.fills.hand;
-    })
-    (record { there = so_far.can.there; hand = so_far.can.hand; queue = so_far.can.queue })
-    so_far.looked
-
--- what a call that only looked leaves
-pub returns-in_err-fill-clause-writers : goal.returns-in_err-fill-clause-writers
-returns-in_err-fill-clause-writers g c =
-    look_leaves_writers g.H.Sum.sum_of (g.B.Blob.life c.args.blob.now) (g.B.Blob.life c.fill.new.blob)
-    (returns-in_err-fill-clause-looked g c)
-
-pub returns-in_err-fill-clause-tails : goal.returns-in_err-fill-clause-tails
-returns-in_err-fill-clause-tails g c = λ cache.
-    look_leaves_tails g.H.Sum.sum_of cache (g.B.Blob.life c.args.blob.now) (g.B.Blob.life c.fill.new.blob)
-    (returns-in_err-fill-clause-looked g c)
-
-pub returns-in_err-fill-clause-can_read : goal.returns-in_err-fill-clause-can_read
-returns-in_err-fill-clause-can_read g c = λ cache.
-    look_leaves_reads cache (g.B.Blob.life c.args.blob.now) (g.B.Blob.life c.fill.new.blob)
-    (returns-in_err-fill-clause-looked g c)
-
-pub returns-in_err-fill-clause-others : goal.returns-in_err-fill-clause-others
-returns-in_err-fill-clause-others g c =
-    look_leaves_replays (g.B.Blob.life c.args.blob.now) (g.B.Blob.life c.fill.new.blob)
-    (returns-in_err-fill-clause-looked g c)
-
-pub returns-then-count-remaining-clause-writers : goal.returns-then-count-remaining-clause-writers
-returns-then-count-remaining-clause-writers g c =
-    look_leaves_writers g.H.Sum.sum_of (g.B.Blob.life c.args.blob.now) (g.B.Blob.life c.loop-self.blob)
-    (c.loop-self.invariant.looked)
-
-pub returns-then-count-remaining-clause-tails : goal.returns-then-count-remaining-clause-tails
-returns-then-count-remaining-clause-tails g c = λ cache.
-    look_leaves_tails g.H.Sum.sum_of cache (g.B.Blob.life c.args.blob.now) (g.B.Blob.life c.loop-self.blob)
-    (c.loop-self.invariant.looked)
-
-pub returns-then-count-remaining-clause-can_read : goal.returns-then-count-remaining-clause-can_read
-returns-then-count-remaining-clause-can_read g c = λ cache.
-    look_leaves_reads cache (g.B.Blob.life c.args.blob.now) (g.B.Blob.life c.loop-self.blob)
-    (c.loop-self.invariant.looked)
-
-pub returns-then-count-remaining-clause-others : goal.returns-then-count-remaining-clause-others
-returns-then-count-remaining-clause-others g c =
-    look_leaves_replays (g.B.Blob.life c.args.blob.now) (g.B.Blob.life c.loop-self.blob)
-    (c.loop-self.invariant.looked)
-
-pub returns-clause-writers : goal.returns-clause-writers
-returns-clause-writers g c =
-    look_leaves_writers g.H.Sum.sum_of (g.B.Blob.life c.args.blob.now) (g.B.Blob.life c.loop-self.blob)
-    (c.loop-self.invariant.looked)
-
-pub returns-clause-tails : goal.returns-clause-tails
-returns-clause-tails g c = λ cache.
-    look_leaves_tails g.H.Sum.sum_of cache (g.B.Blob.life c.args.blob.now) (g.B.Blob.life c.loop-self.blob)
-    (c.loop-self.invariant.looked)
-
-pub returns-clause-can_read : goal.returns-clause-can_read
-returns-clause-can_read g c = λ cache.
-    look_leaves_reads cache (g.B.Blob.life c.args.blob.now) (g.B.Blob.life c.loop-self.blob)
-    (c.loop-self.invariant.looked)
-
-pub returns-clause-others : goal.returns-clause-others
-returns-clause-others g c =
-    look_leaves_replays (g.B.Blob.life c.args.blob.now) (g.B.Blob.life c.loop-self.blob)
-    (c.loop-self.invariant.looked)
+pub returns-clause-leaves : goal.returns-clause-leaves
+returns-clause-leaves g c =
+    look_leaves g.H.Sum.sum_of (g.B.Blob.life c.args.blob.now) (g.B.Blob.life c.loop-self.blob) c.loop-self.invariant.looked

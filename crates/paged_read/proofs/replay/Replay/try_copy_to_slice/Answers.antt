@@ -1,6 +1,6 @@
-use Rattle.std.proofs.Common.{◌+◌, arith, length}
+use Rattle.std.proofs.Common.{Ok, rules, ◌+◌, arith, length}
 use Rattle.paged_read.specs.Replay.{ReplayState}
-use Rattle.paged_read.proofs.Replays.{moved_replays}
+use Rattle.paged_read.proofs.Replays.{copies_to_slice, moved_replays}
 use Rattle.paged_read.proofs.replay.Replay.try_copy_to_slice.Goals as goal
 
 pub returns-clause-replays : goal.returns-clause-replays
@@ -15,3 +15,11 @@ returns-clause-replays g c =
     } in
     moved_replays (length c.args.out.now) c.args.self.now was (c.self.inside.position + length c.args.out.now) c.try_copy_to_slice.new.self.bytes
     c.self.view_is (omega (arith, c.in_ok-try_copy_to_slice.ensures.enough)) c.in_ok-try_copy_to_slice.ensures.bytes
+
+pub returns-in_err-try_copy_to_slice-clause-goes : goal.returns-in_err-try_copy_to_slice-clause-goes
+returns-in_err-try_copy_to_slice-clause-goes g c =
+    copies_to_slice c.args.self.now _ c.args.out.now _ c.from_residual.result (search rules) (search rules) (search rules) (search rules) (search rules)
+
+pub returns-clause-goes : goal.returns-clause-goes
+returns-clause-goes g c =
+    copies_to_slice c.args.self.now _ c.args.out.now _ (Ok tt) (search rules) (search rules) (search rules) (search rules) (search rules)
