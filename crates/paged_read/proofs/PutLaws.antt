@@ -13,7 +13,7 @@ use Rattle.cache.proofs.CacheLaws.{put_weakly, caches_none, caches_put, caches_j
 use Rattle.paged_read.specs.Tail.{Tail, told}
 use Rattle.paged_read.specs.Ranges.{page_ranges}
 use Rattle.paged_read.specs.Parts.{ArePagesFull, pages_of}
-use Rattle.paged_read.specs.Puts.{PutsPages, PutsFirst, PutsInOrder, PutsSome, PutsPage, numbered}
+use Rattle.paged_read.specs.Puts.{PutsPages, PutsFirst, PutsInOrder, PutsPage, numbered}
 use Rattle.paged_read.proofs.BatchReads.{length-page_ranges}
 use Rattle.paged_read.proofs.PageReads.{has_later, first_or_later}
 

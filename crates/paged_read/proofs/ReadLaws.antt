@@ -1,6 +1,6 @@
 -- What the records that the calls of a read promise follow from.
-use Rattle.std.proofs.Common.{◌≡◌, ◌≢◌, inl, inr, ℕ, zero, suc, ◌+◌, ◌-◌, ◌*◌, ◌^◌, ◌<◌, ◌≤◌, true, List, [], ◌∷◌, ◌++◌, length, take, min, refl, sym, ap, ◌∙◌, subst, arith, Ok, Err, Result, IsPermutation}
-use Rattle.std.specs.Prelude.{IfOk, OnOk, IsOkUnless, Vec, IfErr, IsErrOf}
+use Rattle.std.proofs.Common.{◌≡◌, ◌≢◌, inl, inr, ℕ, zero, suc, ◌+◌, ◌-◌, ◌*◌, ◌^◌, ◌<◌, ◌≤◌, true, List, [], ◌∷◌, length, take, min, refl, sym, ap, ◌∙◌, subst, arith, Ok, Err, Result, IsPermutation}
+use Rattle.std.specs.Prelude.{IfOk, OnOk, IsOkUnless, Vec, IfErr}
 use Rattle.std.specs.List.{Contains}
 use Rattle.std.specs.declared.alloc.Global.{Global}
 use Rattle.std.proofs.lemmas.List.Sorted.{IsPermutation-refl, IsPermutation-sym, Contains-permutation}

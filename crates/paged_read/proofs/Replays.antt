@@ -591,10 +591,12 @@ filled_replays r now old new fills can looked sum content is =
 -- the first bytes at hand are the content's
 gives_first : (r : ReplayState) (count : ℕ) (bytes : List ℕ) → count ≤ length r.hand → bytes ≡ take count r.hand → (length bytes ≡ count) × Gives r bytes
 gives_first r count bytes enough first =
-    let size : length bytes ≡ count = ap (λ (l : List ℕ). length l) first ∙ length-take-le count r.hand enough in
-    (size, λ sum content d is.
-    first ∙ ap (λ (l : List ℕ). take count l) is.hand ∙ take-take count (length r.hand) (drop r.position content) enough
-    ∙ ap (λ (n : ℕ). take n (drop r.position content)) (sym size))
+    let size : length bytes ≡ count = ap (λ (l : List ℕ). length l) first ∙ length-take-le count r.hand enough in (
+      size,
+      λ sum content d is.
+          first ∙ ap (λ (l : List ℕ). take count l) is.hand ∙ take-take count (length r.hand) (drop r.position content) enough
+          ∙ ap (λ (n : ℕ). take n (drop r.position content)) (sym size),
+    )
 
 -- what a copy answers, by what each of its exits says
 pub copies_bytes : (r : ReplayState) (count : ℕ) (now : ReplayState) (result : Result (List ℕ) Error) → count ≤ length r.hand → IfOk result (λ bytes. bytes ≡ take count r.hand) → OnOk result (now ≡ advanced count r)

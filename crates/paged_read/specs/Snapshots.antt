@@ -59,9 +59,9 @@ LeavesOthers id cache after =
 abbrev pub LeavesReads : CacheState → CacheState → Type 0
 LeavesReads cache after = (t : Tail) (d : Disk) → CanRead t cache d → CanRead t after d
 
--- a call behind the back of a blob's writer: the writer stays sound, and the blob's bytes stay. Each
--- moment of the call keeps what a moment of a call of the writer would: floors, what a crash may
--- leave, and what started syncs cover.
+-- a call behind the back of a blob's writer: the writer stays sound, and the blob's bytes stay. At
+-- each moment of the call a crash keeps and leaves what it would in a call of the writer, and
+-- started syncs cover what they covered.
 pub record LeavesWriter (sum : List ℕ → ℕ) (w : WriterState) (old new : Life) : Type 0 where
   pub sound : IsSound sum w new.present
   pub readable : new.present.readable ≡ old.present.readable

@@ -193,7 +193,8 @@ impl<B: Blob, H: Sum> Sealed<B, H> {
         ensures leaves { let old = B.life blob.old in let new = B.life blob.new in
             ReadLeaves H.sum_of self.now cache.old cache.new old new }
         ensures costs { let old = B.life blob.old in let new = B.life blob.new in
-            ReadCosts H.sum_of self.now (offset, length buf.old) cache.old cache.new old new result }
+            ReadCosts H.sum_of self.now (offset, length buf.old) cache.old cache.new old new
+            result }
     {
         self.view().read_into(blob, cache, buf, offset)
     }

@@ -39,17 +39,18 @@ returns-in_err-fill-clause-goes g c =
     record { answers = answers; replays = search rules; can = c.fill.ensures.can }
 
 pub returns-in_err-fill-clause-costs : goal.returns-in_err-fill-clause-costs
-returns-in_err-fill-clause-costs g c = record { idle =
-    reach_idle g.H.Sum.sum_of c.args.self.now c.args.count c.loop-self.self
-    (g.B.Blob.life c.args.blob.now) (g.B.Blob.life c.loop-self.blob) (g.B.Blob.life c.fill.new.blob)
-    c.loop-self.invariant
-    (omega (
-      arith,
-      c.loop-self-test.true,
-      c.remaining.ensures,
-      ap (λ (r : ReplayState). length r.hand) c.self.view_is,
-    ))
-    c.fill.ensures.idle;
+returns-in_err-fill-clause-costs g c = record {
+  idle =
+      reach_idle g.H.Sum.sum_of c.args.self.now c.args.count c.loop-self.self
+      (g.B.Blob.life c.args.blob.now) (g.B.Blob.life c.loop-self.blob) (g.B.Blob.life c.fill.new.blob)
+      c.loop-self.invariant
+      (omega (
+        arith,
+        c.loop-self-test.true,
+        c.remaining.ensures,
+        ap (λ (r : ReplayState). length r.hand) c.self.view_is,
+      ))
+      c.fill.ensures.idle;
 }
 
 pub returns-in_err-fill-clause-leaves : goal.returns-in_err-fill-clause-leaves

@@ -1,11 +1,10 @@
-use Rattle.std.proofs.Common.{rules, refl, Ok, Err, ◌<◌, ◌^◌, ◌≡◌, ◌+◌, ◌≤◌, ◌∙◌, ◌++◌, List, ℕ, [], ◌∷◌, length, take, drop, sym, ap, subst, arith}
+use Rattle.std.proofs.Common.{rules, refl, Ok, Err, ◌≡◌, ◌+◌, ◌≤◌, ◌∙◌, ◌++◌, List, ℕ, [], ◌∷◌, length, take, drop, sym, ap, subst, arith}
 use Rattle.std.specs.List.{concat}
 use Rattle.std.proofs.lemmas.List.{take_all}
 use Rattle.paged_read.specs.Tail.{tail_at, told, size_of}
 use Rattle.paged_read.specs.Ranges.{slice, AreMissingFull, Reads}
 use Rattle.paged_read.proofs.WholeReads.{vec_written}
 use Rattle.std.proofs.lemmas.Result.{err_from_is_err_and}
-use Rattle.disk.specs.declared.error.Error.{Error}
 use Rattle.disk.specs.declared.error.Error.TheVariants.{BlobInsufficientLength, OffsetOverflow}
 use Rattle.paged_read.specs.Reads.{ReadCosts}
 use Rattle.paged_read.proofs.ReadLaws.{read_goes, reads_refused, leaves_nothing, costs_nothing, costs_again, costs_refused_again, costs_refused}
@@ -128,8 +127,7 @@ returns-clause-goes g c =
     let old = g.B.Blob.life c.args.blob.now in
     let new = g.B.Blob.life c.read_into.new.blob in
     let ends : c.in-Some.end ≡ c.args.offset + len = grind arith in
-    read_goes g.H.Sum.sum_of t c.args.cache.now old new c.requires.can (c.args.offset, len) concat (Ok c.append_front.new.self)
-    (
+    read_goes g.H.Sum.sum_of t c.args.cache.now old new c.requires.can (c.args.offset, len) concat (Ok c.append_front.new.self) (
       omega (arith, read.0, many),
       c.in_ok-append_front.ensures.bytes ∙ ap (λ (l : List (List ℕ)). concat l ++ take len (take c.resize.new.self.len (bytes ++ drop (length bytes) c.resize.new.self.items))) c.new-bufs.ensures
           ∙ ap (λ (l : List ℕ). take len l) written ∙ take_all len bytes (omega (arith, size)) ∙ read.1 ∙ ap (λ n. slice (told t d.readable) (c.args.offset, n)) many,

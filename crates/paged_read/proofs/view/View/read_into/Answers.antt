@@ -5,9 +5,9 @@ use Rattle.std.proofs.Common.{rules, refl, ℕ, List, Ok, Err, length-append, le
 use Rattle.std.proofs.lemmas.List.{length-take-le}
 use Rattle.std.proofs.lemmas.Result.{err_from_is_err_and}
 use Rattle.paged_read.specs.Tail.{tail_at, told, size_of}
-use Rattle.paged_read.specs.Ranges.{slice, is_served, AreMissingFull, AsksForMissing, ReadFault, Reads, missing}
+use Rattle.paged_read.specs.Ranges.{slice, is_served, AreMissingFull, ReadFault, Reads, missing}
 use Rattle.paged_read.proofs.ReadLaws.{read_into_goes, read_leaves, leaves_nothing, costs_nothing, costs_part, costs_part_refused}
-use Rattle.paged_read.proofs.WholeReads.{part_missing, part_served, part_fault, part_full, parts_join, two_parts, second_len}
+use Rattle.paged_read.proofs.WholeReads.{part_missing, part_fault, part_full, parts_join, two_parts, second_len}
 use Rattle.paged_read.proofs.view.View.read_into.Goals as goal
 
 pub returns-in_err-end-clause-goes : goal.returns-in_err-end-clause-goes
@@ -100,8 +100,7 @@ returns-clause-goes g c =
     let mid = c.read_below.new.buf ++ drop below c.args.buf.now in
     let after = take below mid ++ (c.copy_tip.new.buf ++ post_of below (length mid - below) mid) in
     let are : after ≡ c.read_below.new.buf ++ c.copy_tip.new.buf = two_parts below c.args.buf.now c.read_below.new.buf c.copy_tip.new.buf within c.read_below.ensures.size in
-    read_into_goes g.H.Sum.sum_of t c.args.cache.now old new c.requires.can c.args.offset c.args.buf.now after (Ok tt)
-    (
+    read_into_goes g.H.Sum.sum_of t c.args.cache.now old new c.requires.can c.args.offset c.args.buf.now after (Ok tt) (
       inside,
       are ∙ parts_join t c.args.cache.now c.args.offset len below c.len_below-below.ensures d c.read_below.new.buf c.copy_tip.new.buf c.requires.can front back,
       part_full t c.args.cache.now c.args.offset len below c.len_below-below.ensures g.H.Sum.sum_of d.readable (subst (λ n. AreMissingFull g.H.Sum.sum_of c.args.cache.now t ((c.args.offset, n) ∷ []) d.readable) many c.in_ok-read_below.ensures.reads.1),

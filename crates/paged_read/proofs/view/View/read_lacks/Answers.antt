@@ -10,7 +10,7 @@ use Rattle.paged_read.specs.declared.lack.Lack.{Lack}
 use Rattle.paged_read.proofs.BatchKeeps.{delivers_same, whole_same, ready_same, told_same, marked_same, leaves_kept, delivered_whole, lacks_ready, lacks_told, pages_full, keeps_fault}
 use Rattle.paged_read.proofs.PutLaws.{puts_none, numbered_each}
 use Rattle.std.proofs.lemmas.List.Sorted.{IsPermutation-refl}
-use Rattle.paged_read.specs.Puts.{PutsSome, numbered}
+use Rattle.paged_read.specs.Puts.{numbered}
 use Rattle.paged_read.proofs.view.View.read_lacks.Goals as goal
 
 pub keep_all-requires-clause-delivered : goal.keep_all-requires-clause-delivered

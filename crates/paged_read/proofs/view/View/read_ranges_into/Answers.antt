@@ -1,4 +1,4 @@
-use Rattle.std.proofs.Common.{rules, refl, Ok, Err, ◌≡◌, ◌∙◌, sym, ap, subst, ℕ, ◌<◌, List, length, take, arith}
+use Rattle.std.proofs.Common.{rules, refl, Ok, ◌≡◌, ◌∙◌, sym, ap, subst, ℕ, ◌<◌, List, length, take, arith}
 use Rattle.std.specs.Prelude.{All}
 use Rattle.std.proofs.lemmas.List.{take_all}
 use Rattle.page.specs.Geometry.{EndWithin}
@@ -92,8 +92,7 @@ returns-clause-goes g c =
     let gathered = c.in_ok-batch.ensures.gathered in
     let reads = c.in_ok-read_lacks.ensures.reads in
     let whole : take (length c.args.buf.now) c.gather.new.buf ≡ c.gather.new.buf = take_all (length c.args.buf.now) c.gather.new.buf (omega (arith, c.gather.ensures.size)) in
-    read_many_goes g.H.Sum.sum_of t c.args.cache.now old (g.B.Blob.life c.read_lacks.new.blob) c.requires.can c.args.ranges.now c.args.buf.now c.read_lacks.new.buf (Ok c.in_ok-batch.batch.served)
-    (
+    read_many_goes g.H.Sum.sum_of t c.args.cache.now old (g.B.Blob.life c.read_lacks.new.blob) c.requires.can c.args.ranges.now c.args.buf.now c.read_lacks.new.buf (Ok c.in_ok-batch.batch.served) (
       subst (λ (n : ℕ). EndWithin n c.args.ranges.now) c.size.ensures c.in_ok-validate_read_ranges.ensures,
       c.in_ok-batch.ensures.served,
       reads.0 ∙ ap (λ (l : List ℕ). with_told t.page_size content (pieces_in c.in_ok-batch.batch.lacks.items) l) (sym whole) ∙ gathered.bytes old.present c.requires.can,

@@ -1,4 +1,4 @@
-use Rattle.std.proofs.Common.{rules, refl, sym, Ok, Err, ◌<◌, ◌^◌, ◌≡◌, ◌+◌, ◌-◌, ◌≤◌, ◌∙◌, ◌++◌, [], ◌∷◌, length, take, drop, min, inr, ap, subst, arith}
+use Rattle.std.proofs.Common.{rules, refl, Ok, Err, ◌≡◌, ◌+◌, ◌-◌, ◌≤◌, ◌∙◌, ◌++◌, [], ◌∷◌, length, take, drop, min, inr, ap, subst, arith}
 use Rattle.paged_read.specs.Tail.{tail_at, told, size_of}
 use Rattle.paged_read.specs.Ranges.{slice, AreMissingFull, ReadsUpTo, range_up_to}
 use Rattle.std.proofs.lemmas.Result.{err_from_is_err_and}
@@ -94,8 +94,7 @@ returns-clause-goes g c =
     let written : take c.resize.new.self.len (bytes ++ drop (length bytes) c.resize.new.self.items) ≡ bytes =
     vec_written c.resize.new.self.len bytes c.resize.new.self.items (c.read_into.ensures.goes.size ∙ c.deref_mut.ensures.len) in
     let read : (c.args.offset + length c.deref_mut.result.now ≤ size_of t) × (bytes ≡ slice (told t d.readable) (c.args.offset, length c.deref_mut.result.now)) × AreMissingFull g.H.Sum.sum_of c.args.cache.now t ((c.args.offset, length c.deref_mut.result.now) ∷ []) d.readable = c.in_ok-read_into.ensures.goes.answers in
-    read_up_to_goes g.H.Sum.sum_of t c.args.cache.now (g.B.Blob.life c.args.blob.now) (g.B.Blob.life c.read_into.new.blob) c.requires.can c.args.offset c.args.len _
-    (
+    read_up_to_goes g.H.Sum.sum_of t c.args.cache.now (g.B.Blob.life c.args.blob.now) (g.B.Blob.life c.read_into.new.blob) c.requires.can c.args.offset c.args.len _ (
       inr (omega (arith, c.size-size.ensures, c.if-offset-size.false)),
       written ∙ read.1 ∙ ap (λ n. slice (told t d.readable) (c.args.offset, n)) many,
       count,
