@@ -3,11 +3,16 @@
 README.md and docs/GUIDE.md: each block of code that follows a line `In FILE:` must stand in that file, word for word,
 at whatever indentation. README.md and docs/CONTRACTS.md: each clause must stand in a file of crates/*/src, except for
 the short names that docs/CONTRACTS.md introduces at its beginning. And each clause of each public call of the crates in
-WHOLE must stand in docs/CONTRACTS.md. docs/GUIDE.md: each line of crates.txt that it
-quotes must stand there, except that of the crate `mine`. docs/DEFINITIONS.md: each word must stand in a file of
-crates/. In every page each link, and each path below crates/, docs/ or examples/, must be there. README.md and
-docs/PROTOCOL.md must have the same table of exit statuses. It prints what isn't so, and ends with status 1 then.
+WHOLE must stand in docs/CONTRACTS.md. README.md and docs/ERRORS.md: each error that a row of a table of calls lists
+must stand in the clauses of each call of the row, or in a definition of specs/ that these reach. Only definitions that
+take an error, or an answer that may be one, are followed. So it is text that is compared: a clause speaks of this
+error. Whether the call answers it, and no other, the page has to be read for. "the same" means the row above, an error
+that is "never of" a call isn't looked for there, and "those of" a call isn't followed. docs/GUIDE.md: each line of
+crates.txt that it quotes must stand there, except that of the crate `mine`. docs/DEFINITIONS.md: each word must stand
+in a file of crates/. In every page each link, and each path below crates/, docs/ or examples/, must be there. README.md
+and docs/PROTOCOL.md must have the same table of exit statuses. It prints what isn't so, and ends with status 1 then.
 """
+import functools
 import glob
 import os
 import re
@@ -35,6 +40,14 @@ SHORT = [
 
 # The crates whose public calls the page of contracts has with all their clauses.
 WHOLE = ["paged", "session", "journal", "items"]
+
+# The tables of calls with their errors: page, heading, and the crates in which a call is looked for, the first that has
+# one of this name.
+TABLES = [
+    ("README.md", "The calls", ["paged", "paged_read"]),
+    ("README.md", "Items of one size", ["items"]),
+    ("docs/ERRORS.md", "Items", ["items"]),
+]
 
 
 def read(path):
@@ -102,8 +115,19 @@ def wrong_clauses(pages):
     return [f"in no source: {clause}" for clause in quoted if clause not in source], len(quoted)
 
 
+def imports(text):
+    """What the words of a file mean that it takes from specs/: the file that defines each, and its name there."""
+    found = {}
+    for crate, file, words in re.findall(r"use Rattle\.(\w+)\.specs\.(\w+)\.\{([^}]*)\}", text):
+        for word in words.split(","):
+            name, _, other = word.strip().partition(" as ")
+            found[other or name] = (f"crates/{crate}/specs/{file}.antt", name)
+    return found
+
+
+@functools.cache
 def public_calls(crate):
-    """The clauses of each public call of a crate: each with the call's name."""
+    """The public calls of a crate: the type or the crate, the name, the clauses, and what the words of these mean."""
     library = read(f"crates/{crate}/src/lib.rt")
     exported = set(re.findall(r"\w+", " ".join(re.findall(r"^pub use [^;]*;", library, re.M))))
     calls = []
@@ -112,16 +136,90 @@ def public_calls(crate):
             owner = re.match(r"impl(?:<[^>]*>)? (\w+)|pub fn (\w+)", part)
             if owner and (owner[1] or owner[2]) in exported:
                 for call in re.finditer(r"^ *pub fn (\w+).*?^ *\{$", part, re.M | re.S):
-                    calls.append((f"{crate}: {call[1]}", clauses(call[0])))
+                    calls.append((owner[1] or crate, call[1], clauses(call[0]), imports(read(path))))
     return calls
 
 
 def missing_clauses(page):
     """The clauses of public calls that a page lacks, and how many calls there are."""
     quoted = set(clauses("".join(re.findall(r"^    .*\n", read(page), re.M))))
-    calls = [call for crate in WHOLE for call in public_calls(crate)]
-    wrong = [f"not in {page}: {name}: {clause}" for name, found in calls for clause in found if clause not in quoted]
+    calls = [(crate, call) for crate in WHOLE for call in public_calls(crate)]
+    wrong = [f"not in {page}: {crate}: {name}: {clause}" for crate, (_, name, found, _) in calls for clause in found
+             if clause not in quoted]
     return wrong, len(calls)
+
+
+@functools.cache
+def definitions(path):
+    """The definitions of a file of specs/, and what its words mean. A file of the kit has none here."""
+    if not os.path.exists(os.path.join(ROOT, path)):
+        return {}, {}
+    text = re.sub(r"--[^\n]*", "", read(path))
+    found = {}
+    for part in re.split(r"^(?=(?:abbrev|unfoldable|pub) )", text, flags=re.M)[1:]:
+        name = re.match(r"(?:(?:abbrev|unfoldable|pub|record|data) )+(\w+)", part)
+        if name:
+            found[name[1]] = part
+    return found, imports(text) | {name: (path, name) for name in found}
+
+
+def takes_an_error(definition):
+    """Whether a definition takes an error, or an answer that may be one. `HasFailed` isn't followed: it takes the error
+    that a device call failed with, and its own words are all of them."""
+    head = re.split(r"\n(?=\w)|\bwhere\b", definition)[0]
+    return re.search(r"\b(Error|Refusal)\b", head) and not re.match(r"abbrev pub HasFailed\b", head)
+
+
+def reached(text, words):
+    """A text, and the definitions that it reaches through those that take an error."""
+    texts, seen = [(text, words)], set()
+    for text, words in texts:
+        for path, name in {words[word] for word in re.findall(r"\w+", text) if word in words} - seen:
+            seen.add((path, name))
+            found, meanings = definitions(path)
+            if name in found and takes_an_error(found[name]):
+                texts.append((found[name], meanings))
+    return " ".join(text for text, _ in texts)
+
+
+def table_rows(page, heading):
+    """The rows of a section's tables of errors: the calls that each names, and what stands in its column of errors."""
+    section = re.search(rf"^## {heading}\n(.*?)(?=^## |\Z)", read(page), re.M | re.S)[1]
+    for table in re.findall(r"(?:^\|.*\n)+", section, re.M):
+        head, _, *rows = [[cell.strip() for cell in line.split("|")[1:-1]] for line in table.splitlines()]
+        if "Errors" in head:
+            yield from ((re.findall(r"`([\w:]+)`", row[0]), row[head.index("Errors")]) for row in rows)
+
+
+def listed_errors(rows):
+    """Each call of some rows, with the errors that its row lists."""
+    known = re.findall(r"^    (\w+),$", read("crates/disk/src/error.rt"), re.M)
+    for calls, cell in rows:
+        if not cell.startswith("the same"):
+            listed = [error for error in re.findall(r"`(\w+)`", cell) if error in known]
+            never = re.findall(r"`(\w+)` \(never of `(\w+)`\)", cell)
+        yield from ((call, [error for error in listed if (error, call) not in never]) for call in calls)
+
+
+def named_calls(name, crates):
+    """The public calls of this name, in the first of some crates that has one."""
+    owner, _, name = name.rpartition("::")
+    found = ([call for call in public_calls(crate) if call[1] == name and owner in ("", call[0])] for crate in crates)
+    return next(filter(None, found), [])
+
+
+def wrong_errors():
+    """The errors of tables of calls that stand in no clause of their calls, and how many errors the tables list."""
+    wrong, count = [], 0
+    for page, heading, crates in TABLES:
+        for name, errors in listed_errors(table_rows(page, heading)):
+            calls = named_calls(name, crates)
+            wrong += [] if calls else [f"{page}: no such call: {name}"]
+            for owner, call, its, words in calls if errors else []:
+                there = set(re.findall(r"\w+", reached(" ".join(its), words)))
+                wrong += [f"{page}: in no clause of {owner}::{call}: {error}" for error in errors if error not in there]
+            count += len(errors)
+    return wrong, count
 
 
 def wrong_crates(page):
@@ -168,6 +266,7 @@ def main():
         "snippets": wrong_code(["README.md", "docs/GUIDE.md"]),
         "clauses": wrong_clauses(["README.md", "docs/CONTRACTS.md"]),
         "public calls": missing_clauses("docs/CONTRACTS.md"),
+        "errors of calls": wrong_errors(),
         "crates": wrong_crates("docs/GUIDE.md"),
         "words": wrong_words("docs/DEFINITIONS.md"),
         "links and paths": wrong_places(pages),
