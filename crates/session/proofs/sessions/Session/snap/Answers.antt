@@ -41,10 +41,10 @@ returns-in-Ok-read_into-clause-goes g c =
     let buf = c.read_into.new.buf in
     let bytes = with_items c.in-Ok.bytes buf in
     let room : length c.deref_mut.result.now ≡ c.args.len = omega (arith, ap length c.deref_mut.ensures.value, c.in-Ok.ensures.len) in
-    let long : length buf ≡ c.in-Ok.bytes.len = omega (arith, is.size, ap length c.deref_mut.ensures.value, c.in-Ok.bytes.ok.0) in
-    let reads = subst (λ (n : ℕ). Reads {A = Unit {0}} sum t c.args.cache.now (c.args.offset, n) (λ u. buf) old new (Ok tt)) room is.reads in
+    let long : length buf ≡ c.in-Ok.bytes.len = omega (arith, is.goes.size, ap length c.deref_mut.ensures.value, c.in-Ok.bytes.ok.0) in
+    let reads = subst (λ (n : ℕ). Reads {A = Unit {0}} sum t c.args.cache.now (c.args.offset, n) (λ u. buf) old new (Ok tt)) room is.goes.answers in
     subst (λ (o : Option Tail). DidSnap sum o c.args.cache.now c.args.offset c.args.len old new (Bytes bytes)) (sym (stands_at c.args.self.now.snapshots c.args.index t at))
-    (read_says sum t c.args.cache.now c.args.offset c.args.len c.size.result old new buf bytes c.size.ensures c.size.type_inv (with_items_is c.in-Ok.bytes buf long) reads is.looked)
+    (read_says sum t c.args.cache.now c.args.offset c.args.len c.size.result old new buf bytes c.size.ensures c.size.type_inv (with_items_is c.in-Ok.bytes buf long) reads is.leaves.looked)
 
 pub returns-in-Err-read_into-clause-goes : goal.returns-in-Err-read_into-clause-goes
 returns-in-Err-read_into-clause-goes g c =
@@ -59,4 +59,34 @@ returns-in-Err-read_into-clause-goes g c =
     let room : length c.deref_mut.result.now ≡ c.args.len = omega (arith, ap length c.deref_mut.ensures.value, c.in-Ok.ensures.len) in
     subst (λ (o : Option Tail). DidSnap sum o c.args.cache.now c.args.offset c.args.len old new (Fault c.in-Err-read_into.error)) (sym (stands_at c.args.self.now.snapshots c.args.index t at))
     (subst (λ (n : ℕ). DidSnap sum (Some t) c.args.cache.now c.args.offset n old new (Fault c.in-Err-read_into.error)) room
-    (read_fails sum t c.args.cache.now c.args.offset (length c.deref_mut.result.now) old new c.read_into.new.buf c.in-Err-read_into.error is.reads is.overflow is.end (λ same. is.never full (ap Err same)) is.looked))
+    (read_fails sum t c.args.cache.now c.args.offset (length c.deref_mut.result.now) old new c.read_into.new.buf c.in-Err-read_into.error is.goes.answers is.goes.overflow is.goes.end (λ same. is.goes.never full (ap Err same)) is.leaves.looked))
+
+pub returns-in-Ok-read_into-clause-fresh_ids : goal.returns-in-Ok-read_into-clause-fresh_ids
+returns-in-Ok-read_into-clause-fresh_ids g c = c.in-Ok-read_into.ensures.leaves.fresh
+
+pub returns-in-Ok-read_into-clause-writers : goal.returns-in-Ok-read_into-clause-writers
+returns-in-Ok-read_into-clause-writers g c = c.in-Ok-read_into.ensures.leaves.writers
+
+pub returns-in-Ok-read_into-clause-tails : goal.returns-in-Ok-read_into-clause-tails
+returns-in-Ok-read_into-clause-tails g c = c.in-Ok-read_into.ensures.leaves.tails
+
+pub returns-in-Ok-read_into-clause-replays : goal.returns-in-Ok-read_into-clause-replays
+returns-in-Ok-read_into-clause-replays g c = c.in-Ok-read_into.ensures.leaves.replays
+
+pub returns-in-Ok-read_into-clause-can_read : goal.returns-in-Ok-read_into-clause-can_read
+returns-in-Ok-read_into-clause-can_read g c = c.in-Ok-read_into.ensures.leaves.can_read
+
+pub returns-in-Err-read_into-clause-fresh_ids : goal.returns-in-Err-read_into-clause-fresh_ids
+returns-in-Err-read_into-clause-fresh_ids g c = c.in-Err-read_into.ensures.leaves.fresh
+
+pub returns-in-Err-read_into-clause-writers : goal.returns-in-Err-read_into-clause-writers
+returns-in-Err-read_into-clause-writers g c = c.in-Err-read_into.ensures.leaves.writers
+
+pub returns-in-Err-read_into-clause-tails : goal.returns-in-Err-read_into-clause-tails
+returns-in-Err-read_into-clause-tails g c = c.in-Err-read_into.ensures.leaves.tails
+
+pub returns-in-Err-read_into-clause-replays : goal.returns-in-Err-read_into-clause-replays
+returns-in-Err-read_into-clause-replays g c = c.in-Err-read_into.ensures.leaves.replays
+
+pub returns-in-Err-read_into-clause-can_read : goal.returns-in-Err-read_into-clause-can_read
+returns-in-Err-read_into-clause-can_read g c = c.in-Err-read_into.ensures.leaves.can_read
