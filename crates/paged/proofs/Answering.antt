@@ -18,7 +18,7 @@ use Rattle.paged.specs.Reads.{HasPages, size_of}
 use Rattle.paged.specs.Recovery.{TailIsMended}
 use Rattle.paged.specs.RecoveryCalls.{IsNewWriter}
 use Rattle.cache.specs.Pages.{CachesOnly, IsFresh, IsTrueFor}
-use Rattle.paged_read.specs.Ranges.{LeavesAll}
+use Rattle.paged_read.specs.Reads.{ReadLeaves}
 use Rattle.paged_read.specs.Tail.{CanRead, Tail}
 use Rattle.paged_read.specs.Replay.{ReplayState}
 use Rattle.paged.specs.Snapshots.{MakesSnapshot, answer_of_seal}
@@ -26,7 +26,7 @@ use Rattle.paged.specs.Replays.{BeginsReplay}
 use Rattle.disk.specs.declared.started_sync.StartedSync.{StartedSync}
 use Rattle.disk.specs.declared.started_sync.StartedSync.TheVariants.{Named}
 use Rattle.paged.proofs.Snapshotting.{begun_gives, made_stands}
-use Rattle.paged.proofs.There.{reads_keep_sound, sound_has_pages}
+use Rattle.paged.proofs.There.{sound_has_pages}
 use Rattle.paged.specs.Owes.{Owes}
 use Rattle.paged.specs.Ready.{IsReady}
 use Rattle.paged.specs.Goes.{AppendAnswers, AppendGoes, Holds, HasStarted, IsRefused, IsUnderWay, ReplayGoes, SealGoes, SnapshotGoes, StartSyncGoes, SyncAllGoes, WaitForSyncGoes}
@@ -215,8 +215,8 @@ ready_cut sum w cache after old new (Ok v) ready sound reads fresh = ready_of su
 ready_cut sum w cache after old new (Err e) ready sound reads fresh = tt
 
 -- a read leaves it so
-pub ready_still : (sum : List ℕ → ℕ) (w : WriterState) (cache after : CacheState) (old new : Life) → LeavesAll (tail_of w) cache after old new → IsReady sum w cache old → IsReady sum w after new
-ready_still sum w cache after old new leaves ready = ready_of sum w after new (reads_keep_sound sum w old new leaves.looked ready.sound) leaves.can (leaves.fresh ready.fresh)
+pub ready_still : (sum : List ℕ → ℕ) (w : WriterState) (cache after : CacheState) (old new : Life) → ReadLeaves sum (tail_of w) cache after old new → IsReady sum w cache old → IsReady sum w after new
+ready_still sum w cache after old new leaves ready = ready_of sum w after new (leaves.writers w ready.sound).sound (leaves.can_read (tail_of w) ready.can) (leaves.fresh ready.fresh)
 
 -- and a wait
 pub ready_waited : (sum : List ℕ → ℕ) (w now : WriterState) (cache : CacheState) (old new : Life) → WaitsForSync sum w old new (Ok now) → IsReady sum w cache old → IsReady sum now cache new

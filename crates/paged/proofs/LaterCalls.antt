@@ -19,7 +19,8 @@ use Rattle.crash.specs.Moments.{through_end, through_then}
 use Rattle.crash.proofs.BelowLaws.{fewer_stay, pages_none, pages_one}
 use Rattle.writer_state.proofs.StartedLaws.{settles_same}
 use Rattle.paged_read.specs.Tail.{Tail, told, size_of, HasPages, CanRead}
-use Rattle.paged_read.specs.Ranges.{LeavesAll, page_at}
+use Rattle.paged_read.specs.Ranges.{page_at}
+use Rattle.paged_read.specs.Reads.{ReadLeaves}
 use Rattle.paged_read.specs.Snapshots.{StandsOn}
 use Rattle.paged_read.proofs.Leaving.{length-told, payload_told}
 use Rattle.paged_read.proofs.Outliving.{others_stay, reads_stay, tail_stays}
@@ -129,10 +130,10 @@ module _ (t : Tail) (before after : Moment) where
   }
 
 -- a read by a tail of the blob, where the pages that it may put lie below it
-module _ (mine t : Tail) (before after : Moment) (size : t.page_size ≡ mine.page_size)
+module _ (sum : List ℕ → ℕ) (mine t : Tail) (before after : Moment) (size : t.page_size ≡ mine.page_size)
     (can : CanRead mine before.cache before.life.present)
     (there : HasPages t before.life.present)
-    (leaves : LeavesAll mine before.cache after.cache before.life after.life) where
+    (leaves : ReadLeaves sum mine before.cache after.cache before.life after.life) where
   same_page : (page : ℕ) → page < t.full_pages → page < mine.full_pages
       → page_of_content before.cache.page_size (told mine before.life.present.readable) page
       ≡ page_of_content before.cache.page_size (told t before.life.present.readable) page

@@ -23,6 +23,7 @@ use Rattle.writer_state.proofs.StartedLaws.{settles_same, wait_leaves, wait_soun
 use Rattle.writer_state.proofs.Soundness.{sound_leaves}
 use Rattle.paged.specs.Flush.{has_work, synced, answered}
 use Rattle.paged_read.specs.Snapshots.{LeavesWriters}
+use Rattle.paged_read.proofs.Outliving.{leaves_writer}
 use Rattle.paged.specs.Calls.{AsksAtMost, wait_calls, settle_calls, sync_calls, GoesOn, IsSameWriter, Flushes, Settles, SettlesBy, Syncs, HadFailed, CallCause, WaitsForNone, WaitsForSync, Completes, Covers, waited, waited_state}
 use Rattle.paged.proofs.Causes.{wait_cause, wait_asks, wait_grows, sync_asks}
 use Rattle.paged.proofs.Flushes.{size_is_length, stays_nil, goes_on_more, refuses_more, goes_on_same, settle_goes}
@@ -151,18 +152,13 @@ pub wait_leaves_writers : (sum : List ℕ → ℕ) (started : StartedSync) (old 
 unfolding IsSound
 wait_leaves_writers sum (Named name) old new result small goes w sound =
     let left = wait_leaves sum w old new name small sound result goes in
-    record {
-      sound = left.0;
-      readable = wait_readable name old new result goes;
-      stays = left.1;
-      covers = wait_covers_by sum w name old new result sound goes;
-    }
-wait_leaves_writers sum Done old new (Ok u) small is w sound = record {
-  sound = subst (λ (l : Life). Soundness sum w l.present) (sym is) sound;
-  readable = ap (λ (l : Life). l.present.readable) is;
-  stays = subst (λ (l : Life). StaysThrough sum w.page_size (content w old.present.readable) old l) (sym is) (stays_through_start sum w.page_size (content w old.present.readable) old sound.truthful sound.vouched);
-  covers = covers_none sum w.page_size (content w old.present.readable) old new is;
-}
+    leaves_writer sum w old new sound left.0 (wait_readable name old new result goes) left.1 (wait_covers_by sum w name old new result sound goes)
+wait_leaves_writers sum Done old new (Ok u) small is w sound =
+    leaves_writer sum w old new sound
+    (subst (λ (l : Life). Soundness sum w l.present) (sym is) sound)
+    (ap (λ (l : Life). l.present.readable) is)
+    (subst (λ (l : Life). StaysThrough sum w.page_size (content w old.present.readable) old l) (sym is) (stays_through_start sum w.page_size (content w old.present.readable) old sound.truthful sound.vouched))
+    (covers_none sum w.page_size (content w old.present.readable) old new is)
 wait_leaves_writers sum Done old new (Err e) small goes w sound = absurd goes
 
 -- what it covers is kept from then on

@@ -1,21 +1,15 @@
 // Reading.
-ghost use Rattle.std.specs.Prelude.{◌≡◌, ◌≢◌, ◌+◌, ◌*◌, ◌<◌, ◌≤◌, ◌^◌, length, Err, IfOk, OnOk};
-ghost use Rattle.std.specs.Prelude.{IsErrOf, IsOkUnless, sum_by};
+ghost use Rattle.std.specs.Prelude.{◌≡◌, ◌*◌, length, sum_by};
 ghost use Rattle.std.specs.Int.NonZero.{non_zero_u16_get, non_zero_usize_get};
 ghost use Rattle.std.specs.List.{concat};
-ghost use Rattle.disk.specs.Disk.{Disk};
-ghost use Rattle.page.specs.Geometry.{AreInOrder, EndWithin};
-ghost use Rattle.crash.specs.Looks.{Looked};
-ghost use Rattle.writer_state.specs.Sound.{content, IsSound};
-ghost use Rattle.crash.specs.Stays.{KeepsAllFloors, LeavesOnly};
-ghost use Rattle.paged_read.specs.Tail.{CanRead, IsView, tail_at, told};
-ghost use Rattle.paged_read.specs.Ranges.{Reads, ReadsUpTo, ReadsMany, range_up_to, TriesRead};
-ghost use Rattle.paged_read.specs.Ranges.{AsksForMissing, AsksOnce, LeavesAll, Misses, HasServed};
+ghost use Rattle.page.specs.Geometry.{AreInOrder};
 ghost use Rattle.paged_read.specs.Batch.{ranges_of};
-ghost use Rattle.paged_read.specs.Replay.{LeavesAllReplays};
-ghost use Rattle.paged_read.specs.Snapshots.{LeavesOthers, LeavesTails};
+ghost use Rattle.paged_read.specs.Ranges.{range_up_to, TriesRead};
+ghost use Rattle.paged_read.specs.Reads.{ReadCosts, ReadGoes, ReadIntoGoes, ReadLeaves};
+ghost use Rattle.paged_read.specs.Reads.{ReadManyCosts, ReadManyGoes, ReadUpToGoes, TriesMany};
+ghost use Rattle.paged_read.specs.Tail.{CanRead, IsView, tail_at};
 ghost use Rattle.paged.specs.Caches.{tail_of};
-ghost use Rattle.paged.specs.Reads.{size_of};
+ghost use Rattle.paged.specs.Ready.{IsReady};
 ghost use Rattle.paged.specs.Recovery.{IsAsOpened};
 
 use crate::Writer;
@@ -60,14 +54,8 @@ impl<B, H, Phase> Writer<B, H, Phase> {
         requires page_size { cache.now.page_size ≡ self.now.page_size }
         requires in_order { AreInOrder ranges.now }
         requires filled { length buf.old ≡ sum_by (λ range. range.1) ranges.now }
-        ensures missed { IfOk result (λ missed.
-            Misses (tail_of self.now) ranges.now cache.now missed.items) }
-        ensures served { let t = tail_of self.now in
-            OnOk result (EndWithin (size_of self.now) ranges.now → (d : Disk)
-            → CanRead t cache.now d
-            → HasServed cache.now t ranges.now (told t d.readable) buf.new) }
-        ensures size { length buf.new ≡ length buf.old }
-        ensures err { IsOkUnless result Error.OutOfMemory }
+        ensures goes { let t = tail_of self.now in
+            TriesMany t ranges.now cache.now buf.old buf.new result }
     {
         self.view().try_read_ranges_sync_into(cache, buf, ranges)
     }
@@ -83,14 +71,9 @@ impl<B, H, Phase> Writer<B, H, Phase> {
         requires page_size { cache.now.page_size ≡ self.now.page_size }
         requires in_order { AreInOrder (ranges_of (non_zero_usize_get len) offsets.now) }
         requires filled { length buf.old ≡ length offsets.now * non_zero_usize_get len }
-        ensures missed { let ranges = ranges_of (non_zero_usize_get len) offsets.now in
-            IfOk result (λ missed. Misses (tail_of self.now) ranges cache.now missed.items) }
-        ensures served { let t = tail_of self.now in
+        ensures goes { let t = tail_of self.now in
             let ranges = ranges_of (non_zero_usize_get len) offsets.now in
-            OnOk result (EndWithin (size_of self.now) ranges → (d : Disk) → CanRead t cache.now d
-            → HasServed cache.now t ranges (told t d.readable) buf.new) }
-        ensures size { length buf.new ≡ length buf.old }
-        ensures err { IsOkUnless result Error.OutOfMemory }
+            TriesMany t ranges cache.now buf.old buf.new result }
     {
         self.view()
             .try_read_many_sync_into(cache, buf, offsets, len)
@@ -115,41 +98,16 @@ impl<B: Blob, H: Sum, Phase> Writer<B, H, Phase> {
         offset: u64,
     ) -> Result<(), Error>
         requires can { CanRead (tail_of self.now) cache.old (B.life blob.old).present }
-        ensures reads { let old = B.life blob.old in let new = B.life blob.new in
-            Reads H.sum_of (tail_of self.now) cache.old (offset, length buf.old) (λ _. buf.new) old
-            new result }
-        ensures overflow { 2 ^ 64 ≤ offset + length buf.old → result ≡ Err Error.OffsetOverflow }
-        ensures end { offset + length buf.old < 2 ^ 64
-            → size_of self.now < offset + length buf.old
-            → result ≡ Err Error.BlobInsufficientLength }
-        ensures asks { let old = B.life blob.old in let new = B.life blob.new in
-            AsksForMissing cache.old (tail_of self.now) (offset, length buf.old) old new }
-        ensures size { length buf.new ≡ length buf.old }
+        ensures goes { let old = B.life blob.old in let new = B.life blob.new in
+            let t = tail_of self.now in
+            ReadIntoGoes H.sum_of t cache.old offset buf.old buf.new old new result }
         ensures leaves { let old = B.life blob.old in let new = B.life blob.new in
-            LeavesAll (tail_of self.now) cache.old cache.new old new }
-        ensures looked { Looked (B.life blob.old) (B.life blob.new) }
-
-        // Of a sound writer: each of its pages is full; it stays sound, and a crash at any moment
-        // of the read keeps and leaves what it did before.
-        ensures never { IsSound H.sum_of self.now (B.life blob.old).present
-            → IsErrOf result Error.InvalidChecksum → ⊥ }
-        ensures sound { let old = B.life blob.old in let new = B.life blob.new in
-            IsSound H.sum_of self.now old.present → IsSound H.sum_of self.now new.present }
-        ensures kept { let old = B.life blob.old in let new = B.life blob.new in
-            IsSound H.sum_of self.now old.present
-            → KeepsAllFloors H.sum_of self.now.page_size old new }
-        ensures only { let old = B.life blob.old in let new = B.life blob.new in
-            let held = content self.now old.present.readable in
-            IsSound H.sum_of self.now old.present
-            → LeavesOnly H.sum_of self.now.page_size held held old new }
-
-        // What snapshots, replays, and reads of other blobs stand on.
-        ensures tails { let old = B.life blob.old in let new = B.life blob.new in
-            LeavesTails H.sum_of self.now.full_pages cache.old cache.new old new }
-        ensures replays { LeavesAllReplays (B.life blob.old) (B.life blob.new) }
-        ensures others { LeavesOthers self.now.id cache.old cache.new }
-
-        // Of a recovery that was opened over any blob: it can still be cut.
+            ReadLeaves H.sum_of (tail_of self.now) cache.old cache.new old new }
+        ensures costs { let old = B.life blob.old in let new = B.life blob.new in
+            let t = tail_of self.now in
+            ReadCosts H.sum_of t (offset, length buf.old) cache.old cache.new old new result }
+        ensures ready { IsReady H.sum_of self.now cache.old (B.life blob.old)
+            → IsReady H.sum_of self.now cache.new (B.life blob.new) }
         ensures opened { let old = B.life blob.old in let new = B.life blob.new in
             IsAsOpened H.sum_of self.now old.present → IsAsOpened H.sum_of self.now new.present }
     {
@@ -166,38 +124,16 @@ impl<B: Blob, H: Sum, Phase> Writer<B, H, Phase> {
         len: usize,
     ) -> Result<IoBufs, Error>
         requires can { CanRead (tail_of self.now) cache.old (B.life blob.old).present }
-        ensures reads { let old = B.life blob.old in let new = B.life blob.new in
-            Reads H.sum_of (tail_of self.now) cache.old (offset, len) concat old new result }
-        ensures overflow { 2 ^ 64 ≤ offset + len → result ≡ Err Error.OffsetOverflow }
-        ensures end { offset + len < 2 ^ 64 → size_of self.now < offset + len
-            → result ≡ Err Error.BlobInsufficientLength }
-        ensures asks { let old = B.life blob.old in let new = B.life blob.new in
-            AsksForMissing cache.old (tail_of self.now) (offset, len) old new }
+        ensures goes { let old = B.life blob.old in let new = B.life blob.new in
+            let t = tail_of self.now in
+            ReadGoes H.sum_of t cache.old (offset, len) concat old new result }
         ensures leaves { let old = B.life blob.old in let new = B.life blob.new in
-            LeavesAll (tail_of self.now) cache.old cache.new old new }
-        ensures looked { Looked (B.life blob.old) (B.life blob.new) }
-
-        // Of a sound writer: each of its pages is full; it stays sound, and a crash at any moment
-        // of the read keeps and leaves what it did before.
-        ensures never { IsSound H.sum_of self.now (B.life blob.old).present
-            → IsErrOf result Error.InvalidChecksum → ⊥ }
-        ensures sound { let old = B.life blob.old in let new = B.life blob.new in
-            IsSound H.sum_of self.now old.present → IsSound H.sum_of self.now new.present }
-        ensures kept { let old = B.life blob.old in let new = B.life blob.new in
-            IsSound H.sum_of self.now old.present
-            → KeepsAllFloors H.sum_of self.now.page_size old new }
-        ensures only { let old = B.life blob.old in let new = B.life blob.new in
-            let held = content self.now old.present.readable in
-            IsSound H.sum_of self.now old.present
-            → LeavesOnly H.sum_of self.now.page_size held held old new }
-
-        // What snapshots, replays, and reads of other blobs stand on.
-        ensures tails { let old = B.life blob.old in let new = B.life blob.new in
-            LeavesTails H.sum_of self.now.full_pages cache.old cache.new old new }
-        ensures replays { LeavesAllReplays (B.life blob.old) (B.life blob.new) }
-        ensures others { LeavesOthers self.now.id cache.old cache.new }
-
-        // Of a recovery that was opened over any blob: it can still be cut.
+            ReadLeaves H.sum_of (tail_of self.now) cache.old cache.new old new }
+        ensures costs { let old = B.life blob.old in let new = B.life blob.new in
+            let t = tail_of self.now in
+            ReadCosts H.sum_of t (offset, len) cache.old cache.new old new result }
+        ensures ready { IsReady H.sum_of self.now cache.old (B.life blob.old)
+            → IsReady H.sum_of self.now cache.new (B.life blob.new) }
         ensures opened { let old = B.life blob.old in let new = B.life blob.new in
             IsAsOpened H.sum_of self.now old.present → IsAsOpened H.sum_of self.now new.present }
     {
@@ -218,38 +154,16 @@ impl<B: Blob, H: Sum, Phase> Writer<B, H, Phase> {
         bytes: Vec<u8>,
     ) -> Result<(Vec<u8>, usize), Error>
         requires can { CanRead (tail_of self.now) cache.old (B.life blob.old).present }
-        ensures reads { let old = B.life blob.old in let new = B.life blob.new in
-            ReadsUpTo H.sum_of (tail_of self.now) cache.old offset len old new result }
-        ensures end { len ≢ 0 → size_of self.now ≤ offset
-            → result ≡ Err Error.BlobInsufficientLength }
-        ensures asks { let old = B.life blob.old in let new = B.life blob.new in
-            let range = range_up_to (tail_of self.now) offset len in
-            AsksForMissing cache.old (tail_of self.now) range old new }
+        ensures goes { let old = B.life blob.old in let new = B.life blob.new in
+            let t = tail_of self.now in
+            ReadUpToGoes H.sum_of t cache.old offset len old new result }
         ensures leaves { let old = B.life blob.old in let new = B.life blob.new in
-            LeavesAll (tail_of self.now) cache.old cache.new old new }
-        ensures looked { Looked (B.life blob.old) (B.life blob.new) }
-
-        // Of a sound writer: each of its pages is full; it stays sound, and a crash at any moment
-        // of the read keeps and leaves what it did before.
-        ensures never { IsSound H.sum_of self.now (B.life blob.old).present
-            → IsErrOf result Error.InvalidChecksum → ⊥ }
-        ensures sound { let old = B.life blob.old in let new = B.life blob.new in
-            IsSound H.sum_of self.now old.present → IsSound H.sum_of self.now new.present }
-        ensures kept { let old = B.life blob.old in let new = B.life blob.new in
-            IsSound H.sum_of self.now old.present
-            → KeepsAllFloors H.sum_of self.now.page_size old new }
-        ensures only { let old = B.life blob.old in let new = B.life blob.new in
-            let held = content self.now old.present.readable in
-            IsSound H.sum_of self.now old.present
-            → LeavesOnly H.sum_of self.now.page_size held held old new }
-
-        // What snapshots, replays, and reads of other blobs stand on.
-        ensures tails { let old = B.life blob.old in let new = B.life blob.new in
-            LeavesTails H.sum_of self.now.full_pages cache.old cache.new old new }
-        ensures replays { LeavesAllReplays (B.life blob.old) (B.life blob.new) }
-        ensures others { LeavesOthers self.now.id cache.old cache.new }
-
-        // Of a recovery that was opened over any blob: it can still be cut.
+            ReadLeaves H.sum_of (tail_of self.now) cache.old cache.new old new }
+        ensures costs { let old = B.life blob.old in let new = B.life blob.new in
+            let t = tail_of self.now in
+            ReadCosts H.sum_of t (range_up_to t offset len) cache.old cache.new old new result }
+        ensures ready { IsReady H.sum_of self.now cache.old (B.life blob.old)
+            → IsReady H.sum_of self.now cache.new (B.life blob.new) }
         ensures opened { let old = B.life blob.old in let new = B.life blob.new in
             IsAsOpened H.sum_of self.now old.present → IsAsOpened H.sum_of self.now new.present }
     {
@@ -275,36 +189,16 @@ impl<B: Blob, H: Sum, Phase> Writer<B, H, Phase> {
         requires can { CanRead (tail_of self.now) cache.old (B.life blob.old).present }
         requires in_order { AreInOrder ranges.now }
         requires filled { length buf.old ≡ sum_by (λ range. range.1) ranges.now }
-        ensures reads { let old = B.life blob.old in let new = B.life blob.new in
-            ReadsMany H.sum_of (tail_of self.now) cache.old ranges.now buf.new old new result }
-        ensures asks { let old = B.life blob.old in let new = B.life blob.new in
-            AsksOnce cache.old (tail_of self.now) ranges.now old new }
-        ensures size { length buf.new ≡ length buf.old }
+        ensures goes { let old = B.life blob.old in let new = B.life blob.new in
+            let t = tail_of self.now in
+            ReadManyGoes H.sum_of t cache.old ranges.now buf.old buf.new old new result }
         ensures leaves { let old = B.life blob.old in let new = B.life blob.new in
-            LeavesAll (tail_of self.now) cache.old cache.new old new }
-        ensures looked { Looked (B.life blob.old) (B.life blob.new) }
-
-        // Of a sound writer: each of its pages is full; it stays sound, and a crash at any moment
-        // of the read keeps and leaves what it did before.
-        ensures never { IsSound H.sum_of self.now (B.life blob.old).present
-            → IsErrOf result Error.InvalidChecksum → ⊥ }
-        ensures sound { let old = B.life blob.old in let new = B.life blob.new in
-            IsSound H.sum_of self.now old.present → IsSound H.sum_of self.now new.present }
-        ensures kept { let old = B.life blob.old in let new = B.life blob.new in
-            IsSound H.sum_of self.now old.present
-            → KeepsAllFloors H.sum_of self.now.page_size old new }
-        ensures only { let old = B.life blob.old in let new = B.life blob.new in
-            let held = content self.now old.present.readable in
-            IsSound H.sum_of self.now old.present
-            → LeavesOnly H.sum_of self.now.page_size held held old new }
-
-        // What snapshots, replays, and reads of other blobs stand on.
-        ensures tails { let old = B.life blob.old in let new = B.life blob.new in
-            LeavesTails H.sum_of self.now.full_pages cache.old cache.new old new }
-        ensures replays { LeavesAllReplays (B.life blob.old) (B.life blob.new) }
-        ensures others { LeavesOthers self.now.id cache.old cache.new }
-
-        // Of a recovery that was opened over any blob: it can still be cut.
+            ReadLeaves H.sum_of (tail_of self.now) cache.old cache.new old new }
+        ensures costs { let old = B.life blob.old in let new = B.life blob.new in
+            let t = tail_of self.now in
+            ReadManyCosts H.sum_of t ranges.now cache.old cache.new old new result }
+        ensures ready { IsReady H.sum_of self.now cache.old (B.life blob.old)
+            → IsReady H.sum_of self.now cache.new (B.life blob.new) }
         ensures opened { let old = B.life blob.old in let new = B.life blob.new in
             IsAsOpened H.sum_of self.now old.present → IsAsOpened H.sum_of self.now new.present }
     {
@@ -323,37 +217,18 @@ impl<B: Blob, H: Sum, Phase> Writer<B, H, Phase> {
         requires can { CanRead (tail_of self.now) cache.old (B.life blob.old).present }
         requires in_order { AreInOrder (ranges_of (non_zero_usize_get len) offsets.now) }
         requires filled { length buf.old ≡ length offsets.now * non_zero_usize_get len }
-        ensures reads { let ranges = ranges_of (non_zero_usize_get len) offsets.now in
-            let old = B.life blob.old in let new = B.life blob.new in
-            ReadsMany H.sum_of (tail_of self.now) cache.old ranges buf.new old new result }
-        ensures asks { let ranges = ranges_of (non_zero_usize_get len) offsets.now in
-            AsksOnce cache.old (tail_of self.now) ranges (B.life blob.old) (B.life blob.new) }
-        ensures size { length buf.new ≡ length buf.old }
+        ensures goes { let old = B.life blob.old in let new = B.life blob.new in
+            let t = tail_of self.now in
+            let ranges = ranges_of (non_zero_usize_get len) offsets.now in
+            ReadManyGoes H.sum_of t cache.old ranges buf.old buf.new old new result }
         ensures leaves { let old = B.life blob.old in let new = B.life blob.new in
-            LeavesAll (tail_of self.now) cache.old cache.new old new }
-        ensures looked { Looked (B.life blob.old) (B.life blob.new) }
-
-        // Of a sound writer: each of its pages is full; it stays sound, and a crash at any moment
-        // of the read keeps and leaves what it did before.
-        ensures never { IsSound H.sum_of self.now (B.life blob.old).present
-            → IsErrOf result Error.InvalidChecksum → ⊥ }
-        ensures sound { let old = B.life blob.old in let new = B.life blob.new in
-            IsSound H.sum_of self.now old.present → IsSound H.sum_of self.now new.present }
-        ensures kept { let old = B.life blob.old in let new = B.life blob.new in
-            IsSound H.sum_of self.now old.present
-            → KeepsAllFloors H.sum_of self.now.page_size old new }
-        ensures only { let old = B.life blob.old in let new = B.life blob.new in
-            let held = content self.now old.present.readable in
-            IsSound H.sum_of self.now old.present
-            → LeavesOnly H.sum_of self.now.page_size held held old new }
-
-        // What snapshots, replays, and reads of other blobs stand on.
-        ensures tails { let old = B.life blob.old in let new = B.life blob.new in
-            LeavesTails H.sum_of self.now.full_pages cache.old cache.new old new }
-        ensures replays { LeavesAllReplays (B.life blob.old) (B.life blob.new) }
-        ensures others { LeavesOthers self.now.id cache.old cache.new }
-
-        // Of a recovery that was opened over any blob: it can still be cut.
+            ReadLeaves H.sum_of (tail_of self.now) cache.old cache.new old new }
+        ensures costs { let old = B.life blob.old in let new = B.life blob.new in
+            let t = tail_of self.now in
+            let ranges = ranges_of (non_zero_usize_get len) offsets.now in
+            ReadManyCosts H.sum_of t ranges cache.old cache.new old new result }
+        ensures ready { IsReady H.sum_of self.now cache.old (B.life blob.old)
+            → IsReady H.sum_of self.now cache.new (B.life blob.new) }
         ensures opened { let old = B.life blob.old in let new = B.life blob.new in
             IsAsOpened H.sum_of self.now old.present → IsAsOpened H.sum_of self.now new.present }
     {

@@ -12,8 +12,9 @@ use Rattle.crash.specs.Full.{AreFull}
 use Rattle.crash.specs.Looks.{SameButLog, Looked}
 use Rattle.crash.specs.Moments.{through_end, through_then}
 use Rattle.writer_state.specs.Sound.{IsSound, content}
-use Rattle.crash.specs.Started.{CoversStay}
-use Rattle.crash.specs.Stays.{Stays}
+use Rattle.writer_state.specs.WriterState.{WriterState}
+use Rattle.crash.specs.Started.{CoversStay, CoversThrough}
+use Rattle.crash.specs.Stays.{Stays, StaysThrough}
 use Rattle.crash.proofs.BelowLaws.{fewer_stay, pages_there, full_still, stored_still}
 use Rattle.crash.proofs.LookLaws.{looked_readable}
 use Rattle.crash.proofs.Moments.{kept_through, only_through, stays_alike, stays_itself}
@@ -23,7 +24,7 @@ use Rattle.writer_state.proofs.StartedLaws.{alike_covers}
 use Rattle.page.specs.Page.{pages}
 use Rattle.paged_read.specs.Tail.{Tail, told, size_of, HasPages, CanRead}
 use Rattle.paged_read.specs.Ranges.{LeavesAll, page_at}
-use Rattle.paged_read.specs.Snapshots.{IsTailOf, StandsOn, LeavesTails, LeavesAllTails, LeavesAllReads, LeavesOthers, LeavesReads, LeavesWriters}
+use Rattle.paged_read.specs.Snapshots.{IsTailOf, StandsOn, LeavesTails, LeavesAllTails, LeavesAllReads, LeavesOthers, LeavesReads, LeavesWriter, LeavesWriters}
 use Rattle.paged_read.proofs.Leaving.{length-told, payload_told}
 
 -- ---- a call that leaves the first pages
@@ -185,29 +186,43 @@ module _ (sum : List ℕ → ℕ) (mine : Tail) (cache after : CacheState) (old 
 
 -- ---- a read leaves the blob's writer
 
+-- what its writer keeps, and what a crash at any moment keeps and leaves
+pub leaves_writer : (sum : List ℕ → ℕ) (w : WriterState) (old new : Life)
+    → IsSound sum w old.present → IsSound sum w new.present
+    → new.present.readable ≡ old.present.readable
+    → StaysThrough sum w.page_size (content w old.present.readable) old new
+    → CoversThrough sum w.page_size (content w old.present.readable) old new
+    → LeavesWriter sum w old new
+leaves_writer sum w old new sound still readable stays covers =
+    let P = w.page_size in
+    let held = content w old.present.readable in
+    record {
+      sound = still;
+      readable = readable;
+      stays = stays;
+      covers = covers;
+      kept = floors_of_sound sum w old new sound
+          (λ floor enough keeps. kept_through sum P held old new stays floor enough keeps);
+      only = only_through sum P held held old new stays;
+    }
+
 pub look_leaves_writers : (sum : List ℕ → ℕ) (old new : Life) → Looked old new
     → LeavesWriters sum old new
 unfolding IsSound
 look_leaves_writers sum old new looked w sound =
     let held = content w old.present.readable in
-    let stays = through_then (SameButLog old.present) (Stays sum w.page_size held old.present) old new
+    leaves_writer sum w old new sound (looked_sound sum w old new sound looked)
+    (looked_readable old new looked)
+    (through_then (SameButLog old.present) (Stays sum w.page_size held old.present) old new
     (λ d same. stays_alike sum w.page_size held old.present old.present d
     (ap (λ (x : Disk). x.base) same) (ap (λ (x : Disk). x.since) same)
-    (stays_itself sum w.page_size held old.present sound.truthful sound.vouched)) looked.through in
-    record {
-      sound = looked_sound sum w old new sound looked;
-      readable = looked_readable old new looked;
-      stays = stays;
-      covers = through_then (SameButLog old.present)
-          (CoversStay sum w.page_size held old.present) old new
-          (λ d same. alike_covers sum w.page_size held old.present d
-          (ap (λ (x : Disk). x.base) same) (ap (λ (x : Disk). x.since) same)
-          (ap (λ (x : Disk). x.settled) same) (ap (λ (x : Disk). coverings x) same))
-          looked.through;
-      kept = floors_of_sound sum w old new sound
-          (λ floor enough keeps. kept_through sum w.page_size held old new stays floor enough keeps);
-      only = only_through sum w.page_size held held old new stays;
-    }
+    (stays_itself sum w.page_size held old.present sound.truthful sound.vouched)) looked.through)
+    (through_then (SameButLog old.present)
+    (CoversStay sum w.page_size held old.present) old new
+    (λ d same. alike_covers sum w.page_size held old.present d
+    (ap (λ (x : Disk). x.base) same) (ap (λ (x : Disk). x.since) same)
+    (ap (λ (x : Disk). x.settled) same) (ap (λ (x : Disk). coverings x) same))
+    looked.through)
 
 -- ---- calls that change no byte, and calls that put nothing
 

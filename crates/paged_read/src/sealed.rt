@@ -238,8 +238,8 @@ impl<B: Blob, H: Sum> Sealed<B, H> {
         ensures leaves { let old = B.life blob.old in let new = B.life blob.new in
             ReadLeaves H.sum_of self.now cache.old cache.new old new }
         ensures costs { let old = B.life blob.old in let new = B.life blob.new in
-            ReadCosts H.sum_of self.now (range_up_to self.now offset len) cache.old cache.new old new
-            result }
+            let range = range_up_to self.now offset len in
+            ReadCosts H.sum_of self.now range cache.old cache.new old new result }
     {
         self.view().read_up_to(blob, cache, offset, len, bytes)
     }

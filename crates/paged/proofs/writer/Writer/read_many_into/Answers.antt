@@ -1,63 +1,28 @@
-use Rattle.paged.proofs.Recovered.{looked_as_opened}
-use Rattle.std.proofs.Common.{sym, subst}
+use Rattle.std.proofs.Common.{subst, sym}
+use Rattle.paged_read.specs.Reads.{ReadLeaves, ReadManyCosts, ReadManyGoes}
 use Rattle.std.specs.Int.NonZero.{non_zero_usize_get}
-use Rattle.paged_read.specs.Tail.{Tail, CanRead}
-use Rattle.paged_read.specs.Ranges.{ReadsMany, AsksOnce, LeavesAll}
 use Rattle.paged_read.specs.Batch.{ranges_of}
-use Rattle.paged.proofs.There.{reads_keep_sound, reads_keep, reads_leave}
-use Rattle.paged.proofs.Serves.{reads_many_never}
-use Rattle.paged_read.proofs.OutlivingReplays.{look_leaves_replays}
-use Rattle.paged_read.proofs.Outliving.{read_leaves_others, read_leaves_tails}
-use Rattle.paged.specs.Caches.{tail_of}
+use Rattle.paged_read.specs.Tail.{Tail, CanRead}
+use Rattle.paged.proofs.Answering.{ready_still}
+use Rattle.paged.proofs.Recovered.{looked_as_opened}
 use Rattle.paged.proofs.writer.Writer.read_many_into.Goals as goal
 
 pub read_many_into-requires-clause-can : goal.read_many_into-requires-clause-can
 read_many_into-requires-clause-can g c = subst (λ (t : Tail). CanRead t c.args.cache.now (g.B.Blob.life c.args.blob.now).present) (sym c.view.ensures.tail) c.requires.can
 
-pub returns-clause-reads : goal.returns-clause-reads
-returns-clause-reads g c = subst (λ (t : Tail). ReadsMany g.H.Sum.sum_of t c.args.cache.now (ranges_of (non_zero_usize_get c.args.len) c.args.offsets.now) c.read_many_into.new.buf (g.B.Blob.life c.args.blob.now) (g.B.Blob.life c.read_many_into.new.blob) c.read_many_into.result) c.view.ensures.tail c.read_many_into.ensures.reads
+pub returns-clause-goes : goal.returns-clause-goes
+returns-clause-goes g c = subst (λ (t : Tail). ReadManyGoes g.H.Sum.sum_of t c.args.cache.now (ranges_of (non_zero_usize_get c.args.len) c.args.offsets.now) c.args.buf.now c.read_many_into.new.buf (g.B.Blob.life c.args.blob.now) (g.B.Blob.life c.read_many_into.new.blob) c.read_many_into.result) c.view.ensures.tail c.read_many_into.ensures.goes
 
 pub returns-clause-leaves : goal.returns-clause-leaves
-returns-clause-leaves g c = subst (λ (t : Tail). LeavesAll t c.args.cache.now c.read_many_into.new.cache (g.B.Blob.life c.args.blob.now) (g.B.Blob.life c.read_many_into.new.blob)) c.view.ensures.tail c.read_many_into.ensures.leaves
+returns-clause-leaves g c = subst (λ (t : Tail). ReadLeaves g.H.Sum.sum_of t c.args.cache.now c.read_many_into.new.cache (g.B.Blob.life c.args.blob.now) (g.B.Blob.life c.read_many_into.new.blob)) c.view.ensures.tail c.read_many_into.ensures.leaves
 
-pub returns-clause-sound : goal.returns-clause-sound
-returns-clause-sound g c = reads_keep_sound g.H.Sum.sum_of c.args.self.now (g.B.Blob.life c.args.blob.now) (g.B.Blob.life c.read_many_into.new.blob) c.read_many_into.ensures.leaves.looked
+pub returns-clause-costs : goal.returns-clause-costs
+returns-clause-costs g c = subst (λ (t : Tail). ReadManyCosts g.H.Sum.sum_of t (ranges_of (non_zero_usize_get c.args.len) c.args.offsets.now) c.args.cache.now c.read_many_into.new.cache (g.B.Blob.life c.args.blob.now) (g.B.Blob.life c.read_many_into.new.blob) c.read_many_into.result) c.view.ensures.tail c.read_many_into.ensures.costs
+
+pub returns-clause-ready : goal.returns-clause-ready
+returns-clause-ready g c =
+    ready_still g.H.Sum.sum_of c.args.self.now c.args.cache.now c.read_many_into.new.cache (g.B.Blob.life c.args.blob.now) (g.B.Blob.life c.read_many_into.new.blob)
+    (subst (λ (t : Tail). ReadLeaves g.H.Sum.sum_of t c.args.cache.now c.read_many_into.new.cache (g.B.Blob.life c.args.blob.now) (g.B.Blob.life c.read_many_into.new.blob)) c.view.ensures.tail c.read_many_into.ensures.leaves)
 
 pub returns-clause-opened : goal.returns-clause-opened
 returns-clause-opened g c = looked_as_opened g.H.Sum.sum_of c.args.self.now (g.B.Blob.life c.args.blob.now) (g.B.Blob.life c.read_many_into.new.blob) c.read_many_into.ensures.leaves.looked
-
-pub returns-clause-kept : goal.returns-clause-kept
-returns-clause-kept g c = reads_keep g.H.Sum.sum_of c.args.self.now (g.B.Blob.life c.args.blob.now) (g.B.Blob.life c.read_many_into.new.blob) c.read_many_into.ensures.leaves.looked
-
-pub returns-clause-only : goal.returns-clause-only
-returns-clause-only g c = reads_leave g.H.Sum.sum_of c.args.self.now (g.B.Blob.life c.args.blob.now) (g.B.Blob.life c.read_many_into.new.blob) c.read_many_into.ensures.leaves.looked
-
-pub returns-clause-never : goal.returns-clause-never
-returns-clause-never g c = reads_many_never g.H.Sum.sum_of c.args.self.now c.args.cache.now (ranges_of (non_zero_usize_get c.args.len) c.args.offsets.now) c.read_many_into.new.buf (g.B.Blob.life c.args.blob.now) (g.B.Blob.life c.read_many_into.new.blob) c.read_many_into.result (subst (λ (t : Tail). ReadsMany g.H.Sum.sum_of t c.args.cache.now (ranges_of (non_zero_usize_get c.args.len) c.args.offsets.now) c.read_many_into.new.buf (g.B.Blob.life c.args.blob.now) (g.B.Blob.life c.read_many_into.new.blob) c.read_many_into.result) c.view.ensures.tail c.read_many_into.ensures.reads)
-
-pub returns-clause-asks : goal.returns-clause-asks
-returns-clause-asks g c = subst (λ (t : Tail). AsksOnce c.args.cache.now t (ranges_of (non_zero_usize_get c.args.len) c.args.offsets.now) (g.B.Blob.life c.args.blob.now) (g.B.Blob.life c.read_many_into.new.blob)) c.view.ensures.tail c.read_many_into.ensures.asks
-
-pub returns-clause-looked : goal.returns-clause-looked
-returns-clause-looked g c = c.read_many_into.ensures.leaves.looked
-
-pub returns-clause-tails : goal.returns-clause-tails
-returns-clause-tails g c =
-    read_leaves_tails g.H.Sum.sum_of (tail_of c.args.self.now) c.args.cache.now c.read_many_into.new.cache
-    (g.B.Blob.life c.args.blob.now) (g.B.Blob.life c.read_many_into.new.blob) c.requires.can
-    (subst (λ (t : Tail). LeavesAll t c.args.cache.now c.read_many_into.new.cache
-    (g.B.Blob.life c.args.blob.now) (g.B.Blob.life c.read_many_into.new.blob))
-    c.view.ensures.tail c.read_many_into.ensures.leaves)
-
-pub returns-clause-others : goal.returns-clause-others
-returns-clause-others g c =
-    read_leaves_others g.H.Sum.sum_of (tail_of c.args.self.now) c.args.cache.now c.read_many_into.new.cache
-    (g.B.Blob.life c.args.blob.now) (g.B.Blob.life c.read_many_into.new.blob) c.requires.can
-    (subst (λ (t : Tail). LeavesAll t c.args.cache.now c.read_many_into.new.cache
-    (g.B.Blob.life c.args.blob.now) (g.B.Blob.life c.read_many_into.new.blob))
-    c.view.ensures.tail c.read_many_into.ensures.leaves)
-
-pub returns-clause-replays : goal.returns-clause-replays
-returns-clause-replays g c =
-    look_leaves_replays (g.B.Blob.life c.args.blob.now) (g.B.Blob.life c.read_many_into.new.blob)
-    c.read_many_into.ensures.leaves.looked
