@@ -1,5 +1,5 @@
 -- What the calls of items do that take them, from what the writer's do.
-use Rattle.std.proofs.Common.{◌≡◌, ◌≢◌, ℕ, ◌+◌, ◌*◌, ◌/◌, ◌<◌, List, [], ◌∷◌, ◌++◌, length, Some, None, Ok, Err, Result, refl, sym, ap, ap₂, ◌∙◌, subst, arith, length-append, append-nil}
+use Rattle.std.proofs.Common.{◌≡◌, ◌≢◌, ℕ, ◌+◌, ◌*◌, ◌/◌, ◌<◌, ◌≤◌, List, [], ◌∷◌, ◌++◌, length, Some, None, Ok, Err, Result, refl, sym, ap, ap₂, ◌∙◌, subst, arith, length-append, append-nil}
 use Rattle.std.specs.Prelude.{Option, slice_get, ◌-◌}
 use Rattle.crash.proofs.Lists.{slice_get-append_right}
 use Rattle.std.proofs.Math.Nat.{mul-div_cancel}
@@ -9,76 +9,71 @@ use Rattle.disk.specs.declared.error.Error.TheVariants.{ReadFailed, WriteFailed,
 use Rattle.disk.specs.declared.started_sync.StartedSync.{StartedSync}
 use Rattle.disk.specs.declared.started_sync.StartedSync.TheVariants.{Done, Named}
 use Rattle.cache.specs.CacheState.{CacheState}
-use Rattle.cache.specs.Pages.{IsFresh}
 use Rattle.crash.specs.Kept.{AllKeep}
 use Rattle.crash.specs.Moments.{through_end}
-use Rattle.crash.specs.Started.{CoversStay, CoversThrough, WouldKeep}
-use Rattle.crash.specs.Stays.{KeepsAll, KeepsAllFloors, LeavesOnly, Stays}
-use Rattle.crash.proofs.Promise.{keeps_less}
+use Rattle.crash.specs.Started.{CoversStay, WouldKeep}
+use Rattle.crash.specs.Stays.{KeepsAll}
 use Rattle.writer_state.specs.WriterState.{WriterState}
 use Rattle.writer_state.specs.declared.sync_state.SyncState.{SyncState}
 use Rattle.writer_state.specs.declared.sync_state.SyncState.TheVariants.{Clean, Dirty, Pending}
-use Rattle.paged_read.specs.Replay.{LeavesReplays}
-use Rattle.paged_read.specs.Snapshots.{LeavesOthers, LeavesTails}
-use Rattle.paged_read.specs.Tail.{CanRead}
-use Rattle.paged.specs.Caches.{tail_of, KeepsReads}
-use Rattle.paged.specs.Calls.{Appends, BuffersOver, Completed, Completes, GoesOn, Starts, StartsSync, Syncs, TryAppends, WaitsForSync, waited_state}
+use Rattle.paged.specs.Caches.{KeepsReads}
+use Rattle.paged.specs.Calls.{BuffersOver, Completed, GoesOn, Starts, TryAppends, waited_state}
+use Rattle.paged.specs.Goes.{AppendAnswers, HasSynced, HasWaited, Holds, IsUnderWay}
+use Rattle.paged.specs.Owes.{Owed, OwedThrough, Owes}
+use Rattle.paged.specs.Ready.{IsReady}
 use Rattle.items.specs.Items.{items, AreDurable, AreFirst, WouldBeDurable}
 use Rattle.items.specs.State.{ItemsState}
 use Rattle.items.specs.Standing.{AreItems, AreReady, CallLeaves, StandAsItems, bytes_of, count, items_of}
 use Rattle.items.specs.Calls.{AllDurable, AreStarted, AreSynced, CompletesItems, GoOn, GoReady, HaveWaited, IsPushed, Lasts, Pushes, StartedFor, TriesPush}
 use Rattle.items.proofs.Laws.{length-items, durable_longer, durable_of, first_of_itself, first_of_more, items_more, would_longer}
-use Rattle.items.proofs.Standing.{are_items, call_leaves, stand}
+use Rattle.items.proofs.Standing.{are_items, owed_leaves, stand}
 
--- a sync that was completed, by a wait
-pub completed_by_wait : (sum : List ℕ → ℕ) (P : ℕ) (held : List ℕ) (before after : SyncState) (old new : Life) → Completes sum P before old new → Completed sum P held before after old new
-completed_by_wait sum P held Clean after old new completes = tt
-completed_by_wait sum P held Dirty after old new completes = tt
-completed_by_wait sum P held (Pending name) after old new completes = λ apart cover within would. completes held cover would
-
--- by a sync
-pub completed_by_sync : (sum : List ℕ → ℕ) (P : ℕ) (held : List ℕ) (before after : SyncState) (old new : Life) → KeepsAll sum P held new → Completed sum P held before after old new
-completed_by_sync sum P held Clean after old new keeps = tt
-completed_by_sync sum P held Dirty after old new keeps = tt
-completed_by_sync sum P held (Pending name) after old new keeps = λ apart cover within would. keeps_less sum P held (length held) cover new.present within keeps
-
--- by no call
-pub completed_by_none : (sum : List ℕ → ℕ) (P : ℕ) (held : List ℕ) (before after : SyncState) (old new : Life) → after ≡ before → Completed sum P held before after old new
+-- no sync was completed by no call
+completed_by_none : (sum : List ℕ → ℕ) (P : ℕ) (held : List ℕ) (before after : SyncState) (old new : Life) → after ≡ before → Completed sum P held before after old new
 completed_by_none sum P held Clean after old new same = tt
 completed_by_none sum P held Dirty after old new same = tt
 completed_by_none sum P held (Pending name) after old new same = λ apart cover within would. absurd (apart same)
 
+-- a writer that went on with the sync that it had
+held_on : (sum : List ℕ → ℕ) (w now : WriterState) (more : List ℕ) (old new : Life) → GoesOn sum w old more now new → now.sync ≡ w.sync → Holds sum w old more now new
+held_on sum w now more old new goes same = record {
+  same = goes.same;
+  size = goes.size;
+  only = goes.only;
+  log = goes.log;
+  completed = completed_by_none sum w.page_size (Rattle.writer_state.specs.Sound.content w old.present.readable) w.sync now.sync old new same;
+  waits = goes.waits;
+  content = goes.content;
+}
+
 -- ---- going on
 
 -- the writer went on, so the items did
-pub go_on : (sum : List ℕ → ℕ) (s : ItemsState) (more : List ℕ) (cache after : CacheState) (old new : Life) (w : WriterState) (now : ItemsState) → StandAsItems sum s cache old → GoesOn sum s.writer old more w new → now.writer ≡ w → now.size ≡ s.size
-    → length (bytes_of s old ++ more) ≡ length (bytes_of s old ++ more) / s.size * s.size → CanRead (tail_of w) after new.present → IsFresh after → GoOn sum s more after old new now
-go_on sum s more cache after old new w now stood goes_on is size whole can_read fresh =
-    let goes = subst (λ (v : WriterState). GoesOn sum s.writer old more v new) (sym is) goes_on in
-    let can = subst (λ (v : WriterState). CanRead (tail_of v) after new.present) (sym is) can_read in
+pub go_on : (sum : List ℕ → ℕ) (s : ItemsState) (more : List ℕ) (cache after : CacheState) (old new : Life) (w : WriterState) (now : ItemsState) → StandAsItems sum s cache old → Holds sum s.writer old more w new → now.writer ≡ w → now.size ≡ s.size
+    → length (bytes_of s old ++ more) ≡ length (bytes_of s old ++ more) / s.size * s.size → IsReady sum w after new → GoOn sum s more after old new now
+go_on sum s more cache after old new w now stood held is size whole is_ready =
+    let holds = subst (λ (v : WriterState). Holds sum s.writer old more v new) (sym is) held in
     record {
       stand = are_items sum now after new (record {
         some = subst (λ (n : ℕ). 0 < n) (sym size) stood.some;
-        sound = goes.sound;
-        can = can;
-        fresh = fresh;
-        size = goes.size;
+        ready = subst (λ (v : WriterState). IsReady sum v after new) (sym is) is_ready;
+        size = holds.size;
         whole = subst (λ (n : ℕ). length (bytes_of now new) ≡ length (bytes_of now new) / n * n) (sym size)
-            (subst (λ (l : List ℕ). length l ≡ length l / s.size * s.size) (sym goes.content) whole);
-        only = goes.only;
+            (subst (λ (l : List ℕ). length l ≡ length l / s.size * s.size) (sym holds.content) whole);
+        only = holds.only;
       });
-      holds = goes.content;
+      holds = holds.content;
       size = size;
-      same = goes.same;
+      same = holds.same;
     }
 
 -- so they did by a call that pushes nothing
-pub goes_same : (sum : List ℕ → ℕ) (s : ItemsState) (cache after : CacheState) (old new : Life) (w : WriterState) (now : ItemsState) → AreItems sum s cache old → GoesOn sum s.writer old [] w new → now.writer ≡ w → now.size ≡ s.size
-    → CanRead (tail_of w) after new.present → IsFresh after → GoOn sum s [] after old new now × (items_of now new ≡ items_of s old)
-goes_same sum s cache after old new w now stood goes is size can fresh =
+pub goes_same : (sum : List ℕ → ℕ) (s : ItemsState) (cache after : CacheState) (old new : Life) (w : WriterState) (now : ItemsState) → AreItems sum s cache old → Holds sum s.writer old [] w new → now.writer ≡ w → now.size ≡ s.size
+    → IsReady sum w after new → GoOn sum s [] after old new now × (items_of now new ≡ items_of s old)
+goes_same sum s cache after old new w now stood holds is size is_ready =
     let was = stand sum s cache old stood in
     let nil : bytes_of s old ++ [] ≡ bytes_of s old = append-nil (bytes_of s old) in
-    let gone = go_on sum s [] cache after old new w now was goes is size (subst (λ (l : List ℕ). length l ≡ length l / s.size * s.size) (sym nil) was.whole) can fresh in
+    let gone = go_on sum s [] cache after old new w now was holds is size (subst (λ (l : List ℕ). length l ≡ length l / s.size * s.size) (sym nil) was.whole) is_ready in
     (gone, ap₂ (λ (k : ℕ) (l : List ℕ). items k l) size (gone.holds ∙ nil))
 
 -- ---- what lasts
@@ -96,31 +91,31 @@ completes sum s now Dirty old new some up completed = tt
 completes sum s now (Pending name) old new some up completed = λ apart n would.
     up n (durable_of sum s.writer.page_size s.size (bytes_of s old) n new.present some would.within (completed apart (n * s.size) would.within would.keeps))
 
--- the writer went on
-pub lasts : (sum : List ℕ → ℕ) (s : ItemsState) (more : List ℕ) (cache : CacheState) (old new : Life) (w : WriterState) (now : ItemsState) → AreItems sum s cache old → GoesOn sum s.writer old more w new → now.writer ≡ w → now.size ≡ s.size
-    → Completed sum s.writer.page_size (bytes_of s old) s.writer.sync w.sync old new → CoversStay sum s.writer.page_size (bytes_of s old) old.present new.present → Lasts sum s now old new
-lasts sum s more cache old new w now items goes_on is size done covers =
+-- the writer went on, and keeps what was kept of each content
+lasts : (sum : List ℕ → ℕ) (s : ItemsState) (more : List ℕ) (cache : CacheState) (old new : Life) (w : WriterState) (now : ItemsState) → AreItems sum s cache old → Holds sum s.writer old more w new → now.writer ≡ w → now.size ≡ s.size
+    → ((content : List ℕ) (floor : ℕ) → floor ≤ length content → AllKeep sum s.writer.page_size content floor old.present → AllKeep sum s.writer.page_size content floor new.present)
+    → CoversStay sum s.writer.page_size (bytes_of s old) old.present new.present → Lasts sum s now old new
+lasts sum s more cache old new w now items held_now is size kept covers =
     let some = (stand sum s cache old items).some in
-    let goes = subst (λ (v : WriterState). GoesOn sum s.writer old more v new) (sym is) goes_on in
+    let holds = subst (λ (v : WriterState). Holds sum s.writer old more v new) (sym is) held_now in
     let P = s.writer.page_size in
     let held = bytes_of s old in
-    let stays = through_end (Stays sum P (held ++ more) old.present) old new goes.stays in
     let up : (n : ℕ) → AreDurable sum P s.size held n new.present → AreDurable sum now.writer.page_size now.size (bytes_of now new) n new.present =
-    λ n durable. carried (λ p k l. AreDurable sum p k l n new.present) s now (held ++ more) new goes.same.page_size size goes.content (durable_longer sum P s.size held more n new.present some durable) in
+    λ n durable. carried (λ p k l. AreDurable sum p k l n new.present) s now (held ++ more) new holds.same.page_size size holds.content (durable_longer sum P s.size held more n new.present some durable) in
     record {
-      durable = λ n durable.
-          let longer = durable_longer sum P s.size held more n old.present some durable in
-          carried (λ p k l. AreDurable sum p k l n new.present) s now (held ++ more) new goes.same.page_size size goes.content (durable_of sum P s.size (held ++ more) n new.present some longer.within (stays.kept (n * s.size) longer.within longer.bytes));
+      durable = λ n durable. up n (durable_of sum P s.size held n new.present some durable.within (kept held (n * s.size) durable.within durable.bytes));
       started = λ n name would.
           let still : WouldBeDurable sum P s.size held n name new.present = record { within = would.within; keeps = covers name (n * s.size) would.within would.keeps } in
-          carried (λ p k l. WouldBeDurable sum p k l n name new.present) s now (held ++ more) new goes.same.page_size size goes.content (would_longer sum P s.size held more n name new.present still);
-      completed = completes sum s now s.writer.sync old new some up (subst (λ (v : WriterState). Completed sum P held s.writer.sync v.sync old new) (sym is) done);
+          carried (λ p k l. WouldBeDurable sum p k l n name new.present) s now (held ++ more) new holds.same.page_size size holds.content (would_longer sum P s.size held more n name new.present still);
+      completed = completes sum s now s.writer.sync old new some up holds.completed;
     }
 
--- by a call that was told to have done so at each moment
-pub lasts_through : (sum : List ℕ → ℕ) (s : ItemsState) (more : List ℕ) (cache : CacheState) (old new : Life) (w : WriterState) (now : ItemsState) → AreItems sum s cache old → GoesOn sum s.writer old more w new → now.writer ≡ w → now.size ≡ s.size
-    → Completed sum s.writer.page_size (bytes_of s old) s.writer.sync w.sync old new → CoversThrough sum s.writer.page_size (bytes_of s old) old new → Lasts sum s now old new
-lasts_through sum s more cache old new w now items goes is size done covers = lasts sum s more cache old new w now items goes is size done (through_end (CoversStay sum s.writer.page_size (bytes_of s old) old.present) old new covers)
+-- by a call that owes so
+pub lasts_through : (sum : List ℕ → ℕ) (s : ItemsState) (more all : List ℕ) (cache : CacheState) (old new : Life) (w : WriterState) (now : ItemsState) → AreItems sum s cache old → Holds sum s.writer old more w new → now.writer ≡ w → now.size ≡ s.size
+    → OwedThrough sum s.writer.page_size s.writer.full_pages (bytes_of s old) all old new → Lasts sum s now old new
+lasts_through sum s more all cache old new w now items holds is size through =
+    let owed = through_end (Owed sum s.writer.page_size s.writer.full_pages (bytes_of s old) all old.present) old new through in
+    lasts sum s more cache old new w now items holds is size owed.kept owed.covers
 
 -- by no call
 none_completes : (sum : List ℕ → ℕ) (s now : ItemsState) (before : SyncState) (life : Life) → now.writer.sync ≡ before → CompletesItems sum s now before life life
@@ -137,7 +132,7 @@ lasts_same sum s now life same =
 pub are_ready : (sum : List ℕ → ℕ) (s : ItemsState) (cache : CacheState) (life : Life) → AreItems sum s cache life → AreReady sum s cache life
 are_ready sum s cache life items =
     let stood = stand sum s cache life items in
-    (items, length-items s.size (bytes_of s life) ∙ ap (λ (n : ℕ). n / s.size) (sym stood.size), stood.can.page_size)
+    (items, length-items s.size (bytes_of s life) ∙ ap (λ (n : ℕ). n / s.size) (sym stood.size), stood.ready.can.page_size)
 
 pub ready : (sum : List ℕ → ℕ) (s : ItemsState) (more : List ℕ) (after : CacheState) (old new : Life) (now : ItemsState) → GoOn sum s more after old new now → GoReady sum s now after new
 ready sum s more after old new now goes = (are_ready sum now after new goes.stand, goes.size, goes.same.page_size, goes.same.id, goes.same.full_pages)
@@ -159,11 +154,11 @@ slice_get_last xs x =
     slice_get-append_right xs (x ∷ []) (length xs) (omega arith) ∙ ap (λ (k : ℕ). slice_get (x ∷ []) k) none
 
 -- an append of an item, by its answer
-pub pushed : (sum : List ℕ → ℕ) (s : ItemsState) (item : List ℕ) (cache after : CacheState) (old new : Life) (w : WriterState) (now : ItemsState) (at i : ℕ) → AreItems sum s cache old → length item ≡ s.size → i ≡ count s
-    → Appends sum s.writer item old new (Ok (w, at)) → now.writer ≡ w → now.size ≡ s.size → CanRead (tail_of w) after new.present → IsFresh after → IsPushed sum s item after old new now i
-pushed sum s item cache after old new w now at i items long number (_, goes) is size can fresh =
+pub pushed : (sum : List ℕ → ℕ) (s : ItemsState) (item : List ℕ) (cache after : CacheState) (old new : Life) (w : WriterState) (now : ItemsState) (i : ℕ) → AreItems sum s cache old → length item ≡ s.size → i ≡ count s
+    → Holds sum s.writer old item w new → now.writer ≡ w → now.size ≡ s.size → IsReady sum w after new → IsPushed sum s item after old new now i
+pushed sum s item cache after old new w now i items long number holds is size is_ready =
     let stood = stand sum s cache old items in
-    let gone = go_on sum s item cache after old new w now stood goes is size (one_more s.size (bytes_of s old) item stood.some stood.whole long) can fresh in
+    let gone = go_on sum s item cache after old new w now stood holds is size (one_more s.size (bytes_of s old) item stood.some stood.whole long) is_ready in
     let all = items_of s old in
     let added : items_of now new ≡ all ++ item ∷ [] = ap₂ (λ (k : ℕ) (l : List ℕ). Rattle.items.specs.Items.items k l) size gone.holds ∙ items_more s.size (bytes_of s old) item stood.some stood.whole long in
     let last : i ≡ length all = number ∙ sym (are_ready sum s cache old items).1 in
@@ -174,7 +169,7 @@ pushed sum s item cache after old new w now at i items long number (_, goes) is 
       there = ap₂ (λ (l : List (List ℕ)) (n : ℕ). slice_get l n) added last ∙ slice_get_last all item;
     }
 
-pub not_pushed : (sum : List ℕ → ℕ) (s : ItemsState) (item : List ℕ) (after : CacheState) (old new : Life) (e : Error) → Appends sum s.writer item old new (Err e) → Pushes sum s item after old new (Err e)
+pub not_pushed : (sum : List ℕ → ℕ) (s : ItemsState) (item : List ℕ) (after : CacheState) (old new : Life) (e : Error) → AppendAnswers sum s.writer item old new (Err e) → Pushes sum s item after old new (Err e)
 not_pushed sum s item after old new OffsetOverflow refused = refused
 not_pushed sum s item after old new ReadFailed refused = refused.cause
 not_pushed sum s item after old new WriteFailed refused = refused.cause
@@ -186,25 +181,30 @@ not_pushed sum s item after old new OutOfMemory refused = refused.cause
 not_pushed sum s item after old new IdsExhausted refused = refused.cause
 
 -- what a push leaves: the items, or one more
-pub push_leaves : (sum : List ℕ → ℕ) (s : ItemsState) (item : List ℕ) (cache after : CacheState) (old new : Life) → AreItems sum s cache old → length item ≡ s.size → IsFresh after → LeavesOthers s.writer.id cache after → KeepsAllFloors sum s.writer.page_size old new
-    → CoversThrough sum s.writer.page_size (bytes_of s old) old new → LeavesOnly sum s.writer.page_size (bytes_of s old) (bytes_of s old ++ item) old new → LeavesTails sum s.writer.full_pages cache after old new → LeavesReplays s.writer.page_size s.writer.full_pages old new
+pub push_leaves : (sum : List ℕ → ℕ) (s : ItemsState) (item : List ℕ) (cache after : CacheState) (old new : Life) → AreItems sum s cache old → length item ≡ s.size → Owes sum s.writer (bytes_of s old ++ item) cache after old new
     → CallLeaves sum s (items_of s old ++ item ∷ []) cache after old new
-push_leaves sum s item cache after old new items long fresh others kept covers only tails replays =
+push_leaves sum s item cache after old new items long owes =
     let stood = stand sum s cache old items in
     let held = bytes_of s old in
     let all = items_of s old ++ item ∷ [] in
-    call_leaves sum s all held (held ++ item) cache after old new stood.some fresh others kept covers only (first_of_more (items_of s old) (item ∷ []))
-    (subst (λ (l : List (List ℕ)). AreFirst l all) (sym (items_more s.size held item stood.some stood.whole long)) (first_of_itself all)) tails replays
+    owed_leaves sum s all (held ++ item) cache after old new stood.some (first_of_more (items_of s old) (item ∷ []))
+    (subst (λ (l : List (List ℕ)). AreFirst l all) (sym (items_more s.size held item stood.some stood.whole long)) (first_of_itself all)) owes
 
 -- a push that asks no device
+tried_holds : (sum : List ℕ → ℕ) (s : ItemsState) (bytes : List ℕ) (v : WriterState) (at : ℕ) (cache : CacheState) (life : Life) → TryAppends s.writer bytes v (Ok (Some at)) → BuffersOver sum s.writer bytes v (Ok (Some at)) → AreItems sum s cache life
+    → Holds sum s.writer life bytes v life
+tried_holds sum s bytes v at cache life tries appends items =
+    held_on sum s.writer v bytes life life (appends life (stand sum s cache life items).ready.sound).1 (ap (λ (w : WriterState). w.sync) tries.3)
+
 pub tried_some : (sum : List ℕ → ℕ) (s : ItemsState) (bytes : List ℕ) (v : WriterState) (at i : ℕ) → TryAppends s.writer bytes v (Ok (Some at)) → BuffersOver sum s.writer bytes v (Ok (Some at)) → KeepsReads s.writer v → length bytes ≡ s.size → i ≡ count s
     → TriesPush sum s bytes (record { writer = v; size = s.size }) (Ok (Some i))
 tried_some sum s bytes v at i tries appends reads long number = (
   tries.1,
   number,
   λ cache life items.
-      let stood = stand sum s cache life items in
-      pushed sum s bytes cache cache life life v (record { writer = v; size = s.size }) at i items long number (appends life stood.sound) refl refl (reads cache life.present stood.can) stood.fresh,
+      let was = (stand sum s cache life items).ready in
+      pushed sum s bytes cache cache life life v (record { writer = v; size = s.size }) i items long number (tried_holds sum s bytes v at cache life tries appends items) refl refl
+      (record { sound = (appends life was.sound).1.sound; can = reads cache life.present was.can; fresh = was.fresh }),
 )
 
 pub tried_none : (sum : List ℕ → ℕ) (s : ItemsState) (bytes : List ℕ) (v : WriterState) → TryAppends s.writer bytes v (Ok None) → TriesPush sum s bytes (record { writer = v; size = s.size }) (Ok None)
@@ -230,9 +230,8 @@ some_ready : (sum : List ℕ → ℕ) (s : ItemsState) (bytes : List ℕ) (v : W
     → (cache : CacheState) (life : Life) → AreItems sum s cache life → GoReady sum s (record { writer = v; size = s.size }) cache life × Lasts sum s (record { writer = v; size = s.size }) life life
 some_ready sum s bytes v at i tries appends pushes cache life items =
     let now : ItemsState = record { writer = v; size = s.size } in
-    let done = completed_by_none sum s.writer.page_size (bytes_of s life) s.writer.sync v.sync life life (ap (λ (w : WriterState). w.sync) tries.3) in
-    let goes = (appends life (stand sum s cache life items).sound).1 in
-    (ready sum s bytes cache life life now (pushes.2 cache life items).goes, lasts sum s bytes cache life life v now items goes refl refl done (λ name cover within would. would))
+    let holds = tried_holds sum s bytes v at cache life tries appends items in
+    (ready sum s bytes cache life life now (pushes.2 cache life items).goes, lasts sum s bytes cache life life v now items holds refl refl (λ content floor enough kept. kept) (λ name cover within would. would))
 
 pub tries_ready : (sum : List ℕ → ℕ) (s : ItemsState) (bytes : List ℕ) (v : WriterState) (i : ℕ) (result : Result (Option ℕ) Error) → TryAppends s.writer bytes v result → BuffersOver sum s.writer bytes v result → KeepsReads s.writer v → length bytes ≡ s.size → i ≡ count s
     → (cache : CacheState) (life : Life) → AreItems sum s cache life → GoReady sum s (record { writer = v; size = s.size }) cache life × Lasts sum s (record { writer = v; size = s.size }) life life
@@ -259,17 +258,17 @@ all_durable sum s cache life stood keeps =
     (subst (λ (k : ℕ). AllKeep sum s.writer.page_size (bytes_of s life) k life.present) (sym long) keeps)
 
 -- a sync
-pub synced : (sum : List ℕ → ℕ) (s : ItemsState) (cache after : CacheState) (old new : Life) (w : WriterState) (now : ItemsState) → AreItems sum s cache old → Syncs sum s.writer old new (Ok w) → now.writer ≡ w → now.size ≡ s.size
-    → CanRead (tail_of w) after new.present → IsFresh after → KeepsAll sum s.writer.page_size (bytes_of s old) new → AreSynced sum s after old new now
-synced sum s cache after old new w now stood (goes, settled) is size can fresh keeps =
+pub synced : (sum : List ℕ → ℕ) (s : ItemsState) (cache after : CacheState) (old new : Life) (w : WriterState) (now : ItemsState) → AreItems sum s cache old → HasSynced sum s.writer old new w → now.writer ≡ w → now.size ≡ s.size
+    → IsReady sum w after new → AreSynced sum s after old new now
+synced sum s cache after old new w now stood goes is size is_ready =
     let P = s.writer.page_size in
-    let gone = goes_same sum s cache after old new w now stood goes is size can fresh in
+    let gone = goes_same sum s cache after old new w now stood goes.holds is size is_ready in
     let same : bytes_of now new ≡ bytes_of s old = gone.0.holds ∙ append-nil (bytes_of s old) in
     record {
       goes = gone.0;
       same = gone.1;
       durable = all_durable sum now after new (stand sum now after new gone.0.stand)
-          (subst (λ (p : ℕ). KeepsAll sum p (bytes_of now new) new) (sym gone.0.same.page_size) (subst (λ (l : List ℕ). KeepsAll sum P l new) (sym same) keeps));
+          (subst (λ (p : ℕ). KeepsAll sum p (bytes_of now new) new) (sym gone.0.same.page_size) (subst (λ (l : List ℕ). KeepsAll sum P l new) (sym same) goes.durable));
     }
 
 -- all bytes are durable, or are once the sync completed: so are all items
@@ -284,17 +283,17 @@ started_for sum s cache life (Named name) items starts =
     }
 
 -- a sync that was started
-pub begun : (sum : List ℕ → ℕ) (s : ItemsState) (cache after : CacheState) (old new : Life) (w : WriterState) (started : StartedSync) (now : ItemsState) → AreItems sum s cache old → StartsSync sum s.writer old new (Ok (w, started)) → now.writer ≡ w → now.size ≡ s.size
-    → CanRead (tail_of w) after new.present → IsFresh after → AreStarted sum s after old new now started
-begun sum s cache after old new w started now items (goes, written, sync, starts) is size can fresh =
-    let gone = goes_same sum s cache after old new w now items goes is size can fresh in
+pub begun : (sum : List ℕ → ℕ) (s : ItemsState) (cache after : CacheState) (old new : Life) (w : WriterState) (started : StartedSync) (now : ItemsState) → AreItems sum s cache old → IsUnderWay sum s.writer old new w started → now.writer ≡ w → now.size ≡ s.size
+    → IsReady sum w after new → AreStarted sum s after old new now started
+begun sum s cache after old new w started now items goes is size is_ready =
+    let gone = goes_same sum s cache after old new w now items goes.holds is size is_ready in
     let same : bytes_of now new ≡ bytes_of s old = gone.0.holds ∙ append-nil (bytes_of s old) in
     record {
       goes = gone.0;
       same = gone.1;
-      sync = ap (λ (v : WriterState). v.sync) is ∙ sync;
+      sync = ap (λ (v : WriterState). v.sync) is ∙ goes.state;
       covers = started_for sum now after new started gone.0.stand
-          (subst (λ (P : ℕ). Starts sum P (bytes_of now new) new started) (sym gone.0.same.page_size) (subst (λ (l : List ℕ). Starts sum s.writer.page_size l new started) (sym same) starts));
+          (subst (λ (P : ℕ). Starts sum P (bytes_of now new) new started) (sym gone.0.same.page_size) (subst (λ (l : List ℕ). Starts sum s.writer.page_size l new started) (sym same) goes.starts));
     }
 
 -- nothing is pending once it was waited for
@@ -304,12 +303,11 @@ never_pending Dirty name = λ same. cc
 never_pending (Pending other) name = λ same. cc
 
 -- a wait
-pub waited : (sum : List ℕ → ℕ) (s : ItemsState) (cache : CacheState) (old new : Life) (w : WriterState) (now : ItemsState) → AreItems sum s cache old → WaitsForSync sum s.writer old new (Ok w) → now.writer ≡ w → now.size ≡ s.size
-    → CanRead (tail_of w) cache new.present → HaveWaited sum s cache old new now
-waited sum s cache old new w now items (goes, state) is size can =
-    let stood = stand sum s cache old items in
-    let gone = goes_same sum s cache cache old new w now items goes is size can stood.fresh in
-    let sync : now.writer.sync ≡ waited_state s.writer.sync = ap (λ (v : WriterState). v.sync) (is ∙ state) in
+pub waited : (sum : List ℕ → ℕ) (s : ItemsState) (cache : CacheState) (old new : Life) (w : WriterState) (now : ItemsState) → AreItems sum s cache old → HasWaited sum s.writer old new w → now.writer ≡ w → now.size ≡ s.size
+    → IsReady sum w cache new → HaveWaited sum s cache old new now
+waited sum s cache old new w now items goes is size is_ready =
+    let gone = goes_same sum s cache cache old new w now items goes.holds is size is_ready in
+    let sync : now.writer.sync ≡ waited_state s.writer.sync = ap (λ (v : WriterState). v.sync) (is ∙ goes.state) in
     record {
       goes = gone.0;
       same = gone.1;

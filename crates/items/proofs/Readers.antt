@@ -10,14 +10,13 @@ use Rattle.disk.specs.declared.error.Error.{Error}
 use Rattle.disk.specs.declared.error.Error.TheVariants.{ReadFailed, WriteFailed, ResizeFailed, SyncFailed, InvalidChecksum, BlobInsufficientLength, OffsetOverflow, OutOfMemory, IdsExhausted}
 use Rattle.page.specs.Page.{pieces}
 use Rattle.cache.specs.CacheState.{CacheState}
-use Rattle.cache.specs.Pages.{IsFresh}
 use Rattle.writer_state.specs.WriterState.{WriterState}
 use Rattle.paged_read.specs.Replay.{FillFault, IsReplayOf, ReplayState, ReplaysOn, Seeks}
 use Rattle.paged_read.specs.Snapshots.{StandsOn}
-use Rattle.paged_read.specs.Tail.{CanRead, Tail, size_of}
-use Rattle.paged.specs.Caches.{tail_of}
-use Rattle.paged.specs.Replays.{BeginsReplay}
-use Rattle.paged.specs.Snapshots.{MakesSnapshot, TriesSnapshot}
+use Rattle.paged_read.specs.Tail.{Tail, size_of}
+use Rattle.paged.specs.Goes.{HasReplay as HasWriterReplay, HasSnapshot as HasWriterSnapshot}
+use Rattle.paged.specs.Ready.{IsReady}
+use Rattle.paged.specs.Snapshots.{TriesSnapshot}
 use Rattle.items.specs.Items.{items}
 use Rattle.items.specs.State.{ItemsReplayState, ItemsSnapshotState, ItemsState}
 use Rattle.items.specs.Standing.{AreItems, IsItemsReplay, IsItemsSnapshot, ReplaysItems, bytes_along, bytes_of, bytes_over, items_left}
@@ -42,22 +41,22 @@ over_items sum t s held cache life some whole long stands =
       whole = subst (λ (l : List ℕ). length l ≡ length l / s * s) (sym is) whole;
     })
 
-pub made : (sum : List ℕ → ℕ) (s : ItemsState) (cache after : CacheState) (old new : Life) (w : WriterState) (t : Tail) (now : ItemsState) → AreItems sum s cache old → MakesSnapshot sum s.writer old new (Ok (w, t)) → now.writer ≡ w → now.size ≡ s.size
-    → CanRead (tail_of w) after new.present → IsFresh after → StandsOn sum t (bytes_of s old) after new.present → HasSnapshot sum s after old new now (record { tail = t; size = s.size })
-made sum s cache after old new w t now items (goes, short, is_tail) is size can fresh stands =
+pub made : (sum : List ℕ → ℕ) (s : ItemsState) (cache after : CacheState) (old new : Life) (w : WriterState) (t : Tail) (now : ItemsState) → AreItems sum s cache old → HasWriterSnapshot sum s.writer after old new w t → now.writer ≡ w → now.size ≡ s.size
+    → IsReady sum w after new → HasSnapshot sum s after old new now (record { tail = t; size = s.size })
+made sum s cache after old new w t now items goes is size is_ready =
     let stood = stand sum s cache old items in
-    let gone = goes_same sum s cache after old new w now items goes is size can fresh in
+    let gone = goes_same sum s cache after old new w now items goes.holds is size is_ready in
     let held = bytes_of s old in
-    let long : size_of t ≡ length held = ap (λ (u : Tail). size_of u) is_tail ∙ goes.size ∙ ap length (goes.content ∙ append-nil held) in
-    let own : w.id ≡ s.writer.id = goes.same.id in
-    let pages : t.full_pages ≡ now.writer.full_pages = ap (λ (u : Tail). u.full_pages) is_tail ∙ ap (λ (v : WriterState). v.full_pages) (sym is) in
+    let long : size_of t ≡ length held = ap (λ (u : Tail). size_of u) goes.tail ∙ goes.holds.size ∙ ap length (goes.holds.content ∙ append-nil held) in
+    let own : w.id ≡ s.writer.id = goes.holds.same.id in
+    let pages : t.full_pages ≡ now.writer.full_pages = ap (λ (u : Tail). u.full_pages) goes.tail ∙ ap (λ (v : WriterState). v.full_pages) (sym is) in
     record {
       goes = gone.0;
       same = gone.1;
-      snapshot = over_items sum t s.size held after new stood.some stood.whole long stands;
-      over = ap (λ (l : List ℕ). Rattle.items.specs.Items.items s.size l) stands.tail.is;
+      snapshot = over_items sum t s.size held after new stood.some stood.whole long goes.stands;
+      over = ap (λ (l : List ℕ). Rattle.items.specs.Items.items s.size l) goes.stands.tail.is;
       size = refl;
-      id = ap (λ (u : Tail). u.id) is_tail ∙ own;
+      id = ap (λ (u : Tail). u.id) goes.tail ∙ own;
       below = omega (arith, pages);
     }
 
@@ -90,26 +89,25 @@ along_items sum r held k life some whole long at gives =
       is,
     )
 
-pub began : (sum : List ℕ → ℕ) (s : ItemsState) (buffer_size : ℕ) (cache after : CacheState) (old new : Life) (w : WriterState) (replay : ReplayState) (now : ItemsState) → AreItems sum s cache old → BeginsReplay sum s.writer buffer_size old new (Ok (w, replay)) → now.writer ≡ w → now.size ≡ s.size
-    → CanRead (tail_of w) after new.present → IsFresh after → IsReplayOf sum replay (bytes_of s old) new.present → (replay.tail.page_size ≡ w.page_size) × (replay.tail.full_pages ≤ w.full_pages)
-    → HasReplay sum s after old new now (record { replay = replay; size = s.size })
-began sum s buffer_size cache after old new w replay now items (goes, written, is_replay) is size can fresh gives (one_size, below) =
+pub began : (sum : List ℕ → ℕ) (s : ItemsState) (buffer_size : ℕ) (cache after : CacheState) (old new : Life) (w : WriterState) (replay : ReplayState) (now : ItemsState) → AreItems sum s cache old → HasWriterReplay sum s.writer buffer_size after old new w replay → now.writer ≡ w → now.size ≡ s.size
+    → IsReady sum w after new → HasReplay sum s after old new now (record { replay = replay; size = s.size })
+began sum s buffer_size cache after old new w replay now items goes is size is_ready =
     let stood = stand sum s cache old items in
-    let gone = goes_same sum s cache after old new w now items goes is size can fresh in
+    let gone = goes_same sum s cache after old new w now items goes.holds is size is_ready in
     let held = bytes_of s old in
     let r : ItemsReplayState = record { replay = replay; size = s.size } in
-    let long : size_of replay.tail ≡ length held = ap (λ (x : ReplayState). size_of x.tail) is_replay ∙ goes.size ∙ ap length (goes.content ∙ append-nil held) in
-    let start : replay.position ≡ 0 = ap (λ (x : ReplayState). x.position) is_replay in
+    let long : size_of replay.tail ≡ length held = ap (λ (x : ReplayState). size_of x.tail) goes.replay ∙ goes.holds.size ∙ ap length (goes.holds.content ∙ append-nil held) in
+    let start : replay.position ≡ 0 = ap (λ (x : ReplayState). x.position) goes.replay in
     let at : replay.position ≡ 0 * s.size = omega (arith, start) in
-    let found = along_items sum r held 0 new stood.some stood.whole long at gives in
+    let found = along_items sum r held 0 new stood.some stood.whole long at goes.gives in
     record {
       goes = gone.0;
       same = gone.1;
       replay = found.0;
       left = ap₂ (λ (i : ℕ) (l : List ℕ). Rattle.items.specs.Items.items s.size (drop i l)) start found.1;
       size = refl;
-      page_size = one_size ∙ ap (λ (v : WriterState). v.page_size) (sym is);
-      below = subst (λ (v : WriterState). replay.tail.full_pages ≤ v.full_pages) (sym is) below;
+      page_size = goes.page_size ∙ ap (λ (v : WriterState). v.page_size) (sym is);
+      below = subst (λ (v : WriterState). replay.tail.full_pages ≤ v.full_pages) (sym is) goes.below;
     }
 
 -- ---- the next item

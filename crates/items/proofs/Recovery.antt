@@ -16,16 +16,16 @@ use Rattle.crash.specs.Stays.{KeepsAll, KeepsAllFloors, LeavesOnly}
 use Rattle.crash.specs.Moments.{through_then, through_joins, through_end}
 use Rattle.crash.proofs.Lists.{same_reach}
 use Rattle.crash.proofs.Promise.{keeps_less, keeps_same}
-use Rattle.writer_state.specs.Sound.{IsSound, LeavesItsContent, content}
+use Rattle.writer_state.specs.Sound.{LeavesItsContent, content}
 use Rattle.writer_state.specs.WriterState.{WriterState}
 use Rattle.writer_state.specs.declared.sync_state.SyncState.{SyncState}
 use Rattle.writer_state.specs.declared.sync_state.SyncState.TheVariants.{Clean}
-use Rattle.paged_read.specs.Snapshots.{LeavesOthers, LeavesReads}
-use Rattle.paged_read.specs.Tail.{CanRead}
+use Rattle.paged_read.specs.Snapshots.{LeavesOthers}
 use Rattle.paged.specs.Caches.{tail_of}
 use Rattle.paged.specs.Calls.{HadFailed}
 use Rattle.paged.specs.Reads.{size_of}
-use Rattle.paged.specs.Recovery.{KeepsText, LeavesText}
+use Rattle.paged.specs.Ready.{IsReady}
+use Rattle.paged.specs.RecoveryCalls.{OwesRecovering}
 use Rattle.paged.specs.Recovers.{Recovers, IsRecovered}
 use Rattle.paged.specs.Truncate.{Truncates, KeepsFloorsWithin}
 use Rattle.items.specs.Items.{items, BringsBack, BringsOnly, AreDurable, AreFirst, AreOnly, KeepsItems}
@@ -37,21 +37,21 @@ use Rattle.items.proofs.Standing.{are_items, each_snapshot_stays, each_snapshot_
 use Rattle.items.proofs.Calls.{all_durable}
 
 -- a recovery that was refused as it began
-pub refused_at_first : (sum : List ℕ → ℕ) (s : ℕ) (cache after : CacheState) (old new : Life) → 0 < s → IsFresh after → LeavesReads cache after → KeepsAllFloors sum cache.page_size old new → KeepsText sum cache.page_size old new → LeavesText sum cache.page_size old new
-    → RecoveryLeaves sum s cache after old new
-refused_at_first sum s cache after old new some fresh reads floors kept only =
+pub refused_at_first : (sum : List ℕ → ℕ) (s : ℕ) (cache after : CacheState) (old new : Life) → 0 < s → IsFresh cache → OwesRecovering sum cache.page_size cache after old new → RecoveryLeaves sum s cache after old new
+refused_at_first sum s cache after old new some was_fresh owes =
     let P = cache.page_size in
     let T = text sum P old.present.readable in
     let first = first_of_itself (items s T) in
+    let fresh = owes.fresh was_fresh in
     record {
       fresh = fresh;
-      others = λ own t life stood. stay_items own t cache after life (reads (tail_of t.writer) life.present (stand own t cache life stood).can) fresh stood;
-      snapshots = each_snapshot_stays cache after reads;
-      kept = keeps_items sum P s old new some floors;
+      others = λ own t life stood. stay_items own t cache after life (owes.others (tail_of t.writer) life.present (stand own t cache life stood).ready.can) fresh stood;
+      snapshots = each_snapshot_stays cache after owes.others;
+      kept = keeps_items sum P s old new some owes.floors;
       all = λ durable.
           through_then (AllKeep sum P T (length T)) (AreDurable sum P s T (length T / s)) old new
-          (λ d keeps. floor_durable sum P s T (length T) d some (omega arith) keeps) (kept durable);
-      only = λ durable. leaves_items sum P s T T (items s T) old new some first first (only durable);
+          (λ d keeps. floor_durable sum P s T (length T) d some (omega arith) keeps) (owes.kept durable);
+      only = λ durable. leaves_items sum P s T T (items s T) old new some first first (owes.only durable);
     }
 
 -- floors within the first n bytes of any content are kept from mid on
@@ -91,10 +91,9 @@ recovered_size sum cache capacity old mid w s n recovered is = is ∙ ap (λ (k 
 
 -- a recovery, and the cut after it, whatever this answers
 pub cut_leaves : (sum : List ℕ → ℕ) (s n capacity : ℕ) (cache between after : CacheState) (old mid new : Life) (w : WriterState) → 0 < s → IsImage old.present old.present.readable → IsRecovered sum cache capacity old mid w → w.id ≡ cache.ids_given → n ≡ size_of w / s * s
-    → LeavesReads cache between → KeepsAllFloors sum cache.page_size old mid → KeepsText sum cache.page_size old mid → LeavesText sum cache.page_size old mid
-    → IsFresh after → LeavesOthers w.id between after → KeepsFloorsWithin n sum w.page_size mid new → LeavesOnly sum w.page_size (content w mid.present.readable) (take n (content w mid.present.readable)) mid new
+    → OwesRecovering sum cache.page_size cache between old mid → IsFresh after → LeavesOthers w.id between after → KeepsFloorsWithin n sum w.page_size mid new → LeavesOnly sum w.page_size (content w mid.present.readable) (take n (content w mid.present.readable)) mid new
     → RecoveryLeaves sum s cache after old new
-cut_leaves sum s n capacity cache between after old mid new w some is_image recovered id is reads floors kept only fresh others within leaves =
+cut_leaves sum s n capacity cache between after old mid new w some is_image recovered id is owes fresh others within leaves =
     let P = cache.page_size in
     let T = text sum P old.present.readable in
     let m = length T / s * s in
@@ -109,21 +108,21 @@ cut_leaves sum s n capacity cache between after old mid new w some is_image reco
     record {
       fresh = fresh;
       others = λ own t life stood.
-          let can = (stand own t cache life stood).can in
-          stay_items own t cache after life (others (tail_of t.writer) life.present (λ same. omega (arith, can.given, id, same)) (reads (tail_of t.writer) life.present can)) fresh stood;
-      snapshots = each_snapshot_still w.id cache between after id (each_snapshot_stays cache between reads) (other_snapshots_stay w.id between after others);
-      kept = cut_keeps sum P s old mid new some is_image floors keeps;
-      all = λ durable. cut_all sum P s T old mid new some (kept durable) keeps;
+          let can = (stand own t cache life stood).ready.can in
+          stay_items own t cache after life (others (tail_of t.writer) life.present (λ same. omega (arith, can.given, id, same)) (owes.others (tail_of t.writer) life.present can)) fresh stood;
+      snapshots = each_snapshot_still w.id cache between after id (each_snapshot_stays cache between owes.others) (other_snapshots_stay w.id between after others);
+      kept = cut_keeps sum P s old mid new some is_image owes.floors keeps;
+      all = λ durable. cut_all sum P s T old mid new some (owes.kept durable) keeps;
       only = λ durable.
-          through_joins (AreOnly sum P s (items s T)) old mid new (leaves_items sum P s T T (items s T) old mid some first first (only durable))
+          through_joins (AreOnly sum P s (items s T)) old mid new (leaves_items sum P s T T (items s T) old mid some first first (owes.only durable))
           (leaves_items sum P s T (take m T) (items s T) mid new some first (subst (λ (l : List (List ℕ)). AreFirst l (items s T)) (sym (items_whole s T some)) first) left);
     }
 
 -- the items that were recovered
 pub recovered_items : (sum : List ℕ → ℕ) (s n capacity : ℕ) (cache after : CacheState) (old mid new : Life) (w v : WriterState) (now : ItemsState) → 0 < s → IsRecovered sum cache capacity old mid w → w.id ≡ cache.ids_given → n ≡ size_of w / s * s
-    → now.writer ≡ v → now.size ≡ s → Truncates sum n w mid new (Ok v) → IsSound sum v new.present → CanRead (tail_of v) after new.present → IsFresh after → LeavesItsContent sum v new.present
+    → now.writer ≡ v → now.size ≡ s → Truncates sum n w mid new (Ok v) → IsReady sum v after new → LeavesItsContent sum v new.present
     → KeepsAll sum w.page_size (take n (content w mid.present.readable)) new → HasRecovered sum s cache after old new now
-recovered_items sum s n capacity cache after old mid new w v now some recovered id is same_writer same_size cut sound can fresh only keeps =
+recovered_items sum s n capacity cache after old mid new w v now some recovered id is same_writer same_size cut is_ready only keeps =
     let P = cache.page_size in
     let T = text sum P old.present.readable in
     let k = length T / s in
@@ -134,9 +133,7 @@ recovered_items sum s n capacity cache after old mid new w v now some recovered 
     let long : length (bytes_of r new) ≡ k * s = omega (arith, ap length holds, length-take (k * s) T, fits) in
     let stood : AreItems sum r after new = are_items sum r after new (record {
       some = some;
-      sound = sound;
-      can = can;
-      fresh = fresh;
+      ready = is_ready;
       size = omega (arith, cut.size, long, to, fits, recovered.size, ap length recovered.content);
       whole = long ∙ ap (λ (i : ℕ). i * s) (sym (ap (λ (i : ℕ). i / s) long ∙ mul-div_cancel k some));
       only = only;

@@ -31,7 +31,7 @@ items_in sum was s cache life is stood = subst (λ (o : Option ItemsState). IsOp
 -- the cache serves on
 pub fresh_in : (sum : List ℕ → ℕ) (was : Option ItemsState) (cache : CacheState) (life : Life) → IsOpen sum was cache life → IsFresh cache
 fresh_in sum None cache life stood = stood
-fresh_in sum (Some s) cache life stood = (stand sum s cache life stood).fresh
+fresh_in sum (Some s) cache life stood = (stand sum s cache life stood).ready.fresh
 
 -- no call leaves items as they are, and so the first of more
 pub nothing_done : (sum : List ℕ → ℕ) (s : ItemsState) (more : List (List ℕ)) (cache : CacheState) (life : Life) → AreItems sum s cache life → CallLeaves sum s (items_of s life ++ more) cache cache life life

@@ -17,6 +17,7 @@ use Rattle.paged_read.specs.Replay.{IsReplayOf, LeavesAllReplays, LeavesReplays}
 use Rattle.paged_read.specs.Snapshots.{LeavesAllTails, LeavesOthers, LeavesReads, LeavesTails, StandsOn}
 use Rattle.paged_read.specs.Tail.{CanRead, HasFullPages}
 use Rattle.paged.specs.Caches.{tail_of}
+use Rattle.paged.specs.Owes.{Owes, OwesWaiting, owed_covers, owed_floors, owed_only}
 use Rattle.items.specs.Items.{items, AreFirst}
 use Rattle.items.specs.State.{ItemsReplayState, ItemsSnapshotState, ItemsState}
 use Rattle.items.specs.Standing.{AllReplaysStay, AllSnapshotsStay, AreItems, CallLeaves, EachSnapshotStays, IsItemsReplay, IsItemsSnapshot, IsNewId, IsNewToSnapshots, OnlyReads, OnlyReadsOn, OtherSnapshotsStay, OthersStay, ReplaysItems, ReplaysStay, SnapshotsStay, StandAsItems, StandsOverItems, bytes_along, bytes_of, bytes_over, items_left, items_of, items_over}
@@ -54,17 +55,17 @@ is_replay sum r life replays = replays
 pub stay_items : (sum : List ℕ → ℕ) (s : ItemsState) (cache after : CacheState) (life : Life) → CanRead (tail_of s.writer) after life.present → IsFresh after → AreItems sum s cache life → AreItems sum s after life
 stay_items sum s cache after life can fresh items =
     let stood = stand sum s cache life items in
-    are_items sum s after life (record { some = stood.some; sound = stood.sound; can = can; fresh = fresh; size = stood.size; whole = stood.whole; only = stood.only })
+    are_items sum s after life (record { some = stood.some; ready = record { sound = stood.ready.sound; can = can; fresh = fresh }; size = stood.size; whole = stood.whole; only = stood.only })
 
 -- a call of another blob leaves items such
 pub others_stay : (id : ℕ) (cache after : CacheState) → LeavesOthers id cache after → (IsFresh cache → IsFresh after) → OthersStay id cache after
 others_stay id cache after leaves fresh = λ sum s life apart items.
     let stood = stand sum s cache life items in
-    stay_items sum s cache after life (leaves (tail_of s.writer) life.present apart stood.can) (fresh stood.fresh) items
+    stay_items sum s cache after life (leaves (tail_of s.writer) life.present apart stood.ready.can) (fresh stood.ready.fresh) items
 
 -- no items have an id that is still to come
 pub new_id : (id : ℕ) (cache : CacheState) → id ≡ cache.ids_given → IsNewId id cache
-new_id id cache is = λ sum s life stood same. omega (arith, is, same, (stand sum s cache life stood).can.given)
+new_id id cache is = λ sum s life stood same. omega (arith, is, same, (stand sum s cache life stood).ready.can.given)
 
 -- ---- snapshots
 
@@ -169,13 +170,39 @@ same_leaves sum s cache after old new some fresh others kept covers only tails r
     let first = first_of_itself (items_of s old) in
     call_leaves sum s (items_of s old) held held cache after old new some fresh others kept covers only first first tails replays
 
+-- so what a call of the writer owes leaves: the items, or these
+pub owed_leaves : (sum : List ℕ → ℕ) (s : ItemsState) (all : List (List ℕ)) (next : List ℕ) (cache after : CacheState) (old new : Life) → 0 < s.size → AreFirst (items_of s old) all → AreFirst (items s.size next) all → Owes sum s.writer next cache after old new
+    → CallLeaves sum s all cache after old new
+owed_leaves sum s all next cache after old new some first second owes =
+    let P = s.writer.page_size in
+    let k = s.writer.full_pages in
+    let held = bytes_of s old in
+    call_leaves sum s all held next cache after old new some owes.fresh owes.others (owed_floors sum P k held next old new owes.through) (owed_covers sum P k held next old new owes.through) (owed_only sum P k held next old new owes.through) first second
+    owes.tails owes.replays
+
+-- of one that pushes nothing
+pub owed_same : (sum : List ℕ → ℕ) (s : ItemsState) (cache after : CacheState) (old new : Life) → AreItems sum s cache old → Owes sum s.writer (bytes_of s old) cache after old new → CallLeaves sum s (items_of s old) cache after old new
+owed_same sum s cache after old new items owes =
+    let first = first_of_itself (items_of s old) in
+    owed_leaves sum s (items_of s old) (bytes_of s old) cache after old new (stand sum s cache old items).some first first owes
+
+-- of a wait, with each cache
+pub owed_wait : (sum : List ℕ → ℕ) (s : ItemsState) (cache : CacheState) (old new : Life) → AreItems sum s cache old → OwesWaiting sum s.writer old new → CallLeaves sum s (items_of s old) cache cache old new
+owed_wait sum s cache old new items owes =
+    let stood = stand sum s cache old items in
+    let P = s.writer.page_size in
+    let k = s.writer.full_pages in
+    let held = bytes_of s old in
+    same_leaves sum s cache cache old new stood.some stood.ready.fresh (λ t d apart can. can) (owed_floors sum P k held held old new owes.through) (owed_covers sum P k held held old new owes.through) (owed_only sum P k held held old new owes.through)
+    (owes.tails cache stood.ready.can.page_size) owes.replays
+
 -- so no call leaves them, and the first of more
 pub nothing_leaves : (sum : List ℕ → ℕ) (s : ItemsState) (all : List (List ℕ)) (cache : CacheState) (life : Life) → AreFirst (items_of s life) all → AreItems sum s cache life → CallLeaves sum s all cache cache life life
 nothing_leaves sum s all cache life first items =
     let stood = stand sum s cache life items in
     let held = bytes_of s life in
     let P = s.writer.page_size in
-    call_leaves sum s all held held cache cache life life stood.some stood.fresh (λ t d apart can. can)
+    call_leaves sum s all held held cache cache life life stood.some stood.ready.fresh (λ t d apart can. can)
     (λ content floor enough kept. through_start (AllKeep sum P content floor) life kept)
     (through_start (CoversStay sum P held life.present) life (λ name cover within would. would))
     (through_start (AllOnly sum P held held) life stood.only) first first (λ t held below stands. stands) (λ own content r size below gives. gives)
@@ -206,7 +233,7 @@ looked_leaves sum P held old new looked only =
 
 -- what started syncs cover of sound items
 pub looked_covers : (sum : List ℕ → ℕ) (s : ItemsState) (cache : CacheState) (old new : Life) → Looked old new → AreItems sum s cache old → CoversThrough sum s.writer.page_size (bytes_of s old) old new
-looked_covers sum s cache old new looked items = (look_leaves_writers sum old new looked s.writer (stand sum s cache old items).sound).covers
+looked_covers sum s cache old new looked items = (look_leaves_writers sum old new looked s.writer (stand sum s cache old items).ready.sound).covers
 
 -- a read of the items, through their writer
 pub read_leaves : (sum : List ℕ → ℕ) (s : ItemsState) (cache after : CacheState) (old new : Life) → AreItems sum s cache old → Looked old new → IsFresh after → LeavesOthers s.writer.id cache after
@@ -226,9 +253,7 @@ read_items sum s cache after old new items looked fresh can =
     let same : bytes_of s new ≡ held = ap (λ (d : Disk). content s.writer d.readable) looked.same in (
       are_items sum s after new (record {
         some = stood.some;
-        sound = (look_leaves_writers sum old new looked s.writer stood.sound).sound;
-        can = can;
-        fresh = fresh;
+        ready = record { sound = (look_leaves_writers sum old new looked s.writer stood.ready.sound).sound; can = can; fresh = fresh };
         size = stood.size ∙ ap length (sym same);
         whole = subst (λ (l : List ℕ). length l ≡ length l / s.size * s.size) (sym same) stood.whole;
         only = subst (λ (l : List ℕ). AllOnly sum P l l new.present) (sym same) (only_later sum P held old.present new.present looked.same stood.only);
@@ -246,8 +271,8 @@ pub stands_on : (sum : List ℕ → ℕ) (s : ItemsState) (cache : CacheState) (
 stands_on sum s cache life items =
     let stood = stand sum s cache life items in
     record {
-      tail = record { there = stood.can.there; full = pages_full sum s life.present stood.sound; is = refl };
-      can = stood.can;
+      tail = record { there = stood.ready.can.there; full = pages_full sum s life.present stood.ready.sound; is = refl };
+      can = stood.ready.can;
     }
 
 -- a read of a snapshot or a replay
@@ -256,7 +281,7 @@ only_reads sum id cache after old new looked fresh others tails replays = record
   looked = looked;
   fresh = fresh;
   items = λ s items.
-      read_items sum s cache after old new items looked (fresh (stand sum s cache old items).fresh) (tails (tail_of s.writer) (bytes_of s old) (stands_on sum s cache old items)).can;
+      read_items sum s cache after old new items looked (fresh (stand sum s cache old items).ready.fresh) (tails (tail_of s.writer) (bytes_of s old) (stands_on sum s cache old items)).can;
   others = others_stay id cache after others fresh;
   snapshots = all_snapshots_stay sum cache after old new tails;
   their_snapshots = other_snapshots_stay id cache after others;

@@ -6,11 +6,11 @@ use Rattle.cache.specs.Pages.{IsFresh}
 use Rattle.crash.specs.Kept.{Through}
 use Rattle.crash.specs.Looks.{Looked}
 use Rattle.page.specs.Page.{text}
-use Rattle.writer_state.specs.Sound.{IsSound, LeavesItsContent, content}
+use Rattle.writer_state.specs.Sound.{LeavesItsContent, content}
 use Rattle.paged_read.specs.Replay.{IsReplayOf}
 use Rattle.paged_read.specs.Snapshots.{StandsOn}
-use Rattle.paged_read.specs.Tail.{CanRead, told, size_of}
-use Rattle.paged.specs.Caches.{tail_of}
+use Rattle.paged_read.specs.Tail.{told, size_of}
+use Rattle.paged.specs.Ready.{IsReady}
 use Rattle.paged.specs.Reads as writer
 use Rattle.paged.specs.Recovery.{IsDurable}
 use Rattle.items.specs.Items.{items, AreDurable, KeepsItems, KeepsStarted, LeavesItems}
@@ -29,15 +29,12 @@ items_of s life = items s.size (bytes_of s life)
 abbrev pub count : ItemsState → ℕ
 count s = writer.size_of s.writer / s.size
 
--- items between two calls, as the last of them left them: their writer is sound, they can be read
--- with this cache, which holds nothing of blobs that are still to come, they are whole, and chance
--- aside a crash leaves only them
+-- items between two calls, as the last of them left them: their writer is ready, they are whole, and
+-- chance aside a crash leaves only them
 pub record StandAsItems (sum : List ℕ → ℕ) (s : ItemsState) (cache : CacheState) (life : Life)
     : Type 0 where
   pub some : 0 < s.size
-  pub sound : IsSound sum s.writer life.present
-  pub can : CanRead (tail_of s.writer) cache life.present
-  pub fresh : IsFresh cache
+  pub ready : IsReady sum s.writer cache life
   pub size : writer.size_of s.writer ≡ length (bytes_of s life)
   pub whole : length (bytes_of s life) ≡ length (bytes_of s life) / s.size * s.size
   pub only : LeavesItsContent sum s.writer life.present

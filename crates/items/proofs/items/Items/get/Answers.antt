@@ -19,7 +19,7 @@ use Rattle.items.proofs.items.Items.get.Goals.{After-read_into}
 pub read_into-requires : goal.read_into-requires
 read_into-requires g c = record {
   can = subst (λ (v : ItemsState). CanRead (tail_of v.writer) c.args.cache.now (g.B.Blob.life c.args.blob.now).present) (sym c.self.view_is)
-      (stand g.H.Sum.sum_of c.args.self.now c.args.cache.now (g.B.Blob.life c.args.blob.now) c.requires.items).can;
+      (stand g.H.Sum.sum_of c.args.self.now c.args.cache.now (g.B.Blob.life c.args.blob.now) c.requires.items).ready.can;
 }
 
 pub returns-in-Ok-clause-gets : goal.returns-in-Ok-clause-gets
@@ -37,7 +37,7 @@ returns-in-Ok-clause-gets g c =
     subst (λ (v : ItemsState). AreItems sum v cache old → FindsItem v.size (count v) i (Ok c.in-Ok.offset) → length was ≡ v.size → GetsItem v.size (bytes_of v old) i buf old new c.read_into.result) c.self.view_is
     (λ items finds long.
     let stood = stand sum s cache old items in
-    got sum s.size (tail_of s.writer) cache i c.in-Ok.offset buf was old new c.read_into.result stood.size stood.whole finds long (goes.never stood.sound) goes.reads)
+    got sum s.size (tail_of s.writer) cache i c.in-Ok.offset buf was old new c.read_into.result stood.size stood.whole finds long (goes.never stood.ready.sound) goes.reads)
     c.requires.items c.in-Ok.ensures c.requires.size
 
 pub returns-in-Ok-clause-costs : goal.returns-in-Ok-clause-costs
@@ -67,7 +67,7 @@ left g c =
     let goes = c.read_into.ensures in
     subst (λ (v : ItemsState). AreItems sum v cache old → (AreItems sum v after new × (bytes_of v new ≡ bytes_of v old)) × CallLeaves sum v (items_of v old) cache after old new) c.self.view_is
     (λ items.
-    let fresh = goes.leaves.fresh (stand sum s cache old items).fresh in
+    let fresh = goes.leaves.fresh (stand sum s cache old items).ready.fresh in
     (read_items sum s cache after old new items goes.looked fresh goes.leaves.can, read_leaves sum s cache after old new items goes.looked fresh goes.others goes.tails goes.replays)) c.requires.items
 
 pub returns-in-Ok-clause-ready : goal.returns-in-Ok-clause-ready
@@ -105,4 +105,4 @@ returns-in-Err-clause-leaves g c =
     (looked_start life, nothing_leaves g.H.Sum.sum_of c.args.self.now (items_of c.args.self.now life) c.args.cache.now life (first_of_itself (items_of c.args.self.now life)) c.requires.items)
 
 pub returns-in-Err-clause-fresh : goal.returns-in-Err-clause-fresh
-returns-in-Err-clause-fresh g c = (stand g.H.Sum.sum_of c.args.self.now c.args.cache.now (g.B.Blob.life c.args.blob.now) c.requires.items).fresh
+returns-in-Err-clause-fresh g c = (stand g.H.Sum.sum_of c.args.self.now c.args.cache.now (g.B.Blob.life c.args.blob.now) c.requires.items).ready.fresh

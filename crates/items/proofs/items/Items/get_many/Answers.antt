@@ -21,7 +21,7 @@ use Rattle.items.proofs.items.Items.get_many.Goals.{After-read_many_into}
 pub read_many_into-requires-clause-can : goal.read_many_into-requires-clause-can
 read_many_into-requires-clause-can g c =
     subst (λ (v : ItemsState). CanRead (tail_of v.writer) c.args.cache.now (g.B.Blob.life c.args.blob.now).present) (sym c.self.view_is)
-    (stand g.H.Sum.sum_of c.args.self.now c.args.cache.now (g.B.Blob.life c.args.blob.now) c.requires.items).can
+    (stand g.H.Sum.sum_of c.args.self.now c.args.cache.now (g.B.Blob.life c.args.blob.now) c.requires.items).ready.can
 
 pub read_many_into-requires-clause-in_order : goal.read_many_into-requires-clause-in_order
 read_many_into-requires-clause-in_order g c =
@@ -43,7 +43,7 @@ returns-in-Ok-clause-gets g c =
     (λ items is.
     let stood = stand sum s cache old items in
     let finds : FindsItems s.size (count s) indices (Ok c.in-Ok.offsets) = subst (λ (n : ℕ). FindsItems s.size n indices (Ok c.in-Ok.offsets)) is c.in-Ok.ensures in
-    got_many sum s.size (tail_of s.writer) cache indices c.deref.result.now buf old new c.read_many_into.result stood.size stood.whole (c.deref.ensures.value ∙ finds.0) finds.1 (goes.never stood.sound) goes.reads)
+    got_many sum s.size (tail_of s.writer) cache indices c.deref.result.now buf old new c.read_many_into.result stood.size stood.whole (c.deref.ensures.value ∙ finds.0) finds.1 (goes.never stood.ready.sound) goes.reads)
     c.requires.items c.len.ensures.count
 
 pub returns-in-Ok-clause-costs : goal.returns-in-Ok-clause-costs
@@ -70,7 +70,7 @@ left g c =
     let goes = c.read_many_into.ensures in
     subst (λ (v : ItemsState). AreItems sum v cache old → (AreItems sum v after new × (bytes_of v new ≡ bytes_of v old)) × CallLeaves sum v (items_of v old) cache after old new) c.self.view_is
     (λ items.
-    let fresh = goes.leaves.fresh (stand sum s cache old items).fresh in
+    let fresh = goes.leaves.fresh (stand sum s cache old items).ready.fresh in
     (read_items sum s cache after old new items goes.looked fresh goes.leaves.can, read_leaves sum s cache after old new items goes.looked fresh goes.others goes.tails goes.replays)) c.requires.items
 
 pub returns-in-Ok-clause-ready : goal.returns-in-Ok-clause-ready
@@ -108,4 +108,4 @@ returns-in-Err-clause-leaves g c =
     (looked_start life, nothing_leaves g.H.Sum.sum_of c.args.self.now (items_of c.args.self.now life) c.args.cache.now life (first_of_itself (items_of c.args.self.now life)) c.requires.items)
 
 pub returns-in-Err-clause-fresh : goal.returns-in-Err-clause-fresh
-returns-in-Err-clause-fresh g c = (stand g.H.Sum.sum_of c.args.self.now c.args.cache.now (g.B.Blob.life c.args.blob.now) c.requires.items).fresh
+returns-in-Err-clause-fresh g c = (stand g.H.Sum.sum_of c.args.self.now c.args.cache.now (g.B.Blob.life c.args.blob.now) c.requires.items).ready.fresh

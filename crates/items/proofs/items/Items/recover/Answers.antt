@@ -13,8 +13,7 @@ use Rattle.items.proofs.items.Items.recover.Goals.{After-truncate}
 
 pub returns-in_err-recovery-clause-leaves : goal.returns-in_err-recovery-clause-leaves
 returns-in_err-recovery-clause-leaves g c =
-    let goes = c.recover.ensures in
-    refused_at_first g.H.Sum.sum_of (non_zero_usize_get c.args.size) c.args.cache.now c.recover.new.cache (g.B.Blob.life c.args.blob.now) (g.B.Blob.life c.recover.new.blob) c.args.size.ok (goes.fresh_ids c.requires.fresh) goes.others goes.floors goes.kept goes.only
+    refused_at_first g.H.Sum.sum_of (non_zero_usize_get c.args.size) c.args.cache.now c.recover.new.cache (g.B.Blob.life c.args.blob.now) (g.B.Blob.life c.recover.new.blob) c.args.size.ok c.requires.fresh c.recover.ensures.owes
 
 -- where the cut is
 cut : (g : Over) (c : After-truncate g) → c.size.result / c.get-len.result * c.get-len.result ≡ size_of c.in_ok-recovery.recovery / non_zero_usize_get c.args.size * non_zero_usize_get c.args.size
@@ -23,25 +22,26 @@ cut g c = ap₂ (λ (n k : ℕ). n / k * k) c.size.ensures c.get-len.ensures.val
 -- the cache holds nothing of blobs that are to come
 fresh : (g : Over) (c : After-truncate g) → IsFresh c.truncate.new.cache
 fresh g c =
-    let was = c.in_ok-recovery.ensures in
-    c.truncate.ensures.fresh_ids (was.can_read c.requires.fresh).given (was.fresh_ids c.requires.fresh)
+    let was = c.in_ok-recovery.ensures.ready c.requires.fresh in
+    c.truncate.ensures.owes.fresh was.can.given was.fresh
 
 left : (g : Over) (c : After-truncate g) → RecoveryLeaves g.H.Sum.sum_of (non_zero_usize_get c.args.size) c.args.cache.now c.truncate.new.cache (g.B.Blob.life c.args.blob.now) (g.B.Blob.life c.truncate.new.blob)
 left g c =
     let was = c.in_ok-recovery.ensures in
-    let goes = c.truncate.ensures in
+    let owes = c.truncate.ensures.owes in
     cut_leaves g.H.Sum.sum_of (non_zero_usize_get c.args.size) (c.size.result / c.get-len.result * c.get-len.result) c.args.capacity c.args.cache.now c.recover.new.cache c.truncate.new.cache (g.B.Blob.life c.args.blob.now) (g.B.Blob.life c.recover.new.blob) (g.B.Blob.life c.truncate.new.blob) c.in_ok-recovery.recovery
-    c.args.size.ok (g.met.B.Blob.readable_is_image c.args.blob.now) was.recovers was.id (cut g c) was.others was.floors was.kept was.only
-    (fresh g c) goes.others goes.floors (goes.only was.sound)
+    c.args.size.ok (g.met.B.Blob.readable_is_image c.args.blob.now) was.goes.answers was.goes.writer.id (cut g c) was.owes
+    (fresh g c) owes.others owes.floors (owes.only (was.ready c.requires.fresh).sound)
 
 pub returns-in-Ok-clause-recovers : goal.returns-in-Ok-clause-recovers
 returns-in-Ok-clause-recovers g c =
     let at = (goal.at.returns-in-Ok-clause-recovers g c).After-truncate in
     let was = c.in_ok-recovery.ensures in
+    let is_ready = was.ready c.requires.fresh in
     let goes = c.in-Ok.ensures in
     recovered_items g.H.Sum.sum_of (non_zero_usize_get c.args.size) (c.size.result / c.get-len.result * c.get-len.result) c.args.capacity c.args.cache.now c.truncate.new.cache (g.B.Blob.life c.args.blob.now) (g.B.Blob.life c.recover.new.blob) (g.B.Blob.life c.truncate.new.blob)
-    c.in_ok-recovery.recovery c.in-Ok.recovery c.new.result c.args.size.ok was.recovers was.id (cut g at) (c.new.ensures.writer ∙ c.from.ensures) c.new.ensures.size goes.truncates (goes.sound was.sound)
-    (goes.can_read (was.can_read c.requires.fresh)) (fresh g at) (goes.left was.sound) (goes.durable was.sound)
+    c.in_ok-recovery.recovery c.in-Ok.recovery c.new.result c.args.size.ok was.goes.answers was.goes.writer.id (cut g at) (c.new.ensures.writer ∙ c.from.ensures) c.new.ensures.size goes.goes.answers (goes.ready is_ready)
+    (goes.goes.left is_ready.sound) (goes.goes.durable is_ready.sound)
 
 pub returns-in-Ok-clause-leaves : goal.returns-in-Ok-clause-leaves
 returns-in-Ok-clause-leaves g c = left g (goal.at.returns-in-Ok-clause-leaves g c).After-truncate
@@ -65,13 +65,13 @@ returns-in-Ok-clause-only g c =
 pub returns-in-Err-clause-recovers : goal.returns-in-Err-clause-recovers
 returns-in-Err-clause-recovers g c =
     cut_refused g.H.Sum.sum_of (c.size.result / c.get-len.result * c.get-len.result) c.args.capacity c.args.cache.now (g.B.Blob.life c.args.blob.now) (g.B.Blob.life c.recover.new.blob) (g.B.Blob.life c.truncate.new.blob) c.in_ok-recovery.recovery c.in-Err.error
-    c.in_ok-recovery.ensures.recovers c.in-Err.ensures.truncates
+    c.in_ok-recovery.ensures.goes.answers c.in-Err.ensures.goes.answers
 
 pub returns-in-Err-clause-leaves : goal.returns-in-Err-clause-leaves
 returns-in-Err-clause-leaves g c = left g (goal.at.returns-in-Err-clause-leaves g c).After-truncate
 
 pub returns-in_err-recovery-clause-fresh : goal.returns-in_err-recovery-clause-fresh
-returns-in_err-recovery-clause-fresh g c = c.recover.ensures.fresh_ids c.requires.fresh
+returns-in_err-recovery-clause-fresh g c = c.recover.ensures.owes.fresh c.requires.fresh
 
 pub returns-in-Ok-clause-fresh : goal.returns-in-Ok-clause-fresh
 returns-in-Ok-clause-fresh g c = fresh g (goal.at.returns-in-Ok-clause-fresh g c).After-truncate

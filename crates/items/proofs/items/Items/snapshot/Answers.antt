@@ -1,26 +1,23 @@
-use Rattle.std.proofs.Common.{subst, sym, ap, ◌∙◌, []}
+use Rattle.std.proofs.Common.{subst, sym, []}
 use Rattle.std.specs.Int.NonZero.{non_zero_usize_get}
-use Rattle.writer_state.specs.Sound.{IsSound}
+use Rattle.paged.specs.Ready.{IsReady}
 use Rattle.items.specs.State.{ItemsState}
-use Rattle.items.specs.Standing.{AreItems, CallLeaves, items_of}
+use Rattle.items.specs.Standing.{AreItems, CallLeaves, bytes_of, items_of}
 use Rattle.items.specs.State.{ItemsSnapshotState}
 use Rattle.items.specs.Calls.{Lasts}
 use Rattle.items.specs.Readers.{HasSnapshot}
-use Rattle.items.proofs.Standing.{same_leaves, stand}
+use Rattle.items.proofs.Standing.{owed_same, stand}
 use Rattle.items.proofs.Calls.{lasts_through, ready}
 use Rattle.items.proofs.Readers.{made}
 use Rattle.items.proofs.items.Items.snapshot.Given.{Over}
 use Rattle.items.proofs.items.Items.snapshot.Goals as goal
 use Rattle.items.proofs.items.Items.snapshot.Goals.{After-snapshot}
 
-pub snapshot-requires-clause-cached : goal.snapshot-requires-clause-cached
-snapshot-requires-clause-cached g c =
-    (stand g.H.Sum.sum_of c.args.self c.args.cache.now (g.B.Blob.life c.args.blob.now) c.requires.items).can.page_size ∙ sym (ap (λ (v : ItemsState). v.writer.page_size) c.self.view_is)
-
-pub snapshot-requires-clause-sound : goal.snapshot-requires-clause-sound
-snapshot-requires-clause-sound g c =
-    subst (λ (v : ItemsState). IsSound g.H.Sum.sum_of v.writer (g.B.Blob.life c.args.blob.now).present) (sym c.self.view_is)
-    (stand g.H.Sum.sum_of c.args.self c.args.cache.now (g.B.Blob.life c.args.blob.now) c.requires.items).sound
+pub snapshot-requires : goal.snapshot-requires
+snapshot-requires g c = record {
+  ready = subst (λ (v : ItemsState). IsReady g.H.Sum.sum_of v.writer c.args.cache.now (g.B.Blob.life c.args.blob.now)) (sym c.self.view_is)
+      (stand g.H.Sum.sum_of c.args.self c.args.cache.now (g.B.Blob.life c.args.blob.now) c.requires.items).ready;
+}
 
 pub returns-in-Ok-clause-makes : goal.returns-in-Ok-clause-makes
 returns-in-Ok-clause-makes g c =
@@ -34,10 +31,7 @@ returns-in-Ok-clause-makes g c =
     let now = c.new-items.result in
     subst (λ (r : ItemsSnapshotState). HasSnapshot sum c.args.self after old new now r) (sym c.new.ensures)
     (subst (λ (v : ItemsState). AreItems sum v cache old → HasSnapshot sum v after old new now (record { tail = c.in-Ok.snapshot; size = non_zero_usize_get c.self.inside.size })) c.self.view_is
-    (λ items.
-    let stood = stand sum s cache old items in
-    made sum s cache after old new c.in-Ok.writer c.in-Ok.snapshot now items goes.makes c.new-items.ensures.writer c.new-items.ensures.size (goes.can_read stood.can) (goes.fresh_ids stood.can.given stood.fresh) (goes.stands stood.can))
-    c.requires.items)
+    (λ items. made sum s cache after old new c.in-Ok.writer c.in-Ok.snapshot now items goes.goes c.new-items.ensures.writer c.new-items.ensures.size goes.ready) c.requires.items)
 
 pub returns-in-Ok-clause-ready : goal.returns-in-Ok-clause-ready
 returns-in-Ok-clause-ready g c =
@@ -59,7 +53,7 @@ returns-in-Ok-clause-lasts g c =
     let goes = c.in-Ok.ensures in
     let now = c.new-items.result in
     subst (λ (v : ItemsState). AreItems sum v cache old → Lasts sum v now old new) c.self.view_is
-    (λ items. lasts_through sum s [] cache old new c.in-Ok.writer now items goes.makes.0 c.new-items.ensures.writer c.new-items.ensures.size goes.completed goes.covers)
+    (λ items. lasts_through sum s [] (bytes_of s old) cache old new c.in-Ok.writer now items goes.goes.holds c.new-items.ensures.writer c.new-items.ensures.size goes.owes.through)
     c.requires.items
 
 left : (g : Over) (c : After-snapshot g) → CallLeaves g.H.Sum.sum_of c.args.self (items_of c.args.self (g.B.Blob.life c.args.blob.now)) c.args.cache.now c.snapshot.new.cache (g.B.Blob.life c.args.blob.now) (g.B.Blob.life c.snapshot.new.blob)
@@ -72,10 +66,7 @@ left g c =
     let new = g.B.Blob.life c.snapshot.new.blob in
     let goes = c.snapshot.ensures in
     subst (λ (v : ItemsState). AreItems sum v cache old → CallLeaves sum v (items_of v old) cache after old new) c.self.view_is
-    (λ items.
-    let stood = stand sum s cache old items in
-    same_leaves sum s cache after old new stood.some (goes.fresh_ids stood.can.given stood.fresh) goes.others goes.kept goes.covers goes.only goes.tails goes.replays)
-    c.requires.items
+    (λ items. owed_same sum s cache after old new items goes.owes) c.requires.items
 
 pub returns-in-Ok-clause-leaves : goal.returns-in-Ok-clause-leaves
 returns-in-Ok-clause-leaves g c = left g (goal.at.returns-in-Ok-clause-leaves g c).After-snapshot

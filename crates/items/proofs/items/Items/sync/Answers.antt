@@ -1,23 +1,20 @@
-use Rattle.std.proofs.Common.{subst, sym, ap, ◌∙◌, []}
+use Rattle.std.proofs.Common.{subst, sym, []}
 use Rattle.std.specs.Int.NonZero.{non_zero_usize_get}
-use Rattle.writer_state.specs.Sound.{IsSound}
+use Rattle.paged.specs.Ready.{IsReady}
 use Rattle.items.specs.State.{ItemsState}
 use Rattle.items.specs.Standing.{AreItems, CallLeaves, bytes_of, items_of}
 use Rattle.items.specs.Calls.{AreSynced, Lasts}
-use Rattle.items.proofs.Standing.{same_leaves, stand}
-use Rattle.items.proofs.Calls.{completed_by_sync, lasts_through, ready, synced}
+use Rattle.items.proofs.Standing.{owed_same, stand}
+use Rattle.items.proofs.Calls.{lasts_through, ready, synced}
 use Rattle.items.proofs.items.Items.sync.Given.{Over}
 use Rattle.items.proofs.items.Items.sync.Goals as goal
 use Rattle.items.proofs.items.Items.sync.Goals.{After-sync}
 
-pub sync-requires-clause-cached : goal.sync-requires-clause-cached
-sync-requires-clause-cached g c =
-    (stand g.H.Sum.sum_of c.args.self c.args.cache.now (g.B.Blob.life c.args.blob.now) c.requires.items).can.page_size ∙ sym (ap (λ (v : ItemsState). v.writer.page_size) c.self.view_is)
-
-pub sync-requires-clause-sound : goal.sync-requires-clause-sound
-sync-requires-clause-sound g c =
-    subst (λ (v : ItemsState). IsSound g.H.Sum.sum_of v.writer (g.B.Blob.life c.args.blob.now).present) (sym c.self.view_is)
-    (stand g.H.Sum.sum_of c.args.self c.args.cache.now (g.B.Blob.life c.args.blob.now) c.requires.items).sound
+pub sync-requires : goal.sync-requires
+sync-requires g c = record {
+  ready = subst (λ (v : ItemsState). IsReady g.H.Sum.sum_of v.writer c.args.cache.now (g.B.Blob.life c.args.blob.now)) (sym c.self.view_is)
+      (stand g.H.Sum.sum_of c.args.self c.args.cache.now (g.B.Blob.life c.args.blob.now) c.requires.items).ready;
+}
 
 pub returns-in-Ok-clause-syncs : goal.returns-in-Ok-clause-syncs
 returns-in-Ok-clause-syncs g c =
@@ -30,10 +27,7 @@ returns-in-Ok-clause-syncs g c =
     let goes = c.in-Ok.ensures in
     let now = c.new.result in
     subst (λ (v : ItemsState). AreItems sum v cache old → AreSynced sum v after old new now) c.self.view_is
-    (λ items.
-    let stood = stand sum s cache old items in
-    synced sum s cache after old new c.in-Ok.writer now items goes.syncs c.new.ensures.writer c.new.ensures.size (goes.can_read stood.can) (goes.fresh_ids stood.can.given stood.fresh) goes.durable)
-    c.requires.items
+    (λ items. synced sum s cache after old new c.in-Ok.writer now items goes.goes c.new.ensures.writer c.new.ensures.size goes.ready) c.requires.items
 
 pub returns-in-Ok-clause-ready : goal.returns-in-Ok-clause-ready
 returns-in-Ok-clause-ready g c =
@@ -49,7 +43,7 @@ returns-in-Ok-clause-lasts g c =
     let goes = c.in-Ok.ensures in
     let now = c.new.result in
     subst (λ (v : ItemsState). AreItems sum v cache old → Lasts sum v now old new) c.self.view_is
-    (λ items. lasts_through sum s [] cache old new c.in-Ok.writer now items goes.syncs.0 c.new.ensures.writer c.new.ensures.size (completed_by_sync sum s.writer.page_size (bytes_of s old) s.writer.sync c.in-Ok.writer.sync old new goes.durable) goes.covers)
+    (λ items. lasts_through sum s [] (bytes_of s old) cache old new c.in-Ok.writer now items goes.goes.holds c.new.ensures.writer c.new.ensures.size goes.owes.through)
     c.requires.items
 
 left : (g : Over) (c : After-sync g) → CallLeaves g.H.Sum.sum_of c.args.self (items_of c.args.self (g.B.Blob.life c.args.blob.now)) c.args.cache.now c.sync.new.cache (g.B.Blob.life c.args.blob.now) (g.B.Blob.life c.sync.new.blob)
@@ -62,10 +56,7 @@ left g c =
     let new = g.B.Blob.life c.sync.new.blob in
     let goes = c.sync.ensures in
     subst (λ (v : ItemsState). AreItems sum v cache old → CallLeaves sum v (items_of v old) cache after old new) c.self.view_is
-    (λ items.
-    let stood = stand sum s cache old items in
-    same_leaves sum s cache after old new stood.some (goes.fresh_ids stood.can.given stood.fresh) goes.others goes.kept goes.covers goes.only goes.tails goes.replays)
-    c.requires.items
+    (λ items. owed_same sum s cache after old new items goes.owes) c.requires.items
 
 pub returns-in-Ok-clause-leaves : goal.returns-in-Ok-clause-leaves
 returns-in-Ok-clause-leaves g c = left g (goal.at.returns-in-Ok-clause-leaves g c).After-sync

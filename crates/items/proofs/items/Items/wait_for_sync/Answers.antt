@@ -5,8 +5,8 @@ use Rattle.writer_state.specs.Sound.{IsSound}
 use Rattle.items.specs.State.{ItemsState}
 use Rattle.items.specs.Standing.{AreItems, CallLeaves, bytes_of, items_of}
 use Rattle.items.specs.Calls.{HaveWaited, Lasts}
-use Rattle.items.proofs.Standing.{same_leaves, stand}
-use Rattle.items.proofs.Calls.{completed_by_wait, lasts_through, ready, waited}
+use Rattle.items.proofs.Standing.{owed_wait, stand}
+use Rattle.items.proofs.Calls.{lasts_through, ready, waited}
 use Rattle.items.proofs.items.Items.wait_for_sync.Given.{Over}
 use Rattle.items.proofs.items.Items.wait_for_sync.Goals as goal
 use Rattle.items.proofs.items.Items.wait_for_sync.Goals.{After-wait_for_sync}
@@ -14,7 +14,7 @@ use Rattle.items.proofs.items.Items.wait_for_sync.Goals.{After-wait_for_sync}
 pub wait_for_sync-requires : goal.wait_for_sync-requires
 wait_for_sync-requires g c = record {
   sound = subst (λ (v : ItemsState). IsSound g.H.Sum.sum_of v.writer (g.B.Blob.life c.args.blob.now).present) (sym c.self.view_is)
-      (stand g.H.Sum.sum_of c.args.self c.requires.items.0 (g.B.Blob.life c.args.blob.now) c.requires.items.1).sound;
+      (stand g.H.Sum.sum_of c.args.self c.requires.items.0 (g.B.Blob.life c.args.blob.now) c.requires.items.1).ready.sound;
 }
 
 pub returns-in-Ok-clause-waits : goal.returns-in-Ok-clause-waits
@@ -26,7 +26,7 @@ returns-in-Ok-clause-waits g c = λ cache.
     let goes = c.in-Ok.ensures in
     let now = c.new.result in
     subst (λ (v : ItemsState). AreItems sum v cache old → HaveWaited sum v cache old new now) c.self.view_is
-    (λ items. waited sum s cache old new c.in-Ok.writer now items goes.waits c.new.ensures.writer c.new.ensures.size (goes.can_read cache (stand sum s cache old items).can))
+    (λ items. waited sum s cache old new c.in-Ok.writer now items goes.goes c.new.ensures.writer c.new.ensures.size (goes.ready cache (stand sum s cache old items).ready))
 
 pub returns-in-Ok-clause-ready : goal.returns-in-Ok-clause-ready
 returns-in-Ok-clause-ready g c = λ cache items.
@@ -38,7 +38,7 @@ returns-in-Ok-clause-ready g c = λ cache items.
     let now = c.new.result in (
       ready sum c.args.self [] cache old new now (returns-in-Ok-clause-waits g c cache items).goes,
       subst (λ (v : ItemsState). AreItems sum v cache old → Lasts sum v now old new) c.self.view_is
-          (λ inside. lasts_through sum s [] cache old new c.in-Ok.writer now inside goes.waits.0 c.new.ensures.writer c.new.ensures.size (completed_by_wait sum s.writer.page_size (bytes_of s old) s.writer.sync c.in-Ok.writer.sync old new goes.durable) goes.covers) items,
+          (λ inside. lasts_through sum s [] (bytes_of s old) cache old new c.in-Ok.writer now inside goes.goes.holds c.new.ensures.writer c.new.ensures.size goes.owes.through) items,
     )
 
 left : (g : Over) (c : After-wait_for_sync g) (cache : CacheState) → AreItems g.H.Sum.sum_of c.args.self cache (g.B.Blob.life c.args.blob.now)
@@ -50,9 +50,7 @@ left g c cache =
     let new = g.B.Blob.life c.wait_for_sync.new.blob in
     let goes = c.wait_for_sync.ensures in
     subst (λ (v : ItemsState). AreItems sum v cache old → CallLeaves sum v (items_of v old) cache cache old new) c.self.view_is
-    (λ items.
-    let stood = stand sum s cache old items in
-    same_leaves sum s cache cache old new stood.some stood.fresh (λ t d apart can. can) goes.kept goes.covers goes.only (goes.tails cache stood.can.page_size) goes.replays)
+    (λ items. owed_wait sum s cache old new items goes.owes)
 
 pub returns-in-Ok-clause-leaves : goal.returns-in-Ok-clause-leaves
 returns-in-Ok-clause-leaves g c = left g (goal.at.returns-in-Ok-clause-leaves g c).After-wait_for_sync
