@@ -54,6 +54,7 @@ it_stands_with_a_cover = record {
     within : All (λ (c : ℕ × ℕ). c.1 ≤ 2) ((0, 2) ∷ [])
     within zero c lt = omega arith
     within (suc k) c lt = absurd (omega (arith, lt))
+
     covered : AllCover add_sum 4 ab ((0, 2) ∷ []) started
     covered zero c lt = it_would_keep 2 (omega arith)
     covered (suc k) c lt = absurd (omega (arith, lt))
