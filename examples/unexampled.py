@@ -1,4 +1,5 @@
-"""Lists the definitions that the promise reaches and that lack an example or a refutation: python3 examples/unexampled.py.
+"""Lists the definitions that the promise reaches and that lack an example, a refutation or a sentence: python3
+examples/unexampled.py.
 
 It begins at `Promises` in crates/session/specs/Promise.antt, and goes from each definition to those of the specs of all
 crates that it names, by the imports of its file. An example or a refutation is a lemma in a file of crates/*/proofs whose
@@ -6,12 +7,13 @@ name ends in Examples.antt. Its statement counts, that is its type, and its proo
 
 - A lemma whose statement ends in `→ ⊥` refutes the word with which the premise before the `⊥` begins: `Told .. → Tells ..
   → ⊥` refutes `Tells`.
-- Each other lemma is an example of each definition that its statement names, or that an abbreviation in its statement
-  names, if a file of examples has that abbreviation.
+- Each other lemma is an example of each definition that its conclusion names, or that an abbreviation there names, if a
+  file of examples has that abbreviation.
 
 A relation needs an example and a refutation. It is a definition whose result is a type, a record with a proposition among
 its fields, or an indexed family. A function that computes a value needs an example alone, since an equation leaves no other
-value; and so does a type of data. Whether what is refuted is nearly right, a reader has to judge.
+value; and so does a type of data. Whether what is refuted is nearly right, a reader has to judge. A sentence is one of
+docs/DEFINITIONS.md that has the definition's name in bold.
 """
 import glob
 import os
@@ -143,6 +145,13 @@ def premises(statement):
     return [part.strip() for part in parts]
 
 
+def sentences():
+    """The names that the page of definitions has in bold."""
+    with open(os.path.join(ROOT, "docs", "DEFINITIONS.md"), encoding="utf-8") as file:
+        bold = re.findall(r"\*\*(.+?)\*\*", file.read(), re.S)
+    return {name for names in bold for name in re.findall(r"`([^`]+)`", names)}
+
+
 def main():
     found = definitions()
     names, are = reached(found), relations(found)
@@ -153,13 +162,16 @@ def main():
         if parts[-1] == "⊥" and len(parts) > 1:
             refuted.add(known.get((words_in(parts[-2]) or [""])[0]))
         else:
-            shown |= named(statement, known, shorts)
+            shown |= named(parts[-1], known, shorts)
     bare = sorted(names - shown)
     open_ones = sorted((names & are) - refuted)
-    for what, missing in ("example", bare), ("refutation", open_ones):
+    told = sentences()
+    mute = sorted(name for name in names if name[3] not in told)
+    for what, missing in ("example", bare), ("refutation", open_ones), ("sentence", mute):
         for crate, folder, module, name in missing:
             print(f"crates/{crate}/{folder}/{module}.antt: {name} has no {what}")
-    print(f"{len(names)} definitions, {len(names & are)} of them relations: {len(bare)} without an example, {len(open_ones)} without a refutation")
+    print(f"{len(names)} definitions, {len(names & are)} of them relations: {len(bare)} without an example, "
+          f"{len(open_ones)} without a refutation, {len(mute)} without a sentence")
 
 
 main()
