@@ -24,6 +24,7 @@ pub mod GivesBackExamples
 pub mod RefusedExamples
 pub mod StandingExamples
 pub mod CutExamples
+pub mod InsideExamples
 pub mod StoodExamples
 pub mod Joined
 pub mod WordLaws
