@@ -9,15 +9,15 @@ loop-init g c = (c.requires, looked_start (g.B.Blob.life c.args.blob.now))
 
 pub loop-preserved : goal.loop-preserved
 loop-preserved g c = (
-  c.advance.ensures.replays.0 (g.B.Blob.life c.ensure.new.blob).present c.ensure.ensures.can,
+  c.advance.ensures.replays.0 (g.B.Blob.life c.ensure.new.blob).present c.ensure.ensures.goes.can,
   looked_joins (g.B.Blob.life c.args.blob.now) (g.B.Blob.life c.loop.blob)
-      (g.B.Blob.life c.ensure.new.blob) c.loop.invariant.1 c.ensure.ensures.looked,
+      (g.B.Blob.life c.ensure.new.blob) c.loop.invariant.1 c.ensure.ensures.leaves.looked,
 )
 
 pub returns-in_err-ensure : goal.returns-in_err-ensure
 returns-in_err-ensure g c =
     looked_joins (g.B.Blob.life c.args.blob.now) (g.B.Blob.life c.loop.blob)
-    (g.B.Blob.life c.ensure.new.blob) c.loop.invariant.1 c.ensure.ensures.looked
+    (g.B.Blob.life c.ensure.new.blob) c.loop.invariant.1 c.ensure.ensures.leaves.looked
 
 pub returns : goal.returns
 returns g c =
@@ -28,5 +28,5 @@ returns g c =
       | then-loop-test+in_ok-ensure+then-not-branch w ↦
           subst (λ (l : Life). Looked old l) (sym (ap g.B.Blob.life w.blob-is))
           (looked_joins old (g.B.Blob.life c.loop.blob) (g.B.Blob.life w.ensure.new.blob)
-          c.loop.invariant.1 w.ensure.ensures.looked)
+          c.loop.invariant.1 w.ensure.ensures.leaves.looked)
     ]

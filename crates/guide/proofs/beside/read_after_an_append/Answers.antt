@@ -13,4 +13,4 @@ returns g c =
     let made = c.in_ok-writer.ensures.goes in
     let low = ap (λ (t : Tail). t.full_pages) made.tail in
     let is = (c.append.ensures.owes.tails _ _ (omega (arith, low)) made.stands).tail.is in
-    record { reads = cc (c.in_ok-read.ensures.reads.1, is) }
+    record { reads = cc (c.in_ok-read.ensures.goes.answers.1, is) }

@@ -29,4 +29,4 @@ read_at-requires-2 g c =
     let again = c.in_ok-second-2.ensures in
     let first_same = c.in_ok-first-2.ensures.goes.answers.holds.same.id in
     let second_same = again.goes.answers.holds.same.id in
-    record { can = c.read_at.ensures.others _ _ (λ alike. omega (arith, given, next, first_same, second_same, alike)) again.ready.can }
+    record { can = c.read_at.ensures.leaves.others _ _ (λ alike. omega (arith, given, next, first_same, second_same, alike)) again.ready.can }

@@ -29,18 +29,18 @@ returns-in-Ok-read_into-clause-goes g c =
     let buf = c.read_into.new.buf in
     let bytes = with_items c.in-Ok.bytes buf in
     let room : length c.deref_mut.result.now ≡ c.args.len = omega (arith, ap length c.deref_mut.ensures.value, c.in-Ok.ensures.len) in
-    let long : length buf ≡ c.in-Ok.bytes.len = omega (arith, is.size, ap length c.deref_mut.ensures.value, c.in-Ok.bytes.ok.0) in
-    let reads = subst (λ (n : ℕ). Reads {A = Unit {0}} sum t c.args.cache.now (c.args.offset, n) (λ u. buf) old new (Ok tt)) room is.reads in
+    let long : length buf ≡ c.in-Ok.bytes.len = omega (arith, is.goes.size, ap length c.deref_mut.ensures.value, c.in-Ok.bytes.ok.0) in
+    let reads = subst (λ (n : ℕ). Reads {A = Unit {0}} sum t c.args.cache.now (c.args.offset, n) (λ u. buf) old new (Ok tt)) room is.goes.answers in
     let at = sym c.self.view_is ∙ c.in-Some.is in
     subst (λ (o : Option WriterState). DidRead sum o c.args.cache.now c.args.offset c.args.len old new (Bytes bytes)) (sym at)
-    (read_says sum t c.args.cache.now c.args.offset c.args.len c.size.result old new buf bytes c.size.ensures c.size.type_inv (with_items_is c.in-Ok.bytes buf long) reads is.looked)
+    (read_says sum t c.args.cache.now c.args.offset c.args.len c.size.result old new buf bytes c.size.ensures c.size.type_inv (with_items_is c.in-Ok.bytes buf long) reads is.leaves.looked)
 
 pub returns-in-Ok-read_into-clause-tails : goal.returns-in-Ok-read_into-clause-tails
 returns-in-Ok-read_into-clause-tails g c =
     let is = c.in-Ok-read_into.ensures in
-    leaves_same g.H.Sum.sum_of c.args.self.now c.in-Some.writer c.args.cache.now c.read_into.new.cache (g.B.Blob.life c.args.blob.now) (g.B.Blob.life c.read_into.new.blob) (sym c.self.view_is ∙ c.in-Some.is) is.tails is.replays
+    leaves_same g.H.Sum.sum_of c.args.self.now c.in-Some.writer c.args.cache.now c.read_into.new.cache (g.B.Blob.life c.args.blob.now) (g.B.Blob.life c.read_into.new.blob) (sym c.self.view_is ∙ c.in-Some.is) (λ t content under stands. is.leaves.tails t content stands) is.leaves.replays
 
 pub returns-in-Err-read_into-clause-tails : goal.returns-in-Err-read_into-clause-tails
 returns-in-Err-read_into-clause-tails g c =
     let is = c.in-Err-read_into.ensures in
-    leaves_same g.H.Sum.sum_of c.args.self.now c.in-Some.writer c.args.cache.now c.read_into.new.cache (g.B.Blob.life c.args.blob.now) (g.B.Blob.life c.read_into.new.blob) (sym c.self.view_is ∙ c.in-Some.is) is.tails is.replays
+    leaves_same g.H.Sum.sum_of c.args.self.now c.in-Some.writer c.args.cache.now c.read_into.new.cache (g.B.Blob.life c.args.blob.now) (g.B.Blob.life c.read_into.new.blob) (sym c.self.view_is ∙ c.in-Some.is) (λ t content under stands. is.leaves.tails t content stands) is.leaves.replays

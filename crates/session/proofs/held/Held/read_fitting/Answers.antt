@@ -1,4 +1,4 @@
-use Rattle.std.proofs.Common.{◌≡◌, ◌<◌, ◌^◌, length, ap, arith, Err}
+use Rattle.std.proofs.Common.{◌≡◌, ◌<◌, ◌^◌, length, ap, arith, refl, Err}
 use Rattle.std.specs.Vec.{with_items}
 use Rattle.std.proofs.lemmas.List.{with_items_is}
 use Rattle.paged.specs.Reads.{size_of}
@@ -20,8 +20,8 @@ returns-in-Ok-read_ranges_into-clause-says g c =
     let small : size_of w < 2 ^ 64 = omega (arith, c.size.ensures) in
     let is = c.in-Ok-read_ranges_into.ensures in
     let buf = c.read_ranges_into.new.buf in
-    let long : length buf ≡ c.in-Ok.bytes.len = omega (arith, is.size, ap length c.deref_mut.ensures.value, c.in-Ok.bytes.ok.0) in
-    served_says g.H.Sum.sum_of w c.args.cache.now c.args.ranges.now buf (g.B.Blob.life c.args.blob.now) (g.B.Blob.life c.read_ranges_into.new.blob) c.in-Ok-read_ranges_into.count (with_items c.in-Ok.bytes buf) small (with_items_is c.in-Ok.bytes buf long) is.reads is.asks is.looked
+    let long : length buf ≡ c.in-Ok.bytes.len = omega (arith, is.goes.size, ap length c.deref_mut.ensures.value, c.in-Ok.bytes.ok.0) in
+    served_says g.H.Sum.sum_of w c.args.cache.now c.args.ranges.now buf (g.B.Blob.life c.args.blob.now) (g.B.Blob.life c.read_ranges_into.new.blob) c.in-Ok-read_ranges_into.count (with_items c.in-Ok.bytes buf) small (with_items_is c.in-Ok.bytes buf long) is.goes.answers is.costs.asks is.leaves.looked
 
 pub returns-in-Err-read_ranges_into-clause-says : goal.returns-in-Err-read_ranges_into-clause-says
 returns-in-Err-read_ranges_into-clause-says g c =
@@ -29,4 +29,10 @@ returns-in-Err-read_ranges_into-clause-says g c =
     let small : size_of w < 2 ^ 64 = omega (arith, c.size.ensures) in
     let is = c.in-Err-read_ranges_into.ensures in
     fault_says g.H.Sum.sum_of w c.args.cache.now c.args.ranges.now c.read_ranges_into.new.buf (g.B.Blob.life c.args.blob.now) (g.B.Blob.life c.read_ranges_into.new.blob) c.in-Err-read_ranges_into.error small
-    (λ same. is.never c.requires.sound (ap Err same)) is.reads is.asks is.looked
+    (λ same. is.goes.never_if_sound w c.requires.sound refl (omega arith) (ap Err same)) is.goes.answers is.costs.asks is.leaves.looked
+
+pub returns-in-Ok-read_ranges_into-clause-tails : goal.returns-in-Ok-read_ranges_into-clause-tails
+returns-in-Ok-read_ranges_into-clause-tails g c t content under = c.in-Ok-read_ranges_into.ensures.leaves.tails t content
+
+pub returns-in-Err-read_ranges_into-clause-tails : goal.returns-in-Err-read_ranges_into-clause-tails
+returns-in-Err-read_ranges_into-clause-tails g c t content under = c.in-Err-read_ranges_into.ensures.leaves.tails t content
