@@ -9,17 +9,20 @@ use Rattle.std.specs.List.{slice_get}
 use Rattle.disk.specs.Disk.{Disk, Life}
 use Rattle.writer_state.specs.WriterState.{WriterState}
 use Rattle.writer_state.specs.Sound.{IsSound}
-use Rattle.cache.specs.CacheState.{CacheState}
+use Rattle.cache.specs.CacheState.{CacheState, SameSettings}
 use Rattle.paged_read.specs.Tail.{Tail, told, CanRead}
 use Rattle.paged_read.specs.Replay.{ReplayState, IsReplayOf, LeavesAllReplays, LeavesReplays}
-use Rattle.paged_read.specs.Snapshots.{LeavesAllTails, LeavesTails}
+use Rattle.paged_read.specs.Snapshots.{LeavesAllTails, LeavesOthers, LeavesTails}
 use Rattle.paged.specs.Caches.{tail_of}
 use Rattle.paged.specs.Calls.{IsSameWriter}
 use Rattle.session.specs.declared.steps.Step.{Step}
 use Rattle.session.specs.declared.steps.Reply.{Reply}
+use Rattle.session.specs.declared.steps.Reply.TheVariants.{At, Fault, Nothing}
+use Rattle.disk.specs.declared.error.Error.TheVariants.{OffsetOverflow, OutOfMemory}
 use Rattle.session.specs.Run.{CacheFits, FitsWriter, HasSoundWriter, IsBelow, IsReady, IsReplayIn, IsSnapshot, Replayed, replayed, SessionState, Standing, StandsFor, writer_in}
 use Rattle.session.specs.Promise.{session_of}
-use Rattle.session.specs.Calls.{LeavesTaken, Steps}
+use Rattle.session.specs.Calls.{LeavesStanding, LeavesTaken, Steps, TriedAppend}
+use Rattle.session.proofs.OtherWriters.{others_gone, others_here, others_on, others_stay, settings_same}
 use Rattle.session.proofs.Apart.{IsReadyApart, left_replays, SteppedApart, StepsApart, StepsBy, stands_apart, whole}
 
 -- ---- of a writer
@@ -45,52 +48,86 @@ in_appending true recovery appending is = absurd (false≢true (sym is))
 
 -- what is of its full pages is of those of the writer that goes on
 pub leaves_on : (sum : List ℕ → ℕ) (o : Option WriterState) (w v : WriterState) (cache after : CacheState) (old new : Life) → o ≡ Some w → IsSameWriter w v → LeavesTails sum w.full_pages cache after old new → LeavesReplays w.page_size w.full_pages old new
-    → LeavesTaken sum o (Some v) cache after old new
-leaves_on sum o w v cache after old new at same tails replays = record {
-  snapshots = λ t content below stands.
-      let under : IsBelow (Some w) t = subst (λ (x : Option WriterState). IsBelow x t) at below in
-      let more : t.full_pages ≤ v.full_pages = omega (arith, under.1, same.full_pages) in
-      (tails t content under.1 stands, (under.0 ∙ sym same.page_size, more));
-  replays = λ r content below gives.
-      let under : IsBelow (Some w) r.tail = subst (λ (x : Option WriterState). IsBelow x r.tail) at below in
-      let more : r.tail.full_pages ≤ v.full_pages = omega (arith, under.1, same.full_pages) in
-      (replays sum content r under.0 under.1 gives, (under.0 ∙ sym same.page_size, more));
+    → LeavesOthers w.id cache after → SameSettings cache after → LeavesTaken sum o (Some v) cache after old new
+leaves_on sum o w v cache after old new at same tails replays others settings = record {
+  own = record {
+    snapshots = λ t content below stands.
+        let under : IsBelow (Some w) t = subst (λ (x : Option WriterState). IsBelow x t) at below in
+        let more : t.full_pages ≤ v.full_pages = omega (arith, under.1, same.full_pages) in
+        (tails t content under.1 stands, (under.0 ∙ sym same.page_size, more));
+    replays = λ r content below gives.
+        let under : IsBelow (Some w) r.tail = subst (λ (x : Option WriterState). IsBelow x r.tail) at below in
+        let more : r.tail.full_pages ≤ v.full_pages = omega (arith, under.1, same.full_pages) in
+        (replays sum content r under.0 under.1 gives, (under.0 ∙ sym same.page_size, more));
+  };
+  others = others_on o w v cache after at same.id others settings;
 }
 
 -- and of none
 pub leaves_gone : (sum : List ℕ → ℕ) (o now : Option WriterState) (w : WriterState) (cache after : CacheState) (old new : Life) → o ≡ Some w → now ≡ None → LeavesTails sum w.full_pages cache after old new → LeavesReplays w.page_size w.full_pages old new
-    → LeavesTaken sum o now cache after old new
-leaves_gone sum o now w cache after old new at none tails replays = record {
-  snapshots = λ t content below stands.
-      let under : IsBelow (Some w) t = subst (λ (x : Option WriterState). IsBelow x t) at below in
-      (tails t content under.1 stands, subst (λ (x : Option WriterState). IsBelow x t) (sym none) tt);
-  replays = λ r content below gives.
-      let under : IsBelow (Some w) r.tail = subst (λ (x : Option WriterState). IsBelow x r.tail) at below in
-      (replays sum content r under.0 under.1 gives, subst (λ (x : Option WriterState). IsBelow x r.tail) (sym none) tt);
+    → LeavesOthers w.id cache after → SameSettings cache after → LeavesTaken sum o now cache after old new
+leaves_gone sum o now w cache after old new at none tails replays others settings = record {
+  own = record {
+    snapshots = λ t content below stands.
+        let under : IsBelow (Some w) t = subst (λ (x : Option WriterState). IsBelow x t) at below in
+        (tails t content under.1 stands, subst (λ (x : Option WriterState). IsBelow x t) (sym none) tt);
+    replays = λ r content below gives.
+        let under : IsBelow (Some w) r.tail = subst (λ (x : Option WriterState). IsBelow x r.tail) at below in
+        (replays sum content r under.0 under.1 gives, subst (λ (x : Option WriterState). IsBelow x r.tail) (sym none) tt);
+  };
+  others = others_gone o now w cache after at none others settings;
 }
 
 -- and of one that stays as it is
-pub leaves_same : (sum : List ℕ → ℕ) (o : Option WriterState) (w : WriterState) (cache after : CacheState) (old new : Life) → o ≡ Some w → LeavesTails sum w.full_pages cache after old new → LeavesAllReplays old new → LeavesTaken sum o o cache after old new
-leaves_same sum o w cache after old new at tails replays = record {
-  snapshots = λ t content below stands.
-      let under : IsBelow (Some w) t = subst (λ (x : Option WriterState). IsBelow x t) at below in
-      (tails t content under.1 stands, below);
-  replays = λ r content below gives. (replays sum content r gives, below);
+pub leaves_same : (sum : List ℕ → ℕ) (o : Option WriterState) (w : WriterState) (cache after : CacheState) (old new : Life) → o ≡ Some w → LeavesTails sum w.full_pages cache after old new → LeavesAllReplays old new → LeavesOthers w.id cache after → SameSettings cache after
+    → LeavesTaken sum o o cache after old new
+leaves_same sum o w cache after old new at tails replays others settings = record {
+  own = record {
+    snapshots = λ t content below stands.
+        let under : IsBelow (Some w) t = subst (λ (x : Option WriterState). IsBelow x t) at below in
+        (tails t content under.1 stands, below);
+    replays = λ r content below gives. (replays sum content r gives, below);
+  };
+  others = others_stay o w cache after at others settings;
 }
 
 -- a call that asks nothing of the device
 pub leaves_here : (sum : List ℕ → ℕ) (o : Option WriterState) (cache : CacheState) (life : Life) → LeavesTaken sum o o cache cache life life
 leaves_here sum o cache life = record {
-  snapshots = λ t content below stands. (stands, below);
-  replays = λ r content below gives. (gives, below);
+  own = record {
+    snapshots = λ t content below stands. (stands, below);
+    replays = λ r content below gives. (gives, below);
+  };
+  others = others_here o cache;
 }
 
+-- the writer is the same
+tried_same : (sum : List ℕ → ℕ) (w v : WriterState) (now : Option WriterState) (cache : CacheState) (life : Life) → now ≡ Some v → v ≡ w → LeavesTaken sum (Some w) now cache cache life life
+tried_same sum w v now cache life is same = subst (λ (x : Option WriterState). LeavesTaken sum (Some w) x cache cache life life) (sym (is ∙ ap Some same)) (leaves_here sum (Some w) cache life)
+
+-- nor does an append within the capacity
+pub leaves_tried : (sum : List ℕ → ℕ) (o now : Option WriterState) (bytes : List ℕ) (cache : CacheState) (life : Life) (reply : Reply) → TriedAppend sum o now bytes reply → LeavesTaken sum o now cache cache life life
+leaves_tried sum None now bytes cache life reply (replied, none) = subst (λ (x : Option WriterState). LeavesTaken sum None x cache cache life life) (sym none) (leaves_here sum None cache life)
+leaves_tried sum (Some w) now bytes cache life (At n) (v, is, tries, over) =
+    let same : IsSameWriter w v = subst (λ (u : WriterState). IsSameWriter w u) (sym tries.3) (record { page_size = refl; id = refl; capacity = refl; full_pages = omega arith }) in
+    subst (λ (x : Option WriterState). LeavesTaken sum (Some w) x cache cache life life) (sym is)
+    (leaves_on sum (Some w) w v cache cache life life refl same (λ t content below stands. stands) (λ s content r page below gives. gives) (λ t d other can. can) (settings_same cache))
+leaves_tried sum (Some w) now bytes cache life Nothing (v, is, tries) = tried_same sum w v now cache life is tries.2
+leaves_tried sum (Some w) now bytes cache life (Fault OffsetOverflow) (v, is, tries) = tried_same sum w v now cache life is tries.1
+leaves_tried sum (Some w) now bytes cache life (Fault OutOfMemory) (v, is, tries) = tried_same sum w v now cache life is tries.2
+leaves_tried sum (Some w) now bytes cache life (Fault e) (v, is, tries) = absurd tries
+leaves_tried sum (Some w) now bytes cache life reply tried = absurd tried
+
 -- one that leaves all of them
-pub leaves_all : (sum : List ℕ → ℕ) (o : Option WriterState) (cache after : CacheState) (old new : Life) → LeavesAllTails sum cache after old new → LeavesAllReplays old new → LeavesTaken sum o o cache after old new
+pub leaves_all : (sum : List ℕ → ℕ) (o : Option WriterState) (cache after : CacheState) (old new : Life) → LeavesAllTails sum cache after old new → LeavesAllReplays old new → LeavesStanding sum o o cache after old new
 leaves_all sum o cache after old new tails replays = record {
   snapshots = λ t content below stands. (tails t content stands, below);
   replays = λ r content below gives. (replays sum content r gives, below);
 }
+
+-- and the cache
+pub leaves_cache : (sum : List ℕ → ℕ) (o : Option WriterState) (cache : CacheState) (old new : Life) → LeavesAllTails sum cache cache old new → LeavesAllReplays old new → LeavesTaken sum o o cache cache old new
+leaves_cache sum o cache old new tails replays = record { own = leaves_all sum o cache cache old new tails replays; others = others_here o cache }
 
 -- ---- what a step leaves of one snapshot, and of one replay
 
@@ -115,7 +152,7 @@ pub record LeftAll (sum : List ℕ → ℕ) (was : SessionState) (now : Option W
   pub replays : All (LeftReplay sum now old new) was.replays
 
 -- of one snapshot
-snapshot_left : (sum : List ℕ → ℕ) (was now : Option WriterState) (cache after : CacheState) (old new : Life) (o : Option Tail) → LeavesTaken sum was now cache after old new → IfSome o (λ t. IsSnapshot sum was t old.present) → IfSome o (λ t. CanRead t cache old.present)
+snapshot_left : (sum : List ℕ → ℕ) (was now : Option WriterState) (cache after : CacheState) (old new : Life) (o : Option Tail) → LeavesStanding sum was now cache after old new → IfSome o (λ t. IsSnapshot sum was t old.present) → IfSome o (λ t. CanRead t cache old.present)
     → LeftSnapshot sum now after old.present new.present o
 snapshot_left sum was now cache after old new None leaves is can = tt
 snapshot_left sum was now cache after old new (Some t) leaves is can =
@@ -128,7 +165,7 @@ snapshot_same sum writer cache d None is can = tt
 snapshot_same sum writer cache d (Some t) is can = record { snapshot = is; can = can; tells = refl }
 
 -- of one replay
-replay_left : (sum : List ℕ → ℕ) (was now : Option WriterState) (cache after : CacheState) (old new : Life) (o : Option ReplayState) → LeavesTaken sum was now cache after old new → IsReplayIn sum was old.present o → LeftReplay sum now old.present new.present o
+replay_left : (sum : List ℕ → ℕ) (was now : Option WriterState) (cache after : CacheState) (old new : Life) (o : Option ReplayState) → LeavesStanding sum was now cache after old new → IsReplayIn sum was old.present o → LeftReplay sum now old.present new.present o
 replay_left sum was now cache after old new None leaves is = record { replay = tt; tells = refl }
 replay_left sum was now cache after old new (Some r) leaves (gives, below) =
     let after_it = leaves.replays r (told r.tail old.present.readable) below gives in
@@ -138,7 +175,7 @@ replay_left sum was now cache after old new (Some r) leaves (gives, below) =
       tells = ap (λ (content : List ℕ). Some (record (replayed old.present.readable r) { content = content })) tells;
     }
 
-pub left_by : (sum : List ℕ → ℕ) (was : SessionState) (now : Option WriterState) (cache after : CacheState) (old new : Life) → IsReady sum was old.present → CacheFits was cache old.present → LeavesTaken sum was.writer now cache after old new
+pub left_by : (sum : List ℕ → ℕ) (was : SessionState) (now : Option WriterState) (cache after : CacheState) (old new : Life) → IsReady sum was old.present → CacheFits was cache old.present → LeavesStanding sum was.writer now cache after old new
     → LeftAll sum was now after old.present new.present
 left_by sum was now cache after old new ready fits leaves = record {
   snapshots = λ k o lt. snapshot_left sum was.writer now cache after old new (get_or was.snapshots k o) leaves (ready.snapshots k o lt) (fits.snapshots k o lt);

@@ -1,4 +1,5 @@
 pub mod Apart
+pub mod OtherWriters
 pub mod Below
 pub mod NameLaws
 pub mod StepLaws
@@ -14,6 +15,7 @@ pub mod SnapshotLaws
 pub mod Numbered
 pub mod ReplayLaws
 pub mod DropLaws
+pub mod OtherLaws
 pub mod WholeLaws
 pub mod RunLaws
 pub mod PromiseLaws

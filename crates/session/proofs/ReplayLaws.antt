@@ -249,7 +249,7 @@ replay_takes sum was now cache after buffer_size old new reply ready fits writer
         let begins = says.begins.0 in
         let next = with_replays was (Some v) (was.replays ++ Some r ∷ []) in
         let is : now ≡ next = is_with (Some v) (was.replays ++ Some r ∷ []) writes holds in
-        let left = left_by sum was (Some v) cache after old new ready fits (subst (λ (o : Option WriterState). LeavesTaken sum was.writer o cache after old new) writes stay) in
+        let left = left_by sum was (Some v) cache after old new ready fits (subst (λ (o : Option WriterState). LeavesTaken sum was.writer o cache after old new) writes stay).own in
         let begun_next : next.recovering ≡ true → next.snapshots ≡ [] = ready.begun in
         let all : Steps sum (Replay buffer_size) (Replaying (length was.replays)) was next old new × CacheFits next after new.present =
         framed_by sum (Replay buffer_size) (Replaying (length was.replays)) was next after old new [] (λ P s. (replaying P size s).replays) (sym (append-nil was.snapshots)) begun_next (record { writer = begins.sound; starts = inr says.owes.starts })
@@ -260,7 +260,7 @@ replay_takes sum was now cache after buffer_size old new reply ready fits writer
     by_writer (Some w) at (Fault e) faulted = elim faulted [
       | inl (none, holds, says) ↦
           let is : now ≡ held was None = is_with None was.replays none holds in
-          framed_same sum (Replay buffer_size) (Fault e) was now after old new snapshots holds begun_with writer (left_by sum was now.writer cache after old new ready fits stay)
+          framed_same sum (Replay buffer_size) (Fault e) was now after old new snapshots holds begun_with writer (left_by sum was now.writer cache after old new ready fits stay.own)
           (subst (λ (s : SessionState). StepsApart sum (Replay buffer_size) (Fault e) was s old new) (sym is)
           (record {
             ready = record { writer = tt; starts = inr says.owes.starts };

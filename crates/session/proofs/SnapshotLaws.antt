@@ -72,7 +72,7 @@ gone true b none = absurd (false≢true (sym none))
 pub same_takes : (sum : List ℕ → ℕ) (step : Step) (reply : Reply) (was now : SessionState) (cache after : CacheState) (old new : Life) → IsReady sum was old.present → CacheFits was cache old.present → FitsWriter now.writer after new.present
     → LeavesTaken sum was.writer now.writer cache after old new → now ≡ was → StepsApart sum step reply was now old new → Steps sum step reply was now old new × CacheFits now after new.present
 same_takes sum step reply was now cache after old new ready fits writer stay is apart =
-    framed_same sum step reply was now after old new (ap (λ (s : SessionState). s.snapshots) is) (ap (λ (s : SessionState). s.replays) is) (subst (λ (s : SessionState). s.recovering ≡ true → s.snapshots ≡ []) (sym is) ready.begun) writer (left_by sum was now.writer cache after old new ready fits stay) apart
+    framed_same sum step reply was now after old new (ap (λ (s : SessionState). s.snapshots) is) (ap (λ (s : SessionState). s.replays) is) (subst (λ (s : SessionState). s.recovering ≡ true → s.snapshots ≡ []) (sym is) ready.begun) writer (left_by sum was now.writer cache after old new ready fits stay.own) apart
 
 -- one of a writer that appends, by a session in recovery, or closed
 module _ (sum : List ℕ → ℕ) (step : Step) (was now : SessionState) (old new : Life) (ready : IsReady sum was old.present) (appends : (s : Standing) → turned_away step s ≡ (if s.has_writer then (if s.recovering then Some NotAppending else None) else Some Closed)) where
@@ -270,7 +270,7 @@ snapshot_takes sum was now cache after old new reply ready fits writer stay did 
         let below : IsBelow (Some v) t = subst (λ (u : Tail). IsBelow (Some v) u) (sym says.makes.2) (refl, omega arith) in
         subst (λ (n : ℕ). Steps sum Snapshot (Taken n) was now old new × CacheFits now after new.present) (sym number)
         (framed sum Snapshot (Taken (length was.snapshots)) was now after old new (Some t ∷ []) (ap (λ (s : SessionState). s.snapshots) is) (ap (λ (s : SessionState). s.replays) is) (λ other. absurd (false≢true (sym phase ∙ sym (ap (λ (s : SessionState). s.recovering) is) ∙ other)))
-        (subst (λ (s : SessionState). IsReadyApart sum s new.present) (sym is) (record { writer = goes.sound; starts = inr says.owes.starts })) writer (left_by sum was now.writer cache after old new ready fits stay)
+        (subst (λ (s : SessionState). IsReadyApart sum s new.present) (sym is) (record { writer = goes.sound; starts = inr says.owes.starts })) writer (left_by sum was now.writer cache after old new ready fits stay.own)
         (subst (λ (s : SessionState). All (MadeSnapshot sum s.writer after new.present) (Some t ∷ [])) (sym is) (one_made (Some v) t below on))
         (subst (λ (s : SessionState). AlwaysMakes sum Snapshot (Taken (length was.snapshots)) was s old new (Some t ∷ [])) (sym is) (snapshot_steps sum was w v t after old new at phase sound says on)))
       where
@@ -280,7 +280,7 @@ snapshot_takes sum was now cache after old new reply ready fits writer stay did 
     made w at phase (Fault e) goes = elim goes [
       | inl (is, says) ↦
           framed_same sum Snapshot (Fault e) was now after old new (ap (λ (s : SessionState). s.snapshots) is) (ap (λ (s : SessionState). s.replays) is) (λ other. absurd (false≢true (sym phase ∙ sym (ap (λ (s : SessionState). s.recovering) is) ∙ other))) writer
-          (left_by sum was now.writer cache after old new ready fits stay)
+          (left_by sum was now.writer cache after old new ready fits stay.own)
           (subst (λ (s : SessionState). StepsApart sum Snapshot (Fault e) was s old new) (sym is)
           (record {
             ready = record { writer = tt; starts = inr says.owes.starts };
@@ -500,13 +500,13 @@ seal_takes sum was now cache after old new reply ready fits writer stay did = by
         let next = sealed_with was t sync in
         subst (λ (n : ℕ). Steps sum Seal (Sealed n sync) was now old new × CacheFits now after new.present) (sym number)
         (framed sum Seal (Sealed (length was.snapshots) sync) was now after old new (Some t ∷ []) (ap (λ (s : SessionState). s.snapshots) is) (ap (λ (s : SessionState). s.replays) is) (λ other. absurd (false≢true (sym phase ∙ sym (ap (λ (s : SessionState). s.recovering) is) ∙ other)))
-        (subst (λ (s : SessionState). IsReadyApart sum s new.present) (sym is) (record { writer = tt; starts = inr says.owes.starts })) writer (left_by sum was now.writer cache after old new ready fits stay)
+        (subst (λ (s : SessionState). IsReadyApart sum s new.present) (sym is) (record { writer = tt; starts = inr says.owes.starts })) writer (left_by sum was now.writer cache after old new ready fits stay.own)
         (subst (λ (s : SessionState). All (MadeSnapshot sum s.writer after new.present) (Some t ∷ [])) (sym is) (one_made t (content_of w old.present.readable) on))
         (subst (λ (s : SessionState). AlwaysMakes sum Seal (Sealed (length was.snapshots) sync) was s old new (Some t ∷ [])) (sym is) (seal_steps sum was w t sync after old new at phase says on)))
     seals w at phase (Fault e) goes = elim goes [
       | inl (is, says) ↦
           framed_same sum Seal (Fault e) was now after old new (ap (λ (s : SessionState). s.snapshots) is) (ap (λ (s : SessionState). s.replays) is) (λ other. absurd (false≢true (sym phase ∙ sym (ap (λ (s : SessionState). s.recovering) is) ∙ other))) writer
-          (left_by sum was now.writer cache after old new ready fits stay)
+          (left_by sum was now.writer cache after old new ready fits stay.own)
           (subst (λ (s : SessionState). StepsApart sum Seal (Fault e) was s old new) (sym is)
           (record {
             ready = record { writer = tt; starts = inr says.owes.starts };

@@ -81,7 +81,7 @@ pub writer_takes : (sum : List ℕ → ℕ) (step : Step) (was now : SessionStat
 writer_takes sum step was now cache after old new reply ready fits taken rest writer stay =
     let same : now.snapshots ≡ was.snapshots = ap (λ (s : SessionState). s.snapshots) rest in
     let phase : now.recovering ≡ was.recovering = ap (λ (s : SessionState). s.recovering) rest in
-    framed_same sum step reply was now after old new same (ap (λ (s : SessionState). s.replays) rest) (λ is. same ∙ ready.begun (sym phase ∙ is)) writer (left_by sum was now.writer cache after old new ready fits stay)
+    framed_same sum step reply was now after old new same (ap (λ (s : SessionState). s.replays) rest) (λ is. same ∙ ready.begun (sym phase ∙ is)) writer (left_by sum was now.writer cache after old new ready fits stay.own)
     (taken_apart sum was now cache old new reply (ready_apart sum was old.present ready) fits.writer rest step taken)
 
 -- ---- steps of the session

@@ -55,6 +55,7 @@ use Rattle.session.specs.declared.steps.Reply.TheVariants.{Taken, Sealed, NotApp
 use Rattle.session.specs.declared.steps.Reply.TheVariants.{Replaying}
 use Rattle.session.specs.Run.{Standing, SessionState, Did, StandsFor, IsReady, IsBelow}
 use Rattle.session.specs.Run.{fit_together, numbered}
+use Rattle.session.specs.Others.{WriterLeavesOthers}
 
 -- what a call of the writer leaves of the session but the writer
 abbrev pub KeepsRest : SessionState → SessionState → Type 0
@@ -604,16 +605,22 @@ KeepsAllButReplays was now = now ≡ record was { replays = now.replays }
 
 -- ---- a step of a session
 
--- what a call of a session's writer leaves: each snapshot and each replay of its full pages stands
--- as it stood, and is of them still
-pub record LeavesTaken (sum : List ℕ → ℕ) (was now : Option WriterState) (cache after : CacheState)
-    (old new : Life) : Type 0 where
+-- what a call of a session's writer leaves of its own blob: each snapshot and each replay of its
+-- full pages stands as it stood, and is of them still
+pub record LeavesStanding (sum : List ℕ → ℕ) (was now : Option WriterState)
+    (cache after : CacheState) (old new : Life) : Type 0 where
   pub snapshots : (t : Tail) (content : List ℕ) → IsBelow was t
       → StandsOn sum t content cache old.present
       → StandsOn sum t content after new.present × IsBelow now t
   pub replays : (r : ReplayState) (content : List ℕ) → IsBelow was r.tail
       → IsReplayOf sum r content old.present
       → IsReplayOf sum r content new.present × IsBelow now r.tail
+
+-- and of other blobs
+pub record LeavesTaken (sum : List ℕ → ℕ) (was now : Option WriterState) (cache after : CacheState)
+    (old new : Life) : Type 0 where
+  pub own : LeavesStanding sum was now cache after old new
+  pub others : WriterLeavesOthers was now cache after
 
 -- a step that a writer takes in recovery, and when it appends
 abbrev pub IsOfEither : Step → Type 0

@@ -19,6 +19,7 @@ use Rattle.writer_state.specs.Sound.{IsSound, content as content_of}
 use Rattle.paged.specs.Calls.{HoldsWithin, start_calls}
 use Rattle.paged.specs.Recovery.{IsDurable, LeavesText}
 use Rattle.paged.specs.Recovers.{Recovers}
+use Rattle.paged_read.specs.Snapshots.{LeavesReads}
 use Rattle.session.specs.declared.steps.Step.{Step}
 use Rattle.session.specs.declared.steps.Reply.{Reply}
 use Rattle.session.specs.Run.{Standing, begun, other_content, last, Answers, raised, SessionState}
@@ -277,6 +278,8 @@ pub record OwesBeginning (sum : List ℕ → ℕ) (P : ℕ) (cache after : Cache
     : Type 0 where
   pub attempts : AttemptsThrough sum P old new
   pub fresh : IsFresh cache → IsFresh after
+  -- what can be read of another blob can be read on
+  pub others : LeavesReads cache after
 
 -- what a crash and a recovery after it answer: the session stands for what the crash left, or one
 -- of the two was refused

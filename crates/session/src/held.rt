@@ -1,11 +1,10 @@
 // The writer of a session, in one of its two phases.
-ghost use Rattle.std.specs.Prelude.{◌≡◌, option_map, IfOk};
+ghost use Rattle.std.specs.Prelude.{◌≡◌, ◌++◌, option_map, IfOk};
 ghost use Rattle.cache.specs.Pages.{IsFresh};
-ghost use Rattle.writer_state.specs.Sound.{IsSound};
-ghost use Rattle.paged_read.specs.Replay.{LeavesReplays};
-ghost use Rattle.paged_read.specs.Snapshots.{LeavesTails};
+ghost use Rattle.writer_state.specs.Sound.{IsSound, content};
 ghost use Rattle.paged_read.specs.Tail.{CanRead};
 ghost use Rattle.paged.specs.Caches.{tail_of};
+ghost use Rattle.paged.specs.Owes.{Owes};
 ghost use Rattle.paged.specs.Reads.{size_of};
 ghost use Rattle.session.specs.Calls.{Appended, AppendSays, LeavesTaken, NeedsSync, Sized};
 ghost use Rattle.session.specs.Calls.{Starts, Synced, TriedAppend, Waits};
@@ -268,11 +267,8 @@ fn append_copy<B: Blob, H: Sum, Phase>(
         AppendSays H.sum_of writer bytes.now old new result }
     ensures can { let new = B.life blob.new in
         IfOk result (λ r. CanRead (tail_of r.0) cache.new new.present) }
-    ensures fresh_ids { IsFresh cache.old → IsFresh cache.new }
-    ensures tails { let old = B.life blob.old in let new = B.life blob.new in
-        LeavesTails H.sum_of writer.full_pages cache.old cache.new old new }
-    ensures replays { let old = B.life blob.old in let new = B.life blob.new in
-        LeavesReplays writer.page_size writer.full_pages old new }
+    ensures owes { let all = content writer (B.life blob.old).present.readable ++ bytes.now in
+        Owes H.sum_of writer all cache.old cache.new (B.life blob.old) (B.life blob.new) }
 {
     match IoBuf::copy_from_slice(alloc, bytes) {
         Ok(bytes) => writer.append_owned(blob, cache, bytes),

@@ -6,11 +6,11 @@ ghost use Rattle.page.specs.Geometry.{AreInOrder};
 ghost use Rattle.cache.specs.Pages.{IsFresh};
 ghost use Rattle.writer_state.specs.Sound.{IsSound};
 ghost use Rattle.paged_read.specs.Tail.{CanRead};
-ghost use Rattle.paged_read.specs.Ranges.{Misses};
+ghost use Rattle.paged_read.specs.Ranges.{LeavesAll, Misses};
 ghost use Rattle.paged.specs.Caches.{tail_of};
 ghost use Rattle.session.specs.Run.{FitsOn, HasSoundWriter, FitsWriter, fit_together};
 ghost use Rattle.paged_read.specs.Replay.{LeavesAllReplays};
-ghost use Rattle.paged_read.specs.Snapshots.{LeavesTails};
+ghost use Rattle.paged_read.specs.Snapshots.{LeavesOthers, LeavesTails};
 ghost use Rattle.session.specs.Calls.{LeavesTaken};
 ghost use Rattle.cache.specs.CacheState.{CacheState};
 ghost use Rattle.session.specs.Calls.{DidRead, DidReadUpTo, DidScan, DidTryRead, RefusesRoom};
@@ -159,11 +159,12 @@ impl<B: Blob, H: Sum, Phase> Held<B, H, Phase> {
         requires filled { len ≡ sum_by (λ range. range.1) ranges.now }
         ensures says { let old = B.life blob.old in let new = B.life blob.new in
             ReadRangesSays H.sum_of writer.now cache.old ranges.now old new result }
-        ensures can { CanRead (tail_of writer.now) cache.new (B.life blob.new).present }
-        ensures fresh_ids { IsFresh cache.old → IsFresh cache.new }
+        ensures leaves { let old = B.life blob.old in let new = B.life blob.new in
+            LeavesAll (tail_of writer.now) cache.old cache.new old new }
         ensures tails { let old = B.life blob.old in let new = B.life blob.new in
             LeavesTails H.sum_of writer.now.full_pages cache.old cache.new old new }
         ensures replays { LeavesAllReplays (B.life blob.old) (B.life blob.new) }
+        ensures others { LeavesOthers writer.now.id cache.old cache.new }
     {
         if let Err(error) = validate_read_ranges(len, ranges, writer.size()) {
             return Reply::Fault(error);

@@ -9,6 +9,7 @@ ghost use Rattle.writer_state.specs.Sound.{IsSound};
 ghost use Rattle.disk.specs.Disk.{Disk};
 ghost use Rattle.paged.specs.Caches.{tail_of};
 ghost use Rattle.paged.specs.Reads.{size_of};
+ghost use Rattle.session.specs.Others.{LeavesOtherBlobs, WriterLeavesOthers};
 ghost use Rattle.session.specs.Run.{CacheFits, FitsWriter, HasSoundWriter, IsReady, RunsAlways};
 ghost use Rattle.session.specs.Run.{IsSessionReady, TookNone};
 ghost use Rattle.session.specs.Promise.{Promises, StandsWhereSound, closed, session_of};
@@ -122,6 +123,7 @@ impl<B: Blob, H: Sum> Session<B, H> {
             Steps H.sum_of step.now result self.old self.new old new }
         ensures cached { CacheFits self.new cache.new (B.life blob.new).present }
         ensures fresh_ids { IsFresh cache.old → IsFresh cache.new }
+        ensures others { LeavesOtherBlobs self.old self.new cache.old cache.new }
     {
         match step {
             Step::WaitSync(name) => self.wait_sync(blob, *name),
@@ -211,6 +213,7 @@ impl<B: Blob, H: Sum> Session<B, H> {
         ensures cached { FitsWriter self.new.writer cache.new (B.life blob.new).present }
         ensures fresh_ids { IsFresh cache.old → IsFresh cache.new }
         ensures turned { self.old.recovering ≡ false → cache.new ≡ cache.old }
+        ensures others { WriterLeavesOthers self.old.writer self.new.writer cache.old cache.new }
     {
         if self.recovering && self.recovery.writer.is_some() {
             forget(&mut self.replays);
@@ -228,6 +231,7 @@ impl<B: Blob, H: Sum> Session<B, H> {
         ensures cached { FitsWriter self.new.writer cache.new (B.life blob.new).present }
         ensures fresh_ids { IsFresh cache.old → IsFresh cache.new }
         ensures turned { self.old.recovering ≡ false → cache.new ≡ cache.old }
+        ensures others { WriterLeavesOthers self.old.writer self.new.writer cache.old cache.new }
     {
         if !self.recovering {
             return match self.appending.writer {
@@ -289,6 +293,10 @@ pub fn run<B: Blob, H: Sum>(
     ensures promises { let old = B.life blob.old in let new = B.life blob.new in
         OnOk result (Promises H.sum_of steps.now session.old session.new old new
         replies.old.items replies.new.items) }
+
+    // What can be read of another blob on the cache, such as that of a second session, can be read
+    // on, and it stays another one.
+    ensures others { LeavesOtherBlobs session.old session.new cache.old cache.new }
     ensures refused { let old = B.life blob.old in let new = B.life blob.new in
         IfErr result (λ e. TookNone e session.old session.new cache.old cache.new old new
         replies.old.items replies.new.items) }

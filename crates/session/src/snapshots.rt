@@ -6,6 +6,7 @@ ghost use Rattle.paged_read.specs.Snapshots.{LeavesAllReads, LeavesAllTails, Lea
 ghost use Rattle.paged_read.specs.Tail.{CanRead, HasFullPages};
 ghost use Rattle.session.specs.Calls.{DidSeal, DidSnap, DidSnapshot, DidTrySnapshot};
 ghost use Rattle.session.specs.Calls.{LeavesTaken, RefusesAppending};
+ghost use Rattle.session.specs.Others.{LeavesOtherBlobs};
 ghost use Rattle.session.specs.Run.{FitsWriter, HasSoundWriter, numbered};
 
 use crate::Session;
@@ -143,6 +144,7 @@ impl<B: Blob, H: Sum> Session<B, H> {
         ensures replays { LeavesAllReplays (B.life blob.old) (B.life blob.new) }
         ensures can_read { let old = B.life blob.old in let new = B.life blob.new in
             LeavesAllReads cache.old cache.new old new }
+        ensures others { LeavesOtherBlobs self.now self.now cache.old cache.new }
     {
         let Some(Some(snapshot)) = self.snapshots.get(index) else {
             return Reply::NoSuch;

@@ -1,9 +1,10 @@
-use Rattle.std.proofs.Common.{rules, ◌≡◌, ◌+◌, List, [], ◌∷◌, ◌++◌, take, ap, sym, ◌∙◌, subst, arith}
+use Rattle.std.proofs.Common.{rules, ◌≡◌, ◌+◌, List, [], ◌∷◌, ◌++◌, take, ap, sym, ◌∙◌, refl, subst, arith}
 use Rattle.std.proofs.lemmas.List.{take_more, take_all}
 use Rattle.session.specs.declared.steps.Step.{Step}
 use Rattle.session.specs.declared.steps.Reply.{Reply}
 use Rattle.session.specs.Run.{RunsAlways}
 use Rattle.session.specs.Promise.{Promises}
+use Rattle.session.proofs.OtherLaws.{others_idle, others_then}
 use Rattle.session.proofs.RunLaws.{runs_none, runs_more}
 use Rattle.session.proofs.PromiseLaws.{promises}
 use Rattle.session.proofs.sessions.run.Goals as goal
@@ -13,6 +14,7 @@ loop-step-init g c = record {
   room = search rules;
   ready = c.requires.ready;
   runs = runs_none g.H.Sum.sum_of c.args.session.now (g.B.Blob.life c.args.blob.now) c.try_reserve.new.self.items;
+  others = others_idle c.args.session.now c.args.session.now c.args.cache.now refl refl;
 }
 
 pub step-reply-requires : goal.step-reply-requires
@@ -36,6 +38,7 @@ loop-step-preserved g c =
       runs = subst (λ (taken : List Step). RunsAlways sum taken c.args.session.now c.step-reply.new.self old new c.try_reserve.new.self.items c.push_reserved.new.self.items) (sym one)
           (runs_more sum before c.step-item.result c.step-reply.result c.args.session.now c.loop-step.session c.step-reply.new.self old between new c.try_reserve.new.self.items c.loop-step.replies.items c.push_reserved.new.self.items
           c.loop-step.invariant.runs c.step-reply.ensures.goes c.push_reserved.ensures.items);
+      others = others_then c.args.session.now c.loop-step.session c.step-reply.new.self c.args.cache.now c.loop-step.cache c.step-reply.new.cache c.loop-step.invariant.others c.step-reply.ensures.others;
     }
 
 pub returns-clause-promises : goal.returns-clause-promises
@@ -48,3 +51,6 @@ returns-clause-promises g c =
     subst (λ (taken : List Step). RunsAlways g.H.Sum.sum_of taken c.args.session.now c.loop-step.session old new c.try_reserve.new.self.items c.loop-step.replies.items) all c.loop-step.invariant.runs in
     subst (λ (earlier : List Reply). Promises g.H.Sum.sum_of steps c.args.session.now c.loop-step.session old new earlier c.loop-step.replies.items) c.try_reserve.ensures.items
     (promises g.H.Sum.sum_of steps c.args.session.now c.loop-step.session old new c.try_reserve.new.self.items c.loop-step.replies.items runs)
+
+pub returns-clause-others : goal.returns-clause-others
+returns-clause-others g c = c.loop-step.invariant.others

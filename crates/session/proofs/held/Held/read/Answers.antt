@@ -38,9 +38,9 @@ returns-in-Ok-read_into-clause-goes g c =
 pub returns-in-Ok-read_into-clause-tails : goal.returns-in-Ok-read_into-clause-tails
 returns-in-Ok-read_into-clause-tails g c =
     let is = c.in-Ok-read_into.ensures in
-    leaves_same g.H.Sum.sum_of c.args.self.now c.in-Some.writer c.args.cache.now c.read_into.new.cache (g.B.Blob.life c.args.blob.now) (g.B.Blob.life c.read_into.new.blob) (sym c.self.view_is ∙ c.in-Some.is) (λ t content under stands. is.leaves.tails t content stands) is.leaves.replays
+    leaves_same g.H.Sum.sum_of c.args.self.now c.in-Some.writer c.args.cache.now c.read_into.new.cache (g.B.Blob.life c.args.blob.now) (g.B.Blob.life c.read_into.new.blob) (sym c.self.view_is ∙ c.in-Some.is) (λ t content under stands. is.leaves.tails t content stands) is.leaves.replays is.leaves.others is.leaves.cached.settings
 
 pub returns-in-Err-read_into-clause-tails : goal.returns-in-Err-read_into-clause-tails
 returns-in-Err-read_into-clause-tails g c =
     let is = c.in-Err-read_into.ensures in
-    leaves_same g.H.Sum.sum_of c.args.self.now c.in-Some.writer c.args.cache.now c.read_into.new.cache (g.B.Blob.life c.args.blob.now) (g.B.Blob.life c.read_into.new.blob) (sym c.self.view_is ∙ c.in-Some.is) (λ t content under stands. is.leaves.tails t content stands) is.leaves.replays
+    leaves_same g.H.Sum.sum_of c.args.self.now c.in-Some.writer c.args.cache.now c.read_into.new.cache (g.B.Blob.life c.args.blob.now) (g.B.Blob.life c.read_into.new.blob) (sym c.self.view_is ∙ c.in-Some.is) (λ t content under stands. is.leaves.tails t content stands) is.leaves.replays is.leaves.others is.leaves.cached.settings

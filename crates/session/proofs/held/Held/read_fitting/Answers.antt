@@ -1,6 +1,8 @@
 use Rattle.std.proofs.Common.{◌≡◌, ◌<◌, ◌^◌, length, ap, arith, refl, Err}
 use Rattle.std.specs.Vec.{with_items}
 use Rattle.std.proofs.lemmas.List.{with_items_is}
+use Rattle.paged_read.proofs.Leaving.{leaves_none}
+use Rattle.paged.specs.Caches.{tail_of}
 use Rattle.paged.specs.Reads.{size_of}
 use Rattle.session.proofs.RangeLaws.{refused_says, no_room_says, served_says, fault_says}
 use Rattle.session.proofs.held.Held.read_fitting.Goals as goal
@@ -31,8 +33,36 @@ returns-in-Err-read_ranges_into-clause-says g c =
     fault_says g.H.Sum.sum_of w c.args.cache.now c.args.ranges.now c.read_ranges_into.new.buf (g.B.Blob.life c.args.blob.now) (g.B.Blob.life c.read_ranges_into.new.blob) c.in-Err-read_ranges_into.error small
     (λ same. is.goes.never_if_sound w c.requires.sound refl (omega arith) (ap Err same)) is.goes.answers is.costs.asks is.leaves.looked
 
+pub returns-in-Err-clause-leaves : goal.returns-in-Err-clause-leaves
+returns-in-Err-clause-leaves g c = leaves_none (tail_of c.args.writer.now) c.args.cache.now (g.B.Blob.life c.args.blob.now) c.requires.can
+
+pub returns-in-Err-room_for-clause-leaves : goal.returns-in-Err-room_for-clause-leaves
+returns-in-Err-room_for-clause-leaves g c = leaves_none (tail_of c.args.writer.now) c.args.cache.now (g.B.Blob.life c.args.blob.now) c.requires.can
+
+pub returns-in-Ok-read_ranges_into-clause-leaves : goal.returns-in-Ok-read_ranges_into-clause-leaves
+returns-in-Ok-read_ranges_into-clause-leaves g c =
+    let is = c.in-Ok-read_ranges_into.ensures.leaves in
+    record { looked = is.looked; cached = is.cached; can = is.can_read (tail_of c.args.writer.now) c.requires.can; fresh = is.fresh }
+
+pub returns-in-Ok-read_ranges_into-clause-others : goal.returns-in-Ok-read_ranges_into-clause-others
+returns-in-Ok-read_ranges_into-clause-others g c = c.in-Ok-read_ranges_into.ensures.leaves.others
+
 pub returns-in-Ok-read_ranges_into-clause-tails : goal.returns-in-Ok-read_ranges_into-clause-tails
 returns-in-Ok-read_ranges_into-clause-tails g c t content under = c.in-Ok-read_ranges_into.ensures.leaves.tails t content
 
+pub returns-in-Ok-read_ranges_into-clause-replays : goal.returns-in-Ok-read_ranges_into-clause-replays
+returns-in-Ok-read_ranges_into-clause-replays g c = c.in-Ok-read_ranges_into.ensures.leaves.replays
+
+pub returns-in-Err-read_ranges_into-clause-leaves : goal.returns-in-Err-read_ranges_into-clause-leaves
+returns-in-Err-read_ranges_into-clause-leaves g c =
+    let is = c.in-Err-read_ranges_into.ensures.leaves in
+    record { looked = is.looked; cached = is.cached; can = is.can_read (tail_of c.args.writer.now) c.requires.can; fresh = is.fresh }
+
+pub returns-in-Err-read_ranges_into-clause-others : goal.returns-in-Err-read_ranges_into-clause-others
+returns-in-Err-read_ranges_into-clause-others g c = c.in-Err-read_ranges_into.ensures.leaves.others
+
 pub returns-in-Err-read_ranges_into-clause-tails : goal.returns-in-Err-read_ranges_into-clause-tails
 returns-in-Err-read_ranges_into-clause-tails g c t content under = c.in-Err-read_ranges_into.ensures.leaves.tails t content
+
+pub returns-in-Err-read_ranges_into-clause-replays : goal.returns-in-Err-read_ranges_into-clause-replays
+returns-in-Err-read_ranges_into-clause-replays g c = c.in-Err-read_ranges_into.ensures.leaves.replays

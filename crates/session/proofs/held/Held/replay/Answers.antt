@@ -45,10 +45,10 @@ returns-in-Err-clause-goes g c =
 pub returns-in-Ok-clause-tails : goal.returns-in-Ok-clause-tails
 returns-in-Ok-clause-tails g c =
     let at : c.args.self.now ≡ Some c.in-Some.writer = search rules in
-    leaves_on g.H.Sum.sum_of c.args.self.now c.in-Some.writer c.in-Ok.writer c.args.cache.now c.replay.new.cache (g.B.Blob.life c.args.blob.now) (g.B.Blob.life c.replay.new.blob) at c.in-Ok.ensures.goes.holds.same c.in-Ok.ensures.owes.tails c.in-Ok.ensures.owes.replays
+    leaves_on g.H.Sum.sum_of c.args.self.now c.in-Some.writer c.in-Ok.writer c.args.cache.now c.replay.new.cache (g.B.Blob.life c.args.blob.now) (g.B.Blob.life c.replay.new.blob) at c.in-Ok.ensures.goes.holds.same c.in-Ok.ensures.owes.tails c.in-Ok.ensures.owes.replays c.in-Ok.ensures.owes.others c.in-Ok.ensures.owes.cached.settings
 
 pub returns-in-Err-clause-tails : goal.returns-in-Err-clause-tails
 returns-in-Err-clause-tails g c =
     let at : c.args.self.now ≡ Some c.in-Some.writer = search rules in
     let none : c.take.new.self ≡ None = search rules in
-    leaves_gone g.H.Sum.sum_of c.args.self.now c.take.new.self c.in-Some.writer c.args.cache.now c.replay.new.cache (g.B.Blob.life c.args.blob.now) (g.B.Blob.life c.replay.new.blob) at none c.in-Err.ensures.owes.tails c.in-Err.ensures.owes.replays
+    leaves_gone g.H.Sum.sum_of c.args.self.now c.take.new.self c.in-Some.writer c.args.cache.now c.replay.new.cache (g.B.Blob.life c.args.blob.now) (g.B.Blob.life c.replay.new.blob) at none c.in-Err.ensures.owes.tails c.in-Err.ensures.owes.replays c.in-Err.ensures.owes.others c.in-Err.ensures.owes.cached.settings

@@ -5,7 +5,7 @@ use Rattle.paged_read.specs.Scans.{scan_end, scan_to}
 use Rattle.paged.specs.Scans.{flushed_pages}
 use Rattle.session.specs.declared.steps.Reply.TheVariants.{Length, Fault}
 use Rattle.session.specs.Calls.{DidScan}
-use Rattle.session.proofs.Below.{leaves_all, sound_in}
+use Rattle.session.proofs.Below.{leaves_cache, sound_in}
 use Rattle.session.proofs.ReadLaws.{scan_fails}
 use Rattle.session.proofs.SnapshotLaws.{fits_on}
 use Rattle.session.proofs.held.Held.scan.Goals as goal
@@ -45,8 +45,8 @@ returns-in-Err-clause-goes g c =
 
 pub returns-in-Ok-clause-tails : goal.returns-in-Ok-clause-tails
 returns-in-Ok-clause-tails g c = λ cache.
-    leaves_all g.H.Sum.sum_of c.args.self.now cache cache (g.B.Blob.life c.args.blob.now) (g.B.Blob.life c.recoverable_prefix_len_at_most.new.blob) (c.in-Ok.ensures.tails cache) c.in-Ok.ensures.replays
+    leaves_cache g.H.Sum.sum_of c.args.self.now cache (g.B.Blob.life c.args.blob.now) (g.B.Blob.life c.recoverable_prefix_len_at_most.new.blob) (c.in-Ok.ensures.tails cache) c.in-Ok.ensures.replays
 
 pub returns-in-Err-clause-tails : goal.returns-in-Err-clause-tails
 returns-in-Err-clause-tails g c = λ cache.
-    leaves_all g.H.Sum.sum_of c.args.self.now cache cache (g.B.Blob.life c.args.blob.now) (g.B.Blob.life c.recoverable_prefix_len_at_most.new.blob) (c.in-Err.ensures.tails cache) c.in-Err.ensures.replays
+    leaves_cache g.H.Sum.sum_of c.args.self.now cache (g.B.Blob.life c.args.blob.now) (g.B.Blob.life c.recoverable_prefix_len_at_most.new.blob) (c.in-Err.ensures.tails cache) c.in-Err.ensures.replays

@@ -4,6 +4,7 @@ use Rattle.writer_state.specs.WriterState.{WriterState}
 use Rattle.session.specs.declared.steps.Reply.TheVariants.{Done, Fault}
 use Rattle.session.specs.Calls.{Waits}
 use Rattle.session.proofs.Below.{can_in, leaves_on, leaves_gone}
+use Rattle.session.proofs.OtherWriters.{settings_same}
 use Rattle.session.proofs.WordLaws.{wait_reads, wait_says}
 use Rattle.session.proofs.held.Held.wait_for_sync.Goals as goal
 
@@ -36,7 +37,7 @@ returns-in-Ok-clause-tails g c =
     let at : c.args.self.now ≡ Some c.in-Some.writer = search rules in
     λ cache fits.
     leaves_on g.H.Sum.sum_of c.args.self.now c.in-Some.writer c.in-Ok.writer cache cache (g.B.Blob.life c.args.blob.now) (g.B.Blob.life c.wait_for_sync.new.blob) at c.in-Ok.ensures.goes.holds.same
-    (c.in-Ok.ensures.owes.tails cache (can_in c.args.self.now c.in-Some.writer cache (g.B.Blob.life c.args.blob.now).present at fits).page_size) c.in-Ok.ensures.owes.replays
+    (c.in-Ok.ensures.owes.tails cache (can_in c.args.self.now c.in-Some.writer cache (g.B.Blob.life c.args.blob.now).present at fits).page_size) c.in-Ok.ensures.owes.replays (λ t d other can. can) (settings_same cache)
 
 pub returns-in-Err-clause-tails : goal.returns-in-Err-clause-tails
 returns-in-Err-clause-tails g c =
@@ -44,4 +45,4 @@ returns-in-Err-clause-tails g c =
     let none : c.take.new.self ≡ None = search rules in
     λ cache fits.
     leaves_gone g.H.Sum.sum_of c.args.self.now c.take.new.self c.in-Some.writer cache cache (g.B.Blob.life c.args.blob.now) (g.B.Blob.life c.wait_for_sync.new.blob) at none
-    (c.in-Err.ensures.owes.tails cache (can_in c.args.self.now c.in-Some.writer cache (g.B.Blob.life c.args.blob.now).present at fits).page_size) c.in-Err.ensures.owes.replays
+    (c.in-Err.ensures.owes.tails cache (can_in c.args.self.now c.in-Some.writer cache (g.B.Blob.life c.args.blob.now).present at fits).page_size) c.in-Err.ensures.owes.replays (λ t d other can. can) (settings_same cache)

@@ -4,7 +4,9 @@ use Rattle.writer_state.specs.WriterState.{WriterState}
 use Rattle.session.specs.declared.steps.Reply.TheVariants.{Length, Fault}
 use Rattle.session.specs.Run.{FitsWriter}
 use Rattle.session.specs.Calls.{Truncated}
+use Rattle.session.specs.Others.{WriterLeavesOthers}
 use Rattle.session.proofs.Below.{sound_in, can_in, in_recovery}
+use Rattle.session.proofs.OtherWriters.{others_gone, others_on}
 use Rattle.session.proofs.TruncateLaws.{cuts_here}
 use Rattle.session.proofs.WordLaws.{truncate_says}
 use Rattle.session.proofs.sessions.Session.cut.Goals as goal
@@ -58,3 +60,22 @@ pub returns-in-Err-clause-fresh_ids : goal.returns-in-Err-clause-fresh_ids
 returns-in-Err-clause-fresh_ids g c =
     let at : c.args.self.now.writer ≡ Some c.in-Some-take.writer = search rules in
     c.in-Err.ensures.owes.fresh (can_in c.args.self.now.writer c.in-Some-take.writer c.args.cache.now (g.B.Blob.life c.args.blob.now).present at c.requires.cached).given
+
+pub returns-in-Ok-clause-others : goal.returns-in-Ok-clause-others
+returns-in-Ok-clause-others g c =
+    let at : c.args.self.now.writer ≡ Some c.in-Some-take.writer = search rules in
+    let sound = sound_in g.H.Sum.sum_of c.args.self.now.writer c.in-Some-take.writer (g.B.Blob.life c.args.blob.now).present at c.requires.sound in
+    let is = c.in-Ok.ensures in
+    let inside = c.self-inside.inside in
+    subst (λ (o : Option WriterState). WriterLeavesOthers c.args.self.now.writer o c.args.cache.now c.truncate.new.cache) (sym (in_recovery inside.0.1.0 (Some c.in-Ok.writer) inside.0.1.1.1.0.writer (search rules)))
+    (others_on c.args.self.now.writer c.in-Some-take.writer c.in-Ok.writer c.args.cache.now c.truncate.new.cache at is.goes.answers.same.id is.owes.others (is.owes.cached sound).settings)
+
+pub returns-in-Err-clause-others : goal.returns-in-Err-clause-others
+returns-in-Err-clause-others g c =
+    let at : c.args.self.now.writer ≡ Some c.in-Some-take.writer = search rules in
+    let none : c.take.new.self ≡ None = search rules in
+    let sound = sound_in g.H.Sum.sum_of c.args.self.now.writer c.in-Some-take.writer (g.B.Blob.life c.args.blob.now).present at c.requires.sound in
+    let is = c.in-Err.ensures in
+    let inside = c.self-inside.inside in
+    subst (λ (o : Option WriterState). WriterLeavesOthers c.args.self.now.writer o c.args.cache.now c.truncate.new.cache) (sym (in_recovery inside.0.1.0 c.take.new.self inside.0.1.1.1.0.writer (search rules)))
+    (others_gone c.args.self.now.writer c.take.new.self c.in-Some-take.writer c.args.cache.now c.truncate.new.cache at none is.owes.others (is.owes.cached sound).settings)

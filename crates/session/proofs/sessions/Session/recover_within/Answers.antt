@@ -43,6 +43,7 @@ returns-in_err-writer-clause-owes g c =
     record {
       attempts = attempts_through g.H.Sum.sum_of c.args.cache.now.page_size (g.B.Blob.life c.args.blob.now) (g.B.Blob.life c.recover_within.new.blob) (g.met.B.Blob.readable_is_image c.args.blob.now) is.floors is.only;
       fresh = is.fresh;
+      others = is.others;
     }
 
 pub returns-clause-goes : goal.returns-clause-goes
@@ -70,4 +71,5 @@ returns-clause-owes g c =
     record {
       attempts = attempts_through g.H.Sum.sum_of c.args.cache.now.page_size (g.B.Blob.life c.args.blob.now) (g.B.Blob.life c.recover_within.new.blob) (g.met.B.Blob.readable_is_image c.args.blob.now) is.floors is.only;
       fresh = is.fresh;
+      others = is.others;
     }

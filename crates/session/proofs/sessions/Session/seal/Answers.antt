@@ -31,7 +31,7 @@ pub returns-after-started-clause-tails : goal.returns-after-started-clause-tails
 returns-after-started-clause-tails g c =
     let at : c.args.self.now.writer ≡ Some c.in-Some.writer = search rules in
     let none : c.match-started.self.writer ≡ None = search rules in
-    leaves_gone g.H.Sum.sum_of c.args.self.now.writer c.match-started.self.writer c.in-Some.writer c.args.cache.now c.seal.new.cache (g.B.Blob.life c.args.blob.now) (g.B.Blob.life c.seal.new.blob) at none c.in-Ok.ensures.owes.tails c.in-Ok.ensures.owes.replays
+    leaves_gone g.H.Sum.sum_of c.args.self.now.writer c.match-started.self.writer c.in-Some.writer c.args.cache.now c.seal.new.cache (g.B.Blob.life c.args.blob.now) (g.B.Blob.life c.seal.new.blob) at none c.in-Ok.ensures.owes.tails c.in-Ok.ensures.owes.replays c.in-Ok.ensures.owes.others c.in-Ok.ensures.owes.cached.settings
 
 pub returns-in-Err-clause-tails : goal.returns-in-Err-clause-tails
 returns-in-Err-clause-tails g c =
@@ -41,4 +41,4 @@ returns-in-Err-clause-tails g c =
     let at : c.args.self.now.writer ≡ Some c.in-Some.writer = search rules in
     let none : c.take.new.self ≡ None = search rules in
     subst (λ (o : Option WriterState). LeavesTaken g.H.Sum.sum_of c.args.self.now.writer o c.args.cache.now c.seal.new.cache old new) (sym (in_appending inside.0.1.0 inside.0.1.1.0 c.take.new.self (search rules)))
-    (leaves_gone g.H.Sum.sum_of c.args.self.now.writer c.take.new.self c.in-Some.writer c.args.cache.now c.seal.new.cache old new at none c.in-Err.ensures.owes.tails c.in-Err.ensures.owes.replays)
+    (leaves_gone g.H.Sum.sum_of c.args.self.now.writer c.take.new.self c.in-Some.writer c.args.cache.now c.seal.new.cache old new at none c.in-Err.ensures.owes.tails c.in-Err.ensures.owes.replays c.in-Err.ensures.owes.others c.in-Err.ensures.owes.cached.settings)

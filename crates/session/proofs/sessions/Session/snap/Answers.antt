@@ -11,6 +11,7 @@ use Rattle.paged_read.proofs.Outliving.{look_leaves_writers}
 use Rattle.session.specs.declared.steps.Reply.TheVariants.{Bytes, Fault}
 use Rattle.session.proofs.Below.{at_offset, of_each}
 use Rattle.session.proofs.Numbered.{stands_at}
+use Rattle.session.proofs.OtherLaws.{snap_others}
 use Rattle.session.proofs.SizeLaws.{read_says, read_fails, room_refused}
 use Rattle.session.proofs.sessions.Session.snap.Goals as goal
 
@@ -90,3 +91,17 @@ returns-in-Err-read_into-clause-replays g c = c.in-Err-read_into.ensures.leaves.
 
 pub returns-in-Err-read_into-clause-can_read : goal.returns-in-Err-read_into-clause-can_read
 returns-in-Err-read_into-clause-can_read g c = c.in-Err-read_into.ensures.leaves.can_read
+
+pub returns-in-Ok-read_into-clause-others : goal.returns-in-Ok-read_into-clause-others
+returns-in-Ok-read_into-clause-others g c =
+    let at = at_offset c.deref.result.now c.args.self.now.snapshots c.args.index c.in-Some-Some.field-0.now (c.deref.ensures.value ∙ ap (λ (s : SessionState). s.snapshots) c.self.view_is) c.in-Some-Some.ensures.lookup.0 c.in-Some-Some.ensures.lookup.1
+    ∙ ap Some c.in-Some-Some.field-0-is in
+    let is = c.in-Ok-read_into.ensures in
+    snap_others c.args.self.now c.args.index c.in-Some-Some.snapshot c.args.cache.now c.read_into.new.cache at is.leaves.others is.leaves.cached.settings
+
+pub returns-in-Err-read_into-clause-others : goal.returns-in-Err-read_into-clause-others
+returns-in-Err-read_into-clause-others g c =
+    let at = at_offset c.deref.result.now c.args.self.now.snapshots c.args.index c.in-Some-Some.field-0.now (c.deref.ensures.value ∙ ap (λ (s : SessionState). s.snapshots) c.self.view_is) c.in-Some-Some.ensures.lookup.0 c.in-Some-Some.ensures.lookup.1
+    ∙ ap Some c.in-Some-Some.field-0-is in
+    let is = c.in-Err-read_into.ensures in
+    snap_others c.args.self.now c.args.index c.in-Some-Some.snapshot c.args.cache.now c.read_into.new.cache at is.leaves.others is.leaves.cached.settings

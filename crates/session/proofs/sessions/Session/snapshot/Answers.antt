@@ -34,7 +34,7 @@ returns-in-Ok-clause-tails g c =
     let inside = c.self-inside.inside in
     let at : c.args.self.now.writer ≡ Some c.in-Some.writer = search rules in
     subst (λ (o : Option WriterState). LeavesTaken g.H.Sum.sum_of c.args.self.now.writer o c.args.cache.now c.snapshot.new.cache old new) (sym (in_appending inside.0.1.0 inside.0.1.1.0 (Some c.in-Ok.writer) (search rules)))
-    (leaves_on g.H.Sum.sum_of c.args.self.now.writer c.in-Some.writer c.in-Ok.writer c.args.cache.now c.snapshot.new.cache old new at c.in-Ok.ensures.goes.holds.same c.in-Ok.ensures.owes.tails c.in-Ok.ensures.owes.replays)
+    (leaves_on g.H.Sum.sum_of c.args.self.now.writer c.in-Some.writer c.in-Ok.writer c.args.cache.now c.snapshot.new.cache old new at c.in-Ok.ensures.goes.holds.same c.in-Ok.ensures.owes.tails c.in-Ok.ensures.owes.replays c.in-Ok.ensures.owes.others c.in-Ok.ensures.owes.cached.settings)
 
 pub returns-in-Err-clause-tails : goal.returns-in-Err-clause-tails
 returns-in-Err-clause-tails g c =
@@ -44,4 +44,4 @@ returns-in-Err-clause-tails g c =
     let at : c.args.self.now.writer ≡ Some c.in-Some.writer = search rules in
     let none : c.take.new.self ≡ None = search rules in
     subst (λ (o : Option WriterState). LeavesTaken g.H.Sum.sum_of c.args.self.now.writer o c.args.cache.now c.snapshot.new.cache old new) (sym (in_appending inside.0.1.0 inside.0.1.1.0 c.take.new.self (search rules)))
-    (leaves_gone g.H.Sum.sum_of c.args.self.now.writer c.take.new.self c.in-Some.writer c.args.cache.now c.snapshot.new.cache old new at none c.in-Err.ensures.owes.tails c.in-Err.ensures.owes.replays)
+    (leaves_gone g.H.Sum.sum_of c.args.self.now.writer c.take.new.self c.in-Some.writer c.args.cache.now c.snapshot.new.cache old new at none c.in-Err.ensures.owes.tails c.in-Err.ensures.owes.replays c.in-Err.ensures.owes.others c.in-Err.ensures.owes.cached.settings)

@@ -1,4 +1,7 @@
+use Rattle.std.proofs.Common.{ap, refl}
+use Rattle.session.specs.Run.{SessionState}
 use Rattle.session.proofs.DropLaws.{drop_replay_takes, drop_snapshot_takes}
+use Rattle.session.proofs.OtherLaws.{begin_others, drop_others, others_idle, others_kept, seal_others, snapshot_others, try_snapshot_others}
 use Rattle.session.proofs.ReplayLaws.{all_can_go_on, ensure_takes, replay_takes, seek_takes, take_takes}
 use Rattle.session.proofs.SnapshotLaws.{snapshot_takes, try_snapshot_takes, seal_takes, snap_takes}
 use Rattle.session.proofs.WholeLaws.{begin_takes, cut_takes, name_takes, writer_takes}
@@ -79,7 +82,7 @@ returns-in_default g c =
     let is = c.step_writer.ensures in
     let takes =
     writer_takes g.H.Sum.sum_of c.args.step.now c.args.self.now c.step_writer.new.self c.args.cache.now c.step_writer.new.cache (g.B.Blob.life c.args.blob.now) (g.B.Blob.life c.step_writer.new.blob) c.step_writer.result c.requires.ready c.requires.cached is.goes is.rest is.cached is.tails in
-    record { goes = takes.0; cached = takes.1; fresh_ids = is.fresh_ids }
+    record { goes = takes.0; cached = takes.1; fresh_ids = is.fresh_ids; others = others_kept c.args.self.now c.step_writer.new.self c.args.cache.now c.step_writer.new.cache (ap (λ (s : SessionState). s.snapshots) is.rest) is.tails.others }
 
 pub returns-in-Replay-clause-goes : goal.returns-in-Replay-clause-goes
 returns-in-Replay-clause-goes g c =
@@ -143,3 +146,42 @@ returns-in-DropSnapshot-clause-cached g c =
 
 pub ensure-requires : goal.ensure-requires
 ensure-requires g c = record { can = all_can_go_on g.H.Sum.sum_of c.args.self.now (g.B.Blob.life c.args.blob.now).present c.requires.ready }
+
+pub returns-in-WaitSync-clause-others : goal.returns-in-WaitSync-clause-others
+returns-in-WaitSync-clause-others g c = others_idle c.args.self.now c.args.self.now c.args.cache.now refl refl
+
+pub returns-in-Begin-clause-others : goal.returns-in-Begin-clause-others
+returns-in-Begin-clause-others g c = begin_others c.args.self.now c.begin.new.self c.args.cache.now c.begin.result c.begin.ensures.goes
+
+pub returns-in-Truncate-clause-others : goal.returns-in-Truncate-clause-others
+returns-in-Truncate-clause-others g c = others_kept c.args.self.now c.truncate.new.self c.args.cache.now c.truncate.new.cache (ap (λ (s : SessionState). s.snapshots) c.truncate.ensures.rest) c.truncate.ensures.others
+
+pub returns-in-Snapshot-clause-others : goal.returns-in-Snapshot-clause-others
+returns-in-Snapshot-clause-others g c = snapshot_others g.H.Sum.sum_of c.args.self.now c.snapshot.new.self c.args.cache.now c.snapshot.new.cache (g.B.Blob.life c.args.blob.now) (g.B.Blob.life c.snapshot.new.blob) c.snapshot.result c.snapshot.ensures.tails.others c.snapshot.ensures.goes
+
+pub returns-in-TrySnapshot-clause-others : goal.returns-in-TrySnapshot-clause-others
+returns-in-TrySnapshot-clause-others g c = try_snapshot_others c.args.self.now c.try_snapshot.new.self c.args.cache.now c.try_snapshot.result c.try_snapshot.ensures
+
+pub returns-in-Snap-clause-others : goal.returns-in-Snap-clause-others
+returns-in-Snap-clause-others g c = c.snap.ensures.others
+
+pub returns-in-Seal-clause-others : goal.returns-in-Seal-clause-others
+returns-in-Seal-clause-others g c = seal_others g.H.Sum.sum_of c.args.self.now c.seal.new.self c.args.cache.now c.seal.new.cache (g.B.Blob.life c.args.blob.now) (g.B.Blob.life c.seal.new.blob) c.seal.result c.seal.ensures.tails.others c.seal.ensures.goes
+
+pub returns-in-DropSnapshot-clause-others : goal.returns-in-DropSnapshot-clause-others
+returns-in-DropSnapshot-clause-others g c = drop_others c.args.self.now c.drop_snapshot.new.self c.args.cache.now c.in-DropSnapshot.index c.drop_snapshot.result c.drop_snapshot.ensures.goes c.drop_snapshot.ensures.rest
+
+pub returns-in-Replay-clause-others : goal.returns-in-Replay-clause-others
+returns-in-Replay-clause-others g c = others_kept c.args.self.now c.replay.new.self c.args.cache.now c.replay.new.cache (ap (λ (s : SessionState). s.snapshots) c.replay.ensures.rest) c.replay.ensures.tails.others
+
+pub returns-in-Ensure-clause-others : goal.returns-in-Ensure-clause-others
+returns-in-Ensure-clause-others g c = others_idle c.args.self.now c.ensure.new.self c.args.cache.now (ap (λ (s : SessionState). s.snapshots) c.ensure.ensures.rest) (ap (λ (s : SessionState). s.writer) c.ensure.ensures.rest)
+
+pub returns-in-Take-clause-others : goal.returns-in-Take-clause-others
+returns-in-Take-clause-others g c = others_idle c.args.self.now c.take.new.self c.args.cache.now (ap (λ (s : SessionState). s.snapshots) c.take.ensures.rest) (ap (λ (s : SessionState). s.writer) c.take.ensures.rest)
+
+pub returns-in-Seek-clause-others : goal.returns-in-Seek-clause-others
+returns-in-Seek-clause-others g c = others_idle c.args.self.now c.seek.new.self c.args.cache.now (ap (λ (s : SessionState). s.snapshots) c.seek.ensures.rest) (ap (λ (s : SessionState). s.writer) c.seek.ensures.rest)
+
+pub returns-in-DropReplay-clause-others : goal.returns-in-DropReplay-clause-others
+returns-in-DropReplay-clause-others g c = others_idle c.args.self.now c.drop_replay.new.self c.args.cache.now (ap (λ (s : SessionState). s.snapshots) c.drop_replay.ensures.rest) (ap (λ (s : SessionState). s.writer) c.drop_replay.ensures.rest)

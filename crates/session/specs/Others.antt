@@ -1,0 +1,32 @@
+-- What the steps of a session leave of the other blobs on its cache.
+use Rattle.std.specs.Prelude.{◌≢◌, ℕ, All, IfSome, Option}
+use Rattle.disk.specs.Disk.{Disk}
+use Rattle.writer_state.specs.WriterState.{WriterState}
+use Rattle.cache.specs.CacheState.{CacheState, SameSettings}
+use Rattle.paged_read.specs.Tail.{Tail, CanRead}
+use Rattle.session.specs.Run.{SessionState}
+
+-- the writer, if there is one, is not of the blob of this id
+abbrev pub IsNotOf : (id : ℕ) → Option WriterState → Type 0
+IsNotOf id writer = IfSome writer (λ w. id ≢ w.id)
+
+-- what a call of a session's writer leaves of other blobs: what can be read of one can be read on,
+-- and the writer after the call is of none of them; the cache keeps its settings
+pub record WriterLeavesOthers (was now : Option WriterState) (cache after : CacheState)
+    : Type 0 where
+  pub reads : (t : Tail) (d : Disk) → IsNotOf t.id was → CanRead t cache d → CanRead t after d
+  pub apart : (id : ℕ) → IsNotOf id was → IsNotOf id now
+  pub settings : SameSettings cache after
+
+-- the blob of this id is another one: neither the session's writer nor one of its snapshots is of
+-- it. A replay doesn't use the cache.
+pub record IsOther (session : SessionState) (id : ℕ) : Type 0 where
+  pub writer : IsNotOf id session.writer
+  pub snapshots : All (λ o. IfSome o (λ t. id ≢ t.id)) session.snapshots
+
+-- what the steps of a session leave of other blobs: what can be read of one, over whatever disk,
+-- can be read on, and it is still another one; the cache keeps its settings
+pub record LeavesOtherBlobs (was now : SessionState) (cache after : CacheState) : Type 0 where
+  pub reads : (t : Tail) (d : Disk) → IsOther was t.id → CanRead t cache d → CanRead t after d
+  pub apart : (id : ℕ) → IsOther was id → IsOther now id
+  pub settings : SameSettings cache after
