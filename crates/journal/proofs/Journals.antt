@@ -521,6 +521,12 @@ recovery_goes sum own cache after capacity old mid new w now found recovers id a
       all = subst (λ (l : List ℕ). CommitsAll sum own P l new.present) (sym holds) (commits_all sum own P whole new.present kept);
     }
 
+-- one of the blob that was refused
+pub recovery_unbegun : (sum own : List ℕ → ℕ) (cache after : CacheState) (capacity : ℕ) (old new : Life) (e : Error) (result : Result (WriterState × Vec (List ℕ) Global) Error) → IsErrAnd result (λ x. x ≡ e) → Recovers sum cache capacity old new (Err e)
+    → RecoversJournal sum own cache after capacity old new result
+recovery_unbegun sum own cache after capacity old new e (Ok r) is recovers = absurd is
+recovery_unbegun sum own cache after capacity old new e (Err x) is recovers = inl (subst (λ (y : Error). Recovers sum cache capacity old new (Err y)) (sym is) recovers)
+
 -- one whose content wasn't trimmed
 pub recovery_refused : (sum own : List ℕ → ℕ) (cache after : CacheState) (capacity : ℕ) (old mid new : Life) (w : WriterState) (e : Error) (result : Result (WriterState × Vec (List ℕ) Global) Error) → IsErrAnd result (λ x. x ≡ e)
     → Recovers sum cache capacity old mid (Ok w) → Trims sum own w after mid new (Err e) → RecoversJournal sum own cache after capacity old new result

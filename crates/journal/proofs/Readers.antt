@@ -7,12 +7,13 @@ use Rattle.disk.specs.Disk.{Disk, Life, IsImage}
 use Rattle.disk.specs.declared.error.Error.{Error}
 use Rattle.disk.specs.declared.error.Error.TheVariants.{ReadFailed, WriteFailed, ResizeFailed, SyncFailed, InvalidChecksum, BlobInsufficientLength, OffsetOverflow, OutOfMemory, IdsExhausted}
 use Rattle.cache.specs.CacheState.{CacheState}
+use Rattle.cache.specs.Pages.{IsFresh}
 use Rattle.crash.specs.Guard.{IsChanceFree}
 use Rattle.crash.proofs.DistinctLaws.{vouched_alike}
 use Rattle.crash.proofs.Moments.{keeps_alike}
 use Rattle.crash.specs.Kept.{AllKeep, AllOnly}
 use Rattle.crash.specs.Looks.{Looked, SameButLog, looked_start, looked_joins}
-use Rattle.crash.specs.Moments.{through_then}
+use Rattle.crash.specs.Moments.{through_start, through_then}
 use Rattle.writer_state.specs.Sound.{IsSound, content}
 use Rattle.crash.specs.Stays.{KeepsAllFloors, LeavesOnly}
 use Rattle.writer_state.specs.WriterState.{WriterState}
@@ -23,13 +24,20 @@ use Rattle.paged_read.specs.Snapshots.{LeavesAllTails, LeavesOthers, LeavesReads
 use Rattle.paged_read.specs.Tail.{Tail, HasFullPages, told, size_of}
 use Rattle.paged.specs.Caches.{tail_of}
 use Rattle.paged.specs.Goes.{SnapshotGoes}
+use Rattle.paged.specs.Owes.{Owes, owed_floors, owed_only}
 use Rattle.paged.specs.Ready.{IsReady}
+use Rattle.paged.specs.RecoveryCalls.{OwesRecovering}
+use Rattle.paged.specs.Truncate.{KeepsFloorsWithin}
+use Rattle.page.specs.Page.{text}
+use Rattle.std.specs.Prelude.{Vec}
+use Rattle.std.specs.declared.alloc.Global.{Global}
+use Rattle.journal.specs.Calls.{CallLeaves, CrashGoes, CrashLeaves, ReadLeaves, ReaderLeaves, RecoverGoes, RecoveryLeaves}
 use Rattle.journal.specs.declared.frame.Found.{Found}
-use Rattle.journal.specs.Frame.{IsWhole, listed, records}
-use Rattle.journal.specs.Journal.{IsBetweenCalls, IsFound, OnlyReads, ReadRefused}
+use Rattle.journal.specs.Frame.{IsPrefix, IsWhole, listed, records, whole_frames}
+use Rattle.journal.specs.Journal.{BringsBack, Commits, HasRecovered, RecoversJournal, IsBetweenCalls, IsFound, IsJournal, OnlyReads, ReadRefused, records_in}
 use Rattle.journal.specs.Reader.{ReaderState, AllReadersStay, EachReaderStays, FindsNext, IsNewToReaders, IsNext, IsOpen, HasReader, IsReader, JournalsStay, LeavesTheirRecords, OnlyLooks, OnlyViews, OtherReadersStay, ReadersStay, read_over}
 use Rattle.journal.proofs.Frames.{records-none}
-use Rattle.journal.proofs.Journals.{between_of, held_on, is_journal, leaves_records, prefix_of_itself, refused_later, whole_of}
+use Rattle.journal.proofs.Journals.{all_stay, brings_back, commits_through, new_id, recovered_keeps, recovered_leaves, recovery_stays, trim_commits, between_of, held_on, is_journal, keeps_committed, leaves_records, leaves_still, others_stay, prefix_of_itself, refused_later, whole_of}
 
 -- what a reader stands on
 pub opened_by : (sum : List ℕ → ℕ) (r : ReaderState) (cache : CacheState) (life : Life) → IsReader sum r cache life → IsOpen sum r.tail cache life
@@ -98,6 +106,72 @@ new_to_readers id cache is = λ sum r life reader same. omega (arith, is, same, 
 pub each_reader_still : (id : ℕ) (cache mid after : CacheState) → id ≡ cache.ids_given → EachReaderStays cache mid → OtherReadersStay id mid after → EachReaderStays cache after
 each_reader_still id cache mid after is first second = λ sum r life reader.
     second sum r life (new_to_readers id cache is sum r life reader) (first sum r life reader)
+
+-- ---- recovery
+
+-- what a recovery of the blob owes leaves
+pub owed_recovery : (sum own : List ℕ → ℕ) (cache after : CacheState) (old new : Life) → IsFresh cache → OwesRecovering sum cache.page_size cache after old new → RecoveryLeaves sum own cache after old new
+owed_recovery sum own cache after old new fresh owes =
+    let P = cache.page_size in
+    let T = text sum P old.present.readable in
+    let itself = prefix_of_itself (records own T) in
+    record {
+      fresh = owes.fresh fresh;
+      others = recovery_stays cache after owes.others owes.fresh;
+      readers = each_reader_stays cache after owes.others;
+      kept = keeps_committed sum own P old new owes.floors;
+      all = λ durable. commits_through sum own P T old new (owes.kept durable);
+      only = λ durable. leaves_records sum own P T T (records own T) old new itself itself (owes.only durable);
+    }
+
+-- and what the trim after it does
+pub trim_leaves_all : (sum own : List ℕ → ℕ) (cache between after : CacheState) (old mid new : Life) (w : WriterState) → IsFresh cache → IsImage old.present old.present.readable → OwesRecovering sum cache.page_size cache between old mid
+    → w.id ≡ cache.ids_given → w.page_size ≡ cache.page_size → content w mid.present.readable ≡ text sum cache.page_size old.present.readable → IsFresh after → LeavesOthers w.id between after
+    → KeepsFloorsWithin (length (whole_frames (text sum cache.page_size old.present.readable))) sum cache.page_size mid new → LeavesOnly sum w.page_size (content w mid.present.readable) (whole_frames (content w mid.present.readable)) mid new
+    → RecoveryLeaves sum own cache after old new
+trim_leaves_all sum own cache between after old mid new w fresh is_image owes id size holds fresh_after others keeps only =
+    let P = cache.page_size in
+    let T = text sum P old.present.readable in
+    record {
+      fresh = fresh_after;
+      others = all_stay w.id cache between after id (recovery_stays cache between owes.others owes.fresh) (others_stay w.id between after others (λ was. fresh_after));
+      readers = each_reader_still w.id cache between after id (each_reader_stays cache between owes.others) (other_readers_stay w.id between after others);
+      kept = trim_commits sum own P T old mid new is_image refl owes.floors keeps;
+      all = λ durable. recovered_keeps sum own P T old mid new (owes.kept durable) keeps;
+      only = λ durable. recovered_leaves sum own P T old mid new w size holds (owes.only durable) only;
+    }
+
+-- a recovery, by its answer
+pub recovers_so : (sum own : List ℕ → ℕ) (cache after : CacheState) (capacity : ℕ) (old new : Life) (w : WriterState) (found : Vec (List ℕ) Global) → IsImage old.present old.present.readable → HasRecovered sum own cache after old new w found.items
+    → RecoverGoes sum own cache after capacity old new (Ok (w, found))
+recovers_so sum own cache after capacity old new w found is_image has =
+    let P = cache.page_size in
+    let d = old.present in
+    record {
+      answers = has;
+      apart = new_id w.id cache has.id;
+      readers_apart = new_to_readers w.id cache has.id;
+      back = subst (λ (rs : List (List ℕ)). BringsBack sum own P d rs) (sym has.given) (brings_back sum own P d d.readable is_image);
+    }
+
+pub recovers_not : (sum own : List ℕ → ℕ) (cache after : CacheState) (capacity : ℕ) (old new : Life) (e : Error) (result : Result (WriterState × Vec (List ℕ) Global) Error) → IsErrAnd result (λ x. x ≡ e) → RecoversJournal sum own cache after capacity old new result
+    → RecoverGoes sum own cache after capacity old new result
+recovers_not sum own cache after capacity old new e (Ok r) is answers = absurd is
+recovers_not sum own cache after capacity old new e (Err x) is answers = record { answers = answers; apart = tt; readers_apart = tt; back = tt }
+
+-- a crash that was refused
+pub crash_refused : (sum own : List ℕ → ℕ) (P : ℕ) (was : Disk) (image : List ℕ) (e : Error) (result : Result (WriterState × Vec (List ℕ) Global) Error) → IsErrAnd result (λ x. x ≡ e) → CrashGoes sum own P was image result
+crash_refused sum own P was image e (Ok r) is = absurd is
+crash_refused sum own P was image e (Err x) is = record { back = tt; only = tt }
+
+-- no crash
+pub nothing_crashed : (sum own : List ℕ → ℕ) (cache : CacheState) (d : Disk) → IsFresh cache → CrashLeaves sum own cache cache d d
+nothing_crashed sum own cache d fresh = record {
+  fresh = fresh;
+  others = λ other v now stays. stays;
+  readers = λ other r now reader. reader;
+  stays = λ content n commits. commits;
+}
 
 -- ---- reads through a view
 
@@ -282,6 +356,70 @@ journals_stay sum t cache after old new looks = λ w journal.
       }) (subst (λ (l : List ℕ). IsWhole l) (sym same) (whole_of sum w cache old journal));
       holds = same;
     }
+
+-- ---- what calls leave
+
+-- a call of the writer that owes so
+pub owed_leaves : (sum own : List ℕ → ℕ) (w : WriterState) (all : List (List ℕ)) (next : List ℕ) (cache after : CacheState) (old new : Life) → IsPrefix (records_in own w old) all → IsPrefix (records own next) all → Owes sum w next cache after old new
+    → CallLeaves sum own w all cache after old new
+owed_leaves sum own w all next cache after old new first second owes =
+    let P = w.page_size in
+    let held = content w old.present.readable in
+    record {
+      fresh = owes.fresh;
+      readers = readers_stay sum w cache after old new owes.tails;
+      others = others_stay w.id cache after owes.others (λ fresh. owes.fresh);
+      their_readers = other_readers_stay w.id cache after owes.others;
+      kept = keeps_committed sum own P old new (owed_floors sum P w.full_pages held next old new owes.through);
+      only = leaves_records sum own P held next all old new first second (owed_only sum P w.full_pages held next old new owes.through);
+    }
+
+-- one that appends nothing
+pub owed_same : (sum own : List ℕ → ℕ) (w : WriterState) (cache after : CacheState) (old new : Life) → Owes sum w (content w old.present.readable) cache after old new → CallLeaves sum own w (records_in own w old) cache after old new
+owed_same sum own w cache after old new owes =
+    let itself = prefix_of_itself (records_in own w old) in
+    owed_leaves sum own w (records_in own w old) (content w old.present.readable) cache after old new itself itself owes
+
+-- no call
+pub nothing_leaves : (sum own : List ℕ → ℕ) (w : WriterState) (all : List (List ℕ)) (cache : CacheState) (life : Life) → IsJournal sum w cache life → IsPrefix (records_in own w life) all → CallLeaves sum own w all cache cache life life
+nothing_leaves sum own w all cache life journal first = record {
+  fresh = (between_of sum w cache life journal).ready.fresh;
+  readers = λ r below reader. record { reader = reader; holds = refl };
+  others = λ other v now apart stays. stays;
+  their_readers = λ other r now apart reader. reader;
+  kept = λ held n commits. through_start (Commits sum own w.page_size held n) life commits;
+  only = leaves_still sum own w all life (between_of sum w cache life journal).only first;
+}
+
+-- reads through the journal's writer
+pub reads_leave : (sum own : List ℕ → ℕ) (w : WriterState) (cache after : CacheState) (old new : Life) → OnlyReads sum w cache after old new → ReadLeaves sum own w cache after old new
+reads_leave sum own w cache after old new reads =
+    let held = content w old.present.readable in
+    let itself = prefix_of_itself (records own held) in
+    record {
+      looked = reads.looked;
+      call = record {
+        fresh = reads.between.ready.fresh;
+        readers = readers_stay sum w cache after old new reads.tails;
+        others = others_stay w.id cache after reads.others (λ fresh. reads.between.ready.fresh);
+        their_readers = other_readers_stay w.id cache after reads.others;
+        kept = keeps_committed sum own w.page_size old new reads.kept;
+        only = leaves_records sum own w.page_size held held (records own held) old new itself itself reads.only;
+      };
+    }
+
+-- and a reader's
+pub looks_leave : (sum own : List ℕ → ℕ) (r : ReaderState) (cache after : CacheState) (old new : Life) → OnlyLooks sum r.tail cache after old new → ReaderLeaves sum own r cache after old new
+looks_leave sum own r cache after old new looks = record {
+  looked = looks.looked;
+  fresh = looks.fresh;
+  journals = journals_stay sum r.tail cache after old new looks;
+  readers = all_readers_stay sum cache after old new looks.tails;
+  others = others_stay r.tail.id cache after looks.others looks.fresh;
+  their_readers = other_readers_stay r.tail.id cache after looks.others;
+  kept = keeps_committed sum own r.tail.page_size old new (looked_keeps sum r.tail.page_size old new looks.looked);
+  only = looked_records sum own cache old new looks.looked;
+}
 
 -- ---- the next record
 

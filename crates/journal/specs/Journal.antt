@@ -79,6 +79,10 @@ pub record OnlyReads (sum : List ℕ → ℕ) (w : WriterState) (cache after : C
   pub kept : KeepsAllFloors sum w.page_size old new
   pub only : LeavesContent sum w.page_size (content w old.present.readable) old new
 
+-- the records that a journal has
+abbrev pub records_in : (own : List ℕ → ℕ) → WriterState → Life → List (List ℕ)
+records_in own w life = records own (content w life.present.readable)
+
 -- the content's first n records are committed: they stand in so many of its bytes as every image
 -- keeps
 pub record Commits (sum own : List ℕ → ℕ) (P : ℕ) (content : List ℕ) (n : ℕ) (d : Disk)
@@ -113,13 +117,7 @@ LeavesRecords sum own P all old new = Through (OnlyRecords sum own P all) old ne
 -- the first of those that a journal had as the call began
 abbrev pub LeavesItsRecords : (sum own : List ℕ → ℕ) → WriterState → Life → Life → Type 0
 LeavesItsRecords sum own w old new =
-    LeavesRecords sum own w.page_size (records own (content w old.present.readable)) old new
-
--- and of its records with one after them
-abbrev pub LeavesOneMore : (sum own : List ℕ → ℕ) → WriterState → List ℕ → Life → Life → Type 0
-LeavesOneMore sum own w bytes old new =
-    let all = records own (content w old.present.readable) in
-    LeavesRecords sum own w.page_size (all ++ bytes ∷ []) old new
+    LeavesRecords sum own w.page_size (records_in own w old) old new
 
 -- a record was appended: at this offset, after the records that there were
 pub record IsAppended (sum own : List ℕ → ℕ) (w : WriterState) (bytes : List ℕ)

@@ -1,4 +1,5 @@
 pub mod Frame
 pub mod Journal
 pub mod Reader
+pub mod Calls
 pub mod Walk

@@ -1,11 +1,10 @@
 // Journals whose blob crashed.
-ghost use Rattle.std.specs.Prelude.{◌≡◌, IfOk};
+ghost use Rattle.std.specs.Prelude.{IfOk};
 ghost use Rattle.disk.specs.History.{life_of};
 ghost use Rattle.disk.specs.Torn.{torn};
 ghost use Rattle.cache.specs.Pages.{IsFresh};
-ghost use Rattle.journal.specs.Journal.{IsJournal, AllStay};
-ghost use Rattle.journal.specs.Journal.{BringsBack, BringsOnly, StaysCommitted};
-ghost use Rattle.journal.specs.Reader.{EachReaderStays};
+ghost use Rattle.journal.specs.Journal.{IsJournal};
+ghost use Rattle.journal.specs.Calls.{CrashGoes, CrashLeaves};
 
 use crate::journal::Journal;
 use cache::CacheRef;
@@ -31,17 +30,12 @@ pub fn crash_and_recover<H: Sum, R: Sum>(
     buffer_size: NonZeroUsize,
 ) -> Result<(Journal<MemBlob, H, R>, Vec<IoBuf>), Error>
     requires fresh { IsFresh cache.old }
-    ensures journal { IfOk result (λ r. IsJournal H.sum_of r.0 cache.new (life_of blob.new)) }
-    ensures fresh { IsFresh cache.new }
-    ensures others { AllStay cache.old cache.new }
-    ensures their_readers { EachReaderStays cache.old cache.new }
-    ensures stays { let was = (life_of blob.old).present in let is = (life_of blob.new).present in
-        StaysCommitted H.sum_of R.sum_of cache.old.page_size was is }
-    ensures kept { let was = (life_of blob.old).present in
-        IfOk result (λ r. BringsBack H.sum_of R.sum_of cache.old.page_size was r.1.items) }
-    ensures only { let was = (life_of blob.old).present in
+    ensures goes { let was = (life_of blob.old).present in
         let image = torn keep.now was.since was.base in
-        IfOk result (λ r. BringsOnly H.sum_of R.sum_of cache.old.page_size was image r.1.items) }
+        CrashGoes H.sum_of R.sum_of cache.old.page_size was image result }
+    ensures ready { IfOk result (λ r. IsJournal H.sum_of r.0 cache.new (life_of blob.new)) }
+    ensures leaves { let was = (life_of blob.old).present in let is = (life_of blob.new).present in
+        CrashLeaves H.sum_of R.sum_of cache.old cache.new was is }
 {
     blob.crash(keep)?;
     let size = blob.len();

@@ -1,8 +1,6 @@
 // Journals: records over a paged blob.
-ghost use Rattle.std.specs.Prelude.{◌≡◌, ◌≤◌, ◌++◌, length};
-ghost use Rattle.std.specs.Prelude.{IfOk};
+ghost use Rattle.std.specs.Prelude.{◌≡◌, ◌≤◌, ◌++◌, ◌∷◌, [], length, IfOk};
 ghost use Rattle.cache.specs.Pages.{IsFresh};
-ghost use Rattle.crash.specs.Looks.{Looked};
 ghost use Rattle.writer_state.specs.Sound.{content};
 ghost use Rattle.crash.specs.Stays.{LeavesOnly};
 ghost use Rattle.paged.specs.Calls.{BuffersOver, TryAppends};
@@ -14,14 +12,10 @@ ghost use Rattle.paged.specs.Truncate.{KeepsFloorsWithin};
 ghost use Rattle.journal.specs.Frame.{frame, whole_frames};
 ghost use Rattle.paged.specs.Caches.{KeepsReads};
 ghost use Rattle.paged_read.specs.Snapshots.{LeavesOthers};
-ghost use Rattle.journal.specs.Journal.{IsJournal, IsNewId, OthersStay, AllStay};
-ghost use Rattle.journal.specs.Journal.{AppendsRecord, CommitGoes};
-ghost use Rattle.journal.specs.Journal.{ReadsRecord, Trims};
-ghost use Rattle.journal.specs.Journal.{RecoversJournal, IsBetweenCalls, OnlyReads, KeepsCommitted};
-ghost use Rattle.journal.specs.Journal.{LeavesItsRecords, LeavesOneMore, KeepsAllRecords};
-ghost use Rattle.journal.specs.Journal.{LeavesAllRecords, BringsBack};
-ghost use Rattle.journal.specs.Reader.{EachReaderStays, IsNewToReaders, IsReader, MakesReader};
-ghost use Rattle.journal.specs.Reader.{OtherReadersStay, ReadersStay};
+ghost use Rattle.journal.specs.Journal.{AppendsRecord, CommitGoes, ReadsRecord, Trims};
+ghost use Rattle.journal.specs.Journal.{IsBetweenCalls, IsJournal, OnlyReads, records_in};
+ghost use Rattle.journal.specs.Reader.{IsReader, MakesReader};
+ghost use Rattle.journal.specs.Calls.{CallLeaves, ReadLeaves, RecoverGoes, RecoveryLeaves};
 
 use crate::frame::{Found, Framed, frame_of};
 use crate::lookup::frame_at;
@@ -123,22 +117,12 @@ impl<B: Blob, H: Sum, R: Sum> Journal<B, H, R> {
     ) -> Result<(Self, u64), Error>
         requires journal { IsJournal H.sum_of self cache.old (B.life blob.old) }
         requires short { length bytes.now ≤ 65535 }
-        ensures appends { let old = B.life blob.old in let new = B.life blob.new in
+        ensures goes { let old = B.life blob.old in let new = B.life blob.new in
             AppendsRecord H.sum_of R.sum_of self bytes.now cache.new old new result }
-        ensures journal { IfOk result (λ r. IsJournal H.sum_of r.0 cache.new (B.life blob.new)) }
-        ensures fresh { IsFresh cache.new }
-
-        // The blob's readers go on, and the journals and readers of other blobs.
-        ensures readers { let old = B.life blob.old in let new = B.life blob.new in
-            ReadersStay H.sum_of self cache.old cache.new old new }
-        ensures others { OthersStay self.id cache.old cache.new }
-        ensures their_readers { OtherReadersStay self.id cache.old cache.new }
-
-        // At each moment since the call began, and at every answer.
-        ensures kept { let old = B.life blob.old in let new = B.life blob.new in
-            KeepsCommitted H.sum_of R.sum_of self.page_size old new }
-        ensures only { let old = B.life blob.old in let new = B.life blob.new in
-            LeavesOneMore H.sum_of R.sum_of self bytes.now old new }
+        ensures ready { IfOk result (λ r. IsJournal H.sum_of r.0 cache.new (B.life blob.new)) }
+        ensures leaves { let old = B.life blob.old in let new = B.life blob.new in
+            let all = records_in R.sum_of self old ++ bytes.now ∷ [] in
+            CallLeaves H.sum_of R.sum_of self all cache.old cache.new old new }
     {
         let mut journal = self;
         if let Some(offset) = journal.try_append(bytes)? {
@@ -181,21 +165,12 @@ impl<B: Blob, H: Sum, R: Sum> Journal<B, H, R> {
     /// then.
     pub fn commit(self, blob: &mut B, cache: &mut CacheRef) -> Result<Self, Error>
         requires journal { IsJournal H.sum_of self cache.old (B.life blob.old) }
-        ensures commits { let old = B.life blob.old in let new = B.life blob.new in
+        ensures goes { let old = B.life blob.old in let new = B.life blob.new in
             CommitGoes H.sum_of R.sum_of self cache.new old new result }
-        ensures journal { IfOk result (λ j. IsJournal H.sum_of j cache.new (B.life blob.new)) }
-        ensures fresh { IsFresh cache.new }
-
-        // The blob's readers go on, and the journals and readers of other blobs.
-        ensures readers { let old = B.life blob.old in let new = B.life blob.new in
-            ReadersStay H.sum_of self cache.old cache.new old new }
-        ensures others { OthersStay self.id cache.old cache.new }
-        ensures their_readers { OtherReadersStay self.id cache.old cache.new }
-
-        // At each moment since the call began, and at every answer.
-        ensures kept { let old = B.life blob.old in let new = B.life blob.new in
-            KeepsCommitted H.sum_of R.sum_of self.page_size old new }
-        ensures only { LeavesItsRecords H.sum_of R.sum_of self (B.life blob.old) (B.life blob.new) }
+        ensures ready { IfOk result (λ j. IsJournal H.sum_of j cache.new (B.life blob.new)) }
+        ensures leaves { let old = B.life blob.old in let new = B.life blob.new in
+            let all = records_in R.sum_of self old in
+            CallLeaves H.sum_of R.sum_of self all cache.old cache.new old new }
     {
         self.sync(blob, cache)
     }
@@ -225,22 +200,13 @@ impl<B: Blob, H: Sum, R: Sum> Journal<B, H, R> {
         cache: &mut CacheRef,
     ) -> Result<(Self, Reader<B, H, R>), Error>
         requires journal { IsJournal H.sum_of self cache.old (B.life blob.old) }
-        ensures makes { let old = B.life blob.old in let new = B.life blob.new in
+        ensures goes { let old = B.life blob.old in let new = B.life blob.new in
             MakesReader H.sum_of R.sum_of self cache.new old new result }
-        ensures journal { IfOk result (λ r. IsJournal H.sum_of r.0 cache.new (B.life blob.new)) }
-        ensures reader { IfOk result (λ r. IsReader H.sum_of r.1 cache.new (B.life blob.new)) }
-        ensures fresh { IsFresh cache.new }
-
-        // The blob's readers go on, and the journals and readers of other blobs.
-        ensures readers { let old = B.life blob.old in let new = B.life blob.new in
-            ReadersStay H.sum_of self cache.old cache.new old new }
-        ensures others { OthersStay self.id cache.old cache.new }
-        ensures their_readers { OtherReadersStay self.id cache.old cache.new }
-
-        // At each moment since the call began, and at every answer.
-        ensures kept { let old = B.life blob.old in let new = B.life blob.new in
-            KeepsCommitted H.sum_of R.sum_of self.page_size old new }
-        ensures only { LeavesItsRecords H.sum_of R.sum_of self (B.life blob.old) (B.life blob.new) }
+        ensures ready { let new = B.life blob.new in IfOk result (λ r.
+            IsJournal H.sum_of r.0 cache.new new × IsReader H.sum_of r.1 cache.new new) }
+        ensures leaves { let old = B.life blob.old in let new = B.life blob.new in
+            let all = records_in R.sum_of self old in
+            CallLeaves H.sum_of R.sum_of self all cache.old cache.new old new }
     {
         let (journal, snapshot) = self.snapshot(blob, cache)?;
         let alloc = journal.alloc;
@@ -283,29 +249,11 @@ impl<B: Blob, H: Sum, R: Sum> Journal<B, H, R> {
     ) -> Result<(Self, Vec<IoBuf>), Error>
         requires length { size ≡ length (B.life blob.old).present.readable }
         requires fresh { IsFresh cache.old }
-        ensures recovers { let old = B.life blob.old in let new = B.life blob.new in
-            RecoversJournal H.sum_of R.sum_of cache.old cache.new capacity old new result }
-        ensures journal { IfOk result (λ r. IsJournal H.sum_of r.0 cache.new (B.life blob.new)) }
-        ensures fresh { IsFresh cache.new }
-
-        // The journals and readers of other blobs go on, and the id is none of theirs.
-        ensures others { AllStay cache.old cache.new }
-        ensures their_readers { EachReaderStays cache.old cache.new }
-        ensures apart { IfOk result (λ r. IsNewId r.0.id cache.old) }
-        ensures readers_apart { IfOk result (λ r. IsNewToReaders r.0.id cache.old) }
-
-        ensures back { let was = (B.life blob.old).present in
-            IfOk result (λ r. BringsBack H.sum_of R.sum_of cache.old.page_size was r.1.items) }
-
-        // At each moment since the call began, and at every answer.
-        ensures floors { let old = B.life blob.old in let new = B.life blob.new in
-            KeepsCommitted H.sum_of R.sum_of cache.old.page_size old new }
-
-        // The same, where all was durable.
-        ensures kept { let old = B.life blob.old in let new = B.life blob.new in
-            KeepsAllRecords H.sum_of R.sum_of cache.old.page_size old new }
-        ensures only { let old = B.life blob.old in let new = B.life blob.new in
-            LeavesAllRecords H.sum_of R.sum_of cache.old.page_size old new }
+        ensures goes { let old = B.life blob.old in let new = B.life blob.new in
+            RecoverGoes H.sum_of R.sum_of cache.old cache.new capacity old new result }
+        ensures ready { IfOk result (λ r. IsJournal H.sum_of r.0 cache.new (B.life blob.new)) }
+        ensures leaves { let old = B.life blob.old in let new = B.life blob.new in
+            RecoveryLeaves H.sum_of R.sum_of cache.old cache.new old new }
     {
         let nothing = Hand::new(alloc, cache.page_size());
         let mut kept = Some(nothing);
@@ -347,23 +295,11 @@ impl<B: Blob, H: Sum, R: Sum> Journal<B, H, R> {
         offset: u64,
     ) -> Result<Option<Found>, Error>
         requires journal { IsJournal H.sum_of self.now cache.old (B.life blob.old) }
-        ensures reads { let old = B.life blob.old in let new = B.life blob.new in
+        ensures goes { let old = B.life blob.old in let new = B.life blob.new in
             ReadsRecord R.sum_of (content self.now old.present.readable) offset old new result }
-        ensures looked { Looked (B.life blob.old) (B.life blob.new) }
-        ensures journal { IsJournal H.sum_of self.now cache.new (B.life blob.new) }
-        ensures fresh { IsFresh cache.new }
-
-        // The blob's readers go on, and the journals and readers of other blobs.
-        ensures readers { let old = B.life blob.old in let new = B.life blob.new in
-            ReadersStay H.sum_of self.now cache.old cache.new old new }
-        ensures others { OthersStay self.now.id cache.old cache.new }
-        ensures their_readers { OtherReadersStay self.now.id cache.old cache.new }
-
-        // At each moment since the call began, and at every answer.
-        ensures kept { let old = B.life blob.old in let new = B.life blob.new in
-            KeepsCommitted H.sum_of R.sum_of self.now.page_size old new }
-        ensures only { let old = B.life blob.old in let new = B.life blob.new in
-            LeavesItsRecords H.sum_of R.sum_of self.now old new }
+        ensures ready { IsJournal H.sum_of self.now cache.new (B.life blob.new) }
+        ensures leaves { let old = B.life blob.old in let new = B.life blob.new in
+            ReadLeaves H.sum_of R.sum_of self.now cache.old cache.new old new }
     {
         self.find(blob, cache, offset)
     }

@@ -1,11 +1,9 @@
 // Readers of a journal's records.
 ghost use Rattle.std.specs.Prelude.{◌≡◌};
-ghost use Rattle.cache.specs.Pages.{IsFresh};
-ghost use Rattle.crash.specs.Looks.{Looked};
 ghost use Rattle.paged_read.specs.Tail.{told};
-ghost use Rattle.journal.specs.Journal.{KeepsCommitted, OthersStay, ReadsRecord};
-ghost use Rattle.journal.specs.Reader.{AllReadersStay, FindsNext, IsOpen, IsReader, JournalsStay};
-ghost use Rattle.journal.specs.Reader.{LeavesTheirRecords, OnlyLooks, OtherReadersStay, ReadsNext};
+ghost use Rattle.journal.specs.Journal.{ReadsRecord};
+ghost use Rattle.journal.specs.Reader.{FindsNext, IsOpen, IsReader, OnlyLooks, ReadsNext};
+ghost use Rattle.journal.specs.Calls.{ReaderLeaves};
 
 use crate::frame::Found;
 use crate::lookup::frame_at;
@@ -109,25 +107,11 @@ impl<B: Blob, H: Sum, R: Sum> Reader<B, H, R> {
     /// was, so that the call can be made again.
     pub fn next(&mut self, blob: &mut B, cache: &mut CacheRef) -> Result<Option<IoBuf>, Error>
         requires reader { IsReader H.sum_of self.old cache.old (B.life blob.old) }
-        ensures reads { let old = B.life blob.old in let new = B.life blob.new in
+        ensures goes { let old = B.life blob.old in let new = B.life blob.new in
             ReadsNext R.sum_of self.old self.new old new result }
-        ensures reader { IsReader H.sum_of self.new cache.new (B.life blob.new) }
-        ensures looked { Looked (B.life blob.old) (B.life blob.new) }
-        ensures fresh { IsFresh cache.old → IsFresh cache.new }
-
-        // The blob's journal goes on, and other readers, and the journals and readers of others.
-        ensures journals { let old = B.life blob.old in let new = B.life blob.new in
-            JournalsStay H.sum_of cache.old cache.new old new }
-        ensures readers { let old = B.life blob.old in let new = B.life blob.new in
-            AllReadersStay H.sum_of cache.old cache.new old new }
-        ensures others { OthersStay self.old.tail.id cache.old cache.new }
-        ensures their_readers { OtherReadersStay self.old.tail.id cache.old cache.new }
-
-        // At each moment since the call began, and at every answer.
-        ensures kept { let old = B.life blob.old in let new = B.life blob.new in
-            KeepsCommitted H.sum_of R.sum_of self.old.tail.page_size old new }
-        ensures only { let old = B.life blob.old in let new = B.life blob.new in
-            LeavesTheirRecords H.sum_of R.sum_of cache.old old new }
+        ensures ready { IsReader H.sum_of self.new cache.new (B.life blob.new) }
+        ensures leaves { let old = B.life blob.old in let new = B.life blob.new in
+            ReaderLeaves H.sum_of R.sum_of self.old cache.old cache.new old new }
     {
         let found = find_record::<B, H, R>(self.alloc, &self.snapshot, blob, cache, self.offset)?;
         self.offset = found.end;
