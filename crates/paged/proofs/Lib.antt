@@ -42,8 +42,6 @@ pub mod CachedCuts
 pub mod OpenedReads
 pub mod Serves
 pub mod Snapshotting
-pub mod LaterCalls
-pub mod LaterExamples
 pub mod Scanned
 pub mod ScanExamples
 pub mod Foretelling

@@ -9,7 +9,6 @@ pub mod Mends
 pub mod Recovers
 pub mod Caches
 pub mod Snapshots
-pub mod LaterCalls
 pub mod Replays
 pub mod Scans
 pub mod Outlook
