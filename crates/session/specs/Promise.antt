@@ -289,6 +289,7 @@ pub record CrashGoes (sum : List ℕ → ℕ) (was now : SessionState) (cache af
   pub stands : let P = cache.page_size in
       let s = fresh P (adjusted capacity P) (text sum P left) in
       OnOk result (StandsFor sum P now s (life_of new).present)
+  pub steps : OnOk result (IsReady sum now (life_of new).present)
   -- it begins with the floor that stood as the crash came, and chance aside it is a prefix of what
   -- stood
   pub gives : OnOk result (GivesBackLeft sum cache.page_size (life_of old).present left)

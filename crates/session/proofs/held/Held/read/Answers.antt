@@ -7,7 +7,8 @@ use Rattle.paged_read.specs.Ranges.{Reads}
 use Rattle.paged.specs.Caches.{tail_of}
 use Rattle.session.specs.declared.steps.Reply.TheVariants.{Bytes, Fault}
 use Rattle.session.specs.Calls.{DidRead}
-use Rattle.session.proofs.Below.{leaves_same}
+use Rattle.session.specs.Run.{FitsWriter}
+use Rattle.session.proofs.Below.{can_in, leaves_same}
 use Rattle.session.proofs.SizeLaws.{read_says, room_refused}
 use Rattle.session.proofs.held.Held.read.Goals as goal
 
@@ -44,3 +45,15 @@ pub returns-in-Err-read_into-clause-tails : goal.returns-in-Err-read_into-clause
 returns-in-Err-read_into-clause-tails g c =
     let is = c.in-Err-read_into.ensures in
     leaves_same g.H.Sum.sum_of c.args.self.now c.in-Some.writer c.args.cache.now c.read_into.new.cache (g.B.Blob.life c.args.blob.now) (g.B.Blob.life c.read_into.new.blob) (sym c.self.view_is ∙ c.in-Some.is) (λ t content under stands. is.leaves.tails t content stands) is.leaves.replays is.leaves.others is.leaves.cached.settings
+
+pub returns-in-Ok-read_into-clause-cached : goal.returns-in-Ok-read_into-clause-cached
+returns-in-Ok-read_into-clause-cached g c =
+    let at = sym c.self.view_is ∙ c.in-Some.is in
+    subst (λ (o : Option WriterState). FitsWriter o c.read_into.new.cache (g.B.Blob.life c.read_into.new.blob).present) (sym at)
+    (c.in-Ok-read_into.ensures.leaves.can_read (tail_of c.in-Some.writer) (can_in c.args.self.now c.in-Some.writer c.args.cache.now (g.B.Blob.life c.args.blob.now).present at c.requires.cached))
+
+pub returns-in-Err-read_into-clause-cached : goal.returns-in-Err-read_into-clause-cached
+returns-in-Err-read_into-clause-cached g c =
+    let at = sym c.self.view_is ∙ c.in-Some.is in
+    subst (λ (o : Option WriterState). FitsWriter o c.read_into.new.cache (g.B.Blob.life c.read_into.new.blob).present) (sym at)
+    (c.in-Err-read_into.ensures.leaves.can_read (tail_of c.in-Some.writer) (can_in c.args.self.now c.in-Some.writer c.args.cache.now (g.B.Blob.life c.args.blob.now).present at c.requires.cached))

@@ -9,13 +9,13 @@ pub returns-in_err-crash-clause-goes : goal.returns-in_err-crash-clause-goes
 returns-in_err-crash-clause-goes g c =
     let is = c.in_err-crash.ensures in
     let p = err_from_is_err_and c.from_residual.result c.from_residual.ensures.1 in
-    rw (p.1, p.2) (record { stands = tt; gives = tt; refused = inl (is.err, is.same.0, is.same.1, refl) })
+    rw (p.1, p.2) (record { stands = tt; steps = tt; gives = tt; refused = inl (is.err, is.same.0, is.same.1, refl) })
 
 pub returns-in_err-self-inside-clause-goes : goal.returns-in_err-self-inside-clause-goes
 returns-in_err-self-inside-clause-goes g c =
     let is = c.in_ok-crash.ensures in
     let p = err_from_is_err_and c.from_residual-in_err-self-inside.result c.from_residual-in_err-self-inside.ensures.1 in
-    rw (p.1, p.2) (record { stands = tt; gives = tt; refused = inr (is.closed, (life_of c.crash.new.blob, is.crashed, is.left, c.in_err-self-inside.ensures.goes.begins)) })
+    rw (p.1, p.2) (record { stands = tt; steps = tt; gives = tt; refused = inr (is.closed, (life_of c.crash.new.blob, is.crashed, is.left, c.in_err-self-inside.ensures.goes.begins)) })
 
 pub returns-in_err-self-inside-clause-later : goal.returns-in_err-self-inside-clause-later
 returns-in_err-self-inside-clause-later g c =
@@ -29,6 +29,7 @@ returns-clause-goes g c =
     let begun = c.in_ok-self-inside.ensures.goes.begins in
     record {
       stands = search rules;
+      steps = search rules;
       gives = left_back g.H.Sum.sum_of c.args.cache.now.page_size d (life_of c.crash.new.blob).present (torn c.args.keep.now d.since d.base) c.in_ok-crash.ensures.crashed c.in_ok-crash.ensures.left
           c.in_ok-self-inside.ensures.goes.gives.recovered;
       refused = tt;
