@@ -222,6 +222,13 @@ lacks_ready t pages readable at out room lacks reach below delivers marked long 
       fits = h.fits;
     }
 
+-- there is none where no page is read
+pub no_lacks : (P room : ℕ) (pages : List ℕ) (lacks : List Lack) → pages ≡ [] → All (IsLack P pages room) lacks → lacks ≡ []
+no_lacks P room pages [] none each = refl
+no_lacks P room pages (lack ∷ lacks) none each =
+    let there = slice_get_within pages lack.number lack.piece.page (each 0 lack (omega arith)).page in
+    absurd (omega (arith, there, ap length none))
+
 -- and has the content's bytes
 pub lacks_told : (t : Tail) (pages readable at : List ℕ) (out : List (ℕ × List ℕ)) (room : ℕ) (lacks : List Lack) → t.full_pages * (t.page_size + 12) ≤ length readable → All (λ page. page < t.full_pages) pages → Delivers (page_ranges t.page_size pages) readable out
     → AreMarked at out (length out) → All (IsLack t.page_size pages room) lacks → All (IsTold t.page_size (told t readable) at out) lacks

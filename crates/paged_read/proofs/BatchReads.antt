@@ -1,5 +1,5 @@
 -- Pages that are read together.
-use Rattle.std.proofs.Common.{◌≡◌, inl, inr, ℕ, suc, ◌+◌, ◌*◌, ◌<◌, ◌≤◌, List, [], ◌∷◌, ◌++◌, length, take, map, get_or, refl, sym, ap, ◌∙◌, subst, arith, Bool, true, false, Ok, Err, Result}
+use Rattle.std.proofs.Common.{eqb-true, ◌≡◌, inl, inr, ℕ, suc, ◌+◌, ◌*◌, ◌<◌, ◌≤◌, List, [], ◌∷◌, ◌++◌, length, take, map, get_or, refl, sym, ap, ◌∙◌, subst, arith, Bool, true, false, Ok, Err, Result}
 use Rattle.std.specs.Prelude.{All, nat_eq, ◌==◌}
 use Rattle.std.specs.List.{IsDistinct}
 use Rattle.std.proofs.lemmas.List.{take_more, map-append, take_all}
@@ -113,6 +113,14 @@ page_ranges_all P size pages n ranges is enough made =
 pub some_from_test : (pages : List ℕ) → (length pages == 0) ≡ false → 0 < length pages
 some_from_test [] is = cc
 some_from_test (page ∷ pages) is = omega arith
+
+-- whether there are any pages
+pub no_pages : (slice pages : List ℕ) → (length slice == 0) ≡ true → slice ≡ pages → pages ≡ []
+no_pages [] pages empty is = sym is
+no_pages (page ∷ slice) pages empty is = let none : length (page ∷ slice) ≡ 0 = eqb-true (length (page ∷ slice)) 0 empty in absurd (omega (arith, none))
+
+pub some_pages : (slice pages : List ℕ) → (length slice == 0) ≡ false → slice ≡ pages → pages ≡ [] → ⊥
+some_pages slice pages some is none = let more = some_from_test slice some in omega (arith, more, ap length (is ∙ none))
 
 pub length-page_ranges : (P : ℕ) (pages : List ℕ) → length (page_ranges P pages) ≡ length pages
 length-page_ranges P [] = refl

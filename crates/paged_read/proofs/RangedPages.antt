@@ -6,7 +6,7 @@ use Rattle.std.proofs.lemmas.Bool.{false_from_ne_true, and_parts, and_from, and_
 use Rattle.std.proofs.lemmas.List.{get_or_at, length_push}
 use Rattle.std.proofs.lemmas.List.Elements.{filter-append}
 use Rattle.std.proofs.lemmas.Option.{same_Some, slice_get-get_or}
-use Rattle.std.proofs.lemmas.List.Folds.{list_any-append}
+use Rattle.std.proofs.lemmas.List.Folds.{list_any-append, list_any_at}
 use Rattle.std.proofs.Math.Nat.{div-add-mod', mod-lt, suc-mul, mul-le-mul_right}
 use Rattle.std.proofs.lemmas.Nat.{div_below}
 use Rattle.cache.specs.CacheState.{CacheState, held}
@@ -227,6 +227,16 @@ served_lacks cache t range served p below = none_kept (is_lacked cache t (range 
 pub lacks_served : (cache : CacheState) (t : Tail) (range : ℕ × ℕ) → ((p : ℕ) → p < t.full_pages → is_lacked cache t (range ∷ []) p ≡ false) → is_served cache t range ≡ true
 lacks_served cache t range none = eq-eqb _ _ (ap length (filter_none (is_lacked cache t (range ∷ [])) 0 t.full_pages (λ p lo hi. none p (omega arith))))
 
+-- where many lack none each is served
+pub each_served : (cache : CacheState) (t : Tail) (ranges : List (ℕ × ℕ)) (i : ℕ) (d : ℕ × ℕ) → i < length ranges → missing cache t ranges ≡ [] → is_served cache t (get_or ranges i d) ≡ true
+each_served cache t ranges i d there none =
+    let range = get_or ranges i d in
+    lacks_served cache t range (λ p below. false_from_ne_true (is_lacked cache t (range ∷ []) p) (λ met.
+    let parts = and_parts (not (is_some (held cache (t.id, p)))) (is_touched t.page_size (range ∷ []) p) met in
+    let touched : is_touched t.page_size ranges p ≡ true = list_any_at (λ r. touches t.page_size r p) ranges i d there (sym (or_false (touches t.page_size range p)) ∙ parts.1) in
+    both_ways (is_lacked cache t ranges p) (none_kept (is_lacked cache t ranges) 0 t.full_pages p (ap length none) (omega arith) (omega (arith, below)))
+    (and_from (not (is_some (held cache (t.id, p)))) (is_touched t.page_size ranges p) parts.0 touched)))
+
 -- the pages that are missing are below the tail
 pub missing_below : (cache : CacheState) (t : Tail) (ranges : List (ℕ × ℕ)) → All (λ page. page < t.full_pages) (missing cache t ranges)
 missing_below cache t ranges = λ k d less. kept_below (is_lacked cache t ranges) 0 t.full_pages t.full_pages (omega arith) k (get_or (missing cache t ranges) k d) (slice_get-get_or (missing cache t ranges) k d less)
@@ -261,6 +271,23 @@ served_split cache t o d n wide = same_tests (is_served cache t (o, d + n)) (is_
     back both =
         let h = and_parts (is_served cache t (o, d)) (is_served cache t (o + d, n)) both in
         lacks_served cache t (o, d + n) (λ p below. split p ∙ whole (not (is_some (held cache (t.id, p)))) (touches t.page_size (o, d) p) (touches t.page_size (o + d, n) p) (sym (one o d p) ∙ served_lacks cache t (o, d) h.0 p below) (sym (one (o + d) n p) ∙ served_lacks cache t (o + d, n) h.1 p below))
+
+-- so it isn't where one of them isn't
+pub part_unserved : (cache : CacheState) (t : Tail) (o n at part : ℕ) → 0 < t.page_size → o ≤ at → at + part ≤ o + n → is_served cache t (at, part) ≡ false → is_served cache t (o, n) ≡ false
+part_unserved cache t o n at part wide after ends none =
+    let d = at - o in
+    let rest = o + n - (at + part) in
+    let whole : n ≡ d + (part + rest) = omega (arith, after, ends) in
+    let start : o + d ≡ at = omega (arith, after) in
+    let later : is_served cache t (o + d, part + rest) ≡ false =
+    ap (λ (k : ℕ). is_served cache t (k, part + rest)) start ∙ served_split cache t at part rest wide ∙ ap (λ (b : Bool). b && is_served cache t (at + part, rest)) none in
+    ap (λ (k : ℕ). is_served cache t (o, k)) whole ∙ served_split cache t o d (part + rest) wide
+    ∙ ap (λ (b : Bool). is_served cache t (o, d) && b) later ∙ no_right (is_served cache t (o, d))
+  where
+    no_right : (b : Bool) → (b && false) ≡ false
+    no_right true = refl
+    no_right false = refl
+
 
 -- no ranges lack none
 pub missing_nil : (cache : CacheState) (t : Tail) → missing cache t [] ≡ []

@@ -16,7 +16,7 @@ use Rattle.paged_read.specs.Tail.{Tail, told, size_of, CanRead}
 use Rattle.paged_read.specs.Ranges.{AsksForMissing, AsksTogether, ReadFault, Reads, ReadsUpTo, ReadsMany, AreMissingFull, HasServed, Misses, missing, is_served, page_ranges}
 use Rattle.paged_read.specs.Puts.{PutsPages, PutsFirst, PutsInOrder, PutsSome}
 use Rattle.paged_read.specs.Parts.{ArePagesFull, PagesFault}
-use Rattle.paged_read.specs.Reads.{ReadGoes, ReadIntoGoes, ReadUpToGoes, ReadManyGoes, ReadLeaves, ReadCosts, ReadManyCosts, LookLeaves, TriesMany}
+use Rattle.paged_read.specs.Reads.{ReadGoes, ReadIntoGoes, ReadUpToGoes, ReadManyGoes, ReadRangesGoes, ReadLeaves, ReadCosts, ReadManyCosts, LookLeaves, TriesMany}
 use Rattle.paged_read.proofs.BatchReads.{not_asked}
 use Rattle.paged_read.proofs.FullReads.{full_reads, full_reads_up_to, full_reads_many, full_of_tail, full_of_sound}
 use Rattle.paged_read.proofs.Leaving.{length-told, payload_told, leaves_of}
@@ -81,6 +81,17 @@ module _ (sum : List ℕ → ℕ) (t : Tail) (cache : CacheState) (old new : Lif
     never_if_sound = λ w sound P fewer. full_reads_many sum t cache old new (full_of_sound sum t w old.present sound P fewer) ranges after result answers;
     size = size;
   }
+
+  pub read_ranges_goes : (ranges : List (ℕ × ℕ)) (buf after : List ℕ) (result : Result ℕ Error)
+      → ReadsMany sum t cache ranges after old new result → IfErr result (λ e. EndWithin (size_of t) ranges → missing cache t ranges ≢ []) → length after ≡ length buf
+      → ReadRangesGoes sum t cache ranges buf after old new result
+  read_ranges_goes ranges buf after result answers served size =
+      let goes = read_many_goes ranges buf after result answers size in
+      record { answers = answers; served = served; never = goes.never; never_if_sound = goes.never_if_sound; size = size }
+
+-- a read of ranges, which took memory for them
+pub ranges_goes : (sum : List ℕ → ℕ) (t : Tail) (cache : CacheState) (ranges : List (ℕ × ℕ)) (buf after : List ℕ) (old new : Life) (result : Result ℕ Error) → ReadRangesGoes sum t cache ranges buf after old new result → ReadManyGoes sum t cache ranges buf after old new result
+ranges_goes sum t cache ranges buf after old new result goes = record { answers = goes.answers; never = goes.never; never_if_sound = goes.never_if_sound; size = goes.size }
 
 -- what holds where all ranges are within holds without
 pub on_also : {A : Type 0} (result : Result A Error) (P Q : Type 0) → OnOk result P → OnOk result (Q → P)

@@ -64,7 +64,17 @@ pub record ReadUpToGoes (sum : List ℕ → ℕ) (t : Tail) (cache : CacheState)
   pub never : NeverBad sum t old.present result
   pub never_if_sound : NeverBadIfSound sum t old.present result
 
--- a read of many ranges into a buffer
+-- a read of many ranges into a buffer: where the cache holds all pages it needs no memory
+pub record ReadRangesGoes (sum : List ℕ → ℕ) (t : Tail) (cache : CacheState)
+    (ranges : List (ℕ × ℕ)) (buf after : List ℕ) (old new : Life) (result : Result ℕ Error)
+    : Type 0 where
+  pub answers : ReadsMany sum t cache ranges after old new result
+  pub served : IfErr result (λ e. EndWithin (size_of t) ranges → missing cache t ranges ≢ [])
+  pub never : NeverBad sum t old.present result
+  pub never_if_sound : NeverBadIfSound sum t old.present result
+  pub size : length after ≡ length buf
+
+-- a read of ranges of one length, which takes memory for them
 pub record ReadManyGoes (sum : List ℕ → ℕ) (t : Tail) (cache : CacheState)
     (ranges : List (ℕ × ℕ)) (buf after : List ℕ) (old new : Life) (result : Result ℕ Error)
     : Type 0 where

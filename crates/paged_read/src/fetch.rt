@@ -1,5 +1,5 @@
 // Pages that are read together.
-ghost use Rattle.std.specs.Prelude.{◌≡◌, ◌≤◌, ◌<◌, ◌+◌, ◌*◌, ◌^◌, All, length, List, ℕ};
+ghost use Rattle.std.specs.Prelude.{◌≡◌, ◌≢◌, ◌≤◌, ◌<◌, ◌+◌, ◌*◌, ◌^◌, [], All, length, List, ℕ};
 ghost use Rattle.std.specs.Prelude.{OnOk, IfOk, IfErr};
 ghost use Rattle.std.specs.Int.NonZero.{non_zero_u16_get};
 ghost use Rattle.disk.specs.Disk.{Life, Delivers};
@@ -135,7 +135,7 @@ fn fill(buf: &mut [u8], lacks: &[Lack], at: &[usize], out: &[(usize, IoBuf)])
 impl<B: Blob, H: Sum> View<'_, B, H> {
     /// Reads the pages that a batch lacks, together, puts them in the cache, and copies their
     /// pieces to their offsets. Where a page can't be read, those that came before it stay in the
-    /// cache.
+    /// cache. Where there is none it takes no memory.
     pub(crate) fn read_lacks(
         self,
         blob: &mut B,
@@ -161,8 +161,12 @@ impl<B: Blob, H: Sum> View<'_, B, H> {
         ensures puts { let t = tail_at self.entry.page_size self.entry.id self.entry.tip.now in
             let readable = (B.life blob.old).present.readable in
             PutsSome H.sum_of t batch.now.pages.items readable cache.old cache.new result }
+        ensures refused { IfErr result (λ e. batch.now.pages.items ≢ []) }
         ensures size { length buf.new ≡ length buf.old }
     {
+        if batch.pages.as_slice().is_empty() {
+            return Ok(());
+        }
         let out = fetch(self.alloc, self.page_size, blob, &batch.pages)?;
         let at = self.keep_all(cache, &batch.pages, &out)?;
         fill(buf, &batch.lacks, &at, &out);

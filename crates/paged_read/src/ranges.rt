@@ -1,13 +1,14 @@
 // Reads of many ranges.
-ghost use Rattle.std.specs.Prelude.{◌≡◌, ◌≤◌, ◌<◌, ◌+◌, ◌*◌, ◌%◌, ◌^◌, ◌++◌, ◌∷◌, [], OnOk, IfOk};
+ghost use Rattle.std.specs.Prelude.{◌≡◌, ◌≢◌, IfErr, false, ◌≤◌, ◌<◌, ◌+◌, ◌*◌, ◌%◌, ◌^◌, ◌++◌, ◌∷◌, [], OnOk, IfOk};
 ghost use Rattle.std.specs.Prelude.{IsOkUnless, length, sum_by, ℕ, List, if◌then◌else◌};
 ghost use Rattle.std.specs.List.{range_with_len};
 ghost use Rattle.std.specs.Int.NonZero.{non_zero_u16_get, non_zero_usize_get};
 ghost use Rattle.disk.specs.Disk.{Disk};
 ghost use Rattle.page.specs.Geometry.{AreInOrder, EndWithin, RangesGo};
 ghost use Rattle.paged_read.specs.Tail.{tail_at, IsView, size_of, told, CanRead};
-ghost use Rattle.paged_read.specs.Ranges.{is_served, served, missed_from, HasServed};
-ghost use Rattle.paged_read.specs.Reads.{ReadLeaves, ReadManyCosts, ReadManyGoes, TriesMany};
+ghost use Rattle.paged_read.specs.Ranges.{is_served, missing, served, missed_from, HasServed};
+ghost use Rattle.paged_read.specs.Reads.{ReadLeaves, ReadManyCosts, ReadManyGoes, ReadRangesGoes};
+ghost use Rattle.paged_read.specs.Reads.{TriesMany};
 ghost use Rattle.paged_read.specs.Batch.{Gathered, ranges_of};
 
 use crate::View;
@@ -63,6 +64,8 @@ impl<B, H> View<'_, B, H> {
             batch.new.pages.items batch.new.lacks.items buf.new) }
         ensures size { length buf.new ≡ length buf.old }
         ensures count { batch.new.served ≡ batch.old.served }
+        ensures refused { let t = tail_at self.entry.page_size self.entry.id self.entry.tip.now in
+            IfErr result (λ e. is_served cache.now t (offset, len) ≡ false) }
         ensures err { IsOkUnless result Error.OutOfMemory }
     {
         if self.try_read_sync_into(cache, &mut buf[buf_offset..buf_offset + len], offset) {
@@ -104,6 +107,8 @@ impl<B, H> View<'_, B, H> {
             batch.new.pages.items batch.new.lacks.items buf.new) }
         ensures size { length buf.new ≡ length buf.old }
         ensures count { batch.new.served ≡ batch.old.served }
+        ensures refused { let t = tail_at self.entry.page_size self.entry.id self.entry.tip.now in
+            IfErr result (λ e. is_served cache.now t (offset, len) ≡ false) }
         ensures err { IsOkUnless result Error.OutOfMemory }
     {
         let end = offset + len as u64;
@@ -139,6 +144,8 @@ impl<B, H> View<'_, B, H> {
         ensures served { let t = tail_at self.entry.page_size self.entry.id self.entry.tip.now in
             IfOk result (λ batch. batch.served ≡ served cache.now t ranges.now) }
         ensures size { length buf.new ≡ length buf.old }
+        ensures refused { let t = tail_at self.entry.page_size self.entry.id self.entry.tip.now in
+            IfErr result (λ e. missing cache.now t ranges.now ≢ []) }
         ensures err { IsOkUnless result Error.OutOfMemory }
     {
         let mut batch = Batch::new(self.alloc);
@@ -308,7 +315,7 @@ impl<B: Blob, H: Sum> View<'_, B, H> {
         requires filled { length buf.old ≡ sum_by (λ range. range.1) ranges.now }
         ensures goes { let t = tail_at self.entry.page_size self.entry.id self.entry.tip.now in
             let old = B.life blob.old in let new = B.life blob.new in
-            ReadManyGoes H.sum_of t cache.old ranges.now buf.old buf.new old new result }
+            ReadRangesGoes H.sum_of t cache.old ranges.now buf.old buf.new old new result }
         ensures leaves { let t = tail_at self.entry.page_size self.entry.id self.entry.tip.now in
             ReadLeaves H.sum_of t cache.old cache.new (B.life blob.old) (B.life blob.new) }
         ensures costs { let t = tail_at self.entry.page_size self.entry.id self.entry.tip.now in

@@ -7,7 +7,8 @@ ghost use Rattle.page.specs.Geometry.{AreInOrder};
 ghost use Rattle.paged_read.specs.Batch.{ranges_of};
 ghost use Rattle.paged_read.specs.Ranges.{range_up_to, TriesRead};
 ghost use Rattle.paged_read.specs.Reads.{ReadCosts, ReadGoes, ReadIntoGoes, ReadLeaves};
-ghost use Rattle.paged_read.specs.Reads.{ReadManyCosts, ReadManyGoes, ReadUpToGoes, TriesMany};
+ghost use Rattle.paged_read.specs.Reads.{ReadManyCosts, ReadManyGoes, ReadRangesGoes};
+ghost use Rattle.paged_read.specs.Reads.{ReadUpToGoes, TriesMany};
 ghost use Rattle.paged_read.specs.Snapshots.{IsSealed};
 ghost use Rattle.paged_read.specs.Tail.{CanRead, IsView, size_of, Tail, tail_at};
 
@@ -264,7 +265,7 @@ impl<B: Blob, H: Sum> Sealed<B, H> {
         requires in_order { AreInOrder ranges.now }
         requires filled { length buf.old ≡ sum_by (λ range. range.1) ranges.now }
         ensures goes { let old = B.life blob.old in let new = B.life blob.new in
-            ReadManyGoes H.sum_of self.now cache.old ranges.now buf.old buf.new old new result }
+            ReadRangesGoes H.sum_of self.now cache.old ranges.now buf.old buf.new old new result }
         ensures leaves { let old = B.life blob.old in let new = B.life blob.new in
             ReadLeaves H.sum_of self.now cache.old cache.new old new }
         ensures costs { let old = B.life blob.old in let new = B.life blob.new in

@@ -1,8 +1,11 @@
-use Rattle.std.proofs.Common.{◌≡◌, ℕ, ◌+◌, arith, refl, sym, ap, ◌∙◌, get_or, cond}
+use Rattle.std.proofs.Common.{subst, false, true, ◌≡◌, ℕ, ◌+◌, arith, refl, sym, ap, ◌∙◌, get_or, cond}
 use Rattle.std.proofs.lemmas.List.Sums.{sum_by_more, sum_by_more_le}
 use Rattle.paged_read.specs.Tail.{tail_at}
 use Rattle.paged_read.proofs.BatchSteps.{gathered_start}
 use Rattle.paged_read.proofs.RangedLists.{served_count, gathered_next, one_at_most}
+use Rattle.std.proofs.lemmas.Result.{err_from_is_err_and}
+use Rattle.paged_read.proofs.RangedPages.{each_served}
+use Rattle.std.proofs.lemmas.Bool.{both_ways}
 use Rattle.paged_read.proofs.view.View.gather.Goals as goal
 
 pub loop-offset-init : goal.loop-offset-init
@@ -31,3 +34,10 @@ loop-offset-preserved g c =
       served = count ∙ served_count c.args.cache.now t c.args.ranges.now i (0, 0) c.loop-offset.batch.served c.in_ok-served.served c.loop-offset-test.true inv.served c.in_ok-served.ensures.served;
       few = omega (arith, count, inv.few, one_at_most c.in_ok-served.served);
     }
+
+pub returns-in_err-served-clause-refused : goal.returns-in_err-served-clause-refused
+returns-in_err-served-clause-refused g c =
+    let t = tail_at c.args.self.page_size c.args.self.id c.args.self.tip.now in
+    let i = c.loop-offset.offset-index in
+    let p = err_from_is_err_and c.from_residual.result c.from_residual.ensures.1 in
+    rw p.1 (λ none. absurd (both_ways _ c.in_err-served.ensures.refused (each_served c.args.cache.now t c.args.ranges.now i (0, 0) c.loop-offset-test.true none)))

@@ -4,6 +4,7 @@ use Rattle.std.proofs.lemmas.Slice.{take-put_mid}
 use Rattle.cache.specs.declared.piece.Piece.{Piece}
 use Rattle.paged_read.specs.Tail.{tail_at}
 use Rattle.paged_read.proofs.BatchSteps.{gathered_served, gathered_lacked, tried_served, tried_unserved, tried_part, length_part}
+use Rattle.std.proofs.lemmas.Result.{err_from_is_err_and}
 use Rattle.paged_read.proofs.view.View.gather_part.Goals as goal
 
 pub returns-then-try_read_sync_into-clause-gathered : goal.returns-then-try_read_sync_into-clause-gathered
@@ -38,3 +39,10 @@ returns-clause-gathered g c = λ ranges ends before.
     ap (λ (n : ℕ). let p : Piece = record { page = c.args.offset / n; skip = c.args.offset % n; buf_offset = buf_offset; len = len } in p) from in
     gathered_lacked c.args.cache.now t ranges c.args.offset len buf_offset c.args.batch.now.pages.items c.add.new.self.pages.items c.args.batch.now.lacks.items c.add.new.self.lacks.items piece buf part _
     wide c.requires.some (omega (arith, c.requires.room)) size c.requires.ends ends c.requires.within unserved front piece_is c.in_ok-add.ensures.pages c.in_ok-add.ensures.lacks before
+
+pub returns-in_err-add-clause-refused : goal.returns-in_err-add-clause-refused
+returns-in_err-add-clause-refused g c =
+    let t = tail_at c.args.self.page_size c.args.self.id c.args.self.tip.now in
+    let tries = tried_part t c.args.offset c.args.len c.args.buf_offset c.args.cache.now c.args.buf.now c.try_read_sync_into.new.buf c.try_read_sync_into.result c.requires.room c.try_read_sync_into.ensures.tries in
+    let p = err_from_is_err_and c.from_residual.result c.from_residual.ensures.1 in
+    rw p.1 (tried_unserved t (c.args.offset, c.args.len) c.args.cache.now c.try_read_sync_into.new.buf c.try_read_sync_into.result tries c.requires.ends c.if-try_read_sync_into.false)

@@ -1,16 +1,19 @@
-use Rattle.std.proofs.Common.{◌≡◌, ◌∙◌, refl, sym, ap, subst, ℕ, List, length, IsPermutation}
+use Rattle.std.proofs.Common.{Ok, arith, ◌≡◌, ◌∙◌, refl, sym, ap, subst, ℕ, List, length, IsPermutation}
 use Rattle.std.specs.Prelude.{All}
 use Rattle.std.proofs.lemmas.Result.{err_from_is_err_and}
 use Rattle.crash.proofs.LookLaws.{looked_readable}
 use Rattle.page.specs.Page.{value_len}
 use Rattle.paged_read.specs.Tail.{tail_at, told}
 use Rattle.paged_read.specs.Batch.{KeepsFault, pieces_in}
-use Rattle.paged_read.specs.Parts.{with_told}
+use Rattle.paged_read.specs.Parts.{with_told, ArePagesFull}
 use Rattle.paged_read.specs.declared.lack.Lack.{Lack}
-use Rattle.paged_read.proofs.BatchKeeps.{delivers_same, whole_same, ready_same, told_same, marked_same, leaves_kept, delivered_whole, lacks_ready, lacks_told, pages_full, keeps_fault}
-use Rattle.paged_read.proofs.PutLaws.{puts_none, numbered_each}
+use Rattle.paged_read.proofs.BatchKeeps.{no_lacks, delivers_same, whole_same, ready_same, told_same, marked_same, leaves_kept, delivered_whole, lacks_ready, lacks_told, pages_full, keeps_fault}
+use Rattle.paged_read.proofs.PutLaws.{puts_empty, puts_none, numbered_each}
 use Rattle.std.proofs.lemmas.List.Sorted.{IsPermutation-refl}
 use Rattle.paged_read.specs.Puts.{numbered}
+use Rattle.paged_read.proofs.Leaving.{leaves_none}
+use Rattle.paged_read.proofs.BatchReads.{not_asked, no_pages, some_pages}
+use Rattle.paged_read.specs.Ranges.{page_ranges}
 use Rattle.paged_read.proofs.view.View.read_lacks.Goals as goal
 
 pub keep_all-requires-clause-delivered : goal.keep_all-requires-clause-delivered
@@ -116,3 +119,40 @@ returns-clause-puts g c =
     let there = delivers_same t.page_size pages c.deref-2.result.now old.present.readable old.present.readable out c.deref-3.result.now c.deref-2.ensures.value refl c.deref-3.ensures.value delivers in
     let each = subst (λ (l : List ℕ). IsPermutation l (numbered c.deref-2.result.now c.deref-3.result.now)) c.deref-2.ensures.value (numbered_each t.page_size c.deref-2.result.now old.present.readable c.deref-3.result.now there) in
     record { order = numbered c.deref-2.result.now c.deref-3.result.now; each = each; puts = c.in_ok-at.ensures.puts old c.requires.can there }
+
+pub returns-then-is_empty-clause-reads : goal.returns-then-is_empty-clause-reads
+returns-then-is_empty-clause-reads g c =
+    let t = tail_at c.args.self.page_size c.args.self.id c.args.self.tip.now in
+    let old = g.B.Blob.life c.args.blob.now in
+    let none = no_pages c.as_slice.result.now c.args.batch.now.pages.items (sym c.is_empty.ensures ∙ c.if-is_empty.true) c.as_slice.ensures.value in
+    (
+      ap (λ (l : List Lack). with_told t.page_size (told t old.present.readable) (pieces_in l) c.args.buf.now) (sym (no_lacks t.page_size (length c.args.buf.now) c.args.batch.now.pages.items c.args.batch.now.lacks.items none c.requires.lacks)),
+      subst (λ (l : List ℕ). ArePagesFull g.H.Sum.sum_of t.page_size l old.present.readable) (sym none) (λ page has. absurd (omega (arith, has.1))),
+    )
+
+pub returns-then-is_empty-clause-asks : goal.returns-then-is_empty-clause-asks
+returns-then-is_empty-clause-asks g c =
+    let t = tail_at c.args.self.page_size c.args.self.id c.args.self.tip.now in
+    not_asked (page_ranges t.page_size c.args.batch.now.pages.items) (g.B.Blob.life c.args.blob.now) (g.B.Blob.life c.args.blob.now) refl
+
+pub returns-then-is_empty-clause-leaves : goal.returns-then-is_empty-clause-leaves
+returns-then-is_empty-clause-leaves g c =
+    leaves_none (tail_at c.args.self.page_size c.args.self.id c.args.self.tip.now) c.args.cache.now (g.B.Blob.life c.args.blob.now) c.requires.can
+
+pub returns-then-is_empty-clause-puts : goal.returns-then-is_empty-clause-puts
+returns-then-is_empty-clause-puts g c =
+    let t = tail_at c.args.self.page_size c.args.self.id c.args.self.tip.now in
+    let pages = c.args.batch.now.pages.items in
+    let readable = (g.B.Blob.life c.args.blob.now).present.readable in
+    let none = no_pages c.as_slice.result.now pages (sym c.is_empty.ensures ∙ c.if-is_empty.true) c.as_slice.ensures.value in
+    record { order = pages; each = IsPermutation-refl pages; puts = puts_empty {A = Unit {0}} g.H.Sum.sum_of t pages readable c.args.cache.now (Ok tt) none }
+
+pub returns-in_err-out-clause-refused : goal.returns-in_err-out-clause-refused
+returns-in_err-out-clause-refused g c =
+    let p = err_from_is_err_and c.from_residual.result c.from_residual.ensures.1 in
+    rw p.1 (some_pages c.as_slice.result.now c.args.batch.now.pages.items (sym c.is_empty.ensures ∙ c.if-is_empty.false) c.as_slice.ensures.value)
+
+pub returns-in_err-at-clause-refused : goal.returns-in_err-at-clause-refused
+returns-in_err-at-clause-refused g c =
+    let p = err_from_is_err_and c.from_residual-in_err-at.result c.from_residual-in_err-at.ensures.1 in
+    rw p.1 (some_pages c.as_slice.result.now c.args.batch.now.pages.items (sym c.is_empty.ensures ∙ c.if-is_empty.false) c.as_slice.ensures.value)

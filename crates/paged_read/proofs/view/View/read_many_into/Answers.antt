@@ -6,7 +6,7 @@ use Rattle.std.proofs.lemmas.Result.{err_from_is_err_and}
 use Rattle.page.specs.Geometry.{RangesGo}
 use Rattle.paged_read.specs.Ranges.{ReadsMany}
 use Rattle.paged_read.specs.Reads.{ReadManyCosts, ReadManyGoes}
-use Rattle.paged_read.proofs.ReadLaws.{read_many_goes, many_outside, leaves_nothing, many_costs_nothing}
+use Rattle.paged_read.proofs.ReadLaws.{read_many_goes, ranges_goes, many_outside, leaves_nothing, many_costs_nothing}
 use Rattle.paged_read.proofs.RangedLists.{sum_ranges_of}
 use Rattle.paged_read.proofs.view.View.read_many_into.Goals as goal
 
@@ -56,7 +56,8 @@ returns-clause-goes g c =
     let t = tail_at c.args.self.page_size c.args.self.id c.args.self.tip.now in
     let len = non_zero_usize_get c.args.len in
     let same : c.deref.result.now ≡ ranges_of len c.args.offsets.now = c.deref.ensures.value ∙ c.in_ok-ranges.ensures.items ∙ ap (λ (n : ℕ). ranges_of n c.args.offsets.now) c.get-2.ensures.value in
-    subst (λ (rs : List (ℕ × ℕ)). ReadManyGoes g.H.Sum.sum_of t c.args.cache.now rs c.args.buf.now c.read_ranges_into.new.buf (g.B.Blob.life c.args.blob.now) (g.B.Blob.life c.read_ranges_into.new.blob) c.read_ranges_into.result) same c.read_ranges_into.ensures.goes
+    subst (λ (rs : List (ℕ × ℕ)). ReadManyGoes g.H.Sum.sum_of t c.args.cache.now rs c.args.buf.now c.read_ranges_into.new.buf (g.B.Blob.life c.args.blob.now) (g.B.Blob.life c.read_ranges_into.new.blob) c.read_ranges_into.result) same
+    (ranges_goes g.H.Sum.sum_of t c.args.cache.now c.deref.result.now c.args.buf.now c.read_ranges_into.new.buf (g.B.Blob.life c.args.blob.now) (g.B.Blob.life c.read_ranges_into.new.blob) c.read_ranges_into.result c.read_ranges_into.ensures.goes)
 
 pub returns-clause-leaves : goal.returns-clause-leaves
 returns-clause-leaves g c = c.read_ranges_into.ensures.leaves

@@ -8,9 +8,10 @@ use Rattle.paged_read.specs.Tail.{tail_at, told}
 use Rattle.paged_read.specs.Parts.{with_told}
 use Rattle.paged_read.specs.Batch.{pieces_in}
 use Rattle.std.proofs.lemmas.Result.{err_from_is_err_and}
-use Rattle.paged_read.proofs.ReadLaws.{read_many_goes, many_outside, many_refused, read_many_leaves, leaves_nothing, many_costs, many_costs_refused, many_costs_nothing}
+use Rattle.paged_read.proofs.ReadLaws.{read_ranges_goes, many_outside, many_refused, read_many_leaves, leaves_nothing, many_costs, many_costs_refused, many_costs_nothing}
 use Rattle.paged_read.proofs.PageReads.{full_missing}
 use Rattle.paged_read.proofs.RangedPages.{missing_below}
+use Rattle.paged_read.proofs.RangedLists.{refused_not}
 use Rattle.paged_read.proofs.view.View.read_ranges_into.Goals as goal
 
 pub returns-in_err-validate_read_ranges-clause-goes : goal.returns-in_err-validate_read_ranges-clause-goes
@@ -19,7 +20,8 @@ returns-in_err-validate_read_ranges-clause-goes g c =
     let p = err_from_is_err_and c.from_residual.result c.from_residual.ensures.1 in
     let answers : ReadsMany g.H.Sum.sum_of t c.args.cache.now c.args.ranges.now c.args.buf.now (g.B.Blob.life c.args.blob.now) (g.B.Blob.life c.args.blob.now) c.from_residual.result =
     rw (p.1, p.2) (many_outside g.H.Sum.sum_of t c.args.cache.now c.args.ranges.now c.size.result c.args.buf.now (g.B.Blob.life c.args.blob.now) c.in_err-validate_read_ranges.field-0.0 c.size.ensures c.in_err-validate_read_ranges.ensures) in
-    read_many_goes g.H.Sum.sum_of t c.args.cache.now (g.B.Blob.life c.args.blob.now) (g.B.Blob.life c.args.blob.now) c.requires.can c.args.ranges.now c.args.buf.now c.args.buf.now c.from_residual.result answers refl
+    read_ranges_goes g.H.Sum.sum_of t c.args.cache.now (g.B.Blob.life c.args.blob.now) (g.B.Blob.life c.args.blob.now) c.requires.can c.args.ranges.now c.args.buf.now c.args.buf.now c.from_residual.result answers
+    (rw p.1 (λ within none. refused_not c.size.result c.args.ranges.now c.in_err-validate_read_ranges.field-0.0 (omega arith) c.in_err-validate_read_ranges.ensures (subst (λ (n : ℕ). EndWithin n c.args.ranges.now) (sym c.size.ensures) within))) refl
 
 pub returns-in_err-validate_read_ranges-clause-leaves : goal.returns-in_err-validate_read_ranges-clause-leaves
 returns-in_err-validate_read_ranges-clause-leaves g c =
@@ -34,7 +36,8 @@ returns-in_err-validate_read_ranges-clause-costs g c =
 pub returns-in_err-batch-clause-goes : goal.returns-in_err-batch-clause-goes
 returns-in_err-batch-clause-goes g c =
     let t = tail_at c.args.self.page_size c.args.self.id c.args.self.tip.now in
-    read_many_goes g.H.Sum.sum_of t c.args.cache.now (g.B.Blob.life c.args.blob.now) (g.B.Blob.life c.args.blob.now) c.requires.can c.args.ranges.now c.args.buf.now c.gather.new.buf c.from_residual-in_err-batch.result (search rules) c.gather.ensures.size
+    read_ranges_goes g.H.Sum.sum_of t c.args.cache.now (g.B.Blob.life c.args.blob.now) (g.B.Blob.life c.args.blob.now) c.requires.can c.args.ranges.now c.args.buf.now c.gather.new.buf c.from_residual-in_err-batch.result (search rules)
+    (let p = err_from_is_err_and c.from_residual-in_err-batch.result c.from_residual-in_err-batch.ensures.1 in rw p.1 (λ within. c.in_err-batch.ensures.refused)) c.gather.ensures.size
 
 pub returns-in_err-batch-clause-leaves : goal.returns-in_err-batch-clause-leaves
 returns-in_err-batch-clause-leaves g c =
@@ -58,7 +61,8 @@ returns-in_err-read_lacks-clause-goes g c =
     let result = c.from_residual-in_err-read_lacks.result in
     let answers : ReadsMany g.H.Sum.sum_of t c.args.cache.now c.args.ranges.now c.read_lacks.new.buf old new result =
     rw (p.1, p.2) (many_refused g.H.Sum.sum_of t c.args.cache.now c.args.ranges.now pages c.read_lacks.new.buf old new c.in_err-read_lacks.field-0.0 (sym wanted) within c.in_err-read_lacks.ensures.reads) in
-    read_many_goes g.H.Sum.sum_of t c.args.cache.now old new c.requires.can c.args.ranges.now c.args.buf.now c.read_lacks.new.buf result answers (c.read_lacks.ensures.size ∙ c.gather.ensures.size)
+    read_ranges_goes g.H.Sum.sum_of t c.args.cache.now old new c.requires.can c.args.ranges.now c.args.buf.now c.read_lacks.new.buf result answers
+    (rw p.1 (λ within none. c.in_err-read_lacks.ensures.refused (wanted ∙ none))) (c.read_lacks.ensures.size ∙ c.gather.ensures.size)
 
 pub returns-in_err-read_lacks-clause-leaves : goal.returns-in_err-read_lacks-clause-leaves
 returns-in_err-read_lacks-clause-leaves g c =
@@ -92,13 +96,13 @@ returns-clause-goes g c =
     let gathered = c.in_ok-batch.ensures.gathered in
     let reads = c.in_ok-read_lacks.ensures.reads in
     let whole : take (length c.args.buf.now) c.gather.new.buf ≡ c.gather.new.buf = take_all (length c.args.buf.now) c.gather.new.buf (omega (arith, c.gather.ensures.size)) in
-    read_many_goes g.H.Sum.sum_of t c.args.cache.now old (g.B.Blob.life c.read_lacks.new.blob) c.requires.can c.args.ranges.now c.args.buf.now c.read_lacks.new.buf (Ok c.in_ok-batch.batch.served) (
+    read_ranges_goes g.H.Sum.sum_of t c.args.cache.now old (g.B.Blob.life c.read_lacks.new.blob) c.requires.can c.args.ranges.now c.args.buf.now c.read_lacks.new.buf (Ok c.in_ok-batch.batch.served) (
       subst (λ (n : ℕ). EndWithin n c.args.ranges.now) c.size.ensures c.in_ok-validate_read_ranges.ensures,
       c.in_ok-batch.ensures.served,
       reads.0 ∙ ap (λ (l : List ℕ). with_told t.page_size content (pieces_in c.in_ok-batch.batch.lacks.items) l) (sym whole) ∙ gathered.bytes old.present c.requires.can,
       full_missing g.H.Sum.sum_of c.args.cache.now t c.args.ranges.now c.in_ok-batch.batch.pages.items old.present.readable (sym gathered.wanted) reads.1,
     )
-    (c.read_lacks.ensures.size ∙ c.gather.ensures.size)
+    tt (c.read_lacks.ensures.size ∙ c.gather.ensures.size)
 
 pub returns-clause-leaves : goal.returns-clause-leaves
 returns-clause-leaves g c =
