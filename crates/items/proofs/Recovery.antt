@@ -1,5 +1,6 @@
 -- What a recovery of items does, from what that of the blob and the cut after it do.
 use Rattle.std.specs.Prelude.{Bool, IfOk, Result}
+use Rattle.std.specs.Result.{IsErrAnd}
 use Rattle.std.proofs.Common.{◌≡◌, inl, inr, ℕ, ◌*◌, ◌/◌, ◌<◌, ◌≤◌, List, [], ◌∷◌, ◌++◌, length, take, refl, sym, ap, ap₂, ◌∙◌, subst, arith, length-take, Ok, Err}
 use Rattle.std.proofs.lemmas.List.{take-take, append_assoc}
 use Rattle.std.proofs.Math.Nat.{div-mul-le_self, mul-div_cancel, mul-le-mul_right}
@@ -30,8 +31,8 @@ use Rattle.paged.specs.Recovers.{Recovers, IsRecovered}
 use Rattle.paged.specs.Truncate.{Truncates, KeepsFloorsWithin}
 use Rattle.items.specs.Items.{items, BringsBack, BringsOnly, AreDurable, AreFirst, AreOnly, KeepsItems}
 use Rattle.items.specs.State.{ItemsState}
-use Rattle.items.specs.Standing.{AreItems, RecoveryLeaves, bytes_of, items_of}
-use Rattle.items.specs.Calls.{CrashesAndRecovers, HasRecovered, RecoversItems}
+use Rattle.items.specs.Standing.{AreItems, CrashLeaves, RecoveryLeaves, bytes_of, items_of}
+use Rattle.items.specs.Calls.{CrashGoes, CrashesAndRecovers, HasRecovered, RecoverGoes, RecoversItems}
 use Rattle.items.proofs.Laws.{brings_back, brings_only, items_within, items_whole, durable_of, floor_durable, keeps_items, leaves_items, first_of_itself}
 use Rattle.items.proofs.Standing.{are_items, each_snapshot_stays, each_snapshot_still, new_id, new_to_snapshots, other_snapshots_stay, stand, stay_items}
 use Rattle.items.proofs.Calls.{all_durable}
@@ -183,6 +184,21 @@ cut_refused sum n capacity cache old mid new w BlobInsufficientLength recovered 
 cut_refused sum n capacity cache old mid new w OffsetOverflow recovered (cause, log) = absurd cause
 cut_refused sum n capacity cache old mid new w IdsExhausted recovered (cause, log) = absurd cause
 
+-- a recovery, by its answer
+pub recovers_so : (sum : List ℕ → ℕ) (s : ℕ) (cache after : CacheState) (capacity : ℕ) (old new : Life) (now : ItemsState) → 0 < s → IsImage old.present old.present.readable → HasRecovered sum s cache after old new now
+    → RecoverGoes sum s cache after capacity old new (Ok now)
+recovers_so sum s cache after capacity old new now some is_image has =
+    let P = cache.page_size in
+    let d = old.present in
+    record {
+      answers = has;
+      back = subst (λ (found : List (List ℕ)). BringsBack sum P s d found) (sym has.same) (brings_back sum P s d d.readable some is_image);
+      only = subst (λ (found : List (List ℕ)). BringsOnly sum P s d d.readable found) (sym has.same) (brings_only sum P s d d.readable is_image);
+    }
+
+pub recovers_not : (sum : List ℕ → ℕ) (s : ℕ) (cache after : CacheState) (capacity : ℕ) (old new : Life) (e : Error) → Recovers sum cache capacity old new (Err e) → RecoverGoes sum s cache after capacity old new (Err e)
+recovers_not sum s cache after capacity old new e refused = record { answers = refused; back = tt; only = tt }
+
 -- what comes back of a crash
 pub brought_back : (sum : List ℕ → ℕ) (s : ℕ) (cache after : CacheState) (capacity : ℕ) (d : Disk) (image : List ℕ) (old new : Life) (result : Result ItemsState Error) → 0 < s → IsImage d image → old.present.readable ≡ image → RecoversItems sum s cache after capacity old new result
     → IfOk result (λ r. BringsBack sum cache.page_size s d (items_of r new))
@@ -209,3 +225,17 @@ crash_recovers sum s cache after capacity keep old new (Err InvalidChecksum) rec
 crash_recovers sum s cache after capacity keep old new (Err BlobInsufficientLength) recovers leaves = recovers
 crash_recovers sum s cache after capacity keep old new (Err OffsetOverflow) recovers leaves = recovers
 crash_recovers sum s cache after capacity keep old new (Err IdsExhausted) recovers leaves = recovers
+
+-- no memory for the crash: nothing changed
+pub crash_refused : (sum : List ℕ → ℕ) (s : ℕ) (cache : CacheState) (capacity : ℕ) (keep : List Bool) (old new : Life) (e : Error) (result : Result ItemsState Error) → IsErrAnd result (λ x. x ≡ e) → e ≡ OutOfMemory → new ≡ old → CrashGoes sum s cache cache capacity keep old new result
+crash_refused sum s cache capacity keep old new e (Ok r) is out same = absurd is
+crash_refused sum s cache capacity keep old new e (Err x) is out same =
+    subst (λ (y : Error). CrashGoes sum s cache cache capacity keep old new (Err y)) (sym (is ∙ out)) (record { answers = inl (refl, same); back = tt; only = tt })
+
+pub nothing_crashed : (sum : List ℕ → ℕ) (s : ℕ) (cache : CacheState) (d : Disk) → IsFresh cache → CrashLeaves sum s cache cache d d
+nothing_crashed sum s cache d fresh = record {
+  fresh = fresh;
+  others = λ own t life stays. stays;
+  snapshots = λ own r life snapshot. snapshot;
+  stays = λ content n durable. durable;
+}

@@ -1,7 +1,7 @@
 -- What the calls of items do.
 use Rattle.std.specs.Prelude.{◌≡◌, ◌≢◌, ◌⊎◌, ◌≤◌, ◌<◌, ◌+◌, ◌*◌, ◌/◌, ◌^◌, ◌++◌, ℕ, List, [], ◌∷◌}
 use Rattle.std.specs.Prelude.{length, take, map, slice_get, get_or, All, Option, Some, None, Result}
-use Rattle.std.specs.Prelude.{Ok, Err, Bool, Vec}
+use Rattle.std.specs.Prelude.{Ok, Err, IfOk, Bool, Vec}
 use Rattle.std.specs.List.{flat_map}
 use Rattle.std.specs.declared.alloc.Global.{Global}
 use Rattle.disk.specs.declared.started_sync.StartedSync.{StartedSync}
@@ -23,7 +23,7 @@ use Rattle.paged_read.specs.Tail.{Tail}
 use Rattle.paged.specs.Calls.{IsSameWriter, CallCause}
 use Rattle.paged.specs.Recovers.{Recovers}
 use Rattle.paged.specs.Writer.{physical_blob_size}
-use Rattle.items.specs.Items.{items, item, AreDurable, WouldBeDurable}
+use Rattle.items.specs.Items.{items, item, AreDurable, BringsBack, BringsOnly, WouldBeDurable}
 use Rattle.items.specs.State.{ItemsState}
 use Rattle.items.specs.Standing.{AreItems, AreReady, IsNewId, IsNewToSnapshots, RecoveryLeaves}
 use Rattle.items.specs.Standing.{bytes_of, count, items_of}
@@ -67,6 +67,10 @@ pub record Lasts (sum : List ℕ → ℕ) (s now : ItemsState) (old new : Life) 
       → WouldBeDurable sum s.writer.page_size s.size (bytes_of s old) n name old.present
       → WouldBeDurable sum now.writer.page_size now.size (bytes_of now new) n name new.present
   pub completed : CompletesItems sum s now s.writer.sync old new
+
+-- so the items are given back, and what was durable lasts
+abbrev pub AreGivenBack : (List ℕ → ℕ) → (s now : ItemsState) → CacheState → Life → Life → Type 0
+AreGivenBack sum s now after old new = GoReady sum s now after new × Lasts sum s now old new
 
 -- an item was pushed: under this number, after those that there were
 pub record IsPushed (sum : List ℕ → ℕ) (s : ItemsState) (item : List ℕ) (after : CacheState)
@@ -174,6 +178,15 @@ RecoversItems sum s cache after capacity old new (Ok now) =
 RecoversItems sum s cache after capacity old new (Err e) =
     Recovers sum cache capacity old new (Err e)
 
+-- and what it brings back begins with the items that were durable; and where no checksum collides, it
+-- is the first of those that a crash was to leave
+pub record RecoverGoes (sum : List ℕ → ℕ) (s : ℕ) (cache after : CacheState) (capacity : ℕ)
+    (old new : Life) (result : Result ItemsState Error) : Type 0 where
+  pub answers : RecoversItems sum s cache after capacity old new result
+  pub back : IfOk result (λ r. BringsBack sum cache.page_size s old.present (items_of r new))
+  pub only : let was = old.present in
+      IfOk result (λ r. BringsOnly sum cache.page_size s was was.readable (items_of r new))
+
 -- a blob in memory crashed, which kept what these flags say, and its items were recovered; where
 -- memory was refused, nothing changed, or the recovery of what the flags leave was refused
 abbrev pub CrashesAndRecovers : (List ℕ → ℕ) → (s : ℕ) → (cache after : CacheState)
@@ -188,6 +201,15 @@ CrashesAndRecovers sum s cache after capacity keep old new (Err OutOfMemory) =
 CrashesAndRecovers sum s cache after capacity keep old new (Err e) =
     let d = old.present in
     RecoversItems sum s cache after capacity (begun (torn keep d.since d.base) d.log) new (Err e)
+
+-- and what comes back begins with the items that were durable as the crash came; and where no
+-- checksum collides in what it left, it is the first of those that were pushed
+pub record CrashGoes (sum : List ℕ → ℕ) (s : ℕ) (cache after : CacheState) (capacity : ℕ)
+    (keep : List Bool) (old new : Life) (result : Result ItemsState Error) : Type 0 where
+  pub answers : CrashesAndRecovers sum s cache after capacity keep old new result
+  pub back : IfOk result (λ r. BringsBack sum cache.page_size s old.present (items_of r new))
+  pub only : let d = old.present in let image = torn keep d.since d.base in
+      IfOk result (λ r. BringsOnly sum cache.page_size s d image (items_of r new))
 
 -- ---- reads
 

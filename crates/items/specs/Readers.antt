@@ -12,7 +12,7 @@ use Rattle.items.specs.Items.{items}
 use Rattle.items.specs.State.{ItemsReplayState, ItemsSnapshotState, ItemsState}
 use Rattle.items.specs.Standing.{AreItems, IsItemsReplay, IsItemsSnapshot, bytes_along, items_left}
 use Rattle.items.specs.Standing.{items_of, items_over}
-use Rattle.items.specs.Calls.{GoOn, ReadRefused}
+use Rattle.items.specs.Calls.{AreGivenBack, GoOn, ReadRefused}
 
 -- a snapshot was made of all items, which go on: its pages lie below their tip
 pub record HasSnapshot (sum : List ℕ → ℕ) (s : ItemsState) (after : CacheState) (old new : Life)
@@ -24,6 +24,13 @@ pub record HasSnapshot (sum : List ℕ → ℕ) (s : ItemsState) (after : CacheS
   pub size : r.size ≡ s.size
   pub id : r.tail.id ≡ s.writer.id
   pub below : r.tail.full_pages ≤ now.writer.full_pages
+
+-- the items are given back, with it
+abbrev pub AreGivenWithSnapshot : (List ℕ → ℕ) → (s now : ItemsState) → ItemsSnapshotState
+    → CacheState → Life → Life → Type 0
+AreGivenWithSnapshot sum s now r after old new =
+    AreGivenBack sum s now after old new × IsItemsSnapshot sum r after new × (r.size ≡ s.size)
+    × (r.tail.id ≡ s.writer.id) × (r.tail.full_pages ≤ now.writer.full_pages)
 
 abbrev pub MakesItemsSnapshot : (List ℕ → ℕ) → ItemsState → CacheState → Life → Life
     → Result (ItemsState × ItemsSnapshotState) Error → Type 0
@@ -53,6 +60,14 @@ pub record HasReplay (sum : List ℕ → ℕ) (s : ItemsState) (after : CacheSta
   pub size : r.size ≡ s.size
   pub page_size : r.replay.tail.page_size ≡ now.writer.page_size
   pub below : r.replay.tail.full_pages ≤ now.writer.full_pages
+
+-- the items are given back, with it
+abbrev pub AreGivenWithReplay : (List ℕ → ℕ) → (s now : ItemsState) → ItemsReplayState → CacheState
+    → Life → Life → Type 0
+AreGivenWithReplay sum s now r after old new =
+    AreGivenBack sum s now after old new × IsItemsReplay sum r new × (r.size ≡ s.size)
+    × (r.replay.tail.page_size ≡ now.writer.page_size)
+    × (r.replay.tail.full_pages ≤ now.writer.full_pages)
 
 abbrev pub BeginsItemsReplay : (List ℕ → ℕ) → ItemsState → CacheState → Life → Life
     → Result (ItemsState × ItemsReplayState) Error → Type 0

@@ -1,9 +1,10 @@
 -- What a run of items does: each step by cases on its reply, and all of them in order.
 use Rattle.std.specs.Prelude.{◌≡◌, ◌≢◌, ◌≤◌, ◌++◌, ℕ, List, [], ◌∷◌, length, take, slice_get}
-use Rattle.std.specs.Prelude.{Option, Some, None, Result, Ok, Err, Vec}
+use Rattle.std.specs.Prelude.{Option, Some, None, Result, Ok, Err, OnOk, OnErr, IsOkUnless, Vec}
 use Rattle.std.specs.declared.alloc.Global.{Global}
 use Rattle.disk.specs.Disk.{Life}
 use Rattle.disk.specs.declared.error.Error.{Error}
+use Rattle.disk.specs.declared.error.Error.TheVariants.{OutOfMemory}
 use Rattle.cache.specs.CacheState.{CacheState}
 use Rattle.cache.specs.Pages.{IsFresh}
 use Rattle.paged.specs.Calls.{CallCause}
@@ -151,3 +152,19 @@ pub record Ran (sum : List ℕ → ℕ) (steps : List ItemStep) (was now : Optio
   pub kept : (P s : ℕ) → HasSizes P s was → KeepsItems sum P s old new
   pub stops : (taken : ℕ) → taken ≤ length steps
       → Stop sum steps added was now cache old new taken
+
+-- room for the replies was refused: nothing changed
+pub record IsNotRun (was now : Option ItemsState) (cache after : CacheState) (old new : Life)
+    (earlier replies : List ItemReply) : Type 0 where
+  pub same_session : now ≡ was
+  pub same_life : new ≡ old
+  pub same_replies : replies ≡ earlier
+  pub same_cache : after ≡ cache
+
+-- a run, by its answer
+pub record RunGoes (sum : List ℕ → ℕ) (steps : List ItemStep) (was now : Option ItemsState)
+    (cache after : CacheState) (old new : Life) (earlier replies : List ItemReply)
+    (result : Result (Unit {0}) Error) : Type 0 where
+  pub ran : OnOk result (Ran sum steps was now cache after old new earlier replies)
+  pub err : IsOkUnless result OutOfMemory
+  pub refused : OnErr result (IsNotRun was now cache after old new earlier replies)

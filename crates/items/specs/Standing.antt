@@ -1,6 +1,6 @@
 -- Items, snapshots and replays of items between two calls, and what a call leaves of them.
 use Rattle.std.specs.Prelude.{◌≡◌, ◌≢◌, ◌≤◌, ◌<◌, ◌*◌, ◌/◌, ℕ, List, length, drop}
-use Rattle.disk.specs.Disk.{Life}
+use Rattle.disk.specs.Disk.{Disk, Life}
 use Rattle.cache.specs.CacheState.{CacheState}
 use Rattle.cache.specs.Pages.{IsFresh}
 use Rattle.crash.specs.Kept.{Through}
@@ -14,6 +14,7 @@ use Rattle.paged.specs.Ready.{IsReady}
 use Rattle.paged.specs.Reads as writer
 use Rattle.paged.specs.Recovery.{IsDurable}
 use Rattle.items.specs.Items.{items, AreDurable, KeepsItems, KeepsStarted, LeavesItems}
+use Rattle.items.specs.Items.{StaysDurable}
 use Rattle.items.specs.State.{ItemsState, ItemsReplayState, ItemsSnapshotState}
 
 -- ---- items
@@ -189,6 +190,12 @@ pub record CallLeaves (sum : List ℕ → ℕ) (s : ItemsState) (all : List (Lis
   pub snapshots : SnapshotsStay sum s.writer.full_pages cache after old new
   pub replays : ReplaysStay sum s.writer.page_size s.writer.full_pages old new
 
+-- a read of items: the same, and the device was only read
+pub record ReadLeaves (sum : List ℕ → ℕ) (s : ItemsState) (cache after : CacheState)
+    (old new : Life) : Type 0 where
+  pub looked : Looked old new
+  pub call : CallLeaves sum s (items_of s old) cache after old new
+
 -- what a recovery leaves, whatever it answers: the cache serves on, for the items and the snapshots
 -- of other blobs too; what was durable is so at each moment since; and where all was durable as it
 -- began, all items of the text are, and chance aside a crash leaves only them
@@ -202,6 +209,15 @@ pub record RecoveryLeaves (sum : List ℕ → ℕ) (s : ℕ) (cache after : Cach
       → Through (AreDurable sum cache.page_size s T (length T / s)) old new
   pub only : let T = text sum cache.page_size old.present.readable in IsDurable old.present
       → LeavesItems sum cache.page_size s (items s T) old new
+
+-- what a crash and the recovery after it leave, whatever they answer: the cache serves on, for the
+-- items and the snapshots of other blobs too, and what was durable still is
+pub record CrashLeaves (sum : List ℕ → ℕ) (s : ℕ) (cache after : CacheState) (was is : Disk)
+    : Type 0 where
+  pub fresh : IsFresh after
+  pub others : AllStay cache after
+  pub snapshots : EachSnapshotStays cache after
+  pub stays : StaysDurable sum cache.page_size s was is
 
 -- what a read of a snapshot leaves, whatever it answers: the device was only read, the items,
 -- snapshots and replays of the blob are as they were, and those of other blobs; and a crash at each

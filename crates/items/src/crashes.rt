@@ -2,11 +2,9 @@
 ghost use Rattle.std.specs.Prelude.{◌≡◌, IfOk};
 ghost use Rattle.std.specs.Int.NonZero.{non_zero_usize_get};
 ghost use Rattle.disk.specs.History.{life_of};
-ghost use Rattle.disk.specs.Torn.{torn};
 ghost use Rattle.cache.specs.Pages.{IsFresh};
-ghost use Rattle.items.specs.Standing.{AllStay, AreReady, EachSnapshotStays, items_of};
-ghost use Rattle.items.specs.Calls.{CrashesAndRecovers};
-ghost use Rattle.items.specs.Items.{BringsBack, BringsOnly, StaysDurable};
+ghost use Rattle.items.specs.Standing.{AreReady, CrashLeaves};
+ghost use Rattle.items.specs.Calls.{CrashGoes};
 
 use crate::items::Items;
 use cache::CacheRef;
@@ -32,22 +30,13 @@ pub fn crash_and_recover<H: Sum>(
     size: NonZeroUsize,
 ) -> Result<Items<MemBlob, H>, Error>
     requires fresh { IsFresh cache.old }
-    ensures recovers { let s = non_zero_usize_get size in
-        CrashesAndRecovers H.sum_of s cache.old cache.new capacity keep.now (life_of blob.old)
+    ensures goes { let s = non_zero_usize_get size in
+        CrashGoes H.sum_of s cache.old cache.new capacity keep.now (life_of blob.old)
         (life_of blob.new) result }
     ensures ready { let s = non_zero_usize_get size in IfOk result (λ r.
         AreReady H.sum_of r cache.new (life_of blob.new) × (r.size ≡ s)) }
-    ensures fresh { IsFresh cache.new }
-    ensures others { AllStay cache.old cache.new × EachSnapshotStays cache.old cache.new }
-    ensures stays { let was = (life_of blob.old).present in let is = (life_of blob.new).present in
-        StaysDurable H.sum_of cache.old.page_size (non_zero_usize_get size) was is }
-    ensures back { let was = (life_of blob.old).present in
-        let P = cache.old.page_size in let s = non_zero_usize_get size in
-        IfOk result (λ r. BringsBack H.sum_of P s was (items_of r (life_of blob.new))) }
-    ensures only { let was = (life_of blob.old).present in
-        let image = torn keep.now was.since was.base in
-        let P = cache.old.page_size in let s = non_zero_usize_get size in
-        IfOk result (λ r. BringsOnly H.sum_of P s was image (items_of r (life_of blob.new))) }
+    ensures leaves { let was = (life_of blob.old).present in let is = (life_of blob.new).present in
+        CrashLeaves H.sum_of (non_zero_usize_get size) cache.old cache.new was is }
 {
     blob.crash(keep)?;
     let blob_size = blob.len();

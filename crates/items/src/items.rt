@@ -4,20 +4,18 @@ ghost use Rattle.std.specs.Prelude.{ℕ, IfOk};
 ghost use Rattle.std.specs.Int.NonZero.{non_zero_usize_get};
 ghost use Rattle.cache.specs.CacheState.{CacheState};
 ghost use Rattle.cache.specs.Pages.{IsFresh};
-ghost use Rattle.crash.specs.Looks.{Looked};
 ghost use Rattle.disk.specs.Disk.{Life};
 ghost use Rattle.paged_read.specs.Ranges.{AsksForMissing, AsksOnce};
 ghost use Rattle.paged.specs.Caches.{tail_of};
 ghost use Rattle.paged.specs.Calls.{AsksAtMost, start_calls, sync_calls, wait_calls};
 ghost use Rattle.paged.specs.Replays.{replay_calls};
 ghost use Rattle.paged.specs.Snapshots.{snapshot_calls};
-ghost use Rattle.items.specs.Calls.{AreRising, FindsItem, GetsItem, GetsMany, GoReady, Lasts};
-ghost use Rattle.items.specs.Calls.{Pushes, RecoversItems};
+ghost use Rattle.items.specs.Calls.{AreGivenBack, AreRising, FindsItem, GetsItem, GetsMany};
+ghost use Rattle.items.specs.Calls.{Pushes, RecoverGoes};
 ghost use Rattle.items.specs.Calls.{StartsItems, SyncsItems, TriesPush, WaitsForItems, item_ranges};
-ghost use Rattle.items.specs.Items.{BringsBack, BringsOnly};
+ghost use Rattle.items.specs.Readers.{AreGivenWithReplay, AreGivenWithSnapshot};
 ghost use Rattle.items.specs.Readers.{BeginsItemsReplay, MakesItemsSnapshot, TriesItemsSnapshot};
-ghost use Rattle.items.specs.Standing.{AreItems, AreReady, CallLeaves, IsItemsReplay};
-ghost use Rattle.items.specs.Standing.{IsItemsSnapshot};
+ghost use Rattle.items.specs.Standing.{AreItems, AreReady, CallLeaves, ReadLeaves};
 ghost use Rattle.items.specs.Standing.{RecoveryLeaves, bytes_of, count, items_of};
 
 use crate::locate::{offset_of, offsets_of};
@@ -115,25 +113,14 @@ impl<B: Blob, H: Sum> Items<B, H> {
     ) -> Result<Self, Error>
         requires length { blob_size ≡ length (B.life blob.old).present.readable }
         requires fresh { IsFresh cache.old }
-        ensures recovers { let old = B.life blob.old in let new = B.life blob.new in
+        ensures goes { let old = B.life blob.old in let new = B.life blob.new in
             let s = non_zero_usize_get size in
-            RecoversItems H.sum_of s cache.old cache.new capacity old new result }
+            RecoverGoes H.sum_of s cache.old cache.new capacity old new result }
         ensures ready { let s = non_zero_usize_get size in IfOk result (λ r.
             AreReady H.sum_of r cache.new (B.life blob.new) × (r.size ≡ s)) }
         ensures leaves { let old = B.life blob.old in let new = B.life blob.new in
             let s = non_zero_usize_get size in
             RecoveryLeaves H.sum_of s cache.old cache.new old new }
-        ensures fresh { IsFresh cache.new }
-
-        // The items begin with those that were durable; and where no checksum collides, they are
-        // the first of those that a crash was to leave.
-        ensures back { let was = (B.life blob.old).present in
-            let P = cache.old.page_size in let s = non_zero_usize_get size in
-            IfOk result (λ r. BringsBack H.sum_of P s was (items_of r (B.life blob.new))) }
-        ensures only { let was = (B.life blob.old).present in
-            let P = cache.old.page_size in let s = non_zero_usize_get size in
-            IfOk result (λ r.
-            BringsOnly H.sum_of P s was was.readable (items_of r (B.life blob.new))) }
     {
         let recovery = paged::recover::<B, H>(
             alloc,
@@ -161,16 +148,13 @@ impl<B: Blob, H: Sum> Items<B, H> {
     pub fn push(self, blob: &mut B, cache: &mut CacheRef, item: &[u8]) -> Result<(Self, u64), Error>
         requires items { AreItems H.sum_of self cache.old (B.life blob.old) }
         requires size { length item.now ≡ self.size }
-        ensures pushes { let old = B.life blob.old in let new = B.life blob.new in
+        ensures goes { let old = B.life blob.old in let new = B.life blob.new in
             Pushes H.sum_of self item.now cache.new old new result }
-        ensures ready { IfOk result (λ r.
-            GoReady H.sum_of self r.0 cache.new (B.life blob.new)) }
-        ensures lasts { let old = B.life blob.old in let new = B.life blob.new in
-            IfOk result (λ r. Lasts H.sum_of self r.0 old new) }
+        ensures ready { let old = B.life blob.old in let new = B.life blob.new in
+            IfOk result (λ r. AreGivenBack H.sum_of self r.0 cache.new old new) }
         ensures leaves { let old = B.life blob.old in let new = B.life blob.new in
             let all = items_of self old ++ item.now ∷ [] in
             CallLeaves H.sum_of self all cache.old cache.new old new }
-        ensures fresh { IsFresh cache.new }
         ensures costs { let old = B.life blob.old in let new = B.life blob.new in
             AsksAtMost (wait_calls self.writer.sync + 2) old new
             × (length self.writer.tip + length item.now ≤ self.writer.capacity → new ≡ old) }
@@ -191,10 +175,9 @@ impl<B: Blob, H: Sum> Items<B, H> {
     /// error the items are as they were.
     pub fn try_push_value<T: FixedSize + Write>(&mut self, value: &T) -> Result<Option<u64>, Error>
         requires size { T.SIZE ≡ self.old.size }
-        ensures tries { TriesPush H.sum_of self.old (T.encoded value.now) self.new result }
+        ensures goes { TriesPush H.sum_of self.old (T.encoded value.now) self.new result }
         ensures ready { (cache : CacheState) (life : Life) → AreItems H.sum_of self.old cache life
-            → GoReady H.sum_of self.old self.new cache life
-            × Lasts H.sum_of self.old self.new life life }
+            → AreGivenBack H.sum_of self.old self.new cache life life }
     {
         let at = self.len();
         match self.writer.try_append_value(value) {
@@ -210,14 +193,12 @@ impl<B: Blob, H: Sum> Items<B, H> {
     /// then.
     pub fn sync(self, blob: &mut B, cache: &mut CacheRef) -> Result<Self, Error>
         requires items { AreItems H.sum_of self cache.old (B.life blob.old) }
-        ensures syncs { let old = B.life blob.old in let new = B.life blob.new in
+        ensures goes { let old = B.life blob.old in let new = B.life blob.new in
             SyncsItems H.sum_of self cache.new old new result }
-        ensures ready { IfOk result (λ r. GoReady H.sum_of self r cache.new (B.life blob.new)) }
-        ensures lasts { let old = B.life blob.old in let new = B.life blob.new in
-            IfOk result (λ r. Lasts H.sum_of self r old new) }
+        ensures ready { let old = B.life blob.old in let new = B.life blob.new in
+            IfOk result (λ r. AreGivenBack H.sum_of self r cache.new old new) }
         ensures leaves { let old = B.life blob.old in let new = B.life blob.new in
             CallLeaves H.sum_of self (items_of self old) cache.old cache.new old new }
-        ensures fresh { IsFresh cache.new }
         ensures costs { AsksAtMost (sync_calls self.writer) (B.life blob.old) (B.life blob.new) }
     {
         let (alloc, size) = (self.alloc, self.size);
@@ -239,15 +220,12 @@ impl<B: Blob, H: Sum> Items<B, H> {
         cache: &mut CacheRef,
     ) -> Result<(Self, StartedSync), Error>
         requires items { AreItems H.sum_of self cache.old (B.life blob.old) }
-        ensures starts { let old = B.life blob.old in let new = B.life blob.new in
+        ensures goes { let old = B.life blob.old in let new = B.life blob.new in
             StartsItems H.sum_of self cache.new old new result }
-        ensures ready { IfOk result (λ r.
-            GoReady H.sum_of self r.0 cache.new (B.life blob.new)) }
-        ensures lasts { let old = B.life blob.old in let new = B.life blob.new in
-            IfOk result (λ r. Lasts H.sum_of self r.0 old new) }
+        ensures ready { let old = B.life blob.old in let new = B.life blob.new in
+            IfOk result (λ r. AreGivenBack H.sum_of self r.0 cache.new old new) }
         ensures leaves { let old = B.life blob.old in let new = B.life blob.new in
             CallLeaves H.sum_of self (items_of self old) cache.old cache.new old new }
-        ensures fresh { IsFresh cache.new }
         ensures costs { AsksAtMost (start_calls self.writer) (B.life blob.old) (B.life blob.new) }
     {
         let (alloc, size) = (self.alloc, self.size);
@@ -263,12 +241,12 @@ impl<B: Blob, H: Sum> Items<B, H> {
     /// `SyncFailed` where the device failed, `OutOfMemory`. The items are gone then.
     pub fn wait_for_sync(self, blob: &mut B) -> Result<Self, Error>
         requires items { (cache : CacheState) × AreItems H.sum_of self cache (B.life blob.old) }
-        ensures waits { let old = B.life blob.old in let new = B.life blob.new in
+        ensures goes { let old = B.life blob.old in let new = B.life blob.new in
             (cache : CacheState) → AreItems H.sum_of self cache old
             → WaitsForItems H.sum_of self cache old new result }
         ensures ready { let old = B.life blob.old in let new = B.life blob.new in
             (cache : CacheState) → AreItems H.sum_of self cache old
-            → IfOk result (λ r. GoReady H.sum_of self r cache new × Lasts H.sum_of self r old new) }
+            → IfOk result (λ r. AreGivenBack H.sum_of self r cache old new) }
         ensures leaves { let old = B.life blob.old in let new = B.life blob.new in
             (cache : CacheState) → AreItems H.sum_of self cache old
             → CallLeaves H.sum_of self (items_of self old) cache cache old new }
@@ -309,18 +287,12 @@ impl<B: Blob, H: Sum> Items<B, H> {
         cache: &mut CacheRef,
     ) -> Result<(Self, ItemsSnapshot<B, H>), Error>
         requires items { AreItems H.sum_of self cache.old (B.life blob.old) }
-        ensures makes { let old = B.life blob.old in let new = B.life blob.new in
+        ensures goes { let old = B.life blob.old in let new = B.life blob.new in
             MakesItemsSnapshot H.sum_of self cache.new old new result }
-        ensures ready { let new = B.life blob.new in IfOk result (λ r.
-            GoReady H.sum_of self r.0 cache.new new
-            × IsItemsSnapshot H.sum_of r.1 cache.new new × (r.1.size ≡ self.size)
-            × (r.1.tail.id ≡ self.writer.id)
-            × (r.1.tail.full_pages ≤ r.0.writer.full_pages)) }
-        ensures lasts { let old = B.life blob.old in let new = B.life blob.new in
-            IfOk result (λ r. Lasts H.sum_of self r.0 old new) }
+        ensures ready { let old = B.life blob.old in let new = B.life blob.new in
+            IfOk result (λ r. AreGivenWithSnapshot H.sum_of self r.0 r.1 cache.new old new) }
         ensures leaves { let old = B.life blob.old in let new = B.life blob.new in
             CallLeaves H.sum_of self (items_of self old) cache.old cache.new old new }
-        ensures fresh { IsFresh cache.new }
         ensures costs { AsksAtMost (snapshot_calls self.writer) (B.life blob.old)
             (B.life blob.new) }
     {
@@ -351,18 +323,12 @@ impl<B: Blob, H: Sum> Items<B, H> {
         options: ReadOptions,
     ) -> Result<(Self, ItemsReplay<B, H>), Error>
         requires items { AreItems H.sum_of self cache.old (B.life blob.old) }
-        ensures begins { let old = B.life blob.old in let new = B.life blob.new in
+        ensures goes { let old = B.life blob.old in let new = B.life blob.new in
             BeginsItemsReplay H.sum_of self cache.new old new result }
-        ensures ready { let new = B.life blob.new in IfOk result (λ r.
-            GoReady H.sum_of self r.0 cache.new new
-            × IsItemsReplay H.sum_of r.1 new × (r.1.size ≡ self.size)
-            × (r.1.replay.tail.page_size ≡ r.0.writer.page_size)
-            × (r.1.replay.tail.full_pages ≤ r.0.writer.full_pages)) }
-        ensures lasts { let old = B.life blob.old in let new = B.life blob.new in
-            IfOk result (λ r. Lasts H.sum_of self r.0 old new) }
+        ensures ready { let old = B.life blob.old in let new = B.life blob.new in
+            IfOk result (λ r. AreGivenWithReplay H.sum_of self r.0 r.1 cache.new old new) }
         ensures leaves { let old = B.life blob.old in let new = B.life blob.new in
             CallLeaves H.sum_of self (items_of self old) cache.old cache.new old new }
-        ensures fresh { IsFresh cache.new }
         ensures costs { AsksAtMost (replay_calls self.writer) (B.life blob.old) (B.life blob.new) }
     {
         let (alloc, size) = (self.alloc, self.size);
@@ -391,16 +357,14 @@ impl<B: Blob, H: Sum> Items<B, H> {
     ) -> Result<(), Error>
         requires items { AreItems H.sum_of self.now cache.old (B.life blob.old) }
         requires size { length buf.old ≡ self.now.size }
-        ensures gets { let old = B.life blob.old in let new = B.life blob.new in
+        ensures goes { let old = B.life blob.old in let new = B.life blob.new in
             GetsItem self.now.size (bytes_of self.now old) i buf.new old new result }
-        ensures length { length buf.new ≡ length buf.old }
         ensures ready { let old = B.life blob.old in let new = B.life blob.new in
             AreReady H.sum_of self.now cache.new new
-            × (bytes_of self.now new ≡ bytes_of self.now old) }
+            × (bytes_of self.now new ≡ bytes_of self.now old)
+            × (length buf.new ≡ length buf.old) }
         ensures leaves { let old = B.life blob.old in let new = B.life blob.new in
-            Looked old new
-            × CallLeaves H.sum_of self.now (items_of self.now old) cache.old cache.new old new }
-        ensures fresh { IsFresh cache.new }
+            ReadLeaves H.sum_of self.now cache.old cache.new old new }
         ensures costs { let old = B.life blob.old in let new = B.life blob.new in
             let range : ℕ × ℕ = (i * self.now.size, self.now.size) in
             AsksForMissing cache.old (tail_of self.now.writer) range old new }
@@ -425,19 +389,17 @@ impl<B: Blob, H: Sum> Items<B, H> {
         indices: &[u64],
     ) -> Result<usize, Error>
         requires items { AreItems H.sum_of self.now cache.old (B.life blob.old) }
-        requires rising { AreRising indices.now }
-        requires size { length buf.old ≡ length indices.now * self.now.size }
-        ensures gets { let old = B.life blob.old in let new = B.life blob.new in
+        requires asked { AreRising indices.now
+            × (length buf.old ≡ length indices.now * self.now.size) }
+        ensures goes { let old = B.life blob.old in let new = B.life blob.new in
             let t = tail_of self.now.writer in let bytes = bytes_of self.now old in
             GetsMany self.now.size t bytes indices.now cache.old buf.new old new result }
-        ensures length { length buf.new ≡ length buf.old }
         ensures ready { let old = B.life blob.old in let new = B.life blob.new in
             AreReady H.sum_of self.now cache.new new
-            × (bytes_of self.now new ≡ bytes_of self.now old) }
+            × (bytes_of self.now new ≡ bytes_of self.now old)
+            × (length buf.new ≡ length buf.old) }
         ensures leaves { let old = B.life blob.old in let new = B.life blob.new in
-            Looked old new
-            × CallLeaves H.sum_of self.now (items_of self.now old) cache.old cache.new old new }
-        ensures fresh { IsFresh cache.new }
+            ReadLeaves H.sum_of self.now cache.old cache.new old new }
         ensures costs { let t = tail_of self.now.writer in
             let ranges = item_ranges self.now.size indices.now in
             AsksOnce cache.old t ranges (B.life blob.old) (B.life blob.new) }

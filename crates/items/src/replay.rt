@@ -65,7 +65,7 @@ impl<B: Blob, H: Sum> ItemsReplay<B, H> {
     /// was, so that the call can be made again.
     pub fn next(&mut self, blob: &mut B) -> Result<Option<IoBuf>, Error>
         requires replay { IsItemsReplay H.sum_of self.old (B.life blob.old) }
-        ensures gives { let old = B.life blob.old in let new = B.life blob.new in
+        ensures goes { let old = B.life blob.old in let new = B.life blob.new in
             GivesNext self.old self.new old new result }
         ensures ready { IsItemsReplay H.sum_of self.new (B.life blob.new)
             × (self.new.size ≡ self.old.size)
@@ -89,7 +89,7 @@ impl<B: Blob, H: Sum> ItemsReplay<B, H> {
     /// `OffsetOverflow` where an item of this number would begin past the greatest `u64`, else
     /// `BlobInsufficientLength` where there are fewer items. An error changes nothing.
     pub fn seek_to(&mut self, i: u64) -> Result<(), Error>
-        ensures seeks { SeeksItem H.sum_of self.old i self.new result }
+        ensures goes { SeeksItem H.sum_of self.old i self.new result }
         ensures same { (self.new.size ≡ self.old.size)
             × (self.new.replay.tail ≡ self.old.replay.tail) }
     {

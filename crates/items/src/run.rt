@@ -1,8 +1,8 @@
 // Runs of items.
-ghost use Rattle.std.specs.Prelude.{◌≡◌, ◌++◌, None, Some, IsOkUnless, OnErr, OnOk};
+ghost use Rattle.std.specs.Prelude.{◌≡◌, ◌++◌, None, Some};
 ghost use Rattle.cache.specs.Pages.{IsFresh};
 ghost use Rattle.items.specs.Run.{DidItem, GotItem, IsOpen, PushedItem, SyncedItems};
-ghost use Rattle.items.specs.Run.{GivesItem, Ran, TellsLength};
+ghost use Rattle.items.specs.Run.{GivesItem, RunGoes, TellsLength};
 ghost use Rattle.items.specs.Standing.{AreItems, CallLeaves, items_of};
 
 use crate::items::Items;
@@ -200,18 +200,10 @@ pub fn run_items<B: Blob, H: Sum>(
     replies: &mut Vec<ItemReply>,
 ) -> Result<(), Error>
     requires open { IsOpen H.sum_of session.old cache.old (B.life blob.old) }
-    ensures open { IsOpen H.sum_of session.new cache.new (B.life blob.new) }
-    ensures ran { let old = B.life blob.old in let new = B.life blob.new in
-        OnOk result (Ran H.sum_of steps.now session.old session.new cache.old cache.new old new
-        replies.old.items replies.new.items) }
-    ensures err { IsOkUnless result Error.OutOfMemory }
-    ensures fresh { IsFresh cache.new }
-
-    // Where room is refused.
-    ensures same_session { OnErr result (session.new ≡ session.old) }
-    ensures same_life { OnErr result (B.life blob.new ≡ B.life blob.old) }
-    ensures same_replies { OnErr result (replies.new.items ≡ replies.old.items) }
-    ensures same_cache { OnErr result (cache.new ≡ cache.old) }
+    ensures goes { let old = B.life blob.old in let new = B.life blob.new in
+        RunGoes H.sum_of steps.now session.old session.new cache.old cache.new old new
+        replies.old.items replies.new.items result }
+    ensures ready { IsOpen H.sum_of session.new cache.new (B.life blob.new) × IsFresh cache.new }
 {
     replies.try_reserve(steps.len())?;
     for step in steps {

@@ -82,12 +82,12 @@ impl<B: Blob, H: Sum> ItemsSnapshot<B, H> {
     ) -> Result<(), Error>
         requires snapshot { IsItemsSnapshot H.sum_of self.now cache.old (B.life blob.old) }
         requires size { length buf.old ≡ self.now.size }
-        ensures gets { let old = B.life blob.old in let new = B.life blob.new in
+        ensures goes { let old = B.life blob.old in let new = B.life blob.new in
             GetsItem self.now.size (bytes_over self.now old) i buf.new old new result }
-        ensures length { length buf.new ≡ length buf.old }
         ensures ready { let old = B.life blob.old in let new = B.life blob.new in
             IsItemsSnapshot H.sum_of self.now cache.new new
-            × (bytes_over self.now new ≡ bytes_over self.now old) }
+            × (bytes_over self.now new ≡ bytes_over self.now old)
+            × (length buf.new ≡ length buf.old) }
         ensures leaves { let old = B.life blob.old in let new = B.life blob.new in
             OnlyReads H.sum_of self.now.tail.id cache.old cache.new old new }
         ensures costs { let old = B.life blob.old in let new = B.life blob.new in
@@ -114,15 +114,15 @@ impl<B: Blob, H: Sum> ItemsSnapshot<B, H> {
         indices: &[u64],
     ) -> Result<usize, Error>
         requires snapshot { IsItemsSnapshot H.sum_of self.now cache.old (B.life blob.old) }
-        requires rising { AreRising indices.now }
-        requires size { length buf.old ≡ length indices.now * self.now.size }
-        ensures gets { let old = B.life blob.old in let new = B.life blob.new in
+        requires asked { AreRising indices.now
+            × (length buf.old ≡ length indices.now * self.now.size) }
+        ensures goes { let old = B.life blob.old in let new = B.life blob.new in
             let t = self.now.tail in let bytes = bytes_over self.now old in
             GetsMany self.now.size t bytes indices.now cache.old buf.new old new result }
-        ensures length { length buf.new ≡ length buf.old }
         ensures ready { let old = B.life blob.old in let new = B.life blob.new in
             IsItemsSnapshot H.sum_of self.now cache.new new
-            × (bytes_over self.now new ≡ bytes_over self.now old) }
+            × (bytes_over self.now new ≡ bytes_over self.now old)
+            × (length buf.new ≡ length buf.old) }
         ensures leaves { let old = B.life blob.old in let new = B.life blob.new in
             OnlyReads H.sum_of self.now.tail.id cache.old cache.new old new }
         ensures costs { let ranges = item_ranges self.now.size indices.now in

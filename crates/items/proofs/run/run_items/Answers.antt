@@ -30,8 +30,8 @@ loop-step-preserved g c =
           c.loop-step.invariant.ran c.step-reply.ensures.did c.push_reserved.ensures.items);
     }
 
-pub returns-clause-fresh : goal.returns-clause-fresh
-returns-clause-fresh g c = fresh_in g.H.Sum.sum_of c.loop-step.session c.loop-step.cache (g.B.Blob.life c.loop-step.blob) c.loop-step.invariant.stands
+pub returns-clause-ready : goal.returns-clause-ready
+returns-clause-ready g c = (c.loop-step.invariant.stands, fresh_in g.H.Sum.sum_of c.loop-step.session c.loop-step.cache (g.B.Blob.life c.loop-step.blob) c.loop-step.invariant.stands)
 
-pub returns-in_err-try_reserve-clause-fresh : goal.returns-in_err-try_reserve-clause-fresh
-returns-in_err-try_reserve-clause-fresh g c = fresh_in g.H.Sum.sum_of c.args.session.now c.args.cache.now (g.B.Blob.life c.args.blob.now) c.requires.open
+pub returns-in_err-try_reserve-clause-ready : goal.returns-in_err-try_reserve-clause-ready
+returns-in_err-try_reserve-clause-ready g c = (c.requires.open, fresh_in g.H.Sum.sum_of c.args.session.now c.args.cache.now (g.B.Blob.life c.args.blob.now) c.requires.open)

@@ -1,4 +1,4 @@
-use Rattle.std.proofs.Common.{◌≡◌, ◌*◌, length, Ok, Err, refl, subst, sym}
+use Rattle.std.proofs.Common.{rules, ◌≡◌, ◌*◌, length, Ok, Err, refl, subst, sym}
 use Rattle.std.specs.Int.NonZero.{non_zero_usize_get}
 use Rattle.crash.specs.Looks.{looked_start}
 use Rattle.paged_read.specs.Tail.{CanRead}
@@ -22,8 +22,8 @@ read_into-requires g c = record {
       (stand g.H.Sum.sum_of c.args.self.now c.args.cache.now (g.B.Blob.life c.args.blob.now) c.requires.items).ready.can;
 }
 
-pub returns-in-Ok-clause-gets : goal.returns-in-Ok-clause-gets
-returns-in-Ok-clause-gets g c =
+pub returns-in-Ok-clause-goes : goal.returns-in-Ok-clause-goes
+returns-in-Ok-clause-goes g c =
     let sum = g.H.Sum.sum_of in
     let s : ItemsState = record { writer = c.self.inside.writer; size = non_zero_usize_get c.self.inside.size } in
     let cache = c.args.cache.now in
@@ -73,16 +73,13 @@ left g c =
 pub returns-in-Ok-clause-ready : goal.returns-in-Ok-clause-ready
 returns-in-Ok-clause-ready g c =
     let left_items = (left g (goal.at.returns-in-Ok-clause-ready g c).After-read_into).0 in
-    (are_ready g.H.Sum.sum_of c.args.self.now c.read_into.new.cache (g.B.Blob.life c.read_into.new.blob) left_items.0, left_items.1)
+    (are_ready g.H.Sum.sum_of c.args.self.now c.read_into.new.cache (g.B.Blob.life c.read_into.new.blob) left_items.0, left_items.1, search rules)
 
 pub returns-in-Ok-clause-leaves : goal.returns-in-Ok-clause-leaves
-returns-in-Ok-clause-leaves g c = (c.read_into.ensures.looked, (left g (goal.at.returns-in-Ok-clause-leaves g c).After-read_into).1)
+returns-in-Ok-clause-leaves g c = record { looked = c.read_into.ensures.looked; call = (left g (goal.at.returns-in-Ok-clause-leaves g c).After-read_into).1 }
 
-pub returns-in-Ok-clause-fresh : goal.returns-in-Ok-clause-fresh
-returns-in-Ok-clause-fresh g c = (left g (goal.at.returns-in-Ok-clause-fresh g c).After-read_into).1.fresh
-
-pub returns-in-Err-clause-gets : goal.returns-in-Err-clause-gets
-returns-in-Err-clause-gets g c =
+pub returns-in-Err-clause-goes : goal.returns-in-Err-clause-goes
+returns-in-Err-clause-goes g c =
     let sum = g.H.Sum.sum_of in
     let s : ItemsState = record { writer = c.self.inside.writer; size = non_zero_usize_get c.self.inside.size } in
     let cache = c.args.cache.now in
@@ -97,12 +94,12 @@ pub returns-in-Err-clause-costs : goal.returns-in-Err-clause-costs
 returns-in-Err-clause-costs g c = asks_none (tail_of c.args.self.now.writer) c.args.cache.now (c.args.i * c.args.self.now.size, c.args.self.now.size) (g.B.Blob.life c.args.blob.now)
 
 pub returns-in-Err-clause-ready : goal.returns-in-Err-clause-ready
-returns-in-Err-clause-ready g c = (are_ready g.H.Sum.sum_of c.args.self.now c.args.cache.now (g.B.Blob.life c.args.blob.now) c.requires.items, refl)
+returns-in-Err-clause-ready g c = (are_ready g.H.Sum.sum_of c.args.self.now c.args.cache.now (g.B.Blob.life c.args.blob.now) c.requires.items, refl, refl)
 
 pub returns-in-Err-clause-leaves : goal.returns-in-Err-clause-leaves
 returns-in-Err-clause-leaves g c =
     let life = g.B.Blob.life c.args.blob.now in
-    (looked_start life, nothing_leaves g.H.Sum.sum_of c.args.self.now (items_of c.args.self.now life) c.args.cache.now life (first_of_itself (items_of c.args.self.now life)) c.requires.items)
-
-pub returns-in-Err-clause-fresh : goal.returns-in-Err-clause-fresh
-returns-in-Err-clause-fresh g c = (stand g.H.Sum.sum_of c.args.self.now c.args.cache.now (g.B.Blob.life c.args.blob.now) c.requires.items).ready.fresh
+    record {
+      looked = looked_start life;
+      call = nothing_leaves g.H.Sum.sum_of c.args.self.now (items_of c.args.self.now life) c.args.cache.now life (first_of_itself (items_of c.args.self.now life)) c.requires.items;
+    }

@@ -16,8 +16,8 @@ append-requires g c = record {
       (stand g.H.Sum.sum_of c.args.self c.args.cache.now (g.B.Blob.life c.args.blob.now) c.requires.items).ready;
 }
 
-pub returns-in-Ok-clause-pushes : goal.returns-in-Ok-clause-pushes
-returns-in-Ok-clause-pushes g c =
+pub returns-in-Ok-clause-goes : goal.returns-in-Ok-clause-goes
+returns-in-Ok-clause-goes g c =
     let sum = g.H.Sum.sum_of in
     let s : ItemsState = record { writer = c.self.inside.writer; size = non_zero_usize_get c.self.inside.size } in
     let cache = c.args.cache.now in
@@ -34,10 +34,6 @@ returns-in-Ok-clause-pushes g c =
 
 pub returns-in-Ok-clause-ready : goal.returns-in-Ok-clause-ready
 returns-in-Ok-clause-ready g c =
-    ready g.H.Sum.sum_of c.args.self c.args.item.now c.append.new.cache (g.B.Blob.life c.args.blob.now) (g.B.Blob.life c.append.new.blob) c.new.result (returns-in-Ok-clause-pushes g c).goes
-
-pub returns-in-Ok-clause-lasts : goal.returns-in-Ok-clause-lasts
-returns-in-Ok-clause-lasts g c =
     let sum = g.H.Sum.sum_of in
     let s : ItemsState = record { writer = c.self.inside.writer; size = non_zero_usize_get c.self.inside.size } in
     let cache = c.args.cache.now in
@@ -45,9 +41,9 @@ returns-in-Ok-clause-lasts g c =
     let new = g.B.Blob.life c.append.new.blob in
     let goes = c.in-Ok.ensures in
     let now = c.new.result in
-    subst (λ (v : ItemsState). AreItems sum v cache old → Lasts sum v now old new) c.self.view_is
-    (λ items. lasts_through sum s c.args.item.now (bytes_of s old ++ c.args.item.now) cache old new c.in-Ok.writer now items goes.goes.answers.holds c.new.ensures.writer c.new.ensures.size goes.owes.through)
-    c.requires.items
+    let lasting : Lasts sum c.args.self now old new =
+    subst (λ (v : ItemsState). AreItems sum v cache old → Lasts sum v now old new) c.self.view_is (λ items. lasts_through sum s c.args.item.now (bytes_of s old ++ c.args.item.now) cache old new c.in-Ok.writer now items goes.goes.answers.holds c.new.ensures.writer c.new.ensures.size goes.owes.through) c.requires.items in
+    (ready g.H.Sum.sum_of c.args.self c.args.item.now c.append.new.cache (g.B.Blob.life c.args.blob.now) (g.B.Blob.life c.append.new.blob) c.new.result (returns-in-Ok-clause-goes g c).goes, lasting)
 
 left : (g : Over) (c : After-append g)
     → CallLeaves g.H.Sum.sum_of c.args.self (items_of c.args.self (g.B.Blob.life c.args.blob.now) ++ c.args.item.now ∷ []) c.args.cache.now c.append.new.cache (g.B.Blob.life c.args.blob.now) (g.B.Blob.life c.append.new.blob)
@@ -67,11 +63,8 @@ left g c =
 pub returns-in-Ok-clause-leaves : goal.returns-in-Ok-clause-leaves
 returns-in-Ok-clause-leaves g c = left g (goal.at.returns-in-Ok-clause-leaves g c).After-append
 
-pub returns-in-Ok-clause-fresh : goal.returns-in-Ok-clause-fresh
-returns-in-Ok-clause-fresh g c = (left g (goal.at.returns-in-Ok-clause-fresh g c).After-append).fresh
-
-pub returns-in-Err-clause-pushes : goal.returns-in-Err-clause-pushes
-returns-in-Err-clause-pushes g c =
+pub returns-in-Err-clause-goes : goal.returns-in-Err-clause-goes
+returns-in-Err-clause-goes g c =
     let sum = g.H.Sum.sum_of in
     let s : ItemsState = record { writer = c.self.inside.writer; size = non_zero_usize_get c.self.inside.size } in
     let after = c.append.new.cache in
@@ -82,6 +75,3 @@ returns-in-Err-clause-pushes g c =
 
 pub returns-in-Err-clause-leaves : goal.returns-in-Err-clause-leaves
 returns-in-Err-clause-leaves g c = left g (goal.at.returns-in-Err-clause-leaves g c).After-append
-
-pub returns-in-Err-clause-fresh : goal.returns-in-Err-clause-fresh
-returns-in-Err-clause-fresh g c = (left g (goal.at.returns-in-Err-clause-fresh g c).After-append).fresh

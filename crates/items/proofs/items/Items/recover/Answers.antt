@@ -1,12 +1,11 @@
-use Rattle.std.proofs.Common.{◌≡◌, ◌*◌, ◌/◌, ℕ, List, subst, sym, ap₂, ◌∙◌}
+use Rattle.std.proofs.Common.{◌≡◌, ◌*◌, ◌/◌, ℕ, ap₂, ◌∙◌}
+use Rattle.std.proofs.lemmas.Result.{err_from_is_err_and}
 use Rattle.std.specs.Int.NonZero.{non_zero_usize_get}
 use Rattle.cache.specs.Pages.{IsFresh}
 use Rattle.paged.specs.Reads.{size_of}
-use Rattle.items.specs.Items.{BringsBack, BringsOnly}
 use Rattle.items.specs.Standing.{RecoveryLeaves}
 use Rattle.items.proofs.Calls.{are_ready}
-use Rattle.items.proofs.Laws.{brings_back, brings_only}
-use Rattle.items.proofs.Recovery.{refused_at_first, cut_leaves, cut_refused, recovered_items}
+use Rattle.items.proofs.Recovery.{refused_at_first, cut_leaves, cut_refused, recovered_items, recovers_not, recovers_so}
 use Rattle.items.proofs.items.Items.recover.Given.{Over}
 use Rattle.items.proofs.items.Items.recover.Goals as goal
 use Rattle.items.proofs.items.Items.recover.Goals.{After-truncate}
@@ -14,6 +13,12 @@ use Rattle.items.proofs.items.Items.recover.Goals.{After-truncate}
 pub returns-in_err-recovery-clause-leaves : goal.returns-in_err-recovery-clause-leaves
 returns-in_err-recovery-clause-leaves g c =
     refused_at_first g.H.Sum.sum_of (non_zero_usize_get c.args.size) c.args.cache.now c.recover.new.cache (g.B.Blob.life c.args.blob.now) (g.B.Blob.life c.recover.new.blob) c.args.size.ok c.requires.fresh c.recover.ensures.owes
+
+pub returns-in_err-recovery-clause-goes : goal.returns-in_err-recovery-clause-goes
+returns-in_err-recovery-clause-goes g c =
+    let error = err_from_is_err_and c.from_residual.result c.from_residual.ensures.1 in
+    rw (error.1, error.2)
+    (recovers_not g.H.Sum.sum_of (non_zero_usize_get c.args.size) c.args.cache.now c.recover.new.cache c.args.capacity (g.B.Blob.life c.args.blob.now) (g.B.Blob.life c.recover.new.blob) c.in_err-recovery.field-0.0 c.in_err-recovery.ensures.goes.answers)
 
 -- where the cut is
 cut : (g : Over) (c : After-truncate g) → c.size.result / c.get-len.result * c.get-len.result ≡ size_of c.in_ok-recovery.recovery / non_zero_usize_get c.args.size * non_zero_usize_get c.args.size
@@ -33,53 +38,27 @@ left g c =
     c.args.size.ok (g.met.B.Blob.readable_is_image c.args.blob.now) was.goes.answers was.goes.writer.id (cut g c) was.owes
     (fresh g c) owes.others owes.floors (owes.only (was.ready c.requires.fresh).sound)
 
-pub returns-in-Ok-clause-recovers : goal.returns-in-Ok-clause-recovers
-returns-in-Ok-clause-recovers g c =
-    let at = (goal.at.returns-in-Ok-clause-recovers g c).After-truncate in
+pub returns-in-Ok-clause-goes : goal.returns-in-Ok-clause-goes
+returns-in-Ok-clause-goes g c =
+    let at = (goal.at.returns-in-Ok-clause-goes g c).After-truncate in
     let was = c.in_ok-recovery.ensures in
     let is_ready = was.ready c.requires.fresh in
     let goes = c.in-Ok.ensures in
-    recovered_items g.H.Sum.sum_of (non_zero_usize_get c.args.size) (c.size.result / c.get-len.result * c.get-len.result) c.args.capacity c.args.cache.now c.truncate.new.cache (g.B.Blob.life c.args.blob.now) (g.B.Blob.life c.recover.new.blob) (g.B.Blob.life c.truncate.new.blob)
-    c.in_ok-recovery.recovery c.in-Ok.recovery c.new.result c.args.size.ok was.goes.answers was.goes.writer.id (cut g at) (c.new.ensures.writer ∙ c.from.ensures) c.new.ensures.size goes.goes.answers (goes.ready is_ready)
-    (goes.goes.left is_ready.sound) (goes.goes.durable is_ready.sound)
+    recovers_so g.H.Sum.sum_of (non_zero_usize_get c.args.size) c.args.cache.now c.truncate.new.cache c.args.capacity (g.B.Blob.life c.args.blob.now) (g.B.Blob.life c.truncate.new.blob) c.new.result c.args.size.ok (g.met.B.Blob.readable_is_image c.args.blob.now)
+    (recovered_items g.H.Sum.sum_of (non_zero_usize_get c.args.size) (c.size.result / c.get-len.result * c.get-len.result) c.args.capacity c.args.cache.now c.truncate.new.cache (g.B.Blob.life c.args.blob.now) (g.B.Blob.life c.recover.new.blob) (g.B.Blob.life c.truncate.new.blob) c.in_ok-recovery.recovery c.in-Ok.recovery c.new.result c.args.size.ok was.goes.answers was.goes.writer.id (cut g at) (c.new.ensures.writer ∙ c.from.ensures) c.new.ensures.size goes.goes.answers (goes.ready is_ready) (goes.goes.left is_ready.sound) (goes.goes.durable is_ready.sound))
 
 pub returns-in-Ok-clause-leaves : goal.returns-in-Ok-clause-leaves
 returns-in-Ok-clause-leaves g c = left g (goal.at.returns-in-Ok-clause-leaves g c).After-truncate
 
-pub returns-in-Ok-clause-back : goal.returns-in-Ok-clause-back
-returns-in-Ok-clause-back g c =
-    let sum = g.H.Sum.sum_of in
-    let s = non_zero_usize_get c.args.size in
-    let d = (g.B.Blob.life c.args.blob.now).present in
-    let P = c.args.cache.now.page_size in
-    subst (λ (found : List (List ℕ)). BringsBack sum P s d found) (sym (returns-in-Ok-clause-recovers g c).same) (brings_back sum P s d d.readable c.args.size.ok (g.met.B.Blob.readable_is_image c.args.blob.now))
-
-pub returns-in-Ok-clause-only : goal.returns-in-Ok-clause-only
-returns-in-Ok-clause-only g c =
-    let sum = g.H.Sum.sum_of in
-    let s = non_zero_usize_get c.args.size in
-    let d = (g.B.Blob.life c.args.blob.now).present in
-    let P = c.args.cache.now.page_size in
-    subst (λ (found : List (List ℕ)). BringsOnly sum P s d d.readable found) (sym (returns-in-Ok-clause-recovers g c).same) (brings_only sum P s d d.readable (g.met.B.Blob.readable_is_image c.args.blob.now))
-
-pub returns-in-Err-clause-recovers : goal.returns-in-Err-clause-recovers
-returns-in-Err-clause-recovers g c =
-    cut_refused g.H.Sum.sum_of (c.size.result / c.get-len.result * c.get-len.result) c.args.capacity c.args.cache.now (g.B.Blob.life c.args.blob.now) (g.B.Blob.life c.recover.new.blob) (g.B.Blob.life c.truncate.new.blob) c.in_ok-recovery.recovery c.in-Err.error
-    c.in_ok-recovery.ensures.goes.answers c.in-Err.ensures.goes.answers
+pub returns-in-Err-clause-goes : goal.returns-in-Err-clause-goes
+returns-in-Err-clause-goes g c =
+    recovers_not g.H.Sum.sum_of (non_zero_usize_get c.args.size) c.args.cache.now c.truncate.new.cache c.args.capacity (g.B.Blob.life c.args.blob.now) (g.B.Blob.life c.truncate.new.blob) c.in-Err.error
+    (cut_refused g.H.Sum.sum_of (c.size.result / c.get-len.result * c.get-len.result) c.args.capacity c.args.cache.now (g.B.Blob.life c.args.blob.now) (g.B.Blob.life c.recover.new.blob) (g.B.Blob.life c.truncate.new.blob) c.in_ok-recovery.recovery c.in-Err.error c.in_ok-recovery.ensures.goes.answers c.in-Err.ensures.goes.answers)
 
 pub returns-in-Err-clause-leaves : goal.returns-in-Err-clause-leaves
 returns-in-Err-clause-leaves g c = left g (goal.at.returns-in-Err-clause-leaves g c).After-truncate
 
-pub returns-in_err-recovery-clause-fresh : goal.returns-in_err-recovery-clause-fresh
-returns-in_err-recovery-clause-fresh g c = c.recover.ensures.owes.fresh c.requires.fresh
-
-pub returns-in-Ok-clause-fresh : goal.returns-in-Ok-clause-fresh
-returns-in-Ok-clause-fresh g c = fresh g (goal.at.returns-in-Ok-clause-fresh g c).After-truncate
-
-pub returns-in-Err-clause-fresh : goal.returns-in-Err-clause-fresh
-returns-in-Err-clause-fresh g c = fresh g (goal.at.returns-in-Err-clause-fresh g c).After-truncate
-
 pub returns-in-Ok-clause-ready : goal.returns-in-Ok-clause-ready
 returns-in-Ok-clause-ready g c =
-    let has = returns-in-Ok-clause-recovers g c in
+    let has = (returns-in-Ok-clause-goes g c).answers in
     (are_ready g.H.Sum.sum_of c.new.result c.truncate.new.cache (g.B.Blob.life c.truncate.new.blob) has.stand, has.size)

@@ -19,8 +19,8 @@ snapshot-requires g c = record {
       (stand g.H.Sum.sum_of c.args.self c.args.cache.now (g.B.Blob.life c.args.blob.now) c.requires.items).ready;
 }
 
-pub returns-in-Ok-clause-makes : goal.returns-in-Ok-clause-makes
-returns-in-Ok-clause-makes g c =
+pub returns-in-Ok-clause-goes : goal.returns-in-Ok-clause-goes
+returns-in-Ok-clause-goes g c =
     let sum = g.H.Sum.sum_of in
     let s : ItemsState = record { writer = c.self.inside.writer; size = non_zero_usize_get c.self.inside.size } in
     let cache = c.args.cache.now in
@@ -35,16 +35,7 @@ returns-in-Ok-clause-makes g c =
 
 pub returns-in-Ok-clause-ready : goal.returns-in-Ok-clause-ready
 returns-in-Ok-clause-ready g c =
-    let has = returns-in-Ok-clause-makes g c in (
-      ready g.H.Sum.sum_of c.args.self [] c.snapshot.new.cache (g.B.Blob.life c.args.blob.now) (g.B.Blob.life c.snapshot.new.blob) c.new-items.result has.goes,
-      has.snapshot,
-      has.size,
-      has.id,
-      has.below,
-    )
-
-pub returns-in-Ok-clause-lasts : goal.returns-in-Ok-clause-lasts
-returns-in-Ok-clause-lasts g c =
+    let has = returns-in-Ok-clause-goes g c in
     let sum = g.H.Sum.sum_of in
     let s : ItemsState = record { writer = c.self.inside.writer; size = non_zero_usize_get c.self.inside.size } in
     let cache = c.args.cache.now in
@@ -52,9 +43,9 @@ returns-in-Ok-clause-lasts g c =
     let new = g.B.Blob.life c.snapshot.new.blob in
     let goes = c.in-Ok.ensures in
     let now = c.new-items.result in
-    subst (λ (v : ItemsState). AreItems sum v cache old → Lasts sum v now old new) c.self.view_is
-    (λ items. lasts_through sum s [] (bytes_of s old) cache old new c.in-Ok.writer now items goes.goes.holds c.new-items.ensures.writer c.new-items.ensures.size goes.owes.through)
-    c.requires.items
+    let lasting : Lasts sum c.args.self now old new =
+    subst (λ (v : ItemsState). AreItems sum v cache old → Lasts sum v now old new) c.self.view_is (λ items. lasts_through sum s [] (bytes_of s old) cache old new c.in-Ok.writer now items goes.goes.holds c.new-items.ensures.writer c.new-items.ensures.size goes.owes.through) c.requires.items in
+    ((ready sum c.args.self [] c.snapshot.new.cache old new now has.goes, lasting), has.snapshot, has.size, has.id, has.below)
 
 left : (g : Over) (c : After-snapshot g) → CallLeaves g.H.Sum.sum_of c.args.self (items_of c.args.self (g.B.Blob.life c.args.blob.now)) c.args.cache.now c.snapshot.new.cache (g.B.Blob.life c.args.blob.now) (g.B.Blob.life c.snapshot.new.blob)
 left g c =
@@ -71,11 +62,5 @@ left g c =
 pub returns-in-Ok-clause-leaves : goal.returns-in-Ok-clause-leaves
 returns-in-Ok-clause-leaves g c = left g (goal.at.returns-in-Ok-clause-leaves g c).After-snapshot
 
-pub returns-in-Ok-clause-fresh : goal.returns-in-Ok-clause-fresh
-returns-in-Ok-clause-fresh g c = (left g (goal.at.returns-in-Ok-clause-fresh g c).After-snapshot).fresh
-
 pub returns-in-Err-clause-leaves : goal.returns-in-Err-clause-leaves
 returns-in-Err-clause-leaves g c = left g (goal.at.returns-in-Err-clause-leaves g c).After-snapshot
-
-pub returns-in-Err-clause-fresh : goal.returns-in-Err-clause-fresh
-returns-in-Err-clause-fresh g c = (left g (goal.at.returns-in-Err-clause-fresh g c).After-snapshot).fresh

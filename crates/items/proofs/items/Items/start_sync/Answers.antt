@@ -16,8 +16,8 @@ start_sync-requires g c = record {
       (stand g.H.Sum.sum_of c.args.self c.args.cache.now (g.B.Blob.life c.args.blob.now) c.requires.items).ready;
 }
 
-pub returns-in-Ok-clause-starts : goal.returns-in-Ok-clause-starts
-returns-in-Ok-clause-starts g c =
+pub returns-in-Ok-clause-goes : goal.returns-in-Ok-clause-goes
+returns-in-Ok-clause-goes g c =
     let sum = g.H.Sum.sum_of in
     let s : ItemsState = record { writer = c.self.inside.writer; size = non_zero_usize_get c.self.inside.size } in
     let cache = c.args.cache.now in
@@ -31,10 +31,6 @@ returns-in-Ok-clause-starts g c =
 
 pub returns-in-Ok-clause-ready : goal.returns-in-Ok-clause-ready
 returns-in-Ok-clause-ready g c =
-    ready g.H.Sum.sum_of c.args.self [] c.start_sync.new.cache (g.B.Blob.life c.args.blob.now) (g.B.Blob.life c.start_sync.new.blob) c.new.result (returns-in-Ok-clause-starts g c).goes
-
-pub returns-in-Ok-clause-lasts : goal.returns-in-Ok-clause-lasts
-returns-in-Ok-clause-lasts g c =
     let sum = g.H.Sum.sum_of in
     let s : ItemsState = record { writer = c.self.inside.writer; size = non_zero_usize_get c.self.inside.size } in
     let cache = c.args.cache.now in
@@ -42,9 +38,9 @@ returns-in-Ok-clause-lasts g c =
     let new = g.B.Blob.life c.start_sync.new.blob in
     let goes = c.in-Ok.ensures in
     let now = c.new.result in
-    subst (λ (v : ItemsState). AreItems sum v cache old → Lasts sum v now old new) c.self.view_is
-    (λ items. lasts_through sum s [] (bytes_of s old) cache old new c.in-Ok.writer now items goes.goes.goes.holds c.new.ensures.writer c.new.ensures.size goes.owes.through)
-    c.requires.items
+    let lasting : Lasts sum c.args.self now old new =
+    subst (λ (v : ItemsState). AreItems sum v cache old → Lasts sum v now old new) c.self.view_is (λ items. lasts_through sum s [] (bytes_of s old) cache old new c.in-Ok.writer now items goes.goes.goes.holds c.new.ensures.writer c.new.ensures.size goes.owes.through) c.requires.items in
+    (ready g.H.Sum.sum_of c.args.self [] c.start_sync.new.cache (g.B.Blob.life c.args.blob.now) (g.B.Blob.life c.start_sync.new.blob) c.new.result (returns-in-Ok-clause-goes g c).goes, lasting)
 
 left : (g : Over) (c : After-start_sync g) → CallLeaves g.H.Sum.sum_of c.args.self (items_of c.args.self (g.B.Blob.life c.args.blob.now)) c.args.cache.now c.start_sync.new.cache (g.B.Blob.life c.args.blob.now) (g.B.Blob.life c.start_sync.new.blob)
 left g c =
@@ -61,11 +57,5 @@ left g c =
 pub returns-in-Ok-clause-leaves : goal.returns-in-Ok-clause-leaves
 returns-in-Ok-clause-leaves g c = left g (goal.at.returns-in-Ok-clause-leaves g c).After-start_sync
 
-pub returns-in-Ok-clause-fresh : goal.returns-in-Ok-clause-fresh
-returns-in-Ok-clause-fresh g c = (left g (goal.at.returns-in-Ok-clause-fresh g c).After-start_sync).fresh
-
 pub returns-in-Err-clause-leaves : goal.returns-in-Err-clause-leaves
 returns-in-Err-clause-leaves g c = left g (goal.at.returns-in-Err-clause-leaves g c).After-start_sync
-
-pub returns-in-Err-clause-fresh : goal.returns-in-Err-clause-fresh
-returns-in-Err-clause-fresh g c = (left g (goal.at.returns-in-Err-clause-fresh g c).After-start_sync).fresh

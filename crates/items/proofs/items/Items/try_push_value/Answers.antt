@@ -12,8 +12,8 @@ use Rattle.items.proofs.Calls.{not_tried, tried_none, tried_some, tries_ready}
 use Rattle.items.proofs.items.Items.try_push_value.Goals as goal
 use Rattle.items.proofs.items.Items.try_push_value.Goals.{in-Ok-Some, in-Ok-None, in-Err}
 
-pub returns-clause-tries : goal.returns-clause-tries
-returns-clause-tries g c =
+pub returns-clause-goes : goal.returns-clause-goes
+returns-clause-goes g c =
     let sum = g.H.Sum.sum_of in
     let s : ItemsState = record { writer = c.self.inside.writer; size = non_zero_usize_get c.self.inside.size } in
     let bytes = g.T.EncodeSize.encoded c.args.value.now in

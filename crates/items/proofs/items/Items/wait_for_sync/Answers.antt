@@ -17,8 +17,8 @@ wait_for_sync-requires g c = record {
       (stand g.H.Sum.sum_of c.args.self c.requires.items.0 (g.B.Blob.life c.args.blob.now) c.requires.items.1).ready.sound;
 }
 
-pub returns-in-Ok-clause-waits : goal.returns-in-Ok-clause-waits
-returns-in-Ok-clause-waits g c = λ cache.
+pub returns-in-Ok-clause-goes : goal.returns-in-Ok-clause-goes
+returns-in-Ok-clause-goes g c = λ cache.
     let sum = g.H.Sum.sum_of in
     let s : ItemsState = record { writer = c.self.inside.writer; size = non_zero_usize_get c.self.inside.size } in
     let old = g.B.Blob.life c.args.blob.now in
@@ -36,7 +36,7 @@ returns-in-Ok-clause-ready g c = λ cache items.
     let new = g.B.Blob.life c.wait_for_sync.new.blob in
     let goes = c.in-Ok.ensures in
     let now = c.new.result in (
-      ready sum c.args.self [] cache old new now (returns-in-Ok-clause-waits g c cache items).goes,
+      ready sum c.args.self [] cache old new now (returns-in-Ok-clause-goes g c cache items).goes,
       subst (λ (v : ItemsState). AreItems sum v cache old → Lasts sum v now old new) c.self.view_is
           (λ inside. lasts_through sum s [] (bytes_of s old) cache old new c.in-Ok.writer now inside goes.goes.holds c.new.ensures.writer c.new.ensures.size goes.owes.through) items,
     )

@@ -50,9 +50,9 @@ still g c tail position =
 
 -- ---- a fill that is refused
 
-pub returns-in_err-ensure-clause-gives : goal.returns-in_err-ensure-clause-gives
-returns-in_err-ensure-clause-gives g c =
-    let at = (goal.at.returns-in_err-ensure-clause-gives g c).After-ensure in
+pub returns-in_err-ensure-clause-goes : goal.returns-in_err-ensure-clause-goes
+returns-in_err-ensure-clause-goes g c =
+    let at = (goal.at.returns-in_err-ensure-clause-goes g c).After-ensure in
     let old = g.B.Blob.life c.args.blob.now in
     let new = g.B.Blob.life c.ensure.new.blob in
     let now : ItemsReplayState = record { replay = c.ensure.new.self; size = non_zero_usize_get c.self.inside.size } in
@@ -75,9 +75,9 @@ returns-in_err-ensure-clause-leaves g c = left g (goal.at.returns-in_err-ensure-
 
 -- ---- no item is left
 
-pub returns-then-not-branch-clause-gives : goal.returns-then-not-branch-clause-gives
-returns-then-not-branch-clause-gives g c =
-    let at = (goal.at.returns-then-not-branch-clause-gives g c).After-ensure in
+pub returns-then-not-branch-clause-goes : goal.returns-then-not-branch-clause-goes
+returns-then-not-branch-clause-goes g c =
+    let at = (goal.at.returns-then-not-branch-clause-goes g c).After-ensure in
     let old = g.B.Blob.life c.args.blob.now in
     let new = g.B.Blob.life c.ensure.new.blob in
     let now : ItemsReplayState = record { replay = c.ensure.new.self; size = non_zero_usize_get c.self.inside.size } in
@@ -119,7 +119,7 @@ given : (g : Over) (c : goal.In_ok-item g) → IsItemsReplay g.H.Sum.sum_of (rec
     × (items_left (record { replay = c.self.inside.replay; size = non_zero_usize_get c.self.inside.size }) (g.B.Blob.life c.args.blob.now)
     ≡ c.in_ok-item.item ∷ items_left (record { replay = c.copy_to_bytes.new.self; size = non_zero_usize_get c.self.inside.size }) (g.B.Blob.life c.ensure.new.blob))
 given g c =
-    let at = (goal.at.returns-clause-gives g c).After-ensure in
+    let at = (goal.at.returns-clause-goes g c).After-ensure in
     let sum = g.H.Sum.sum_of in
     let old = g.B.Blob.life c.args.blob.now in
     let new = g.B.Blob.life c.ensure.new.blob in
@@ -139,8 +139,8 @@ given g c =
     (ap (λ (x : ReplayState). x.tail) copied.taken ∙ fills.tail) after (copied.replays.1 sum held new.present (gives g at)) (omega (arith, there, value))
     (copied.gives.1 sum held new.present (gives g at) ∙ ap₂ (λ (n p : ℕ). take n (drop p held)) (copied.gives.0 ∙ value) at_item)
 
-pub returns-clause-gives : goal.returns-clause-gives
-returns-clause-gives g c =
+pub returns-clause-goes : goal.returns-clause-goes
+returns-clause-goes g c =
     let now : ItemsReplayState = record { replay = c.copy_to_bytes.new.self; size = non_zero_usize_get c.self.inside.size } in
     subst (λ (v : ItemsReplayState). GivesNext v now (g.B.Blob.life c.args.blob.now) (g.B.Blob.life c.ensure.new.blob) (Ok (Some c.in_ok-item.item))) c.self.view_is (given g c).1
 

@@ -5,8 +5,8 @@ use Rattle.items.specs.Readers.{SeeksItem}
 use Rattle.items.proofs.Readers.{seeks_item}
 use Rattle.items.proofs.replay.ItemsReplay.seek_to.Goals as goal
 
-pub returns-clause-seeks : goal.returns-clause-seeks
-returns-clause-seeks g c =
+pub returns-clause-goes : goal.returns-clause-goes
+returns-clause-goes g c =
     let sum = g.H.Sum.sum_of in
     let i = c.args.i in
     let r : ItemsReplayState = record { replay = c.self.inside.replay; size = non_zero_usize_get c.self.inside.size } in

@@ -1,4 +1,4 @@
-use Rattle.std.proofs.Common.{◌≡◌, ◌*◌, ℕ, length, Ok, Err, refl, subst, sym}
+use Rattle.std.proofs.Common.{rules, ◌≡◌, ◌*◌, ℕ, length, Ok, Err, refl, subst, sym}
 use Rattle.std.specs.Int.NonZero.{non_zero_usize_get}
 use Rattle.paged_read.specs.Tail.{CanRead, size_of}
 use Rattle.items.specs.State.{ItemsSnapshotState}
@@ -18,8 +18,8 @@ read_into-requires g c = record {
       (over g.H.Sum.sum_of c.args.self.now c.args.cache.now (g.B.Blob.life c.args.blob.now) c.requires.snapshot).stands.can;
 }
 
-pub returns-in-Ok-clause-gets : goal.returns-in-Ok-clause-gets
-returns-in-Ok-clause-gets g c =
+pub returns-in-Ok-clause-goes : goal.returns-in-Ok-clause-goes
+returns-in-Ok-clause-goes g c =
     let sum = g.H.Sum.sum_of in
     let r : ItemsSnapshotState = record { tail = c.self.inside.snapshot; size = non_zero_usize_get c.self.inside.size } in
     let cache = c.args.cache.now in
@@ -65,20 +65,22 @@ returns-in-Ok-clause-ready g c =
     let after = c.read_into.new.cache in
     let old = g.B.Blob.life c.args.blob.now in
     let new = g.B.Blob.life c.read_into.new.blob in
+    let same : IsItemsSnapshot sum c.args.self.now after new × (bytes_over c.args.self.now new ≡ bytes_over c.args.self.now old) =
     subst (λ (v : ItemsSnapshotState). IsItemsSnapshot sum v cache old → IsItemsSnapshot sum v after new × (bytes_over v new ≡ bytes_over v old)) c.self.view_is
     (λ snapshot.
     let was = over sum r cache old snapshot in
     let stands = c.read_into.ensures.tails c.self.inside.snapshot (bytes_over r old) was.stands in
-    ((still_over sum r cache after old new was stands).0, stands.tail.is)) c.requires.snapshot
+    ((still_over sum r cache after old new was stands).0, stands.tail.is)) c.requires.snapshot in
+    (same.0, same.1, search rules)
 
 pub returns-in-Err-clause-leaves : goal.returns-in-Err-clause-leaves
 returns-in-Err-clause-leaves g c = nothing_read g.H.Sum.sum_of c.args.self.now.tail.id c.args.cache.now (g.B.Blob.life c.args.blob.now)
 
 pub returns-in-Err-clause-ready : goal.returns-in-Err-clause-ready
-returns-in-Err-clause-ready g c = (c.requires.snapshot, refl)
+returns-in-Err-clause-ready g c = (c.requires.snapshot, refl, refl)
 
-pub returns-in-Err-clause-gets : goal.returns-in-Err-clause-gets
-returns-in-Err-clause-gets g c =
+pub returns-in-Err-clause-goes : goal.returns-in-Err-clause-goes
+returns-in-Err-clause-goes g c =
     let sum = g.H.Sum.sum_of in
     let r : ItemsSnapshotState = record { tail = c.self.inside.snapshot; size = non_zero_usize_get c.self.inside.size } in
     let cache = c.args.cache.now in
