@@ -1,5 +1,5 @@
 -- What a step of a session leaves of the other blobs on its cache.
-use Rattle.std.proofs.Common.{◌≡◌, ◌≢◌, ℕ, List, [], ◌∷◌, ◌++◌, refl, sym, ap, ◌∙◌, subst, arith, inl, inr, Bool, true, false}
+use Rattle.std.proofs.Common.{◌≡◌, ◌≢◌, ℕ, List, [], ◌∷◌, ◌++◌, ◌<◌, refl, sym, ap, ◌∙◌, subst, arith, inl, inr, Bool, true, false}
 use Rattle.std.specs.Prelude.{All, IfSome, Option, Some, None}
 use Rattle.std.specs.List.{slice_get}
 use Rattle.std.proofs.Math.ListN.{set}
@@ -8,13 +8,14 @@ use Rattle.disk.specs.Disk.{Disk, Life}
 use Rattle.writer_state.specs.WriterState.{WriterState}
 use Rattle.cache.specs.CacheState.{CacheState, SameSettings}
 use Rattle.paged_read.specs.Tail.{Tail}
-use Rattle.paged_read.specs.Snapshots.{LeavesOthers}
+use Rattle.paged_read.specs.Snapshots.{LeavesOthers, LeavesReads}
 use Rattle.paged.specs.Caches.{tail_of}
 use Rattle.session.specs.declared.steps.Reply.{Reply}
 use Rattle.session.specs.declared.steps.Reply.TheVariants.{Fault, Nothing, Sealed, Taken}
 use Rattle.session.specs.Run.{numbered, SessionState}
-use Rattle.session.specs.Calls.{Begins, DidSeal, DidSnapshot, DidTrySnapshot, IfAppending, KeepsAllButSnapshots, LetsGo, SealsSession, TakesSnapshot, TriesSnapshot}
-use Rattle.session.specs.Others.{IsNotOf, IsOther, LeavesOtherBlobs, WriterLeavesOthers}
+use Rattle.session.specs.Calls.{Begins, DidSeal, DidSnapshot, DidTrySnapshot, IfAppending, KeepsAllButReplays, KeepsAllButSnapshots, KeepsButReplays, KeepsSnapshots, KeepsUncut, LetsGo, SealsSession, TakesSnapshot, TriesSnapshot}
+use Rattle.session.specs.Promise.{closed, IsBegun, session_of}
+use Rattle.session.specs.Others.{IsNewTo, IsNotOf, IsOther, LeavesOtherBlobs, LeavesOthersAnew, WriterLeavesOthers}
 use Rattle.session.proofs.Below.{of_each}
 use Rattle.session.proofs.DropLaws.{LetsGoOf}
 use Rattle.session.proofs.OtherWriters.{others_here, settings_same, settings_then}
@@ -33,9 +34,25 @@ others_kept was now cache after same leaves = record {
   settings = leaves.settings;
 }
 
--- and the writer, and the cache
+-- of the writer
+pub others_taken : (was now : SessionState) (cache after : CacheState) → KeepsSnapshots was now → WriterLeavesOthers was.writer now.writer cache after → LeavesOtherBlobs was now cache after
+others_taken was now cache after rest leaves = others_kept was now cache after (ap (λ (s : SessionState). s.snapshots) rest) leaves
+
+-- that begins a replay
+pub replay_others : (was now : SessionState) (cache after : CacheState) → KeepsButReplays was now → WriterLeavesOthers was.writer now.writer cache after → LeavesOtherBlobs was now cache after
+replay_others was now cache after rest leaves = others_kept was now cache after (ap (λ (s : SessionState). s.snapshots) rest) leaves
+
+-- that forgets the replays
+pub cut_others : (was now : SessionState) (cache after : CacheState) → KeepsUncut was now → WriterLeavesOthers was.writer now.writer cache after → LeavesOtherBlobs was now cache after
+cut_others was now cache after rest leaves = others_kept was now cache after (ap (λ (s : SessionState). s.snapshots) rest) leaves
+
+-- one that leaves the writer, too, and the cache
 pub others_idle : (was now : SessionState) (cache : CacheState) → now.snapshots ≡ was.snapshots → now.writer ≡ was.writer → LeavesOtherBlobs was now cache cache
 others_idle was now cache same writer = others_kept was now cache cache same (subst (λ (o : Option WriterState). WriterLeavesOthers was.writer o cache cache) (sym writer) (others_here was.writer cache))
+
+-- of a replay
+pub replayed_others : (was now : SessionState) (cache : CacheState) → KeepsAllButReplays was now → LeavesOtherBlobs was now cache cache
+replayed_others was now cache rest = others_idle was now cache (ap (λ (s : SessionState). s.snapshots) rest) (ap (λ (s : SessionState). s.writer) rest)
 
 -- one that makes a snapshot of the writer's blob
 pub others_made : (was now : SessionState) (t : Tail) (cache after : CacheState) → now.snapshots ≡ was.snapshots ++ Some t ∷ [] → ((id : ℕ) → IsNotOf id was.writer → id ≢ t.id) → WriterLeavesOthers was.writer now.writer cache after → LeavesOtherBlobs was now cache after
@@ -149,3 +166,19 @@ drop_others was now cache index reply did rest = record {
     by_number : (id : ℕ) (o : Option Tail) → LetsGoOf index was.snapshots now.snapshots reply o → All (NotOf id) was.snapshots → All (NotOf id) now.snapshots
     by_number id None (replied, is) all = subst (λ (l : List (Option Tail)). All (NotOf id) l) (sym is) all
     by_number id (Some t) (replied, is) all = subst (λ (l : List (Option Tail)). All (NotOf id) l) (sym is) (All-set (NotOf id) was.snapshots index None tt all)
+
+-- ---- how a session begins
+
+-- with a writer whose id the cache gave just then
+pub begun_apart : (w : WriterState) (now : SessionState) (cache : CacheState) → now ≡ session_of w → w.id ≡ cache.ids_given → IsNewTo cache now
+begun_apart w now cache is its id below = subst (λ (s : SessionState). IsOther s id) (sym is) (record { writer = λ same. omega (arith, same, its, below); snapshots = λ k o lt. absurd (omega (arith, lt)) })
+
+-- by a crash and a recovery
+pub others_anew : (was now : SessionState) (cache after : CacheState) → IsNewTo cache now → LeavesReads cache after → LeavesOthersAnew was now cache after
+others_anew was now cache after apart reads = record { reads = reads; apart = λ id below other. apart id below }
+
+pub others_closed : (was now : SessionState) (cache after : CacheState) → now ≡ closed → LeavesReads cache after → LeavesOthersAnew was now cache after
+others_closed was now cache after is reads = record { reads = reads; apart = λ id below other. subst (λ (s : SessionState). IsOther s id) (sym is) (record { writer = tt; snapshots = λ k o lt. absurd (omega (arith, lt)) }) }
+
+pub others_unchanged : (was now : SessionState) (cache : CacheState) → now ≡ was → LeavesOthersAnew was now cache cache
+others_unchanged was now cache is = record { reads = λ t d can. can; apart = λ id below other. subst (λ (s : SessionState). IsOther s id) (sym is) other }

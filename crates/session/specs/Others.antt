@@ -1,9 +1,10 @@
 -- What the steps of a session leave of the other blobs on its cache.
-use Rattle.std.specs.Prelude.{◌≢◌, ℕ, All, IfSome, Option}
+use Rattle.std.specs.Prelude.{◌≢◌, ◌<◌, ℕ, All, IfSome, Option}
 use Rattle.disk.specs.Disk.{Disk}
 use Rattle.writer_state.specs.WriterState.{WriterState}
 use Rattle.cache.specs.CacheState.{CacheState, SameSettings}
 use Rattle.paged_read.specs.Tail.{Tail, CanRead}
+use Rattle.paged_read.specs.Snapshots.{LeavesReads}
 use Rattle.session.specs.Run.{SessionState}
 
 -- the writer, if there is one, is not of the blob of this id
@@ -30,3 +31,13 @@ pub record LeavesOtherBlobs (was now : SessionState) (cache after : CacheState) 
   pub reads : (t : Tail) (d : Disk) → IsOther was t.id → CanRead t cache d → CanRead t after d
   pub apart : (id : ℕ) → IsOther was id → IsOther now id
   pub settings : SameSettings cache after
+
+-- a session that has just begun: each blob whose id the cache gave before is another one
+abbrev pub IsNewTo : CacheState → SessionState → Type 0
+IsNewTo cache session = (id : ℕ) → id < cache.ids_given → IsOther session id
+
+-- what a crash and a recovery leave of other blobs: what can be read of any blob can be read on;
+-- and one whose id the cache gave before is still another one
+pub record LeavesOthersAnew (was now : SessionState) (cache after : CacheState) : Type 0 where
+  pub reads : LeavesReads cache after
+  pub apart : (id : ℕ) → id < cache.ids_given → IsOther was id → IsOther now id

@@ -24,6 +24,7 @@ use Rattle.session.specs.declared.steps.Step.{Step}
 use Rattle.session.specs.declared.steps.Reply.{Reply}
 use Rattle.session.specs.Run.{Standing, begun, other_content, last, Answers, raised, SessionState}
 use Rattle.session.specs.Run.{IsReady, pending_in, StandsFor}
+use Rattle.session.specs.Others.{IsNewTo}
 
 -- ---- the way back
 
@@ -271,6 +272,7 @@ pub record BeginGoes (sum : List ℕ → ℕ) (cache after : CacheState) (capaci
   pub overflow : 2 ^ 64 ≤ adjusted capacity cache.page_size → result ≡ Err OffsetOverflow
   pub ids : GivesId result cache after
   pub steps : IfOk result (λ session. IsReady sum session new.present)
+  pub apart : IfOk result (IsNewTo cache)
   pub gives : OnOk result (GivesBack sum cache.page_size old.present)
 
 -- at each of its moments, and at every answer
@@ -278,7 +280,7 @@ pub record OwesBeginning (sum : List ℕ → ℕ) (P : ℕ) (cache after : Cache
     : Type 0 where
   pub attempts : AttemptsThrough sum P old new
   pub fresh : IsFresh cache → IsFresh after
-  -- what can be read of another blob can be read on
+  -- what can be read with the same cache can be read on
   pub others : LeavesReads cache after
 
 -- what a crash and a recovery after it answer: the session stands for what the crash left, or one

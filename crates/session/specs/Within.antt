@@ -7,6 +7,7 @@ use Rattle.paged.specs.declared.within.Refusal.{Refusal}
 use Rattle.paged.specs.declared.within.Refusal.TheVariants.{WouldCut, Failed}
 use Rattle.paged.specs.Within.{PutsAtStake, MayGo}
 use Rattle.session.specs.Run.{IsReady, SessionState}
+use Rattle.session.specs.Others.{IsNewTo}
 use Rattle.session.specs.Promise.{BeginsBy, GivesBack, GivesId}
 use Rattle.disk.specs.declared.error.Error.TheVariants.{OffsetOverflow}
 use Rattle.page.specs.Geometry.{adjusted}
@@ -37,4 +38,5 @@ pub record BeginWithinGoes (sum : List ℕ → ℕ) (cache after : CacheState) (
   pub overflow : 2 ^ 64 ≤ adjusted capacity cache.page_size → result ≡ Err (Failed OffsetOverflow)
   pub ids : GivesIdWithin result cache after
   pub steps : IfOk result (λ session. IsReady sum session new.present)
+  pub apart : IfOk result (IsNewTo cache)
   pub gives : OnOk result (GivesBack sum cache.page_size old.present)

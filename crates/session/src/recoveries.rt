@@ -4,8 +4,8 @@ ghost use Rattle.std.specs.Int.NonZero.{non_zero_usize_get};
 ghost use Rattle.disk.specs.History.{life_of};
 ghost use Rattle.disk.specs.Torn.{torn};
 ghost use Rattle.paged_read.specs.Searches.{ReadsWithin, scan_bytes};
-ghost use Rattle.paged_read.specs.Snapshots.{LeavesReads};
 ghost use Rattle.cache.specs.Pages.{IsFresh};
+ghost use Rattle.session.specs.Others.{LeavesOthersAnew};
 ghost use Rattle.session.specs.Run.{IsSessionReady};
 ghost use Rattle.session.specs.Promise.{BeginGoes, CrashGoes, HasCrashed, LeadsOn, OwesBeginning};
 ghost use Rattle.session.specs.Promise.{closed};
@@ -136,7 +136,7 @@ impl<H: Sum> Session<MemBlob, H> {
         ensures ready { let new = (life_of blob.new).present in IsFresh cache.old
             → OnOk result (IsSessionReady H.sum_of self.new cache.new new) }
         ensures fresh { IsFresh cache.old → IsFresh cache.new }
-        ensures others { LeavesReads cache.old cache.new }
+        ensures others { LeavesOthersAnew self.old self.new cache.old cache.new }
 
         // Whatever it answers, what comes back later came through that crash.
         ensures later { let old = (life_of blob.old).present in

@@ -2,6 +2,7 @@ use Rattle.std.proofs.Common.{rules, inl, inr, refl}
 use Rattle.std.proofs.lemmas.Result.{err_from_is_err_and}
 use Rattle.disk.specs.History.{life_of}
 use Rattle.disk.specs.Torn.{torn}
+use Rattle.session.proofs.OtherLaws.{others_anew, others_closed, others_unchanged}
 use Rattle.session.proofs.PromiseLaws.{left_back, crashed_leads}
 use Rattle.session.proofs.recoveries.Session+MemBlob+H.crash_and_recover.Goals as goal
 
@@ -40,3 +41,14 @@ returns-clause-later g c =
     let d = (life_of c.args.blob.now).present in
     crashed_leads g.H.Sum.sum_of c.args.cache.now.page_size d (torn c.args.keep.now d.since d.base) (life_of c.crash.new.blob) (life_of c.recover.new.blob) c.in_ok-crash.ensures.crashed c.in_ok-crash.ensures.left
     c.recover.ensures.owes.attempts
+
+pub returns-in_err-crash-clause-others : goal.returns-in_err-crash-clause-others
+returns-in_err-crash-clause-others g c = others_unchanged c.args.self.now c.crash.new.self c.args.cache.now c.in_err-crash.ensures.same.0
+
+pub returns-in_err-self-inside-clause-others : goal.returns-in_err-self-inside-clause-others
+returns-in_err-self-inside-clause-others g c = others_closed c.args.self.now c.crash.new.self c.args.cache.now c.recover.new.cache c.in_ok-crash.ensures.closed c.recover.ensures.owes.others
+
+pub returns-clause-others : goal.returns-clause-others
+returns-clause-others g c =
+    let leaves = others_anew c.args.self.now c.in_ok-self-inside.field-0 c.args.cache.now c.recover.new.cache c.in_ok-self-inside.ensures.goes.apart c.recover.ensures.owes.others in
+    search rules

@@ -1,5 +1,6 @@
 use Rattle.std.proofs.Common.{ℕ, List, Err}
 use Rattle.std.proofs.lemmas.Result.{err_from_is_err_and}
+use Rattle.session.proofs.OtherLaws.{begun_apart}
 use Rattle.session.proofs.PromiseLaws.{begun, gives_back, attempts_through}
 use Rattle.session.proofs.sessions.Session.recover.Goals as goal
 
@@ -14,6 +15,7 @@ returns-in_err-writer-clause-goes g c =
       overflow = λ over. cc (is.overflow over);
       ids = is.ids;
       steps = tt;
+      apart = tt;
       gives = tt;
     })
 
@@ -41,6 +43,7 @@ returns-clause-goes g c =
       overflow = λ over. absurd (cc (w.overflow over));
       ids = w.ids;
       steps = c.new.ensures.ready new.present w.answers.sound;
+      apart = begun_apart c.in_ok-writer.writer c.new.result c.args.cache.now c.new.ensures.writer w.writer.id;
       gives = gives_back g.H.Sum.sum_of c.in_ok-writer.writer c.args.cache.now c.args.capacity old new (g.met.B.Blob.readable_is_image c.args.blob.now) w.answers;
     }
 

@@ -6,6 +6,7 @@ use Rattle.paged.specs.declared.within.Refusal.{Refusal}
 use Rattle.paged.specs.declared.within.Refusal.TheVariants.{WouldCut, Failed}
 use Rattle.paged.specs.Within.{GivesIdWithin as WriterGivesIdWithin, RecoversWithin}
 use Rattle.session.specs.Within.{BeginsWithin, GivesIdWithin}
+use Rattle.session.proofs.OtherLaws.{begun_apart}
 use Rattle.session.proofs.PromiseLaws.{begun, gives_back, attempts_through}
 use Rattle.session.proofs.sessions.Session.recover_within.Goals as goal
 
@@ -29,6 +30,7 @@ returns-in_err-writer-clause-goes g c =
       overflow = λ over. cc (is.overflow over);
       ids = gives_within c.in_err-writer.field-0.0 c.args.cache.now c.recover_within.new.cache is.ids;
       steps = tt;
+      apart = tt;
       gives = tt;
     })
 
@@ -56,6 +58,7 @@ returns-clause-goes g c =
       overflow = λ over. absurd (cc (w.overflow over));
       ids = w.ids;
       steps = c.new.ensures.ready new.present w.answers.1.sound;
+      apart = begun_apart c.in_ok-writer.writer c.new.result c.args.cache.now c.new.ensures.writer w.writer.id;
       gives = gives_back g.H.Sum.sum_of c.in_ok-writer.writer c.args.cache.now c.args.capacity old new (g.met.B.Blob.readable_is_image c.args.blob.now) w.answers.1;
     }
 

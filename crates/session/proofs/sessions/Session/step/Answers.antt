@@ -1,7 +1,6 @@
-use Rattle.std.proofs.Common.{ap, refl}
-use Rattle.session.specs.Run.{SessionState}
+use Rattle.std.proofs.Common.{refl}
 use Rattle.session.proofs.DropLaws.{drop_replay_takes, drop_snapshot_takes}
-use Rattle.session.proofs.OtherLaws.{begin_others, drop_others, others_idle, others_kept, seal_others, snapshot_others, try_snapshot_others}
+use Rattle.session.proofs.OtherLaws.{begin_others, cut_others, drop_others, others_idle, others_taken, replay_others, replayed_others, seal_others, snapshot_others, try_snapshot_others}
 use Rattle.session.proofs.ReplayLaws.{all_can_go_on, ensure_takes, replay_takes, seek_takes, take_takes}
 use Rattle.session.proofs.SnapshotLaws.{snapshot_takes, try_snapshot_takes, seal_takes, snap_takes}
 use Rattle.session.proofs.WholeLaws.{begin_takes, cut_takes, name_takes, writer_takes}
@@ -82,7 +81,7 @@ returns-in_default g c =
     let is = c.step_writer.ensures in
     let takes =
     writer_takes g.H.Sum.sum_of c.args.step.now c.args.self.now c.step_writer.new.self c.args.cache.now c.step_writer.new.cache (g.B.Blob.life c.args.blob.now) (g.B.Blob.life c.step_writer.new.blob) c.step_writer.result c.requires.ready c.requires.cached is.goes is.rest is.cached is.tails in
-    record { goes = takes.0; cached = takes.1; fresh_ids = is.fresh_ids; others = others_kept c.args.self.now c.step_writer.new.self c.args.cache.now c.step_writer.new.cache (ap (λ (s : SessionState). s.snapshots) is.rest) is.tails.others }
+    record { goes = takes.0; cached = takes.1; fresh_ids = is.fresh_ids; others = others_taken c.args.self.now c.step_writer.new.self c.args.cache.now c.step_writer.new.cache is.rest is.tails.others }
 
 pub returns-in-Replay-clause-goes : goal.returns-in-Replay-clause-goes
 returns-in-Replay-clause-goes g c =
@@ -154,7 +153,7 @@ pub returns-in-Begin-clause-others : goal.returns-in-Begin-clause-others
 returns-in-Begin-clause-others g c = begin_others c.args.self.now c.begin.new.self c.args.cache.now c.begin.result c.begin.ensures.goes
 
 pub returns-in-Truncate-clause-others : goal.returns-in-Truncate-clause-others
-returns-in-Truncate-clause-others g c = others_kept c.args.self.now c.truncate.new.self c.args.cache.now c.truncate.new.cache (ap (λ (s : SessionState). s.snapshots) c.truncate.ensures.rest) c.truncate.ensures.others
+returns-in-Truncate-clause-others g c = cut_others c.args.self.now c.truncate.new.self c.args.cache.now c.truncate.new.cache c.truncate.ensures.rest c.truncate.ensures.others
 
 pub returns-in-Snapshot-clause-others : goal.returns-in-Snapshot-clause-others
 returns-in-Snapshot-clause-others g c = snapshot_others g.H.Sum.sum_of c.args.self.now c.snapshot.new.self c.args.cache.now c.snapshot.new.cache (g.B.Blob.life c.args.blob.now) (g.B.Blob.life c.snapshot.new.blob) c.snapshot.result c.snapshot.ensures.tails.others c.snapshot.ensures.goes
@@ -172,16 +171,16 @@ pub returns-in-DropSnapshot-clause-others : goal.returns-in-DropSnapshot-clause-
 returns-in-DropSnapshot-clause-others g c = drop_others c.args.self.now c.drop_snapshot.new.self c.args.cache.now c.in-DropSnapshot.index c.drop_snapshot.result c.drop_snapshot.ensures.goes c.drop_snapshot.ensures.rest
 
 pub returns-in-Replay-clause-others : goal.returns-in-Replay-clause-others
-returns-in-Replay-clause-others g c = others_kept c.args.self.now c.replay.new.self c.args.cache.now c.replay.new.cache (ap (λ (s : SessionState). s.snapshots) c.replay.ensures.rest) c.replay.ensures.tails.others
+returns-in-Replay-clause-others g c = replay_others c.args.self.now c.replay.new.self c.args.cache.now c.replay.new.cache c.replay.ensures.rest c.replay.ensures.tails.others
 
 pub returns-in-Ensure-clause-others : goal.returns-in-Ensure-clause-others
-returns-in-Ensure-clause-others g c = others_idle c.args.self.now c.ensure.new.self c.args.cache.now (ap (λ (s : SessionState). s.snapshots) c.ensure.ensures.rest) (ap (λ (s : SessionState). s.writer) c.ensure.ensures.rest)
+returns-in-Ensure-clause-others g c = replayed_others c.args.self.now c.ensure.new.self c.args.cache.now c.ensure.ensures.rest
 
 pub returns-in-Take-clause-others : goal.returns-in-Take-clause-others
-returns-in-Take-clause-others g c = others_idle c.args.self.now c.take.new.self c.args.cache.now (ap (λ (s : SessionState). s.snapshots) c.take.ensures.rest) (ap (λ (s : SessionState). s.writer) c.take.ensures.rest)
+returns-in-Take-clause-others g c = replayed_others c.args.self.now c.take.new.self c.args.cache.now c.take.ensures.rest
 
 pub returns-in-Seek-clause-others : goal.returns-in-Seek-clause-others
-returns-in-Seek-clause-others g c = others_idle c.args.self.now c.seek.new.self c.args.cache.now (ap (λ (s : SessionState). s.snapshots) c.seek.ensures.rest) (ap (λ (s : SessionState). s.writer) c.seek.ensures.rest)
+returns-in-Seek-clause-others g c = replayed_others c.args.self.now c.seek.new.self c.args.cache.now c.seek.ensures.rest
 
 pub returns-in-DropReplay-clause-others : goal.returns-in-DropReplay-clause-others
-returns-in-DropReplay-clause-others g c = others_idle c.args.self.now c.drop_replay.new.self c.args.cache.now (ap (λ (s : SessionState). s.snapshots) c.drop_replay.ensures.rest) (ap (λ (s : SessionState). s.writer) c.drop_replay.ensures.rest)
+returns-in-DropReplay-clause-others g c = replayed_others c.args.self.now c.drop_replay.new.self c.args.cache.now c.drop_replay.ensures.rest
