@@ -30,3 +30,4 @@ pub mod InsideExamples
 pub mod StoodExamples
 pub mod Joined
 pub mod WordLaws
+pub mod TwoSessions

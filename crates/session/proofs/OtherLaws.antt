@@ -1,10 +1,9 @@
 -- What a step of a session leaves of the other blobs on its cache.
-use Rattle.std.proofs.Common.{◌≡◌, ◌≢◌, ℕ, List, [], ◌∷◌, ◌++◌, ◌<◌, refl, sym, ap, ◌∙◌, subst, arith, inl, inr, Bool, true, false}
+use Rattle.std.proofs.Common.{◌≡◌, ◌≢◌, ℕ, List, [], ◌∷◌, ◌++◌, refl, sym, ap, ◌∙◌, subst, arith, inl, inr, Bool, true, false}
 use Rattle.std.specs.Prelude.{All, IfSome, Option, Some, None}
 use Rattle.std.specs.List.{slice_get}
-use Rattle.std.proofs.Math.ListN.{set}
 use Rattle.std.proofs.lemmas.List.Elements.{All-append, All-cons, All-set}
-use Rattle.disk.specs.Disk.{Disk, Life}
+use Rattle.disk.specs.Disk.{Life}
 use Rattle.writer_state.specs.WriterState.{WriterState}
 use Rattle.cache.specs.CacheState.{CacheState, SameSettings}
 use Rattle.paged_read.specs.Tail.{Tail}
@@ -14,7 +13,7 @@ use Rattle.session.specs.declared.steps.Reply.{Reply}
 use Rattle.session.specs.declared.steps.Reply.TheVariants.{Fault, Nothing, Sealed, Taken}
 use Rattle.session.specs.Run.{numbered, SessionState}
 use Rattle.session.specs.Calls.{Begins, DidSeal, DidSnapshot, DidTrySnapshot, IfAppending, KeepsAllButReplays, KeepsAllButSnapshots, KeepsButReplays, KeepsSnapshots, KeepsUncut, LetsGo, SealsSession, TakesSnapshot, TriesSnapshot}
-use Rattle.session.specs.Promise.{closed, IsBegun, session_of}
+use Rattle.session.specs.Promise.{closed, session_of}
 use Rattle.session.specs.Others.{IsNewTo, IsNotOf, IsOther, LeavesOtherBlobs, LeavesOthersAnew, WriterLeavesOthers}
 use Rattle.session.proofs.Below.{of_each}
 use Rattle.session.proofs.DropLaws.{LetsGoOf}

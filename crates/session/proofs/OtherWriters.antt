@@ -1,5 +1,5 @@
 -- What a call of a writer leaves of the other blobs on its cache.
-use Rattle.std.proofs.Common.{◌≡◌, ℕ, refl, sym, ◌∙◌, subst}
+use Rattle.std.proofs.Common.{◌≡◌, refl, sym, ◌∙◌, subst}
 use Rattle.std.specs.Prelude.{Option, Some, None}
 use Rattle.writer_state.specs.WriterState.{WriterState}
 use Rattle.cache.specs.CacheState.{CacheState, SameSettings}

@@ -14,9 +14,7 @@ use Rattle.paged_read.specs.Tail.{CanRead, Tail}
 use Rattle.cache.specs.Pages.{IsTrueFor}
 use Rattle.paged.specs.Caches.{tail_of}
 use Rattle.paged.proofs.There.{sound_has_pages}
-use Rattle.paged.specs.Calls.{Appends, GoesOn, HoldsWithin, Refuses, StartsSync, Syncs, WaitsForSync}
-use Rattle.paged.specs.Snapshots.{MakesSnapshot, SealsWriter}
-use Rattle.paged.specs.Replays.{BeginsReplay}
+use Rattle.paged.specs.Calls.{Appends, GoesOn, HoldsWithin, Refuses, Syncs, WaitsForSync}
 use Rattle.paged.specs.Owes.{Owes, OwesWaiting, owed_covers}
 use Rattle.paged.specs.Ready.{IsReady as IsWriterReady}
 use Rattle.paged.specs.Costs.{AppendCosts, ReplayCosts, SealCosts, SnapshotCosts, StartSyncCosts, SyncCosts, WaitForSyncCosts}

@@ -1,7 +1,7 @@
-use Rattle.std.proofs.Common.{rules, ◌≡◌, inl, Some, None, Ok, Err, refl, sym, subst}
+use Rattle.std.proofs.Common.{rules, ◌≡◌, inl, Some, None, Ok, Err, sym, subst}
 use Rattle.std.specs.Prelude.{Option}
 use Rattle.writer_state.specs.WriterState.{WriterState}
-use Rattle.session.specs.declared.steps.Reply.TheVariants.{Fault, Started}
+use Rattle.session.specs.declared.steps.Reply.TheVariants.{Fault}
 use Rattle.session.specs.Calls.{Starts}
 use Rattle.session.proofs.Below.{can_in, leaves_on, leaves_gone, sound_in}
 use Rattle.session.proofs.WordLaws.{start_says}

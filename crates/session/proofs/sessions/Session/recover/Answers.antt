@@ -1,4 +1,3 @@
-use Rattle.std.proofs.Common.{ℕ, List, Err}
 use Rattle.std.proofs.lemmas.Result.{err_from_is_err_and}
 use Rattle.session.proofs.OtherLaws.{begun_apart}
 use Rattle.session.proofs.PromiseLaws.{begun, gives_back, attempts_through}
