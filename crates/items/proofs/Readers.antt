@@ -11,7 +11,7 @@ use Rattle.disk.specs.declared.error.Error.TheVariants.{ReadFailed, WriteFailed,
 use Rattle.page.specs.Page.{pieces}
 use Rattle.cache.specs.CacheState.{CacheState}
 use Rattle.writer_state.specs.WriterState.{WriterState}
-use Rattle.paged_read.specs.Replay.{FillFault, IsReplayOf, ReplayState, ReplaysOn, Seeks}
+use Rattle.paged_read.specs.Replay.{CopiesBytes, FillFault, IsReplayOf, ReplayState, ReplaysOn, Seeks}
 use Rattle.paged_read.specs.Snapshots.{StandsOn}
 use Rattle.paged_read.specs.Tail.{Tail, size_of}
 use Rattle.paged.specs.Goes.{HasReplay as HasWriterReplay, HasSnapshot as HasWriterSnapshot}
@@ -258,3 +258,15 @@ pub seeks_item : (sum : List ℕ → ℕ) (r : ItemsReplayState) (replay : Repla
     → SeeksItem sum r i (record { replay = replay; size = r.size }) result
 seeks_item sum r replay i offset (Ok u) is fits seeks goes = sought sum r (record { replay = replay; size = r.size }) i offset is refl seeks goes
 seeks_item sum r replay i offset (Err e) is fits seeks goes = not_sought sum r (record { replay = replay; size = r.size }) i offset is fits (λ same. ap (λ (x : ReplayState). record { replay = x; size = r.size }) same) e seeks
+
+-- a copy of bytes is refused for want of memory alone, and then nothing changes
+pub copy_refused : (r now : ReplayState) (count : ℕ) (e : Error) → CopiesBytes r count now (Err e) → (e ≡ OutOfMemory) × (now ≡ r)
+copy_refused r now count OutOfMemory same = (refl, same)
+copy_refused r now count ReadFailed none = absurd none
+copy_refused r now count WriteFailed none = absurd none
+copy_refused r now count ResizeFailed none = absurd none
+copy_refused r now count SyncFailed none = absurd none
+copy_refused r now count InvalidChecksum none = absurd none
+copy_refused r now count BlobInsufficientLength none = absurd none
+copy_refused r now count OffsetOverflow none = absurd none
+copy_refused r now count IdsExhausted none = absurd none

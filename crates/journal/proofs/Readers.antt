@@ -18,8 +18,9 @@ use Rattle.writer_state.specs.Sound.{IsSound, content}
 use Rattle.crash.specs.Stays.{KeepsAllFloors, LeavesOnly}
 use Rattle.writer_state.specs.WriterState.{WriterState}
 use Rattle.paged_read.proofs.FullReads.{no_fault}
-use Rattle.paged_read.proofs.Outliving.{look_leaves_writers, read_leaves_all_tails, read_leaves_others, read_leaves_tails}
-use Rattle.paged_read.specs.Ranges.{LeavesAll, Reads}
+use Rattle.paged_read.proofs.Outliving.{look_leaves_writers}
+use Rattle.paged_read.specs.Ranges.{Reads}
+use Rattle.paged_read.specs.Reads.{ReadLeaves}
 use Rattle.paged_read.specs.Snapshots.{LeavesAllTails, LeavesOthers, LeavesReads, LeavesTails, StandsOn}
 use Rattle.paged_read.specs.Tail.{Tail, HasFullPages, told, size_of}
 use Rattle.paged.specs.Caches.{tail_of}
@@ -176,18 +177,16 @@ nothing_crashed sum own cache d fresh = record {
 -- ---- reads through a view
 
 -- a read
-pub read_views : (sum : List ℕ → ℕ) (t : Tail) (cache after : CacheState) (old new : Life) → IsOpen sum t cache old → LeavesAll t cache after old new → OnlyViews sum t cache after old new
+pub read_views : (sum : List ℕ → ℕ) (t : Tail) (cache after : CacheState) (old new : Life) → IsOpen sum t cache old → ReadLeaves sum t cache after old new → OnlyViews sum t cache after old new
 read_views sum t cache after old new opened leaves =
-    let can = opened.stands.can in
-    let same : t.full_pages ≤ t.full_pages = omega arith in
-    let stands = read_leaves_tails sum t cache after old new can leaves t (told t old.present.readable) same opened.stands in
+    let stands = leaves.tails t (told t old.present.readable) opened.stands in
     record {
       opened = still_open sum t cache after old new opened stands;
       holds = still_tells sum t cache after old new opened stands;
       looked = leaves.looked;
-      tails = read_leaves_tails sum t cache after old new can leaves;
-      all_tails = λ short. read_leaves_all_tails sum t cache after old new can leaves short;
-      others = read_leaves_others sum t cache after old new can leaves;
+      tails = λ u held below. leaves.tails u held;
+      all_tails = λ short. leaves.tails;
+      others = leaves.others;
       fresh = leaves.fresh;
     }
 

@@ -13,7 +13,7 @@ returns-in-Ok-clause-measures g c =
     let zeros : List ℕ = 0 ∷ 0 ∷ [] in
     let front : length (take c.min.result zeros) ≡ min c.args.rest 2 = omega (arith, c.min.ensures, length-take c.min.result zeros) in
     frame_measured held c.args.offset c.args.rest c.min-in-Ok.result c.read_into.new.buf long
-    (c.in-Ok.ensures.reads.1 ∙ ap (λ n. take n (drop c.args.offset held)) front)
+    (c.in-Ok.ensures.goes.answers.1 ∙ ap (λ n. take n (drop c.args.offset held)) front)
     (omega (arith, c.min-in-Ok.ensures, c.record_len_of.ensures.len))
 
 pub returns-in-Ok-clause-leaves : goal.returns-in-Ok-clause-leaves
@@ -29,4 +29,4 @@ returns-in-Err-clause-measures g c =
     let zeros : List ℕ = 0 ∷ 0 ∷ [] in
     let front : length (take c.min.result zeros) ≡ min c.args.rest 2 = omega (arith, c.min.ensures, length-take c.min.result zeros) in
     view_refused g.H.Sum.sum_of (tail_at c.args.view.page_size c.args.view.id c.args.view.tip.now) c.args.cache.now c.args.offset _ (λ (u : Unit {0}). c.read_into.new.buf) (g.B.Blob.life c.args.blob.now) (g.B.Blob.life c.read_into.new.blob) c.in-Err.error
-    c.in-Err.ensures.reads c.requires.opened (omega (arith, c.requires.within, front)) (omega (arith, c.requires.fits, front))
+    c.in-Err.ensures.goes.answers c.requires.opened (omega (arith, c.requires.within, front)) (omega (arith, c.requires.fits, front))

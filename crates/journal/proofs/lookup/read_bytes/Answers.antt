@@ -27,4 +27,4 @@ pub returns-in-Err-clause-reads : goal.returns-in-Err-clause-reads
 returns-in-Err-clause-reads g c =
     let many : length c.deref_mut.result.now ≡ c.args.len = c.deref_mut.ensures.len ∙ c.in_ok-resize.ensures.len in
     view_refused g.H.Sum.sum_of (tail_at c.args.view.page_size c.args.view.id c.args.view.tip.now) c.args.cache.now c.args.offset (length c.deref_mut.result.now) (λ (u : Unit {0}). c.read_into.new.buf) (g.B.Blob.life c.args.blob.now) (g.B.Blob.life c.read_into.new.blob) c.in-Err.error
-    c.in-Err.ensures.reads c.requires.opened (omega (arith, many, c.requires.within)) (omega (arith, many, c.requires.fits))
+    c.in-Err.ensures.goes.answers c.requires.opened (omega (arith, many, c.requires.within)) (omega (arith, many, c.requires.fits))

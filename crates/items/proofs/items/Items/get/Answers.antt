@@ -1,4 +1,4 @@
-use Rattle.std.proofs.Common.{rules, ◌≡◌, ◌*◌, length, Ok, Err, refl, subst, sym}
+use Rattle.std.proofs.Common.{arith, ◌≡◌, ◌*◌, length, Ok, Err, refl, subst, sym}
 use Rattle.std.specs.Int.NonZero.{non_zero_usize_get}
 use Rattle.crash.specs.Looks.{looked_start}
 use Rattle.paged_read.specs.Tail.{CanRead}
@@ -37,7 +37,7 @@ returns-in-Ok-clause-goes g c =
     subst (λ (v : ItemsState). AreItems sum v cache old → FindsItem v.size (count v) i (Ok c.in-Ok.offset) → length was ≡ v.size → GetsItem v.size (bytes_of v old) i buf old new c.read_into.result) c.self.view_is
     (λ items finds long.
     let stood = stand sum s cache old items in
-    got sum s.size (tail_of s.writer) cache i c.in-Ok.offset buf was old new c.read_into.result stood.size stood.whole finds long (goes.never stood.ready.sound) goes.reads)
+    got sum s.size (tail_of s.writer) cache i c.in-Ok.offset buf was old new c.read_into.result stood.size stood.whole finds long (goes.goes.never_if_sound s.writer stood.ready.sound refl (omega arith)) goes.goes.answers)
     c.requires.items c.in-Ok.ensures c.requires.size
 
 pub returns-in-Ok-clause-costs : goal.returns-in-Ok-clause-costs
@@ -51,7 +51,7 @@ returns-in-Ok-clause-costs g c =
     let was = c.args.buf.now in
     let i = c.args.i in
     subst (λ (v : ItemsState). FindsItem v.size (count v) i (Ok c.in-Ok.offset) → length was ≡ v.size → AsksForMissing cache (tail_of v.writer) (i * v.size, v.size) old new) c.self.view_is
-    (λ finds long. asks_item s.size (tail_of s.writer) cache i c.in-Ok.offset (length was) old new finds.0 long c.read_into.ensures.asks) c.in-Ok.ensures c.requires.size
+    (λ finds long. asks_item s.size (tail_of s.writer) cache i c.in-Ok.offset (length was) old new finds.0 long c.read_into.ensures.costs.asks) c.in-Ok.ensures c.requires.size
 
 -- what the read leaves
 left : (g : Over) (c : After-read_into g)
@@ -68,15 +68,15 @@ left g c =
     subst (λ (v : ItemsState). AreItems sum v cache old → (AreItems sum v after new × (bytes_of v new ≡ bytes_of v old)) × CallLeaves sum v (items_of v old) cache after old new) c.self.view_is
     (λ items.
     let fresh = goes.leaves.fresh (stand sum s cache old items).ready.fresh in
-    (read_items sum s cache after old new items goes.looked fresh goes.leaves.can, read_leaves sum s cache after old new items goes.looked fresh goes.others goes.tails goes.replays)) c.requires.items
+    (read_items sum s cache after old new items goes.leaves.looked fresh (goes.leaves.can_read (tail_of s.writer) (stand sum s cache old items).ready.can), read_leaves sum s cache after old new items goes.leaves.looked fresh goes.leaves.others (λ t held below. goes.leaves.tails t held) goes.leaves.replays)) c.requires.items
 
 pub returns-in-Ok-clause-ready : goal.returns-in-Ok-clause-ready
 returns-in-Ok-clause-ready g c =
     let left_items = (left g (goal.at.returns-in-Ok-clause-ready g c).After-read_into).0 in
-    (are_ready g.H.Sum.sum_of c.args.self.now c.read_into.new.cache (g.B.Blob.life c.read_into.new.blob) left_items.0, left_items.1, search rules)
+    (are_ready g.H.Sum.sum_of c.args.self.now c.read_into.new.cache (g.B.Blob.life c.read_into.new.blob) left_items.0, left_items.1, c.read_into.ensures.goes.size)
 
 pub returns-in-Ok-clause-leaves : goal.returns-in-Ok-clause-leaves
-returns-in-Ok-clause-leaves g c = record { looked = c.read_into.ensures.looked; call = (left g (goal.at.returns-in-Ok-clause-leaves g c).After-read_into).1 }
+returns-in-Ok-clause-leaves g c = record { looked = c.read_into.ensures.leaves.looked; call = (left g (goal.at.returns-in-Ok-clause-leaves g c).After-read_into).1 }
 
 pub returns-in-Err-clause-goes : goal.returns-in-Err-clause-goes
 returns-in-Err-clause-goes g c =

@@ -1,4 +1,4 @@
-use Rattle.std.proofs.Common.{rules, ◌≡◌, ◌∙◌, ◌*◌, ℕ, List, map, Ok, Err, refl, subst, sym}
+use Rattle.std.proofs.Common.{arith, ◌≡◌, ◌∙◌, ◌*◌, ℕ, List, map, Ok, Err, refl, subst, sym}
 use Rattle.std.specs.Int.NonZero.{non_zero_usize_get}
 use Rattle.page.specs.Geometry.{AreInOrder}
 use Rattle.crash.specs.Looks.{looked_start}
@@ -43,7 +43,7 @@ returns-in-Ok-clause-goes g c =
     (λ items is.
     let stood = stand sum s cache old items in
     let finds : FindsItems s.size (count s) indices (Ok c.in-Ok.offsets) = subst (λ (n : ℕ). FindsItems s.size n indices (Ok c.in-Ok.offsets)) is c.in-Ok.ensures in
-    got_many sum s.size (tail_of s.writer) cache indices c.deref.result.now buf old new c.read_many_into.result stood.size stood.whole (c.deref.ensures.value ∙ finds.0) finds.1 (goes.never stood.ready.sound) goes.reads)
+    got_many sum s.size (tail_of s.writer) cache indices c.deref.result.now buf old new c.read_many_into.result stood.size stood.whole (c.deref.ensures.value ∙ finds.0) finds.1 (goes.goes.never_if_sound s.writer stood.ready.sound refl (omega arith)) goes.goes.answers)
     c.requires.items c.len.ensures.count
 
 pub returns-in-Ok-clause-costs : goal.returns-in-Ok-clause-costs
@@ -54,7 +54,7 @@ returns-in-Ok-clause-costs g c =
     let new = g.B.Blob.life c.read_many_into.new.blob in
     let indices = c.args.indices.now in
     subst (λ (v : ItemsState). AsksOnce cache (tail_of v.writer) (item_ranges v.size indices) old new) c.self.view_is
-    (asks_items s.size (tail_of s.writer) cache indices c.deref.result.now old new (c.deref.ensures.value ∙ c.in-Ok.ensures.0) c.read_many_into.ensures.asks)
+    (asks_items s.size (tail_of s.writer) cache indices c.deref.result.now old new (c.deref.ensures.value ∙ c.in-Ok.ensures.0) c.read_many_into.ensures.costs.asks)
 
 -- what the read leaves
 left : (g : Over) (c : After-read_many_into g)
@@ -71,15 +71,15 @@ left g c =
     subst (λ (v : ItemsState). AreItems sum v cache old → (AreItems sum v after new × (bytes_of v new ≡ bytes_of v old)) × CallLeaves sum v (items_of v old) cache after old new) c.self.view_is
     (λ items.
     let fresh = goes.leaves.fresh (stand sum s cache old items).ready.fresh in
-    (read_items sum s cache after old new items goes.looked fresh goes.leaves.can, read_leaves sum s cache after old new items goes.looked fresh goes.others goes.tails goes.replays)) c.requires.items
+    (read_items sum s cache after old new items goes.leaves.looked fresh (goes.leaves.can_read (tail_of s.writer) (stand sum s cache old items).ready.can), read_leaves sum s cache after old new items goes.leaves.looked fresh goes.leaves.others (λ t held below. goes.leaves.tails t held) goes.leaves.replays)) c.requires.items
 
 pub returns-in-Ok-clause-ready : goal.returns-in-Ok-clause-ready
 returns-in-Ok-clause-ready g c =
     let left_items = (left g (goal.at.returns-in-Ok-clause-ready g c).After-read_many_into).0 in
-    (are_ready g.H.Sum.sum_of c.args.self.now c.read_many_into.new.cache (g.B.Blob.life c.read_many_into.new.blob) left_items.0, left_items.1, search rules)
+    (are_ready g.H.Sum.sum_of c.args.self.now c.read_many_into.new.cache (g.B.Blob.life c.read_many_into.new.blob) left_items.0, left_items.1, c.read_many_into.ensures.goes.size)
 
 pub returns-in-Ok-clause-leaves : goal.returns-in-Ok-clause-leaves
-returns-in-Ok-clause-leaves g c = record { looked = c.read_many_into.ensures.looked; call = (left g (goal.at.returns-in-Ok-clause-leaves g c).After-read_many_into).1 }
+returns-in-Ok-clause-leaves g c = record { looked = c.read_many_into.ensures.leaves.looked; call = (left g (goal.at.returns-in-Ok-clause-leaves g c).After-read_many_into).1 }
 
 pub returns-in-Err-clause-goes : goal.returns-in-Err-clause-goes
 returns-in-Err-clause-goes g c =

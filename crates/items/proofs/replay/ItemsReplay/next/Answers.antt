@@ -9,7 +9,7 @@ use Rattle.items.specs.State.{ItemsReplayState}
 use Rattle.items.specs.Standing.{IsItemsReplay, OnlyReadsOn, ReplaysItems, bytes_along, items_left}
 use Rattle.items.specs.Readers.{GivesNext, HoldsAlong}
 use Rattle.items.proofs.Standing.{along, only_reads_on}
-use Rattle.items.proofs.Readers.{fill_refused, holds_along, gave, had_none, not_there, stays_there}
+use Rattle.items.proofs.Readers.{copy_refused, fill_refused, holds_along, gave, had_none, not_there, stays_there}
 use Rattle.items.proofs.replay.ItemsReplay.next.Given.{Over}
 use Rattle.items.proofs.replay.ItemsReplay.next.Goals as goal
 use Rattle.items.proofs.replay.ItemsReplay.next.Goals.{After-ensure}
@@ -35,11 +35,11 @@ ensure-requires g c =
 left : (g : Over) (c : After-ensure g) → OnlyReadsOn g.H.Sum.sum_of (g.B.Blob.life c.args.blob.now) (g.B.Blob.life c.ensure.new.blob)
 left g c =
     let goes = c.ensure.ensures in
-    only_reads_on g.H.Sum.sum_of (g.B.Blob.life c.args.blob.now) (g.B.Blob.life c.ensure.new.blob) goes.looked goes.tails goes.others
+    only_reads_on g.H.Sum.sum_of (g.B.Blob.life c.args.blob.now) (g.B.Blob.life c.ensure.new.blob) goes.leaves.looked goes.leaves.tails goes.leaves.replays
 
 -- it gives what it gave
 gives : (g : Over) (c : After-ensure g) → IsReplayOf g.H.Sum.sum_of c.ensure.new.self (bytes_along (inside g c) (g.B.Blob.life c.args.blob.now)) (g.B.Blob.life c.ensure.new.blob).present
-gives g c = c.ensure.ensures.replays g.H.Sum.sum_of (bytes_along (inside g c) (g.B.Blob.life c.args.blob.now)) (was g c).gives
+gives g c = c.ensure.ensures.goes.replays g.H.Sum.sum_of (bytes_along (inside g c) (g.B.Blob.life c.args.blob.now)) (was g c).gives
 
 -- where it stands as it stood
 still : (g : Over) (c : After-ensure g) → c.ensure.new.self.tail ≡ c.self.inside.replay.tail → c.ensure.new.self.position ≡ c.self.inside.replay.position
@@ -57,14 +57,14 @@ returns-in_err-ensure-clause-goes g c =
     let new = g.B.Blob.life c.ensure.new.blob in
     let now : ItemsReplayState = record { replay = c.ensure.new.self; size = non_zero_usize_get c.self.inside.size } in
     let e = c.in_err-ensure.field-0.0 in
-    let fetches = c.in_err-ensure.ensures.fetches in
+    let fetches = c.in_err-ensure.ensures.goes.answers in
     let error = err_from_is_err_and c.from_residual.result c.from_residual.ensures.1 in
     rw (error.1, error.2) (subst (λ (v : ItemsReplayState). GivesNext v now old new (Err e)) c.self.view_is
     ((still g at fetches.0.tail fetches.0.position).1, fill_refused g.H.Sum.sum_of (inside g at) old new (was g at) e fetches.1))
 
 pub returns-in_err-ensure-clause-ready : goal.returns-in_err-ensure-clause-ready
 returns-in_err-ensure-clause-ready g c =
-    let fills = c.in_err-ensure.ensures.fetches.0 in (
+    let fills = c.in_err-ensure.ensures.goes.answers.0 in (
       (still g (goal.at.returns-in_err-ensure-clause-ready g c).After-ensure fills.tail fills.position).0,
       ap (λ (v : ItemsReplayState). v.size) c.self.view_is,
       fills.tail ∙ ap (λ (v : ItemsReplayState). v.replay.tail) c.self.view_is,
@@ -81,14 +81,14 @@ returns-then-not-branch-clause-goes g c =
     let old = g.B.Blob.life c.args.blob.now in
     let new = g.B.Blob.life c.ensure.new.blob in
     let now : ItemsReplayState = record { replay = c.ensure.new.self; size = non_zero_usize_get c.self.inside.size } in
-    let fetches = c.in_ok-ensure.ensures.fetches in
+    let fetches = c.in_ok-ensure.ensures.goes.answers in
     let past = not_there c.self.inside.replay.position c.get-size.result (size_of c.self.inside.replay.tail) (sym c.if-not-branch.true ∙ fetches.1) in
     let none = had_none g.H.Sum.sum_of (inside g at) old new (was g at) (omega (arith, past, c.get-size.ensures.value)) in
     subst (λ (v : ItemsReplayState). GivesNext v now old new (Ok None)) c.self.view_is (none, (still g at fetches.0.tail fetches.0.position).1 ∙ none)
 
 pub returns-then-not-branch-clause-ready : goal.returns-then-not-branch-clause-ready
 returns-then-not-branch-clause-ready g c =
-    let fills = c.in_ok-ensure.ensures.fetches.0 in (
+    let fills = c.in_ok-ensure.ensures.goes.answers.0 in (
       (still g (goal.at.returns-then-not-branch-clause-ready g c).After-ensure fills.tail fills.position).0,
       ap (λ (v : ItemsReplayState). v.size) c.self.view_is,
       fills.tail ∙ ap (λ (v : ItemsReplayState). v.replay.tail) c.self.view_is,
@@ -101,8 +101,8 @@ returns-then-not-branch-clause-leaves g c = left g (goal.at.returns-then-not-bra
 
 pub returns-in_err-item-clause-ready : goal.returns-in_err-item-clause-ready
 returns-in_err-item-clause-ready g c =
-    let fills = c.in_ok-ensure.ensures.fetches.0 in
-    let same = c.in_err-item.ensures.same in (
+    let fills = c.in_ok-ensure.ensures.goes.answers.0 in
+    let same = (copy_refused c.ensure.new.self c.copy_to_bytes.new.self c.get-size.result c.in_err-item.field-0.0 c.in_err-item.ensures.goes).1 in (
       subst (λ (x : ReplayState). IsItemsReplay g.H.Sum.sum_of (record { replay = x; size = non_zero_usize_get c.self.inside.size }) (g.B.Blob.life c.ensure.new.blob)) (sym same)
           (still g (goal.at.returns-in_err-item-clause-ready g c).After-ensure fills.tail fills.position).0,
       ap (λ (v : ItemsReplayState). v.size) c.self.view_is,
@@ -125,7 +125,7 @@ given g c =
     let new = g.B.Blob.life c.ensure.new.blob in
     let r = inside g at in
     let now : ItemsReplayState = record { replay = c.copy_to_bytes.new.self; size = non_zero_usize_get c.self.inside.size } in
-    let fetches = c.in_ok-ensure.ensures.fetches in
+    let fetches = c.in_ok-ensure.ensures.goes.answers in
     let fills = fetches.0 in
     let copied = c.in_ok-item.ensures in
     let held = bytes_along r old in
@@ -133,11 +133,11 @@ given g c =
     let value : c.get-size.result ≡ r.size = c.get-size.ensures.value in
     let least = min-eq_left (fetches.2 answered) in
     let at_item : c.ensure.new.self.position ≡ r.replay.position = fills.position in
-    let after : now.replay.position ≡ r.replay.position + r.size = ap (λ (x : ReplayState). x.position) copied.taken ∙ ap₂ (λ (p n : ℕ). p + n) at_item (least ∙ value) in
+    let after : now.replay.position ≡ r.replay.position + r.size = ap (λ (x : ReplayState). x.position) copied.goes.moves ∙ ap₂ (λ (p n : ℕ). p + n) at_item (least ∙ value) in
     let there = leb-true (r.replay.position + c.get-size.result) (size_of r.replay.tail) (sym fetches.1 ∙ answered) in
     gave sum r old new (was g at) now c.in_ok-item.item refl
-    (ap (λ (x : ReplayState). x.tail) copied.taken ∙ fills.tail) after (copied.replays.1 sum held new.present (gives g at)) (omega (arith, there, value))
-    (copied.gives.1 sum held new.present (gives g at) ∙ ap₂ (λ (n p : ℕ). take n (drop p held)) (copied.gives.0 ∙ value) at_item)
+    (ap (λ (x : ReplayState). x.tail) copied.goes.moves ∙ fills.tail) after (copied.replays.1 sum held new.present (gives g at)) (omega (arith, there, value))
+    (copied.goes.gives sum held new.present (gives g at) ∙ ap₂ (λ (n p : ℕ). take n (drop p held)) (copied.goes.size ∙ value) at_item)
 
 pub returns-clause-goes : goal.returns-clause-goes
 returns-clause-goes g c =
@@ -148,7 +148,7 @@ pub returns-clause-ready : goal.returns-clause-ready
 returns-clause-ready g c = (
   (given g c).0,
   ap (λ (v : ItemsReplayState). v.size) c.self.view_is,
-  ap (λ (x : ReplayState). x.tail) c.in_ok-item.ensures.taken ∙ c.in_ok-ensure.ensures.fetches.0.tail ∙ ap (λ (v : ItemsReplayState). v.replay.tail) c.self.view_is,
+  ap (λ (x : ReplayState). x.tail) c.in_ok-item.ensures.goes.moves ∙ c.in_ok-ensure.ensures.goes.answers.0.tail ∙ ap (λ (v : ItemsReplayState). v.replay.tail) c.self.view_is,
 )
 
 pub returns-clause-leaves : goal.returns-clause-leaves
@@ -159,15 +159,15 @@ returns-clause-leaves g c = left g (goal.at.returns-clause-leaves g c).After-ens
 pub returns-then-not-branch-clause-held : goal.returns-then-not-branch-clause-held
 returns-then-not-branch-clause-held g c =
     let r = inside g (goal.at.returns-then-not-branch-clause-held g c).After-ensure in
-    let fetches = c.in_ok-ensure.ensures.fetches in
+    let fetches = c.in_ok-ensure.ensures.goes.answers in
     subst (λ (v : ItemsReplayState). HoldsAlong v (record { replay = c.ensure.new.self; size = r.size })) c.self.view_is
     (holds_along r c.ensure.new.self c.ensure.new.self c.get-size.result c.get-size.ensures.value fetches.0.batch fetches.4 refl (omega arith))
 
 pub returns-clause-held : goal.returns-clause-held
 returns-clause-held g c =
     let r = inside g (goal.at.returns-clause-held g c).After-ensure in
-    let fetches = c.in_ok-ensure.ensures.fetches in
-    let taken = c.in_ok-item.ensures.taken in
+    let fetches = c.in_ok-ensure.ensures.goes.answers in
+    let taken = c.in_ok-item.ensures.goes.moves in
     let hand = ap (λ (x : ReplayState). length x.hand) taken in
     subst (λ (v : ItemsReplayState). HoldsAlong v (record { replay = c.copy_to_bytes.new.self; size = r.size })) c.self.view_is
     (holds_along r c.ensure.new.self c.copy_to_bytes.new.self c.get-size.result c.get-size.ensures.value fetches.0.batch fetches.4 (ap (λ (x : ReplayState). x.batch) taken) (omega (arith, hand, length-drop c.get-size.result c.ensure.new.self.hand)))

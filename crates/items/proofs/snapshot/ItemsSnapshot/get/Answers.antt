@@ -1,4 +1,4 @@
-use Rattle.std.proofs.Common.{rules, ◌≡◌, ◌*◌, ℕ, length, Ok, Err, refl, subst, sym}
+use Rattle.std.proofs.Common.{◌≡◌, ◌*◌, ℕ, length, Ok, Err, refl, subst, sym}
 use Rattle.std.specs.Int.NonZero.{non_zero_usize_get}
 use Rattle.paged_read.specs.Tail.{CanRead, size_of}
 use Rattle.items.specs.State.{ItemsSnapshotState}
@@ -32,7 +32,7 @@ returns-in-Ok-clause-goes g c =
     subst (λ (v : ItemsSnapshotState). IsItemsSnapshot sum v cache old → c.len.result ≡ count_over v → length was ≡ v.size → GetsItem v.size (bytes_over v old) i buf old new c.read_into.result) c.self.view_is
     (λ snapshot is long.
     let stood = over sum r cache old snapshot in
-    got sum r.size r.tail cache i c.in-Ok.offset buf was old new c.read_into.result stood.size stood.whole (subst (λ (n : ℕ). FindsItem r.size n i (Ok c.in-Ok.offset)) is c.in-Ok.ensures) long (goes.never stood.stands.tail.full) goes.reads)
+    got sum r.size r.tail cache i c.in-Ok.offset buf was old new c.read_into.result stood.size stood.whole (subst (λ (n : ℕ). FindsItem r.size n i (Ok c.in-Ok.offset)) is c.in-Ok.ensures) long (goes.goes.never stood.stands.tail.full) goes.goes.answers)
     c.requires.snapshot c.len.ensures.count c.requires.size
 
 pub returns-in-Ok-clause-costs : goal.returns-in-Ok-clause-costs
@@ -45,14 +45,14 @@ returns-in-Ok-clause-costs g c =
     let was = c.args.buf.now in
     let i = c.args.i in
     subst (λ (v : ItemsSnapshotState). length was ≡ v.size → AsksForMissing cache v.tail (i * v.size, v.size) old new) c.self.view_is
-    (λ long. asks_item r.size r.tail cache i c.in-Ok.offset (length was) old new c.in-Ok.ensures.0 long c.read_into.ensures.asks) c.requires.size
+    (λ long. asks_item r.size r.tail cache i c.in-Ok.offset (length was) old new c.in-Ok.ensures.0 long c.read_into.ensures.costs.asks) c.requires.size
 
 -- what the read leaves
 left : (g : Over) (c : After-read_into g) → OnlyReads g.H.Sum.sum_of c.args.self.now.tail.id c.args.cache.now c.read_into.new.cache (g.B.Blob.life c.args.blob.now) (g.B.Blob.life c.read_into.new.blob)
 left g c =
     let goes = c.read_into.ensures in
     subst (λ (v : ItemsSnapshotState). OnlyReads g.H.Sum.sum_of v.tail.id c.args.cache.now c.read_into.new.cache (g.B.Blob.life c.args.blob.now) (g.B.Blob.life c.read_into.new.blob)) c.self.view_is
-    (only_reads g.H.Sum.sum_of c.self.inside.snapshot.id c.args.cache.now c.read_into.new.cache (g.B.Blob.life c.args.blob.now) (g.B.Blob.life c.read_into.new.blob) goes.looked goes.leaves.fresh goes.others goes.tails goes.replays)
+    (only_reads g.H.Sum.sum_of c.self.inside.snapshot.id c.args.cache.now c.read_into.new.cache (g.B.Blob.life c.args.blob.now) (g.B.Blob.life c.read_into.new.blob) goes.leaves.looked goes.leaves.fresh goes.leaves.others goes.leaves.tails goes.leaves.replays)
 
 pub returns-in-Ok-clause-leaves : goal.returns-in-Ok-clause-leaves
 returns-in-Ok-clause-leaves g c = left g (goal.at.returns-in-Ok-clause-leaves g c).After-read_into
@@ -69,9 +69,9 @@ returns-in-Ok-clause-ready g c =
     subst (λ (v : ItemsSnapshotState). IsItemsSnapshot sum v cache old → IsItemsSnapshot sum v after new × (bytes_over v new ≡ bytes_over v old)) c.self.view_is
     (λ snapshot.
     let was = over sum r cache old snapshot in
-    let stands = c.read_into.ensures.tails c.self.inside.snapshot (bytes_over r old) was.stands in
+    let stands = c.read_into.ensures.leaves.tails c.self.inside.snapshot (bytes_over r old) was.stands in
     ((still_over sum r cache after old new was stands).0, stands.tail.is)) c.requires.snapshot in
-    (same.0, same.1, search rules)
+    (same.0, same.1, c.read_into.ensures.goes.size)
 
 pub returns-in-Err-clause-leaves : goal.returns-in-Err-clause-leaves
 returns-in-Err-clause-leaves g c = nothing_read g.H.Sum.sum_of c.args.self.now.tail.id c.args.cache.now (g.B.Blob.life c.args.blob.now)

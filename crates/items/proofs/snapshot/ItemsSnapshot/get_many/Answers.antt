@@ -1,4 +1,4 @@
-use Rattle.std.proofs.Common.{rules, ◌≡◌, ◌∙◌, ◌*◌, ℕ, List, map, Ok, Err, refl, subst, sym}
+use Rattle.std.proofs.Common.{◌≡◌, ◌∙◌, ◌*◌, ℕ, List, map, Ok, Err, refl, subst, sym}
 use Rattle.std.specs.Int.NonZero.{non_zero_usize_get}
 use Rattle.paged_read.specs.Tail.{CanRead, size_of}
 use Rattle.items.specs.State.{ItemsSnapshotState}
@@ -38,7 +38,7 @@ returns-in-Ok-clause-goes g c =
     (λ snapshot is.
     let stood = over sum r cache old snapshot in
     let finds : FindsItems r.size (count_over r) indices (Ok c.in-Ok.offsets) = subst (λ (n : ℕ). FindsItems r.size n indices (Ok c.in-Ok.offsets)) is c.in-Ok.ensures in
-    got_many sum r.size r.tail cache indices c.deref.result.now buf old new c.read_many_into.result stood.size stood.whole (c.deref.ensures.value ∙ finds.0) finds.1 (goes.never stood.stands.tail.full) goes.reads)
+    got_many sum r.size r.tail cache indices c.deref.result.now buf old new c.read_many_into.result stood.size stood.whole (c.deref.ensures.value ∙ finds.0) finds.1 (goes.goes.never stood.stands.tail.full) goes.goes.answers)
     c.requires.snapshot c.len.ensures.count
 
 pub returns-in-Ok-clause-costs : goal.returns-in-Ok-clause-costs
@@ -49,14 +49,14 @@ returns-in-Ok-clause-costs g c =
     let new = g.B.Blob.life c.read_many_into.new.blob in
     let indices = c.args.indices.now in
     subst (λ (v : ItemsSnapshotState). AsksOnce cache v.tail (item_ranges v.size indices) old new) c.self.view_is
-    (asks_items r.size r.tail cache indices c.deref.result.now old new (c.deref.ensures.value ∙ c.in-Ok.ensures.0) c.read_many_into.ensures.asks)
+    (asks_items r.size r.tail cache indices c.deref.result.now old new (c.deref.ensures.value ∙ c.in-Ok.ensures.0) c.read_many_into.ensures.costs.asks)
 
 -- what the read leaves
 left : (g : Over) (c : After-read_many_into g) → OnlyReads g.H.Sum.sum_of c.args.self.now.tail.id c.args.cache.now c.read_many_into.new.cache (g.B.Blob.life c.args.blob.now) (g.B.Blob.life c.read_many_into.new.blob)
 left g c =
     let goes = c.read_many_into.ensures in
     subst (λ (v : ItemsSnapshotState). OnlyReads g.H.Sum.sum_of v.tail.id c.args.cache.now c.read_many_into.new.cache (g.B.Blob.life c.args.blob.now) (g.B.Blob.life c.read_many_into.new.blob)) c.self.view_is
-    (only_reads g.H.Sum.sum_of c.self.inside.snapshot.id c.args.cache.now c.read_many_into.new.cache (g.B.Blob.life c.args.blob.now) (g.B.Blob.life c.read_many_into.new.blob) goes.looked goes.leaves.fresh goes.others goes.tails goes.replays)
+    (only_reads g.H.Sum.sum_of c.self.inside.snapshot.id c.args.cache.now c.read_many_into.new.cache (g.B.Blob.life c.args.blob.now) (g.B.Blob.life c.read_many_into.new.blob) goes.leaves.looked goes.leaves.fresh goes.leaves.others goes.leaves.tails goes.leaves.replays)
 
 pub returns-in-Ok-clause-leaves : goal.returns-in-Ok-clause-leaves
 returns-in-Ok-clause-leaves g c = left g (goal.at.returns-in-Ok-clause-leaves g c).After-read_many_into
@@ -73,9 +73,9 @@ returns-in-Ok-clause-ready g c =
     subst (λ (v : ItemsSnapshotState). IsItemsSnapshot sum v cache old → IsItemsSnapshot sum v after new × (bytes_over v new ≡ bytes_over v old)) c.self.view_is
     (λ snapshot.
     let was = over sum r cache old snapshot in
-    let stands = c.read_many_into.ensures.tails c.self.inside.snapshot (bytes_over r old) was.stands in
+    let stands = c.read_many_into.ensures.leaves.tails c.self.inside.snapshot (bytes_over r old) was.stands in
     ((still_over sum r cache after old new was stands).0, stands.tail.is)) c.requires.snapshot in
-    (same.0, same.1, search rules)
+    (same.0, same.1, c.read_many_into.ensures.goes.size)
 
 pub returns-in-Err-clause-leaves : goal.returns-in-Err-clause-leaves
 returns-in-Err-clause-leaves g c = nothing_read g.H.Sum.sum_of c.args.self.now.tail.id c.args.cache.now (g.B.Blob.life c.args.blob.now)
