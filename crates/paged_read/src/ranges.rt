@@ -294,13 +294,14 @@ impl<B: Blob, H: Sum> View<'_, B, H> {
     ///
     /// The ranges are in order and don't overlap, and fill the buffer. Bytes after the full pages
     /// come from memory, and those of pages that the cache holds from there; the other pages are
-    /// read in one call of the device, each once, and put in the cache as they are delivered.
+    /// read in one call of the device, each once, and put in the cache as they are delivered. Where
+    /// the cache holds all pages of the ranges the call takes no memory.
     ///
     /// The first range that can't be read decides, before memory or the device is asked for:
     /// `OffsetOverflow` where it passes the greatest `u64`, else `BlobInsufficientLength` where it
     /// passes the size. `ReadFailed` where the device failed, `InvalidChecksum` where a page isn't
-    /// full, `OutOfMemory`. Then the buffer holds anything, and pages that were found full before
-    /// stay in the cache.
+    /// full, `OutOfMemory`. Then the buffer holds anything, and the pages that were delivered
+    /// before, and are full, were put in the cache, and no other.
     pub fn read_ranges_into(
         self,
         blob: &mut B,
@@ -328,7 +329,7 @@ impl<B: Blob, H: Sum> View<'_, B, H> {
         Ok(batch.served)
     }
 
-    /// The same of ranges of `len` bytes at these offsets.
+    /// The same of ranges of `len` bytes at these offsets. It takes memory for the ranges.
     pub fn read_many_into(
         self,
         blob: &mut B,

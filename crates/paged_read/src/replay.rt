@@ -192,8 +192,8 @@ impl<B: Blob, H: Sum> Replay<B, H> {
     /// the device isn't asked.
     ///
     /// `ReadFailed` where a read failed that was needed, `InvalidChecksum` where a page isn't full,
-    /// which it always is in a sound blob, `OutOfMemory`. The replay stands where it stood, with no
-    /// less at hand, and may be asked again.
+    /// which it always is in a sound blob, `OutOfMemory`. The replay then stands where it stood,
+    /// with no less at hand. All of that was found full, too, and the call may be made again.
     pub fn ensure(&mut self, blob: &mut B, count: usize) -> Result<bool, Error>
         requires can { CanReplay self.old (B.life blob.old).present }
         ensures goes { let old = B.life blob.old in let new = B.life blob.new in

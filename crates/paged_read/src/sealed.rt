@@ -248,7 +248,8 @@ impl<B: Blob, H: Sum> Sealed<B, H> {
     /// Reads these ranges, each an offset and a length, to their places in `buf`, one after the
     /// other, and answers how many of them needed no device: empty ones count. The ranges are in
     /// order, don't overlap, and fill `buf`. The pages that the cache lacks are read in one call of
-    /// the device, each once, and put in the cache as they are delivered.
+    /// the device, each once, and put in the cache as they are delivered. Where it lacks none the
+    /// call takes no memory.
     ///
     /// The first range that can't be read decides, before memory or the device is asked for:
     /// `OffsetOverflow` where it passes the greatest `u64`, else `BlobInsufficientLength` where it
@@ -274,7 +275,7 @@ impl<B: Blob, H: Sum> Sealed<B, H> {
         self.view().read_ranges_into(blob, cache, buf, ranges)
     }
 
-    /// The same of ranges of `len` bytes at these offsets.
+    /// The same of ranges of `len` bytes at these offsets. It takes memory for the ranges.
     pub fn read_many_into(
         &self,
         blob: &mut B,

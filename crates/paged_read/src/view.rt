@@ -20,8 +20,9 @@ use std::num::NonZeroU16;
 /// full pages, and the bytes after them, in memory.
 ///
 /// The blob and the cache are lent to each call: always those of the blob's writer. A read leaves
-/// the blob as it is, and puts each page that it reads in the cache, also where it fails after it.
-/// A page that isn't full answers `InvalidChecksum`, which no page of a sound blob does.
+/// the blob as it is, and puts each page that it reads in the cache, in rising order, also where it
+/// fails after it. A page that isn't full is not put: it answers `InvalidChecksum`, which no page
+/// of a sound blob does.
 #[derive(Drop)]
 pub struct View<'a, B, H> {
     pub(crate) alloc: Global,
