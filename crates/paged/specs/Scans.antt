@@ -1,9 +1,14 @@
 -- What a scan of a writer's blob looks at.
-use Rattle.std.specs.Prelude.{◌≡◌, ◌+◌, ◌*◌, ◌<◌, ◌^◌, ℕ, Result, Ok}
+use Rattle.std.specs.Prelude.{◌≡◌, ◌⊎◌, ◌+◌, ◌*◌, ◌<◌, ◌^◌, ℕ, List, length, min, Result, Ok, IfOk}
 use Rattle.disk.specs.Disk.{Life}
 use Rattle.disk.specs.declared.error.Error.{Error}
+use Rattle.page.specs.Page.{text as text_of}
 use Rattle.writer_state.specs.WriterState.{WriterState}
-use Rattle.paged.specs.Recovery.{slot_pages}
+use Rattle.writer_state.specs.Sound.{IsSound}
+use Rattle.paged_read.specs.Scans.{IsProven, IsWithinBlob, ReadsForward, scan_end, scan_start}
+use Rattle.paged_read.specs.Scans.{scan_to, Scans, text_of_first}
+use Rattle.paged_read.specs.Searches.{scan_bytes}
+use Rattle.paged.specs.Recovery.{IsAsOpened, slot_pages}
 
 -- the pages that a writer has flushed: the full ones, and the one in which its tip begins, where
 -- that was
@@ -14,3 +19,52 @@ flushed_pages w = w.full_pages + slot_pages w.flushed
 abbrev pub IdlesAt : (P end : ℕ) → Life → Life → Result ℕ Error → Type 0
 IdlesAt P end old new result =
     (end * (P + 12) < 2 ^ 64 → result ≡ Ok (end * P)) × (new ≡ old)
+
+-- what a scan of all flushed pages answers, where so many bytes count as told
+pub record ScanGoes (sum : List ℕ → ℕ) (w : WriterState) (proven : ℕ) (old new : Life)
+    (result : Result ℕ Error) : Type 0 where
+  pub answers : let P = w.page_size in let end = flushed_pages w in
+      let len = scan_to sum P w.full_pages end proven old.present.readable in
+      Scans (end * (P + 12)) len old new result
+  -- where the proven bytes are told, so are all that it counts
+  pub told : IsProven sum w.page_size w.full_pages proven old.present.readable
+      → let all = text_of_first sum w.page_size (flushed_pages w) old.present.readable in
+      IfOk result (λ len. len ≡ length all)
+  -- of a sound writer it is the length of the blob's text, whatever is proven
+  pub text : IsSound sum w old.present
+      → let all = text_of sum w.page_size old.present.readable in
+      IfOk result (λ len. len ≡ length all)
+  -- of such a writer, or one that was opened over any blob, it is refused for no offset
+  pub never : IsSound sum w old.present ⊎ IsAsOpened sum w old.present → IsWithinBlob result
+
+-- what it asks of the device
+pub record ScanCosts (w : WriterState) (proven buffer_size : ℕ) (old new : Life)
+    (result : Result ℕ Error) : Type 0 where
+  pub reads : let P = w.page_size in let end = flushed_pages w in
+      let start = scan_start P w.full_pages end proven in
+      ReadsForward (scan_bytes P buffer_size) (start * (P + 12)) (end * (P + 12)) old new
+  pub idle : let end = flushed_pages w in
+      scan_start w.page_size w.full_pages end proven ≡ end
+      → IdlesAt w.page_size end old new result
+
+-- one of the pages that meet the first bytes, so many
+pub record ScanFirstGoes (sum : List ℕ → ℕ) (w : WriterState) (proven max_size : ℕ)
+    (old new : Life) (result : Result ℕ Error) : Type 0 where
+  pub answers : let P = w.page_size in let end = scan_end P (flushed_pages w) max_size in
+      let len = scan_to sum P w.full_pages end proven old.present.readable in
+      Scans (end * (P + 12)) (min max_size len) old new result
+  pub told : IsProven sum w.page_size w.full_pages proven old.present.readable
+      → let all = text_of_first sum w.page_size (flushed_pages w) old.present.readable in
+      IfOk result (λ len. len ≡ min max_size (length all))
+  pub text : IsSound sum w old.present
+      → let all = text_of sum w.page_size old.present.readable in
+      IfOk result (λ len. len ≡ min max_size (length all))
+  pub never : IsSound sum w old.present ⊎ IsAsOpened sum w old.present → IsWithinBlob result
+  pub none : max_size ≡ 0 → (result ≡ Ok 0) × (new ≡ old)
+
+-- what it asks of the device: of no bytes nothing, as its answer has it
+pub record ScanFirstCosts (w : WriterState) (proven max_size buffer_size : ℕ) (old new : Life)
+    : Type 0 where
+  pub reads : let P = w.page_size in let end = scan_end P (flushed_pages w) max_size in
+      let start = scan_start P w.full_pages end proven in
+      ReadsForward (scan_bytes P buffer_size) (start * (P + 12)) (end * (P + 12)) old new

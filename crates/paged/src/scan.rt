@@ -1,18 +1,15 @@
 // Scanning what was flushed.
 ghost use Rattle.std.specs.Prelude.{◌≡◌, ◌⊎◌, ◌≤◌, ◌*◌, ◌+◌, length, min, Ok, IfOk};
 ghost use Rattle.std.specs.Int.NonZero.{non_zero_usize_get};
-ghost use Rattle.cache.specs.CacheState.{CacheState};
 ghost use Rattle.page.specs.Page.{text};
-ghost use Rattle.crash.specs.Looks.{Looked};
-ghost use Rattle.writer_state.specs.Sound.{content, IsSound};
-ghost use Rattle.crash.specs.Stays.{KeepsAllFloors, LeavesOnly};
-ghost use Rattle.paged_read.specs.Replay.{LeavesAllReplays};
+ghost use Rattle.writer_state.specs.Sound.{IsSound};
+ghost use Rattle.paged_read.specs.Reads.{LookLeaves};
 ghost use Rattle.paged_read.specs.Scans.{IsProven, IsWithinBlob, ReadsForward, scan_end};
 ghost use Rattle.paged_read.specs.Scans.{scan_start, scan_to, Scans, text_of_first};
 ghost use Rattle.paged_read.specs.Searches.{scan_bytes};
-ghost use Rattle.paged_read.specs.Snapshots.{LeavesAllReads, LeavesAllTails, LeavesWriters};
 ghost use Rattle.paged.specs.Recovery.{IsAsOpened};
-ghost use Rattle.paged.specs.Scans.{flushed_pages, IdlesAt};
+ghost use Rattle.paged.specs.Scans.{flushed_pages, IdlesAt, ScanCosts, ScanFirstCosts};
+ghost use Rattle.paged.specs.Scans.{ScanFirstGoes, ScanGoes};
 
 use crate::Writer;
 use crate::recovery::size_of;
@@ -54,55 +51,11 @@ impl<B: Blob, H: Sum, Phase> Writer<B, H, Phase> {
         buffer_size: NonZeroUsize,
         options: ReadOptions,
     ) -> Result<u64, Error>
-        ensures scans { let old = B.life blob.old in let new = B.life blob.new in
-            let w = self.now in let P = w.page_size in let end = flushed_pages w in
-            Scans (end * (P + 12)) (scan_to H.sum_of P w.full_pages end proven old.present.readable)
-            old new result }
-        ensures reads { let old = B.life blob.old in let new = B.life blob.new in
-            let w = self.now in let P = w.page_size in let end = flushed_pages w in
-            let start = scan_start P w.full_pages end proven in
-            let most = scan_bytes P (non_zero_usize_get buffer_size) in
-            ReadsForward most (start * (P + 12)) (end * (P + 12)) old new }
-        ensures idle { let w = self.now in let P = w.page_size in let end = flushed_pages w in
-            scan_start P w.full_pages end proven ≡ end
-            → IdlesAt P end (B.life blob.old) (B.life blob.new) result }
-        ensures looked { Looked (B.life blob.old) (B.life blob.new) }
-
-        // Where the proven bytes are told, so are all that it counts.
-        ensures told { let old = B.life blob.old in
-            let w = self.now in let P = w.page_size in
-            let told = text_of_first H.sum_of P (flushed_pages w) old.present.readable in
-            IsProven H.sum_of P w.full_pages proven old.present.readable
-            → IfOk result (λ len. len ≡ length told) }
-
-        // Of a sound writer: it answers the length of the blob's text, whatever is proven. It is
-        // refused for no offset, nor is one that was opened over any blob.
-        ensures text { let old = B.life blob.old in
-            IsSound H.sum_of self.now old.present
-            → IfOk result (λ len. len
-            ≡ length (text H.sum_of self.now.page_size old.present.readable)) }
-        ensures never { let old = B.life blob.old in
-            IsSound H.sum_of self.now old.present ⊎ IsAsOpened H.sum_of self.now old.present
-            → IsWithinBlob result }
-
-        // It stays sound, and a crash at any moment of the scan keeps and leaves what it did.
-        ensures sound { let old = B.life blob.old in let new = B.life blob.new in
-            IsSound H.sum_of self.now old.present → IsSound H.sum_of self.now new.present }
-        ensures kept { let old = B.life blob.old in let new = B.life blob.new in
-            IsSound H.sum_of self.now old.present
-            → KeepsAllFloors H.sum_of self.now.page_size old new }
-        ensures only { let old = B.life blob.old in let new = B.life blob.new in
-            let held = content self.now old.present.readable in
-            IsSound H.sum_of self.now old.present
-            → LeavesOnly H.sum_of self.now.page_size held held old new }
-
-        // What snapshots and replays stand on, and reads of the blob through any cache.
-        ensures writers { LeavesWriters H.sum_of (B.life blob.old) (B.life blob.new) }
-        ensures tails { let old = B.life blob.old in let new = B.life blob.new in
-            (cache : CacheState) → LeavesAllTails H.sum_of cache cache old new }
-        ensures can_read { let old = B.life blob.old in let new = B.life blob.new in
-            (cache : CacheState) → LeavesAllReads cache cache old new }
-        ensures replays { LeavesAllReplays (B.life blob.old) (B.life blob.new) }
+        ensures goes { let old = B.life blob.old in let new = B.life blob.new in
+            ScanGoes H.sum_of self.now proven old new result }
+        ensures leaves { LookLeaves H.sum_of (B.life blob.old) (B.life blob.new) }
+        ensures costs { let old = B.life blob.old in let new = B.life blob.new in
+            ScanCosts self.now proven (non_zero_usize_get buffer_size) old new result }
 
         // Of a recovery that was opened over any blob: it can still be cut.
         ensures opened { let old = B.life blob.old in let new = B.life blob.new in
@@ -122,6 +75,27 @@ impl<B: Blob, H: Sum, Phase> Writer<B, H, Phase> {
         buffer_size: NonZeroUsize,
         options: ReadOptions,
     ) -> Result<u64, Error>
+        ensures goes { let old = B.life blob.old in let new = B.life blob.new in
+            ScanFirstGoes H.sum_of self.now proven max_size old new result }
+        ensures leaves { LookLeaves H.sum_of (B.life blob.old) (B.life blob.new) }
+        ensures costs { let old = B.life blob.old in let new = B.life blob.new in
+            let most = non_zero_usize_get buffer_size in
+            ScanFirstCosts self.now proven max_size most old new }
+        ensures opened { let old = B.life blob.old in let new = B.life blob.new in
+            IsAsOpened H.sum_of self.now old.present → IsAsOpened H.sum_of self.now new.present }
+    {
+        self.scan_first(blob, proven, max_size, buffer_size, options)
+    }
+
+    /// Scans the pages that meet the first `max_size` bytes.
+    fn scan_first(
+        &self,
+        blob: &mut B,
+        proven: u64,
+        max_size: u64,
+        buffer_size: NonZeroUsize,
+        options: ReadOptions,
+    ) -> Result<u64, Error>
         ensures scans { let old = B.life blob.old in let new = B.life blob.new in
             let w = self.now in let P = w.page_size in
             let end = scan_end P (flushed_pages w) max_size in
@@ -134,8 +108,6 @@ impl<B: Blob, H: Sum, Phase> Writer<B, H, Phase> {
             let most = scan_bytes P (non_zero_usize_get buffer_size) in
             ReadsForward most (start * (P + 12)) (end * (P + 12)) old new }
         ensures none { max_size ≡ 0 → (result ≡ Ok 0) × (B.life blob.new ≡ B.life blob.old) }
-        ensures looked { Looked (B.life blob.old) (B.life blob.new) }
-
         // Where the proven bytes are told, so are all that it counts.
         ensures told { let old = B.life blob.old in
             let w = self.now in let P = w.page_size in
@@ -152,29 +124,6 @@ impl<B: Blob, H: Sum, Phase> Writer<B, H, Phase> {
         ensures never { let old = B.life blob.old in
             IsSound H.sum_of self.now old.present ⊎ IsAsOpened H.sum_of self.now old.present
             → IsWithinBlob result }
-
-        // It stays sound, and a crash at any moment of the scan keeps and leaves what it did.
-        ensures sound { let old = B.life blob.old in let new = B.life blob.new in
-            IsSound H.sum_of self.now old.present → IsSound H.sum_of self.now new.present }
-        ensures kept { let old = B.life blob.old in let new = B.life blob.new in
-            IsSound H.sum_of self.now old.present
-            → KeepsAllFloors H.sum_of self.now.page_size old new }
-        ensures only { let old = B.life blob.old in let new = B.life blob.new in
-            let held = content self.now old.present.readable in
-            IsSound H.sum_of self.now old.present
-            → LeavesOnly H.sum_of self.now.page_size held held old new }
-
-        // What snapshots and replays stand on, and reads of the blob through any cache.
-        ensures writers { LeavesWriters H.sum_of (B.life blob.old) (B.life blob.new) }
-        ensures tails { let old = B.life blob.old in let new = B.life blob.new in
-            (cache : CacheState) → LeavesAllTails H.sum_of cache cache old new }
-        ensures can_read { let old = B.life blob.old in let new = B.life blob.new in
-            (cache : CacheState) → LeavesAllReads cache cache old new }
-        ensures replays { LeavesAllReplays (B.life blob.old) (B.life blob.new) }
-
-        // Of a recovery that was opened over any blob: it can still be cut.
-        ensures opened { let old = B.life blob.old in let new = B.life blob.new in
-            IsAsOpened H.sum_of self.now old.present → IsAsOpened H.sum_of self.now new.present }
     {
         let met = max_size.div_ceil(u64::from(self.page_size.get()));
         let end = self.flushed_pages().min(met);

@@ -131,7 +131,6 @@ returns-clause-costs g c = record {
   forward = search rules;
   within = within g (goal.at.returns-clause-costs g c).After-scan_from;
   idle = λ less.
-
       let sum = g.H.Sum.sum_of in
       let P = non_zero_u16_get c.args.page_size in
       let r = c.physical_page_size-physical_page_size.result in

@@ -1,14 +1,14 @@
-use Rattle.std.proofs.Common.{◌*◌, ◌+◌, ℕ, length, subst}
+use Rattle.std.proofs.Common.{◌≡◌, ◌*◌, ◌+◌, ℕ, length, subst}
+use Rattle.std.specs.Int.NonZero.{non_zero_usize_get}
 use Rattle.page.specs.Page.{text}
 use Rattle.crash.specs.Looks.{Looked}
-use Rattle.paged_read.specs.Scans.{scan_to, Scans, text_of_first}
-use Rattle.paged_read.proofs.Outliving.{look_leaves_reads, look_leaves_tails, look_leaves_writers}
-use Rattle.paged_read.proofs.OutlivingReplays.{look_leaves_replays}
+use Rattle.paged_read.specs.Scans.{ReadsForward, scan_start, scan_to, Scans, text_of_first}
+use Rattle.paged_read.specs.Searches.{scan_bytes}
+use Rattle.paged_read.proofs.ReadLaws.{look_leaves}
 use Rattle.paged_read.proofs.Scanning.{scan_counts_text}
-use Rattle.paged.specs.Scans.{flushed_pages}
+use Rattle.paged.specs.Scans.{flushed_pages, IdlesAt}
 use Rattle.paged.proofs.Recovered.{looked_as_opened}
 use Rattle.paged.proofs.Scanned.{scan_answers, scan_looks, sound_scan}
-use Rattle.paged.proofs.There.{reads_keep, reads_keep_sound, reads_leave}
 use Rattle.paged.proofs.writer.Writer.recoverable_prefix_len.Given.{Over}
 use Rattle.paged.proofs.writer.Writer.recoverable_prefix_len.Goals as goal
 use Rattle.paged.proofs.writer.Writer.recoverable_prefix_len.Goals.{After-scan_to}
@@ -29,81 +29,37 @@ looks g c =
     let old = g.B.Blob.life c.args.blob.now in
     scan_looks (flushed_pages w * (w.page_size + 12)) (scan_to g.H.Sum.sum_of w.page_size w.full_pages (flushed_pages w) c.args.proven old.present.readable) old (g.B.Blob.life c.scan_to.new.blob) c.scan_to.result (scans g c)
 
-pub returns-clause-looked : goal.returns-clause-looked
-returns-clause-looked g c =
-    let k = (goal.at.returns-clause-looked g c).After-scan_to in
-    looks g k
-
-pub returns-clause-sound : goal.returns-clause-sound
-returns-clause-sound g c =
+pub returns-clause-goes : goal.returns-clause-goes
+returns-clause-goes g c =
+    let sum = g.H.Sum.sum_of in
+    let w = c.args.self.now in
     let old = g.B.Blob.life c.args.blob.now in
     let new = g.B.Blob.life c.scan_to.new.blob in
-    let k = (goal.at.returns-clause-sound g c).After-scan_to in
-    reads_keep_sound g.H.Sum.sum_of c.args.self.now old new (looks g k)
+    let pages = flushed_pages w in
+    let reach = pages * (w.page_size + 12) in
+    let count = scan_to sum w.page_size w.full_pages pages c.args.proven old.present.readable in
+    let is = scans g (goal.at.returns-clause-goes g c).After-scan_to in
+    record {
+      answers = is;
+      told = λ proven. scan_answers reach count (length (text_of_first sum w.page_size pages old.present.readable)) old new c.scan_to.result is (scan_counts_text sum w.page_size w.full_pages pages c.args.proven old.present.readable proven);
+      text = λ sound. scan_answers reach count (length (text sum w.page_size old.present.readable)) old new c.scan_to.result is (sound_scan sum w old.present c.args.proven sound);
+      never = c.scan_to.ensures.never;
+    }
 
-pub returns-clause-kept : goal.returns-clause-kept
-returns-clause-kept g c =
+pub returns-clause-leaves : goal.returns-clause-leaves
+returns-clause-leaves g c = look_leaves g.H.Sum.sum_of (g.B.Blob.life c.args.blob.now) (g.B.Blob.life c.scan_to.new.blob) (looks g (goal.at.returns-clause-leaves g c).After-scan_to)
+
+pub returns-clause-costs : goal.returns-clause-costs
+returns-clause-costs g c =
+    let w = c.args.self.now in
     let old = g.B.Blob.life c.args.blob.now in
     let new = g.B.Blob.life c.scan_to.new.blob in
-    let k = (goal.at.returns-clause-kept g c).After-scan_to in
-    reads_keep g.H.Sum.sum_of c.args.self.now old new (looks g k)
-
-pub returns-clause-only : goal.returns-clause-only
-returns-clause-only g c =
-    let old = g.B.Blob.life c.args.blob.now in
-    let new = g.B.Blob.life c.scan_to.new.blob in
-    let k = (goal.at.returns-clause-only g c).After-scan_to in
-    reads_leave g.H.Sum.sum_of c.args.self.now old new (looks g k)
-
-pub returns-clause-writers : goal.returns-clause-writers
-returns-clause-writers g c =
-    let old = g.B.Blob.life c.args.blob.now in
-    let new = g.B.Blob.life c.scan_to.new.blob in
-    let k = (goal.at.returns-clause-writers g c).After-scan_to in
-    look_leaves_writers g.H.Sum.sum_of old new (looks g k)
-
-pub returns-clause-tails : goal.returns-clause-tails
-returns-clause-tails g c =
-    let old = g.B.Blob.life c.args.blob.now in
-    let new = g.B.Blob.life c.scan_to.new.blob in
-    let k = (goal.at.returns-clause-tails g c).After-scan_to in
-    λ cache. look_leaves_tails g.H.Sum.sum_of cache old new (looks g k)
-
-pub returns-clause-can_read : goal.returns-clause-can_read
-returns-clause-can_read g c =
-    let old = g.B.Blob.life c.args.blob.now in
-    let new = g.B.Blob.life c.scan_to.new.blob in
-    let k = (goal.at.returns-clause-can_read g c).After-scan_to in
-    λ cache. look_leaves_reads cache old new (looks g k)
-
-pub returns-clause-replays : goal.returns-clause-replays
-returns-clause-replays g c =
-    let old = g.B.Blob.life c.args.blob.now in
-    let new = g.B.Blob.life c.scan_to.new.blob in
-    let k = (goal.at.returns-clause-replays g c).After-scan_to in
-    look_leaves_replays old new (looks g k)
+    let P = w.page_size in
+    let most : ℕ = scan_bytes P (non_zero_usize_get c.args.buffer_size) in
+    record {
+      reads = subst (λ (n : ℕ). ReadsForward most (scan_start P w.full_pages n c.args.proven * (P + 12)) (n * (P + 12)) old new) c.flushed_pages.ensures c.scan_to.ensures.reads;
+      idle = subst (λ (n : ℕ). scan_start P w.full_pages n c.args.proven ≡ n → IdlesAt P n old new c.scan_to.result) c.flushed_pages.ensures c.scan_to.ensures.idle;
+    }
 
 pub returns-clause-opened : goal.returns-clause-opened
-returns-clause-opened g c =
-    let old = g.B.Blob.life c.args.blob.now in
-    let new = g.B.Blob.life c.scan_to.new.blob in
-    let k = (goal.at.returns-clause-opened g c).After-scan_to in
-    looked_as_opened g.H.Sum.sum_of c.args.self.now old new (looks g k)
-
-pub returns-clause-told : goal.returns-clause-told
-returns-clause-told g c = λ proven.
-    let w = c.args.self.now in
-    let old = g.B.Blob.life c.args.blob.now in
-    let k = (goal.at.returns-clause-told g c).After-scan_to in
-    scan_answers (flushed_pages w * (w.page_size + 12)) (scan_to g.H.Sum.sum_of w.page_size w.full_pages (flushed_pages w) c.args.proven old.present.readable)
-    (length (text_of_first g.H.Sum.sum_of w.page_size (flushed_pages w) old.present.readable)) old (g.B.Blob.life c.scan_to.new.blob) c.scan_to.result (scans g k)
-    (scan_counts_text g.H.Sum.sum_of w.page_size w.full_pages (flushed_pages w) c.args.proven old.present.readable proven)
-
-pub returns-clause-text : goal.returns-clause-text
-returns-clause-text g c = λ sound.
-    let w = c.args.self.now in
-    let old = g.B.Blob.life c.args.blob.now in
-    let k = (goal.at.returns-clause-text g c).After-scan_to in
-    scan_answers (flushed_pages w * (w.page_size + 12)) (scan_to g.H.Sum.sum_of w.page_size w.full_pages (flushed_pages w) c.args.proven old.present.readable)
-    (length (text g.H.Sum.sum_of w.page_size old.present.readable)) old (g.B.Blob.life c.scan_to.new.blob) c.scan_to.result (scans g k)
-    (sound_scan g.H.Sum.sum_of w old.present c.args.proven sound)
+returns-clause-opened g c = looked_as_opened g.H.Sum.sum_of c.args.self.now (g.B.Blob.life c.args.blob.now) (g.B.Blob.life c.scan_to.new.blob) (looks g (goal.at.returns-clause-opened g c).After-scan_to)

@@ -1,0 +1,34 @@
+use Rattle.std.proofs.Common.{◌≡◌, ◌*◌, ◌+◌, ◌∙◌, ◌<◌, ℕ, min, ap, subst, arith}
+use Rattle.std.specs.Int.{div_ceil}
+use Rattle.writer_state.specs.WriterState.{WriterState}
+use Rattle.paged_read.specs.Scans.{scan_end, scan_to}
+use Rattle.paged_read.proofs.Scanning.{bounded_scan}
+use Rattle.paged.specs.Scans.{flushed_pages}
+use Rattle.paged.proofs.Scanned.{sound_scan_most}
+use Rattle.paged.proofs.writer.Writer.scan_first.Given.{Over}
+use Rattle.paged.proofs.writer.Writer.scan_first.Goals as goal
+use Rattle.paged.proofs.writer.Writer.scan_first.Goals.{After-scan_to}
+
+-- where it ends
+ends : (g : Over) (c : After-scan_to g) → c.min-end.result ≡ scan_end c.args.self.now.page_size (flushed_pages c.args.self.now) c.args.max_size
+ends g c =
+    let met : c.div_ceil-met.result ≡ div_ceil c.args.max_size c.args.self.now.page_size = c.div_ceil-met.ensures ∙ ap (λ (n : ℕ). div_ceil c.args.max_size n) (c.from.ensures ∙ c.get.ensures.value ∙ ap (λ (x : WriterState). x.page_size) c.self.view_is) in
+    omega (arith, c.min-end.ensures, c.flushed_pages.ensures, met)
+
+pub returns-clause-told : goal.returns-clause-told
+returns-clause-told g c = λ proven.
+    let w = c.args.self.now in
+    let readable = (g.B.Blob.life c.args.blob.now).present.readable in
+    let some = subst (λ (x : WriterState). 0 < x.page_size) c.self.view_is c.self.inside.page_size.ok in
+    c.min.ensures ∙ ap (λ (n : ℕ). min c.args.max_size n) (c.in_ok-len.ensures.scans.0
+    ∙ ap (λ (n : ℕ). scan_to g.H.Sum.sum_of w.page_size w.full_pages n c.args.proven readable) (ends g (goal.at.returns-clause-told g c).After-scan_to))
+    ∙ bounded_scan g.H.Sum.sum_of w.page_size w.full_pages (flushed_pages w) c.args.proven c.args.max_size readable some proven
+
+pub returns-clause-text : goal.returns-clause-text
+returns-clause-text g c = λ sound.
+    let w = c.args.self.now in
+    let old = g.B.Blob.life c.args.blob.now in
+    let some = subst (λ (x : WriterState). 0 < x.page_size) c.self.view_is c.self.inside.page_size.ok in
+    c.min.ensures ∙ ap (λ (n : ℕ). min c.args.max_size n) (c.in_ok-len.ensures.scans.0
+    ∙ ap (λ (n : ℕ). scan_to g.H.Sum.sum_of w.page_size w.full_pages n c.args.proven old.present.readable) (ends g (goal.at.returns-clause-text g c).After-scan_to))
+    ∙ sound_scan_most g.H.Sum.sum_of w old.present c.args.proven c.args.max_size some sound
