@@ -18,4 +18,4 @@ invariant_of-self-2 g c =
     let snapshot = c.self.inside.snapshot in
     let replay = c.self.inside.replay in
     let set : AreSet sum (Some s) snapshot replay cache old = subst (λ (o : Option ItemsState). AreSet sum o snapshot replay cache old) (sym c.take.ensures.value ∙ c.in-Some.is) c.self.invariant in
-    goes_on sum s now snapshot replay (items_of s old) cache c.start_sync.new.cache old new set c.start_sync.ensures.leaves c.in_ok-items.ensures.ready
+    goes_on sum s now snapshot replay (items_of s old) cache c.start_sync.new.cache old new set c.start_sync.ensures.leaves c.in_ok-items.ensures.ready.0
