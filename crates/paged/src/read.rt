@@ -10,8 +10,7 @@ ghost use Rattle.paged_read.specs.Reads.{ReadManyCosts, ReadManyGoes, ReadRanges
 ghost use Rattle.paged_read.specs.Reads.{ReadUpToGoes, TriesMany};
 ghost use Rattle.paged_read.specs.Tail.{CanRead, IsView, tail_at};
 ghost use Rattle.paged.specs.Caches.{tail_of};
-ghost use Rattle.paged.specs.Ready.{IsReady};
-ghost use Rattle.paged.specs.Recovery.{IsAsOpened};
+ghost use Rattle.paged.specs.Ready.{StaysReady};
 
 use crate::Writer;
 use cache::CacheRef;
@@ -53,8 +52,8 @@ impl<B, H, Phase> Writer<B, H, Phase> {
         ranges: &[(u64, usize)],
     ) -> Result<Vec<usize>, Error>
         requires page_size { cache.now.page_size ≡ self.now.page_size }
-        requires in_order { AreInOrder ranges.now }
-        requires filled { length buf.old ≡ sum_by (λ range. range.1) ranges.now }
+        requires asked { AreInOrder ranges.now
+            × (length buf.old ≡ sum_by (λ range. range.1) ranges.now) }
         ensures goes { let t = tail_of self.now in
             TriesMany t ranges.now cache.now buf.old buf.new result }
     {
@@ -70,8 +69,8 @@ impl<B, H, Phase> Writer<B, H, Phase> {
         len: NonZeroUsize,
     ) -> Result<Vec<usize>, Error>
         requires page_size { cache.now.page_size ≡ self.now.page_size }
-        requires in_order { AreInOrder (ranges_of (non_zero_usize_get len) offsets.now) }
-        requires filled { length buf.old ≡ length offsets.now * non_zero_usize_get len }
+        requires asked { AreInOrder (ranges_of (non_zero_usize_get len) offsets.now)
+            × (length buf.old ≡ length offsets.now * non_zero_usize_get len) }
         ensures goes { let t = tail_of self.now in
             let ranges = ranges_of (non_zero_usize_get len) offsets.now in
             TriesMany t ranges cache.now buf.old buf.new result }
@@ -107,10 +106,8 @@ impl<B: Blob, H: Sum, Phase> Writer<B, H, Phase> {
         ensures costs { let old = B.life blob.old in let new = B.life blob.new in
             let t = tail_of self.now in
             ReadCosts H.sum_of t (offset, length buf.old) cache.old cache.new old new result }
-        ensures ready { IsReady H.sum_of self.now cache.old (B.life blob.old)
-            → IsReady H.sum_of self.now cache.new (B.life blob.new) }
-        ensures opened { let old = B.life blob.old in let new = B.life blob.new in
-            IsAsOpened H.sum_of self.now old.present → IsAsOpened H.sum_of self.now new.present }
+        ensures ready { let old = B.life blob.old in let new = B.life blob.new in
+            StaysReady H.sum_of self.now cache.old cache.new old new }
     {
         self.view().read_into(blob, cache, buf, offset)
     }
@@ -133,10 +130,8 @@ impl<B: Blob, H: Sum, Phase> Writer<B, H, Phase> {
         ensures costs { let old = B.life blob.old in let new = B.life blob.new in
             let t = tail_of self.now in
             ReadCosts H.sum_of t (offset, len) cache.old cache.new old new result }
-        ensures ready { IsReady H.sum_of self.now cache.old (B.life blob.old)
-            → IsReady H.sum_of self.now cache.new (B.life blob.new) }
-        ensures opened { let old = B.life blob.old in let new = B.life blob.new in
-            IsAsOpened H.sum_of self.now old.present → IsAsOpened H.sum_of self.now new.present }
+        ensures ready { let old = B.life blob.old in let new = B.life blob.new in
+            StaysReady H.sum_of self.now cache.old cache.new old new }
     {
         self.view().read_at(blob, cache, offset, len)
     }
@@ -163,10 +158,8 @@ impl<B: Blob, H: Sum, Phase> Writer<B, H, Phase> {
         ensures costs { let old = B.life blob.old in let new = B.life blob.new in
             let t = tail_of self.now in
             ReadCosts H.sum_of t (range_up_to t offset len) cache.old cache.new old new result }
-        ensures ready { IsReady H.sum_of self.now cache.old (B.life blob.old)
-            → IsReady H.sum_of self.now cache.new (B.life blob.new) }
-        ensures opened { let old = B.life blob.old in let new = B.life blob.new in
-            IsAsOpened H.sum_of self.now old.present → IsAsOpened H.sum_of self.now new.present }
+        ensures ready { let old = B.life blob.old in let new = B.life blob.new in
+            StaysReady H.sum_of self.now cache.old cache.new old new }
     {
         self.view().read_up_to(blob, cache, offset, len, bytes)
     }
@@ -189,8 +182,8 @@ impl<B: Blob, H: Sum, Phase> Writer<B, H, Phase> {
         ranges: &[(u64, usize)],
     ) -> Result<usize, Error>
         requires can { CanRead (tail_of self.now) cache.old (B.life blob.old).present }
-        requires in_order { AreInOrder ranges.now }
-        requires filled { length buf.old ≡ sum_by (λ range. range.1) ranges.now }
+        requires asked { AreInOrder ranges.now
+            × (length buf.old ≡ sum_by (λ range. range.1) ranges.now) }
         ensures goes { let old = B.life blob.old in let new = B.life blob.new in
             let t = tail_of self.now in
             ReadRangesGoes H.sum_of t cache.old ranges.now buf.old buf.new old new result }
@@ -199,10 +192,8 @@ impl<B: Blob, H: Sum, Phase> Writer<B, H, Phase> {
         ensures costs { let old = B.life blob.old in let new = B.life blob.new in
             let t = tail_of self.now in
             ReadManyCosts H.sum_of t ranges.now cache.old cache.new old new result }
-        ensures ready { IsReady H.sum_of self.now cache.old (B.life blob.old)
-            → IsReady H.sum_of self.now cache.new (B.life blob.new) }
-        ensures opened { let old = B.life blob.old in let new = B.life blob.new in
-            IsAsOpened H.sum_of self.now old.present → IsAsOpened H.sum_of self.now new.present }
+        ensures ready { let old = B.life blob.old in let new = B.life blob.new in
+            StaysReady H.sum_of self.now cache.old cache.new old new }
     {
         self.view().read_ranges_into(blob, cache, buf, ranges)
     }
@@ -217,8 +208,8 @@ impl<B: Blob, H: Sum, Phase> Writer<B, H, Phase> {
         len: NonZeroUsize,
     ) -> Result<usize, Error>
         requires can { CanRead (tail_of self.now) cache.old (B.life blob.old).present }
-        requires in_order { AreInOrder (ranges_of (non_zero_usize_get len) offsets.now) }
-        requires filled { length buf.old ≡ length offsets.now * non_zero_usize_get len }
+        requires asked { AreInOrder (ranges_of (non_zero_usize_get len) offsets.now)
+            × (length buf.old ≡ length offsets.now * non_zero_usize_get len) }
         ensures goes { let old = B.life blob.old in let new = B.life blob.new in
             let t = tail_of self.now in
             let ranges = ranges_of (non_zero_usize_get len) offsets.now in
@@ -229,10 +220,8 @@ impl<B: Blob, H: Sum, Phase> Writer<B, H, Phase> {
             let t = tail_of self.now in
             let ranges = ranges_of (non_zero_usize_get len) offsets.now in
             ReadManyCosts H.sum_of t ranges cache.old cache.new old new result }
-        ensures ready { IsReady H.sum_of self.now cache.old (B.life blob.old)
-            → IsReady H.sum_of self.now cache.new (B.life blob.new) }
-        ensures opened { let old = B.life blob.old in let new = B.life blob.new in
-            IsAsOpened H.sum_of self.now old.present → IsAsOpened H.sum_of self.now new.present }
+        ensures ready { let old = B.life blob.old in let new = B.life blob.new in
+            StaysReady H.sum_of self.now cache.old cache.new old new }
     {
         self.view().read_many_into(blob, cache, buf, offsets, len)
     }

@@ -288,7 +288,6 @@ part_unserved cache t o n at part wide after ends none =
     no_right true = refl
     no_right false = refl
 
-
 -- no ranges lack none
 pub missing_nil : (cache : CacheState) (t : Tail) → missing cache t [] ≡ []
 missing_nil cache t = filter_none (is_lacked cache t []) 0 t.full_pages (λ p lo hi. and_right (not (is_some (held cache (t.id, p)))) false refl)

@@ -256,8 +256,8 @@ impl<B, H> View<'_, B, H> {
     ) -> Result<Vec<usize>, Error>
         requires view { IsView (non_zero_u16_get self.page_size) self.tip.now }
         requires page_size { cache.now.page_size ≡ non_zero_u16_get self.page_size }
-        requires in_order { AreInOrder ranges.now }
-        requires filled { length buf.old ≡ sum_by (λ range. range.1) ranges.now }
+        requires asked { AreInOrder ranges.now
+            × (length buf.old ≡ sum_by (λ range. range.1) ranges.now) }
         ensures goes { let t = tail_at self.entry.page_size self.entry.id self.entry.tip.now in
             TriesMany t ranges.now cache.now buf.old buf.new result }
     {
@@ -277,8 +277,8 @@ impl<B, H> View<'_, B, H> {
     ) -> Result<Vec<usize>, Error>
         requires view { IsView (non_zero_u16_get self.page_size) self.tip.now }
         requires page_size { cache.now.page_size ≡ non_zero_u16_get self.page_size }
-        requires in_order { AreInOrder (ranges_of (non_zero_usize_get len) offsets.now) }
-        requires filled { length buf.old ≡ length offsets.now * non_zero_usize_get len }
+        requires asked { AreInOrder (ranges_of (non_zero_usize_get len) offsets.now)
+            × (length buf.old ≡ length offsets.now * non_zero_usize_get len) }
         ensures goes { let t = tail_at self.entry.page_size self.entry.id self.entry.tip.now in
             let ranges = ranges_of (non_zero_usize_get len) offsets.now in
             TriesMany t ranges cache.now buf.old buf.new result }
@@ -312,8 +312,8 @@ impl<B: Blob, H: Sum> View<'_, B, H> {
         requires view { IsView (non_zero_u16_get self.page_size) self.tip.now }
         requires can { let t = tail_at self.page_size self.id self.tip.now in
             CanRead t cache.old (B.life blob.old).present }
-        requires in_order { AreInOrder ranges.now }
-        requires filled { length buf.old ≡ sum_by (λ range. range.1) ranges.now }
+        requires asked { AreInOrder ranges.now
+            × (length buf.old ≡ sum_by (λ range. range.1) ranges.now) }
         ensures goes { let t = tail_at self.entry.page_size self.entry.id self.entry.tip.now in
             let old = B.life blob.old in let new = B.life blob.new in
             ReadRangesGoes H.sum_of t cache.old ranges.now buf.old buf.new old new result }
@@ -341,8 +341,8 @@ impl<B: Blob, H: Sum> View<'_, B, H> {
         requires view { IsView (non_zero_u16_get self.page_size) self.tip.now }
         requires can { let t = tail_at self.page_size self.id self.tip.now in
             CanRead t cache.old (B.life blob.old).present }
-        requires in_order { AreInOrder (ranges_of (non_zero_usize_get len) offsets.now) }
-        requires filled { length buf.old ≡ length offsets.now * non_zero_usize_get len }
+        requires asked { AreInOrder (ranges_of (non_zero_usize_get len) offsets.now)
+            × (length buf.old ≡ length offsets.now * non_zero_usize_get len) }
         ensures goes { let t = tail_at self.entry.page_size self.entry.id self.entry.tip.now in
             let ranges = ranges_of (non_zero_usize_get len) offsets.now in
             let old = B.life blob.old in let new = B.life blob.new in

@@ -145,8 +145,8 @@ impl<B, H> Sealed<B, H> {
         ranges: &[(u64, usize)],
     ) -> Result<Vec<usize>, Error>
         requires page_size { cache.now.page_size ≡ self.now.page_size }
-        requires in_order { AreInOrder ranges.now }
-        requires filled { length buf.old ≡ sum_by (λ range. range.1) ranges.now }
+        requires asked { AreInOrder ranges.now
+            × (length buf.old ≡ sum_by (λ range. range.1) ranges.now) }
         ensures goes { TriesMany self.now ranges.now cache.now buf.old buf.new result }
     {
         self.view().try_read_ranges_sync_into(cache, buf, ranges)
@@ -161,8 +161,8 @@ impl<B, H> Sealed<B, H> {
         len: NonZeroUsize,
     ) -> Result<Vec<usize>, Error>
         requires page_size { cache.now.page_size ≡ self.now.page_size }
-        requires in_order { AreInOrder (ranges_of (non_zero_usize_get len) offsets.now) }
-        requires filled { length buf.old ≡ length offsets.now * non_zero_usize_get len }
+        requires asked { AreInOrder (ranges_of (non_zero_usize_get len) offsets.now)
+            × (length buf.old ≡ length offsets.now * non_zero_usize_get len) }
         ensures goes { let ranges = ranges_of (non_zero_usize_get len) offsets.now in
             TriesMany self.now ranges cache.now buf.old buf.new result }
     {
@@ -263,8 +263,8 @@ impl<B: Blob, H: Sum> Sealed<B, H> {
         ranges: &[(u64, usize)],
     ) -> Result<usize, Error>
         requires can { CanRead self.now cache.old (B.life blob.old).present }
-        requires in_order { AreInOrder ranges.now }
-        requires filled { length buf.old ≡ sum_by (λ range. range.1) ranges.now }
+        requires asked { AreInOrder ranges.now
+            × (length buf.old ≡ sum_by (λ range. range.1) ranges.now) }
         ensures goes { let old = B.life blob.old in let new = B.life blob.new in
             ReadRangesGoes H.sum_of self.now cache.old ranges.now buf.old buf.new old new result }
         ensures leaves { let old = B.life blob.old in let new = B.life blob.new in
@@ -285,8 +285,8 @@ impl<B: Blob, H: Sum> Sealed<B, H> {
         len: NonZeroUsize,
     ) -> Result<usize, Error>
         requires can { CanRead self.now cache.old (B.life blob.old).present }
-        requires in_order { AreInOrder (ranges_of (non_zero_usize_get len) offsets.now) }
-        requires filled { length buf.old ≡ length offsets.now * non_zero_usize_get len }
+        requires asked { AreInOrder (ranges_of (non_zero_usize_get len) offsets.now)
+            × (length buf.old ≡ length offsets.now * non_zero_usize_get len) }
         ensures goes { let old = B.life blob.old in let new = B.life blob.new in
             let ranges = ranges_of (non_zero_usize_get len) offsets.now in
             ReadManyGoes H.sum_of self.now cache.old ranges buf.old buf.new old new result }

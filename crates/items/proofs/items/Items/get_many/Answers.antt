@@ -1,4 +1,4 @@
-use Rattle.std.proofs.Common.{arith, ◌≡◌, ◌∙◌, ◌*◌, ℕ, List, map, Ok, Err, refl, subst, sym}
+use Rattle.std.proofs.Common.{rules, arith, ◌≡◌, ◌∙◌, ◌*◌, ℕ, List, map, Ok, Err, refl, subst, sym}
 use Rattle.std.specs.Int.NonZero.{non_zero_usize_get}
 use Rattle.page.specs.Geometry.{AreInOrder}
 use Rattle.crash.specs.Looks.{looked_start}
@@ -23,11 +23,11 @@ read_many_into-requires-clause-can g c =
     subst (λ (v : ItemsState). CanRead (tail_of v.writer) c.args.cache.now (g.B.Blob.life c.args.blob.now).present) (sym c.self.view_is)
     (stand g.H.Sum.sum_of c.args.self.now c.args.cache.now (g.B.Blob.life c.args.blob.now) c.requires.items).ready.can
 
-pub read_many_into-requires-clause-in_order : goal.read_many_into-requires-clause-in_order
-read_many_into-requires-clause-in_order g c =
+pub read_many_into-requires-clause-asked : goal.read_many_into-requires-clause-asked
+read_many_into-requires-clause-asked g c =
     let size = non_zero_usize_get c.self.inside.size in
     let is : c.deref.result.now ≡ map (λ i. i * size) c.args.indices.now = c.deref.ensures.value ∙ c.in-Ok.ensures.0 in
-    subst (λ (l : List ℕ). AreInOrder (ranges_of size l)) (sym is) (are_in_order size c.args.indices.now c.requires.asked.0)
+    (subst (λ (l : List ℕ). AreInOrder (ranges_of size l)) (sym is) (are_in_order size c.args.indices.now c.requires.asked.0), search rules)
 
 pub returns-in-Ok-clause-goes : goal.returns-in-Ok-clause-goes
 returns-in-Ok-clause-goes g c =

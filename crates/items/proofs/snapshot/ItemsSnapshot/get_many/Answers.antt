@@ -1,4 +1,4 @@
-use Rattle.std.proofs.Common.{◌≡◌, ◌∙◌, ◌*◌, ℕ, List, map, Ok, Err, refl, subst, sym}
+use Rattle.std.proofs.Common.{rules, ◌≡◌, ◌∙◌, ◌*◌, ℕ, List, map, Ok, Err, refl, subst, sym}
 use Rattle.std.specs.Int.NonZero.{non_zero_usize_get}
 use Rattle.paged_read.specs.Tail.{CanRead, size_of}
 use Rattle.items.specs.State.{ItemsSnapshotState}
@@ -18,11 +18,11 @@ read_many_into-requires-clause-can g c =
     subst (λ (v : ItemsSnapshotState). CanRead v.tail c.args.cache.now (g.B.Blob.life c.args.blob.now).present) (sym c.self.view_is)
     (over g.H.Sum.sum_of c.args.self.now c.args.cache.now (g.B.Blob.life c.args.blob.now) c.requires.snapshot).stands.can
 
-pub read_many_into-requires-clause-in_order : goal.read_many_into-requires-clause-in_order
-read_many_into-requires-clause-in_order g c =
+pub read_many_into-requires-clause-asked : goal.read_many_into-requires-clause-asked
+read_many_into-requires-clause-asked g c =
     let size = non_zero_usize_get c.self.inside.size in
     let is : c.deref.result.now ≡ map (λ i. i * size) c.args.indices.now = c.deref.ensures.value ∙ c.in-Ok.ensures.0 in
-    subst (λ (l : List ℕ). AreInOrder (ranges_of size l)) (sym is) (are_in_order size c.args.indices.now c.requires.asked.0)
+    (subst (λ (l : List ℕ). AreInOrder (ranges_of size l)) (sym is) (are_in_order size c.args.indices.now c.requires.asked.0), search rules)
 
 pub returns-in-Ok-clause-goes : goal.returns-in-Ok-clause-goes
 returns-in-Ok-clause-goes g c =

@@ -18,9 +18,8 @@ pub returns-clause-costs : goal.returns-clause-costs
 returns-clause-costs g c = subst (λ (t : Tail). ReadCosts g.H.Sum.sum_of t (c.args.offset, length c.args.buf.now) c.args.cache.now c.read_into.new.cache (g.B.Blob.life c.args.blob.now) (g.B.Blob.life c.read_into.new.blob) c.read_into.result) c.view.ensures.tail c.read_into.ensures.costs
 
 pub returns-clause-ready : goal.returns-clause-ready
-returns-clause-ready g c =
-    ready_still g.H.Sum.sum_of c.args.self.now c.args.cache.now c.read_into.new.cache (g.B.Blob.life c.args.blob.now) (g.B.Blob.life c.read_into.new.blob)
-    (subst (λ (t : Tail). ReadLeaves g.H.Sum.sum_of t c.args.cache.now c.read_into.new.cache (g.B.Blob.life c.args.blob.now) (g.B.Blob.life c.read_into.new.blob)) c.view.ensures.tail c.read_into.ensures.leaves)
-
-pub returns-clause-opened : goal.returns-clause-opened
-returns-clause-opened g c = looked_as_opened g.H.Sum.sum_of c.args.self.now (g.B.Blob.life c.args.blob.now) (g.B.Blob.life c.read_into.new.blob) c.read_into.ensures.leaves.looked
+returns-clause-ready g c = (
+  ready_still g.H.Sum.sum_of c.args.self.now c.args.cache.now c.read_into.new.cache (g.B.Blob.life c.args.blob.now) (g.B.Blob.life c.read_into.new.blob)
+      (subst (λ (t : Tail). ReadLeaves g.H.Sum.sum_of t c.args.cache.now c.read_into.new.cache (g.B.Blob.life c.args.blob.now) (g.B.Blob.life c.read_into.new.blob)) c.view.ensures.tail c.read_into.ensures.leaves),
+  looked_as_opened g.H.Sum.sum_of c.args.self.now (g.B.Blob.life c.args.blob.now) (g.B.Blob.life c.read_into.new.blob) c.read_into.ensures.leaves.looked,
+)

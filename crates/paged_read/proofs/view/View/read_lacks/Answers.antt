@@ -124,8 +124,7 @@ pub returns-then-is_empty-clause-reads : goal.returns-then-is_empty-clause-reads
 returns-then-is_empty-clause-reads g c =
     let t = tail_at c.args.self.page_size c.args.self.id c.args.self.tip.now in
     let old = g.B.Blob.life c.args.blob.now in
-    let none = no_pages c.as_slice.result.now c.args.batch.now.pages.items (sym c.is_empty.ensures ∙ c.if-is_empty.true) c.as_slice.ensures.value in
-    (
+    let none = no_pages c.as_slice.result.now c.args.batch.now.pages.items (sym c.is_empty.ensures ∙ c.if-is_empty.true) c.as_slice.ensures.value in (
       ap (λ (l : List Lack). with_told t.page_size (told t old.present.readable) (pieces_in l) c.args.buf.now) (sym (no_lacks t.page_size (length c.args.buf.now) c.args.batch.now.pages.items c.args.batch.now.lacks.items none c.requires.lacks)),
       subst (λ (l : List ℕ). ArePagesFull g.H.Sum.sum_of t.page_size l old.present.readable) (sym none) (λ page has. absurd (omega (arith, has.1))),
     )

@@ -3,7 +3,7 @@ use Rattle.std.specs.Int.NonZero.{non_zero_usize_get}
 use Rattle.paged_read.specs.Tail.{tail_at}
 use Rattle.paged_read.specs.Batch.{ranges_of}
 use Rattle.std.proofs.lemmas.Result.{err_from_is_err_and}
-use Rattle.page.specs.Geometry.{RangesGo}
+use Rattle.page.specs.Geometry.{AreInOrder, RangesGo}
 use Rattle.paged_read.specs.Ranges.{ReadsMany}
 use Rattle.paged_read.specs.Reads.{ReadManyCosts, ReadManyGoes}
 use Rattle.paged_read.proofs.ReadLaws.{read_many_goes, ranges_goes, many_outside, leaves_nothing, many_costs_nothing}
@@ -45,11 +45,11 @@ returns-in_err-ranges-clause-costs g c =
     let p = err_from_is_err_and c.from_residual-in_err-ranges.result c.from_residual-in_err-ranges.ensures.1 in
     rw p.1 (many_costs_nothing g.H.Sum.sum_of t (ranges_of (non_zero_usize_get c.args.len) c.args.offsets.now) c.args.cache.now (g.B.Blob.life c.args.blob.now) p.0)
 
-pub read_ranges_into-requires-clause-filled : goal.read_ranges_into-requires-clause-filled
-read_ranges_into-requires-clause-filled g c =
+pub read_ranges_into-requires-clause-asked : goal.read_ranges_into-requires-clause-asked
+read_ranges_into-requires-clause-asked g c =
     let len = non_zero_usize_get c.args.len in
     let same : c.deref.result.now ≡ ranges_of len c.args.offsets.now = c.deref.ensures.value ∙ c.in_ok-ranges.ensures.items ∙ ap (λ (n : ℕ). ranges_of n c.args.offsets.now) c.get-2.ensures.value in
-    c.requires.filled ∙ sym (sum_ranges_of len c.args.offsets.now) ∙ ap (λ (l : List (ℕ × ℕ)). sum_by (λ (r : ℕ × ℕ). r.1) l) (sym same)
+    (subst (λ (l : List (ℕ × ℕ)). AreInOrder l) (sym same) c.requires.asked.0, c.requires.asked.1 ∙ sym (sum_ranges_of len c.args.offsets.now) ∙ ap (λ (l : List (ℕ × ℕ)). sum_by (λ (r : ℕ × ℕ). r.1) l) (sym same))
 
 pub returns-clause-goes : goal.returns-clause-goes
 returns-clause-goes g c =

@@ -2,17 +2,18 @@ use Rattle.std.proofs.Common.{refl, ◌≡◌, ◌∙◌, sym, ap, subst, ℕ, L
 use Rattle.std.specs.Int.NonZero.{non_zero_usize_get}
 use Rattle.std.proofs.lemmas.Result.{err_from_is_err_and}
 use Rattle.disk.specs.declared.error.Error.TheVariants.{OutOfMemory}
+use Rattle.page.specs.Geometry.{AreInOrder}
 use Rattle.paged_read.specs.Tail.{tail_at}
 use Rattle.paged_read.specs.Reads.{TriesMany}
 use Rattle.paged_read.specs.Batch.{ranges_of}
 use Rattle.paged_read.proofs.RangedLists.{sum_ranges_of}
 use Rattle.paged_read.proofs.view.View.try_read_many_sync_into.Goals as goal
 
-pub try_read_ranges_sync_into-requires-clause-filled : goal.try_read_ranges_sync_into-requires-clause-filled
-try_read_ranges_sync_into-requires-clause-filled g c =
+pub try_read_ranges_sync_into-requires-clause-asked : goal.try_read_ranges_sync_into-requires-clause-asked
+try_read_ranges_sync_into-requires-clause-asked g c =
     let len = non_zero_usize_get c.args.len in
     let same : c.deref.result.now ≡ ranges_of len c.args.offsets.now = c.deref.ensures.value ∙ c.in_ok-ranges.ensures.items ∙ ap (λ (n : ℕ). ranges_of n c.args.offsets.now) c.get.ensures.value in
-    c.requires.filled ∙ sym (sum_ranges_of len c.args.offsets.now) ∙ ap (λ (l : List (ℕ × ℕ)). sum_by (λ (r : ℕ × ℕ). r.1) l) (sym same)
+    (subst (λ (l : List (ℕ × ℕ)). AreInOrder l) (sym same) c.requires.asked.0, c.requires.asked.1 ∙ sym (sum_ranges_of len c.args.offsets.now) ∙ ap (λ (l : List (ℕ × ℕ)). sum_by (λ (r : ℕ × ℕ). r.1) l) (sym same))
 
 pub returns-in_err-ranges : goal.returns-in_err-ranges
 returns-in_err-ranges g c =
