@@ -284,8 +284,7 @@ impl Hand {
     /// Adds pages, the first of them from a byte on where there is nothing yet. `OutOfMemory`
     /// alone, and then there is what there was.
     pub fn push(&mut self, run: IoBuf, skip: usize) -> Result<(), Error>
-        requires skip { skip < self.old.page_size }
-        requires after { 0 < length self.old.bytes → skip ≡ 0 }
+        requires skip { (skip < self.old.page_size) × (0 < length self.old.bytes → skip ≡ 0) }
         requires fits { length self.old.bytes + length run < 2 ^ 64 }
         ensures page_size { self.new.page_size ≡ self.old.page_size }
         ensures bytes { let more = drop skip (payloads self.old.page_size run) in

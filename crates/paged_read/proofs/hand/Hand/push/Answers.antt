@@ -9,7 +9,7 @@ returns-then-len-skip-clause-bytes c =
     let was = c.args.self.now in
     let few = c.if-len-skip.true in
     let size = c.len.ensures in
-    let none = nothing_more was.page_size c.args.skip c.args.run c.requires.skip
+    let none = nothing_more was.page_size c.args.skip c.args.run c.requires.skip.0
     (omega (arith, few, size)) in
     sym (append-nil was.bytes) ∙ ap (λ l. was.bytes ++ l) (sym none)
 
@@ -20,7 +20,7 @@ overflow_sub-more c =
     let P = c.from-page_size.result in
     let is = c.payload_bytes.ensures c.args.run (sym c.len-3.ensures) in
     let page = c.from-page_size.ensures ∙ c.get.ensures.value in
-    let less = c.requires.skip in
+    let less = c.requires.skip.0 in
     let view = ap (λ (h : HandState). h.page_size) c.self.view_is in
     omega (arith, more, view, size, is, less, page, payloads_more P c.args.run)
 
@@ -44,13 +44,13 @@ made c =
     let size = c.len.ensures in
     let other = c.len-2.ensures in
     let page = c.from-page_size.ensures ∙ c.get.ensures.value in
-    let less = c.requires.skip in
+    let less = c.requires.skip.0 in
     let view = ap (λ (h : HandState). h.page_size) c.self.view_is in
     let bytes = ap (λ (h : HandState). h.bytes) c.self.view_is in
     pushed P was.runs.items was.at.start was.at.left was.remaining c.args.run c.args.skip
     c.beside-at.result.start c.beside-at.result.left c.self.invariant.1
     (omega (arith, less, view)) (omega (arith, more, size)) (omega (arith, size, c.len.type_inv))
-    (λ some. c.requires.after (rw (← bytes) some))
+    (λ some. c.requires.skip.1 (rw (← bytes) some))
     (λ none. let is = c.beside-at.ensures.none none in (
       ap (λ p. p.start) is,
       ap (λ p. p.left) is ∙ omega (arith, other, page),
