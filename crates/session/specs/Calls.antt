@@ -616,7 +616,7 @@ pub record LeavesStanding (sum : List ℕ → ℕ) (was now : Option WriterState
       → IsReplayOf sum r content old.present
       → IsReplayOf sum r content new.present × IsBelow now r.tail
 
--- and of other blobs
+-- what a call of a session's writer leaves of its own blob, and of other blobs on the cache
 pub record LeavesTaken (sum : List ℕ → ℕ) (was now : Option WriterState) (cache after : CacheState)
     (old new : Life) : Type 0 where
   pub own : LeavesStanding sum was now cache after old new
