@@ -191,7 +191,7 @@ pub record CallLeaves (sum : List ℕ → ℕ) (s : ItemsState) (all : List (Lis
   pub replays : ReplaysStay sum s.writer.page_size s.writer.full_pages old new
 
 -- a read of items: the same, and the device was only read
-pub record ReadLeaves (sum : List ℕ → ℕ) (s : ItemsState) (cache after : CacheState)
+pub record ItemReadLeaves (sum : List ℕ → ℕ) (s : ItemsState) (cache after : CacheState)
     (old new : Life) : Type 0 where
   pub looked : Looked old new
   pub call : CallLeaves sum s (items_of s old) cache after old new

@@ -15,7 +15,7 @@ ghost use Rattle.items.specs.Calls.{Pushes, RecoverGoes};
 ghost use Rattle.items.specs.Calls.{StartsItems, SyncsItems, TriesPush, WaitsForItems, item_ranges};
 ghost use Rattle.items.specs.Readers.{AreGivenWithReplay, AreGivenWithSnapshot};
 ghost use Rattle.items.specs.Readers.{BeginsItemsReplay, MakesItemsSnapshot, TriesItemsSnapshot};
-ghost use Rattle.items.specs.Standing.{AreItems, AreReady, CallLeaves, ReadLeaves};
+ghost use Rattle.items.specs.Standing.{AreItems, AreReady, CallLeaves, ItemReadLeaves};
 ghost use Rattle.items.specs.Standing.{RecoveryLeaves, bytes_of, count, items_of};
 
 use crate::locate::{offset_of, offsets_of};
@@ -364,7 +364,7 @@ impl<B: Blob, H: Sum> Items<B, H> {
             × (bytes_of self.now new ≡ bytes_of self.now old)
             × (length buf.new ≡ length buf.old) }
         ensures leaves { let old = B.life blob.old in let new = B.life blob.new in
-            ReadLeaves H.sum_of self.now cache.old cache.new old new }
+            ItemReadLeaves H.sum_of self.now cache.old cache.new old new }
         ensures costs { let old = B.life blob.old in let new = B.life blob.new in
             let range : ℕ × ℕ = (i * self.now.size, self.now.size) in
             AsksForMissing cache.old (tail_of self.now.writer) range old new }
@@ -399,7 +399,7 @@ impl<B: Blob, H: Sum> Items<B, H> {
             × (bytes_of self.now new ≡ bytes_of self.now old)
             × (length buf.new ≡ length buf.old) }
         ensures leaves { let old = B.life blob.old in let new = B.life blob.new in
-            ReadLeaves H.sum_of self.now cache.old cache.new old new }
+            ItemReadLeaves H.sum_of self.now cache.old cache.new old new }
         ensures costs { let t = tail_of self.now.writer in
             let ranges = item_ranges self.now.size indices.now in
             AsksOnce cache.old t ranges (B.life blob.old) (B.life blob.new) }

@@ -32,7 +32,7 @@ use Rattle.paged.specs.Truncate.{KeepsFloorsWithin}
 use Rattle.page.specs.Page.{text}
 use Rattle.std.specs.Prelude.{Vec}
 use Rattle.std.specs.declared.alloc.Global.{Global}
-use Rattle.journal.specs.Calls.{CallLeaves, CrashGoes, CrashLeaves, ReadLeaves, ReaderLeaves, RecoverGoes, RecoveryLeaves}
+use Rattle.journal.specs.Calls.{CallLeaves, CrashGoes, CrashLeaves, RecordReadLeaves, ReaderLeaves, RecoverGoes, RecoveryLeaves}
 use Rattle.journal.specs.declared.frame.Found.{Found}
 use Rattle.journal.specs.Frame.{IsPrefix, IsWhole, listed, records, whole_frames}
 use Rattle.journal.specs.Journal.{BringsBack, Commits, HasRecovered, RecoversJournal, IsBetweenCalls, IsFound, IsJournal, OnlyReads, ReadRefused, records_in}
@@ -391,7 +391,7 @@ nothing_leaves sum own w all cache life journal first = record {
 }
 
 -- reads through the journal's writer
-pub reads_leave : (sum own : List ℕ → ℕ) (w : WriterState) (cache after : CacheState) (old new : Life) → OnlyReads sum w cache after old new → ReadLeaves sum own w cache after old new
+pub reads_leave : (sum own : List ℕ → ℕ) (w : WriterState) (cache after : CacheState) (old new : Life) → OnlyReads sum w cache after old new → RecordReadLeaves sum own w cache after old new
 reads_leave sum own w cache after old new reads =
     let held = content w old.present.readable in
     let itself = prefix_of_itself (records own held) in

@@ -27,7 +27,7 @@ pub record CallLeaves (sum own : List ℕ → ℕ) (w : WriterState) (all : List
   pub only : LeavesRecords sum own w.page_size all old new
 
 -- a read of a journal: the same, and the device was only read
-pub record ReadLeaves (sum own : List ℕ → ℕ) (w : WriterState) (cache after : CacheState)
+pub record RecordReadLeaves (sum own : List ℕ → ℕ) (w : WriterState) (cache after : CacheState)
     (old new : Life) : Type 0 where
   pub looked : Looked old new
   pub call : CallLeaves sum own w (records_in own w old) cache after old new

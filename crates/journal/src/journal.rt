@@ -15,7 +15,7 @@ ghost use Rattle.paged_read.specs.Snapshots.{LeavesOthers};
 ghost use Rattle.journal.specs.Journal.{AppendsRecord, CommitGoes, ReadsRecord, Trims};
 ghost use Rattle.journal.specs.Journal.{IsBetweenCalls, IsJournal, OnlyReads, records_in};
 ghost use Rattle.journal.specs.Reader.{IsReader, MakesReader};
-ghost use Rattle.journal.specs.Calls.{CallLeaves, ReadLeaves, RecoverGoes, RecoveryLeaves};
+ghost use Rattle.journal.specs.Calls.{CallLeaves, RecordReadLeaves, RecoverGoes, RecoveryLeaves};
 
 use crate::frame::{Found, Framed, frame_of};
 use crate::lookup::frame_at;
@@ -299,7 +299,7 @@ impl<B: Blob, H: Sum, R: Sum> Journal<B, H, R> {
             ReadsRecord R.sum_of (content self.now old.present.readable) offset old new result }
         ensures ready { IsJournal H.sum_of self.now cache.new (B.life blob.new) }
         ensures leaves { let old = B.life blob.old in let new = B.life blob.new in
-            ReadLeaves H.sum_of R.sum_of self.now cache.old cache.new old new }
+            RecordReadLeaves H.sum_of R.sum_of self.now cache.old cache.new old new }
     {
         self.find(blob, cache, offset)
     }
