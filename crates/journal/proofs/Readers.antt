@@ -17,7 +17,7 @@ use Rattle.crash.specs.Moments.{through_start, through_then}
 use Rattle.writer_state.specs.Sound.{IsSound, content}
 use Rattle.crash.specs.Stays.{KeepsAllFloors, LeavesOnly}
 use Rattle.writer_state.specs.WriterState.{WriterState}
-use Rattle.paged_read.proofs.FullReads.{no_fault}
+use Rattle.paged_read.proofs.FullReads.{full_of_tail, no_fault}
 use Rattle.paged_read.proofs.Outliving.{look_leaves_writers}
 use Rattle.paged_read.specs.Ranges.{Reads}
 use Rattle.paged_read.specs.Reads.{ReadLeaves}
@@ -220,7 +220,7 @@ pub view_refused : {A : Type 0} (sum : List ℕ → ℕ) (t : Tail) (cache : Cac
 view_refused sum t cache offset len bytes old new ReadFailed refused opened within fits = refused
 view_refused sum t cache offset len bytes old new OutOfMemory refused opened within fits = tt
 view_refused sum t cache offset len bytes old new InvalidChecksum refused opened within fits =
-    no_fault sum t cache old new opened.stands.can.there opened.stands.tail.full ((offset, len) ∷ []) refused
+    no_fault sum t cache old new (full_of_tail sum t old.present opened.stands.can.there opened.stands.tail.full) ((offset, len) ∷ []) refused
 view_refused sum t cache offset len bytes old new OffsetOverflow (same, passes) opened within fits = absurd (omega (arith, passes, fits))
 view_refused sum t cache offset len bytes old new BlobInsufficientLength (same, below, passes) opened within fits = absurd (omega (arith, passes, within))
 view_refused sum t cache offset len bytes old new WriteFailed refused opened within fits = refused
