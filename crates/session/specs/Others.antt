@@ -36,8 +36,8 @@ pub record LeavesOtherBlobs (was now : SessionState) (cache after : CacheState) 
 abbrev pub IsNewTo : CacheState → SessionState → Type 0
 IsNewTo cache session = (id : ℕ) → id < cache.ids_given → IsOther session id
 
--- what a crash and a recovery leave of other blobs: what can be read of any blob can be read on, and
--- a blob that was another one, and whose id the cache gave before, is still another one
+-- what a crash and a recovery leave of other blobs: what can be read of any blob can be read on;
+-- and a blob that was another one, and whose id the cache gave before, is still another one
 pub record LeavesOthersAnew (was now : SessionState) (cache after : CacheState) : Type 0 where
   pub reads : LeavesReads cache after
   pub apart : (id : ℕ) → id < cache.ids_given → IsOther was id → IsOther now id
