@@ -104,10 +104,10 @@ answered_more sum setting request was mid now old between new input rest last ou
 -- ---- how a step ends
 
 -- no room for its reply
-pub took_none : (was now : SessionState) (cache after : CacheState) (old new : Life) (earlier replies : List Reply) (result : Result (Unit {0}) Error) → is_err result ≡ true → IfErr result (λ e. TookNone e was now cache after old new earlier replies)
+pub none_was_run : (was now : SessionState) (cache after : CacheState) (old new : Life) (earlier replies : List Reply) (result : Result (Unit {0}) Error) → is_err result ≡ true → IfErr result (λ e. TookNone e was now cache after old new earlier replies)
     → (now ≡ was) × (new ≡ old)
-took_none was now cache after old new earlier replies (Ok done) is none = absurd (cc is)
-took_none was now cache after old new earlier replies (Err error) is none = (none.session, none.life)
+none_was_run was now cache after old new earlier replies (Ok done) is none = absurd (cc is)
+none_was_run was now cache after old new earlier replies (Err error) is none = (none.session, none.life)
 
 -- a list of one
 pub one_of : {X : Type 0} (xs : List X) (x : X) → 1 ≤ length xs → length xs < 2 → x ≡ slice_index_or xs 0 x → xs ≡ x ∷ []

@@ -1,6 +1,6 @@
 use Rattle.std.proofs.Common.{◌∷◌, [], ◌≡◌, ◌∙◌, sym, rules}
 use Rattle.protocol.specs.Serve.{changes}
-use Rattle.protocol.proofs.Serving.{both, refusal_unwritten, step_refused, took_none, takes_step, one_of}
+use Rattle.protocol.proofs.Serving.{both, refusal_unwritten, step_refused, none_was_run, takes_step, one_of}
 use Rattle.protocol.proofs.server.take_step.Goals as goal
 
 pub returns-in_err-write_refusal-clause-takes : goal.returns-in_err-write_refusal-clause-takes
@@ -15,7 +15,7 @@ returns-then-is_change-clause-takes g c =
 
 pub returns-then-is_err-clause-takes : goal.returns-then-is_err-clause-takes
 returns-then-is_err-clause-takes g c =
-    took_none c.args.session.now c.run.new.session c.args.cache.now c.run.new.cache (g.B.Blob.life c.args.blob.now) (g.B.Blob.life c.run.new.blob) c.args.replies.now.items c.run.new.replies.items c.run.result (sym c.if-is_err.ensures.value) c.run.ensures.refused
+    none_was_run c.args.session.now c.run.new.session c.args.cache.now c.run.new.cache (g.B.Blob.life c.args.blob.now) (g.B.Blob.life c.run.new.blob) c.args.replies.now.items c.run.new.replies.items c.run.result (sym c.if-is_err.ensures.value) c.run.ensures.refused
 
 pub returns-clause-takes : goal.returns-clause-takes
 returns-clause-takes g c =
