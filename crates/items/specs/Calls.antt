@@ -178,8 +178,8 @@ RecoversItems sum s cache after capacity old new (Ok now) =
 RecoversItems sum s cache after capacity old new (Err e) =
     Recovers sum cache capacity old new (Err e)
 
--- and what it brings back begins with the items that were durable; and where no checksum collides, it
--- is the first of those that a crash was to leave
+-- a recovery, by its answer: what it brings back begins with the items that were durable; and where
+-- no checksum collides, it is the first of those that a crash was to leave
 pub record RecoverGoes (sum : List ℕ → ℕ) (s : ℕ) (cache after : CacheState) (capacity : ℕ)
     (old new : Life) (result : Result ItemsState Error) : Type 0 where
   pub answers : RecoversItems sum s cache after capacity old new result
@@ -202,8 +202,9 @@ CrashesAndRecovers sum s cache after capacity keep old new (Err e) =
     let d = old.present in
     RecoversItems sum s cache after capacity (begun (torn keep d.since d.base) d.log) new (Err e)
 
--- and what comes back begins with the items that were durable as the crash came; and where no
--- checksum collides in what it left, it is the first of those that were pushed
+-- a crash and the recovery after it, by their answer: what comes back begins with the items that
+-- were durable as the crash came; and where no checksum collides in what the crash left, it is the
+-- first of those that were pushed
 pub record CrashGoes (sum : List ℕ → ℕ) (s : ℕ) (cache after : CacheState) (capacity : ℕ)
     (keep : List Bool) (old new : Life) (result : Result ItemsState Error) : Type 0 where
   pub answers : CrashesAndRecovers sum s cache after capacity keep old new result

@@ -30,8 +30,8 @@ items_of s life = items s.size (bytes_of s life)
 abbrev pub count : ItemsState → ℕ
 count s = writer.size_of s.writer / s.size
 
--- items between two calls, as the last of them left them: their writer is ready, they are whole, and
--- chance aside a crash leaves only them
+-- items between two calls, as the last of them left them: their writer is ready, they are whole,
+-- and chance aside a crash leaves only them
 pub record StandAsItems (sum : List ℕ → ℕ) (s : ItemsState) (cache : CacheState) (life : Life)
     : Type 0 where
   pub some : 0 < s.size
