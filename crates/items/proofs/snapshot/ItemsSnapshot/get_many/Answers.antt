@@ -22,9 +22,10 @@ read_many_into-requires-clause-can g c =
 pub read_many_into-requires-clause-asked : goal.read_many_into-requires-clause-asked
 read_many_into-requires-clause-asked g c =
     let size = non_zero_usize_get c.self.inside.size in
-    let is : c.deref.result.now ≡ map (λ i. i * size) c.args.indices.now = c.deref.ensures.value ∙ c.in-Ok.ensures.0 in
-    (subst (λ (l : List ℕ). AreInOrder (ranges_of size l)) (sym is) (are_in_order size c.args.indices.now c.requires.asked.0),
-    c.requires.asked.1 ∙ ap₂ (λ (n m : ℕ). n * m) (sym (ap (λ (l : List ℕ). length l) is ∙ length-map c.args.indices.now (λ (i : ℕ). i * size))) (sym (ap (λ (v : ItemsSnapshotState). v.size) c.self.view_is)))
+    let is : c.deref.result.now ≡ map (λ i. i * size) c.args.indices.now = c.deref.ensures.value ∙ c.in-Ok.ensures.0 in (
+      subst (λ (l : List ℕ). AreInOrder (ranges_of size l)) (sym is) (are_in_order size c.args.indices.now c.requires.asked.0),
+      c.requires.asked.1 ∙ ap₂ (λ (n m : ℕ). n * m) (sym (ap (λ (l : List ℕ). length l) is ∙ length-map c.args.indices.now (λ (i : ℕ). i * size))) (sym (ap (λ (v : ItemsSnapshotState). v.size) c.self.view_is)),
+    )
 
 pub returns-in-Ok-clause-goes : goal.returns-in-Ok-clause-goes
 returns-in-Ok-clause-goes g c =
