@@ -140,8 +140,7 @@ pub fn scan<B: Blob, H: Sum>(
     kept: &mut Option<Hand>,
 ) -> Result<Prefix, Error>
     requires there { let old = B.life blob.old in let P = non_zero_u16_get page_size in
-        pages * (P + 12) ≤ length old.present.readable }
-    requires fits { pages * (non_zero_u16_get page_size + 12) < 2 ^ 64 }
+        (pages * (P + 12) ≤ length old.present.readable) × (pages * (P + 12) < 2 ^ 64) }
     requires empty { IsEmptyHand (non_zero_u16_get page_size) kept.old }
     ensures finds { let old = B.life blob.old in let new = B.life blob.new in
         let P = non_zero_u16_get page_size in

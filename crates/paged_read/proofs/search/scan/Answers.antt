@@ -17,7 +17,7 @@ returns-clause-finds g c =
     let old = g.B.Blob.life c.args.blob.now in
     let readable = old.present.readable in
     look_finds (n * (P + 12)) (prefix_from sum P 0 n readable) (prefix_of sum P (pieces n (P + 12) readable)) old (g.B.Blob.life c.scan_keeping.new.blob) c.scan_keeping.result
-    c.requires.there (sym (stands_first sum P n readable)) c.scan_keeping.ensures.finds
+    c.requires.there.0 (sym (stands_first sum P n readable)) c.scan_keeping.ensures.finds
 
 pub returns-clause-reads : goal.returns-clause-reads
 returns-clause-reads g c =
