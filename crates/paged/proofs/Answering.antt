@@ -29,7 +29,7 @@ use Rattle.paged.proofs.Snapshotting.{begun_gives, made_stands}
 use Rattle.paged.proofs.There.{sound_has_pages}
 use Rattle.paged.specs.Owes.{Owes}
 use Rattle.paged.specs.Ready.{IsReady}
-use Rattle.paged.specs.Goes.{AppendAnswers, AppendGoes, Holds, HasStarted, IsRefused, IsUnderWay, ReplayGoes, SealGoes, SnapshotGoes, StartSyncGoes, SyncAllGoes, WaitForSyncGoes}
+use Rattle.paged.specs.Goes.{AppendAnswers, AppendGoes, Holds, IsRefused, IsUnderWay, ReplayGoes, SealGoes, SnapshotGoes, StartSyncGoes, SyncAllGoes, WaitForSyncGoes}
 use Rattle.paged.proofs.Caching.{caches_law, caches_law_same, fresh_law, only_law, reads_after}
 use Rattle.paged.proofs.Covers.{completed}
 use Rattle.paged.proofs.Flushes.{begins, stays_nil, sync_within}

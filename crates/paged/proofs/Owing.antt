@@ -1,17 +1,16 @@
 -- What a call owes, in one record: how it is put together, and what follows from it.
-use Rattle.std.proofs.Common.{◌≡◌, inl, inr, ℕ, ◌≤◌, List, [], ◌∷◌, ◌++◌, length, take, refl, sym, ap, ◌∙◌, subst, arith, append-nil, length-take, Ok, Err, Result}
+use Rattle.std.proofs.Common.{◌≡◌, inl, inr, ℕ, ◌≤◌, List, [], ◌∷◌, ◌++◌, length, take, refl, sym, ap, ◌∙◌, subst, arith, length-take}
 use Rattle.std.proofs.lemmas.List.{append_cancel_right, reverse-reverse}
 use mathlib.Core.List.{reverse, reverse_aux, reverse_aux-eq}
-use Rattle.disk.specs.Disk.{Disk, Life, disk_settled_to, next, life_after}
+use Rattle.disk.specs.Disk.{Disk, Life, next, life_after}
 use Rattle.page.specs.Page.{text}
 use Rattle.cache.specs.CacheState.{CacheState}
-use Rattle.cache.specs.Pages.{CachesOnly, IsFresh}
+use Rattle.cache.specs.Pages.{CachesOnly}
 use Rattle.crash.specs.Below.{PagesStay, SamePages}
-use Rattle.crash.specs.Kept.{AllKeep, AllOnly, Each, Moments, Through}
-use Rattle.crash.specs.Moments.{through_end, through_joins, through_then}
-use Rattle.crash.proofs.BelowLaws.{fewer_stay}
-use Rattle.crash.specs.Started.{CoversStay, CoversThrough, StartsStand, WouldKeep}
-use Rattle.crash.specs.Stays.{KeepsAllFloors, LeavesOnly, Stays, StaysThrough}
+use Rattle.crash.specs.Kept.{AllKeep, Each, Through}
+use Rattle.crash.specs.Moments.{through_then}
+use Rattle.crash.specs.Started.{CoversStay, CoversThrough, StartsStand}
+use Rattle.crash.specs.Stays.{Stays, StaysThrough}
 use Rattle.crash.proofs.Disks.{base_is_image, base_is_whole}
 use Rattle.crash.proofs.Moments.{keeps_longer, keeps_shorter, same_floor}
 use Rattle.crash.proofs.Promise.{keeps_same, whole_is_chance_free}

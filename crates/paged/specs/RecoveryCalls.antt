@@ -1,5 +1,5 @@
 -- What each call that begins a writer, or cuts its blob, answers, owes and asks for.
-use Rattle.std.specs.Prelude.{◌≡◌, ◌<◌, ◌≤◌, ◌/◌, ◌+◌, ◌*◌, ◌^◌, ℕ, List, min, take, true, false}
+use Rattle.std.specs.Prelude.{◌≡◌, ◌<◌, ◌≤◌, ◌/◌, ◌+◌, ◌^◌, ℕ, List, min, take, true, false}
 use Rattle.std.specs.Prelude.{Option, Result, Ok, Err, IfOk, OnOk}
 use Rattle.disk.specs.Disk.{Life}
 use Rattle.disk.specs.declared.error.Error.{Error}

@@ -1,4 +1,4 @@
-use Rattle.std.proofs.Common.{◌≡◌, ◌*◌, ◌+◌, ◌∙◌, ◌<◌, ℕ, min, ap, subst, arith}
+use Rattle.std.proofs.Common.{◌≡◌, ◌∙◌, ◌<◌, ℕ, min, ap, subst, arith}
 use Rattle.std.specs.Int.{div_ceil}
 use Rattle.writer_state.specs.WriterState.{WriterState}
 use Rattle.paged_read.specs.Scans.{scan_end, scan_to}

@@ -1,4 +1,4 @@
-use Rattle.std.proofs.Common.{subst, false, true, ◌≡◌, ℕ, ◌+◌, arith, refl, sym, ap, ◌∙◌, get_or, cond}
+use Rattle.std.proofs.Common.{◌≡◌, ℕ, ◌+◌, arith, refl, sym, ap, ◌∙◌, get_or, cond}
 use Rattle.std.proofs.lemmas.List.Sums.{sum_by_more, sum_by_more_le}
 use Rattle.paged_read.specs.Tail.{tail_at}
 use Rattle.paged_read.proofs.BatchSteps.{gathered_start}
