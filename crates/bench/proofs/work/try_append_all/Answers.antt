@@ -20,6 +20,6 @@ loop-preserved g c =
       | else-is_none w ↦ ready_same sum c.if-is_none.writer now c.if-is_none.cache c.loop.cache end life w.writer-is w.cache-is (ap g.B.Blob.life w.blob-is) tried
     ]
 
-pub append-requires-then-is_none : goal.append-requires-then-is_none
-append-requires-then-is_none g c =
+pub append-requires : goal.append-requires
+append-requires g c =
     record { ready = ready_tried g.H.Sum.sum_of c.loop.writer c.try_append.new.self c.loop.cache (g.B.Blob.life c.loop.blob) c.loop.invariant c.try_append.ensures.sound c.try_append.ensures.can_read }
