@@ -1,5 +1,6 @@
 -- A blob in memory: what its fields stand for, and what they say of one another.
-use Rattle.std.specs.Prelude.{◌≡◌, ◌≤◌, ◌<◌, ◌≢◌, ◌⊎◌, ℕ, ◌+◌, ◌-◌, List, [], ◌∷◌, length, take, drop}
+use Rattle.std.specs.Prelude.{◌≡◌, ◌≤◌, ◌<◌, ◌≢◌, ◌⊎◌, ℕ, ◌+◌, ◌-◌, List, [], ◌∷◌}
+use Rattle.std.specs.Prelude.{length, take, drop}
 use Rattle.std.specs.Prelude.{Bool, true, false, Result, Ok, Err, if◌then◌else◌, ◌++◌, suc, zero}
 use Rattle.std.specs.Prelude.{Option, Some, None, slice_get, max, map}
 use Rattle.disk.specs.Disk.{Entry, Started, Delivers, IsWithin, bytes_of, failures, had_failed}
@@ -11,7 +12,8 @@ use Rattle.disk.specs.declared.started_sync.StartedSync.TheVariants.{Done, Named
 use Rattle.disk.specs.declared.error.Error.TheVariants.{ReadFailed, WriteFailed, ResizeFailed}
 use Rattle.disk.specs.declared.error.Error.TheVariants.{SyncFailed, BlobInsufficientLength}
 use Rattle.disk.specs.declared.error.Error.TheVariants.{OutOfMemory, OffsetOverflow}
-use Rattle.disk.specs.History.{History, life_of, request_of, replayed, operations_of, names_in, told}
+use Rattle.disk.specs.History.{History, life_of, request_of, replayed, operations_of}
+use Rattle.disk.specs.History.{names_in, told}
 use Rattle.disk.specs.declared.action.Action.{Action}
 use Rattle.disk.specs.declared.action.Action.TheVariants as actions
 use Rattle.disk.specs.declared.action.Start.{Start}

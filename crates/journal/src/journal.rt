@@ -147,7 +147,8 @@ impl<B: Blob, H: Sum, R: Sum> Journal<B, H, R> {
     // Appends bytes to the content.
     fn append(self, blob: &mut B, cache: &mut CacheRef, bytes: &[u8]) -> Result<(Self, u64), Error>
         requires ready { IsReady H.sum_of self cache.old (B.life blob.old) }
-        ensures goes { AppendGoes H.sum_of self bytes.now (B.life blob.old) (B.life blob.new) result }
+        ensures goes { let old = B.life blob.old in let new = B.life blob.new in
+            AppendGoes H.sum_of self bytes.now old new result }
         ensures ready { IfOk result (λ r. IsReady H.sum_of r.0 cache.new (B.life blob.new)) }
         ensures owes { let all = content self (B.life blob.old).present.readable ++ bytes.now in
             Owes H.sum_of self all cache.old cache.new (B.life blob.old) (B.life blob.new) }

@@ -134,7 +134,8 @@ pub record LeavesAsIs (old new : Life) : Type 0 where
 
 -- what a look asks of the device: reads forward, from the first page on, and of no more than a page
 -- or what fits the buffer; of less than a page nothing
-pub record LookCosts (P most size : ℕ) (old new : Life) (result : Result Outlook Error) : Type 0 where
+pub record LookCosts (P most size : ℕ) (old new : Life) (result : Result Outlook Error)
+    : Type 0 where
   pub forward : ReadsForward most 0 (size / (P + 12) * (P + 12)) old new
   pub within : ReadsWithin most old new
   pub idle : size < P + 12

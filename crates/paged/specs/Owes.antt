@@ -36,7 +36,8 @@ OwedThrough sum P full_pages before after old new =
 -- a call over a writer, after which its content is this, where it answers Ok
 pub record Owes (sum : List ℕ → ℕ) (w : WriterState) (all : List ℕ) (cache after : CacheState)
     (old new : Life) : Type 0 where
-  pub through : OwedThrough sum w.page_size w.full_pages (content w old.present.readable) all old new
+  pub through : let held = content w old.present.readable in
+      OwedThrough sum w.page_size w.full_pages held all old new
   -- each started sync can still be waited for
   pub starts : StartsStand new.present
   -- only pages of the content were put in the cache, under the blob's id

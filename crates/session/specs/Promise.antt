@@ -1,7 +1,8 @@
 -- What a user may rely on: a crash at any moment of a run, whatever it leaves of what isn't synced,
 -- any number of further crashes and of recoveries that are cut short, and then a recovery that
 -- answers Ok.
-use Rattle.std.specs.Prelude.{◌≡◌, ◌⊎◌, ◌≤◌, ◌+◌, ◌%◌, ◌^◌, ◌++◌, ℕ, List, [], ◌∷◌, length, take, Bool}
+use Rattle.std.specs.Prelude.{◌≡◌, ◌⊎◌, ◌≤◌, ◌+◌, ◌%◌, ◌^◌, ◌++◌, ℕ, List, [], ◌∷◌}
+use Rattle.std.specs.Prelude.{length, take, Bool}
 use Rattle.std.specs.Prelude.{true, false, nat_eq, Some, None, Result, Ok, Err, IfOk, IfErr, OnOk}
 use Rattle.disk.specs.Disk.{Disk, IsImage, Life, life_after}
 use Rattle.disk.specs.History.{History, life_of}
@@ -264,8 +265,8 @@ RefusesLeft sum cache capacity old left e new =
     (mid : Life) × HasCrashed old.present mid.present × (mid.present.readable ≡ left)
     × Recovers sum cache capacity mid new (Err e)
 
--- what a recovery answers: the session that begins, by the answer; and what came back, by what stood
--- as the call began
+-- what a recovery answers: the session that begins, by the answer; and what came back, by what
+-- stood as the call began
 pub record BeginGoes (sum : List ℕ → ℕ) (cache after : CacheState) (capacity : ℕ) (old new : Life)
     (result : Result SessionState Error) : Type 0 where
   pub begins : BeginsBy sum cache capacity old new result

@@ -32,9 +32,10 @@ scan-requires-clause-there g c =
     let opened = c.in_ok-recovery.ensures.opens in
     let Q = non_zero_u16_get c.recovery.inside.page_size in
     let same : Q ≡ cache.page_size = ap (λ (x : WriterState). x.page_size) c.recovery.view_is ∙ opened_page_size sum cache c.args.capacity old mid w opened in
-    let counted = counted_length sum cache c.args.capacity old mid w opened c.flushed_pages-pages.result Q same c.flushed_pages-pages.ensures in
-    (omega (arith, counted),
-    omega (arith, counted, opened_length sum cache c.args.capacity old mid w opened, opened_size_le sum cache.page_size old.present.readable))
+    let counted = counted_length sum cache c.args.capacity old mid w opened c.flushed_pages-pages.result Q same c.flushed_pages-pages.ensures in (
+      omega (arith, counted),
+      omega (arith, counted, opened_length sum cache c.args.capacity old mid w opened, opened_size_le sum cache.page_size old.present.readable),
+    )
 
 pub scan-requires-clause-empty : goal.scan-requires-clause-empty
 scan-requires-clause-empty g c =
