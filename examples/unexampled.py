@@ -50,13 +50,17 @@ def imports(text):
     return found
 
 
+def modules(pattern):
+    """The files of such names: each with its crate, its module, its text and what it imports."""
+    for path in glob.glob(os.path.join(ROOT, pattern)):
+        text = read(path)
+        yield path.split(os.sep)[-3], os.path.basename(path)[:-5], text, imports(text)
+
+
 def definitions():
     """The definitions of the specs: each with its text, and the definitions that it names."""
     found = {}
-    for path in glob.glob(os.path.join(ROOT, "crates/*/specs/*.antt")):
-        crate, module = path.split(os.sep)[-3], os.path.basename(path)[:-5]
-        text = read(path)
-        known = imports(text)
+    for crate, module, text, known in modules("crates/*/specs/*.antt"):
         heads = list(HEAD.finditer(text))
         for head in heads:
             known.setdefault(head[2], (crate, "specs", module, head[2]))
@@ -104,10 +108,7 @@ def relations(found):
 def lemmas():
     """The statements of the files of examples: each with what its words stand for."""
     shorts, found = {}, []
-    for path in glob.glob(os.path.join(ROOT, "crates/*/proofs/*Examples.antt")):
-        crate, module = path.split(os.sep)[-3], os.path.basename(path)[:-5]
-        text = read(path)
-        known = imports(text)
+    for crate, module, text, known in modules("crates/*/proofs/*Examples.antt"):
         stated = list(LEMMA.finditer(text))
         for lemma in stated:
             if "abbrev" in lemma[1]:
