@@ -88,7 +88,7 @@ scan_looks reach len old new (Err SyncFailed) scans = absurd scans
 scan_looks reach len old new (Err InvalidChecksum) scans = absurd scans
 scan_looks reach len old new (Err BlobInsufficientLength) scans = scans.1
 scan_looks reach len old new (Err OffsetOverflow) scans = looked_none old new scans.1
-scan_looks reach len old new (Err OutOfMemory) scans = scans
+scan_looks reach len old new (Err OutOfMemory) scans = scans.0
 scan_looks reach len old new (Err IdsExhausted) scans = absurd scans
 
 -- ---- what it answers

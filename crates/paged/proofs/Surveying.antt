@@ -210,7 +210,7 @@ later_fault sum P reach a old mid new e there looked looks = survey_fault sum P 
 pub only_looks : {A : Type 0} (reach : ℕ) (a : A) (old new : Life) (result : Result A Error) → LooksThrough reach a old new result → Looked old new
 only_looks reach a old new (Ok found) looks = looks.1
 only_looks reach a old new (Err ReadFailed) looks = looks.1
-only_looks reach a old new (Err OutOfMemory) looks = looks
+only_looks reach a old new (Err OutOfMemory) looks = looks.0
 only_looks reach a old new (Err BlobInsufficientLength) looks = looks.1
 only_looks reach a old new (Err WriteFailed) looks = absurd looks
 only_looks reach a old new (Err ResizeFailed) looks = absurd looks

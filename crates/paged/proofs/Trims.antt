@@ -296,5 +296,5 @@ finds_looked p old new SyncFailed finds = absurd finds
 finds_looked p old new InvalidChecksum finds = absurd finds
 finds_looked p old new BlobInsufficientLength finds = absurd finds
 finds_looked p old new OffsetOverflow finds = absurd finds
-finds_looked p old new OutOfMemory finds = finds
+finds_looked p old new OutOfMemory finds = finds.0
 finds_looked p old new IdsExhausted finds = absurd finds

@@ -12,6 +12,7 @@ use Rattle.page.specs.Page.{value_len}
 use Rattle.cache.specs.CacheState.{CacheState, Puts, put_at}
 use Rattle.cache.specs.Pages.{page_of_content}
 use Rattle.cache.specs.declared.piece.Piece.{Piece}
+use Rattle.paged_read.specs.Failures.{NoneFailed}
 use Rattle.paged_read.specs.Tail.{Tail, told, CanRead}
 use Rattle.paged_read.specs.Ranges.{LeavesAll, page_ranges, page_at}
 use Rattle.paged_read.specs.Parts.{with_told, ArePagesFull, PagesFault}
@@ -252,21 +253,21 @@ pages_full sum P pages readable at out delivers marked full = λ page (number, t
     sym (ap (λ (l : List ℕ). value_len sum P l) (found_bytes P pages readable at out number page delivers marked here)) ∙ full (get_or at number 0) d h.0
 
 -- why one isn't
-pub keeps_fault : (sum : List ℕ → ℕ) (P : ℕ) (pages : List ℕ) (out : List (ℕ × List ℕ)) (old new : Life) (e : Error) → Delivers (page_ranges P pages) old.present.readable out → KeepsFault sum P out e → PagesFault sum P pages old new e
-keeps_fault sum P pages out old new ReadFailed delivers fault = absurd fault
-keeps_fault sum P pages out old new WriteFailed delivers fault = fault
-keeps_fault sum P pages out old new ResizeFailed delivers fault = fault
-keeps_fault sum P pages out old new SyncFailed delivers fault = fault
-keeps_fault sum P pages out old new InvalidChecksum delivers (k, there, unfull) =
+pub keeps_fault : (sum : List ℕ → ℕ) (P : ℕ) (pages : List ℕ) (out : List (ℕ × List ℕ)) (old new : Life) (e : Error) → Delivers (page_ranges P pages) old.present.readable out → NoneFailed old.present new.present → KeepsFault sum P out e → PagesFault sum P pages old new e
+keeps_fault sum P pages out old new ReadFailed delivers none fault = absurd fault
+keeps_fault sum P pages out old new WriteFailed delivers none fault = fault
+keeps_fault sum P pages out old new ResizeFailed delivers none fault = fault
+keeps_fault sum P pages out old new SyncFailed delivers none fault = fault
+keeps_fault sum P pages out old new InvalidChecksum delivers none (k, there, unfull) =
     let d : ℕ × List ℕ = (0, []) in
     let number = (get_or out k d).0 in
     let less = delivered_number P pages old.present.readable out k d delivers there in
     let page = get_or pages number 0 in
-    (page, (number, less, get_or_default pages number page 0 less), λ full. unfull d (ap (λ (l : List ℕ). value_len sum P l) (delivered_bytes P pages old.present.readable out k d page delivers there (slice_get-get_or pages number 0 less)) ∙ full))
-keeps_fault sum P pages out old new BlobInsufficientLength delivers fault = fault
-keeps_fault sum P pages out old new OffsetOverflow delivers fault = fault
-keeps_fault sum P pages out old new OutOfMemory delivers fault = tt
-keeps_fault sum P pages out old new IdsExhausted delivers fault = fault
+    (page, (number, less, get_or_default pages number page 0 less), (λ full. unfull d (ap (λ (l : List ℕ). value_len sum P l) (delivered_bytes P pages old.present.readable out k d page delivers there (slice_get-get_or pages number 0 less)) ∙ full)), none)
+keeps_fault sum P pages out old new BlobInsufficientLength delivers none fault = fault
+keeps_fault sum P pages out old new OffsetOverflow delivers none fault = fault
+keeps_fault sum P pages out old new OutOfMemory delivers none fault = none
+keeps_fault sum P pages out old new IdsExhausted delivers none fault = fault
 
 -- why none were delivered
 pub delivers_fault : (sum : List ℕ → ℕ) (P : ℕ) (pages : List ℕ) (old new : Life) (e : Error) → DeliversPages P pages old new (Err e) → PagesFault sum P pages old new e
@@ -277,7 +278,7 @@ delivers_fault sum P pages old new SyncFailed fault = fault
 delivers_fault sum P pages old new InvalidChecksum fault = absurd fault
 delivers_fault sum P pages old new BlobInsufficientLength fault = fault
 delivers_fault sum P pages old new OffsetOverflow fault = fault
-delivers_fault sum P pages old new OutOfMemory fault = tt
+delivers_fault sum P pages old new OutOfMemory fault = fault
 delivers_fault sum P pages old new IdsExhausted fault = fault
 
 -- ---- the same under other names

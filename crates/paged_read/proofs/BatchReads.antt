@@ -14,6 +14,7 @@ use Rattle.crash.specs.Kept.{Through}
 use Rattle.crash.specs.Looks.{Looked, looked_start}
 use Rattle.paged_read.specs.Ranges.{AsksTogether, page_ranges}
 use Rattle.paged_read.specs.Batch.{DeliversPages}
+use Rattle.paged_read.proofs.Failing.{none_failed_same}
 
 -- a call that only reads
 asked_looks : (request : Request) (failed : Bool) (old new : Life) → AskedOnce request failed old new → Looked old new
@@ -76,7 +77,7 @@ many_fault P pages old new out SyncFailed there goes = goes
 many_fault P pages old new out InvalidChecksum there goes = goes
 many_fault P pages old new out BlobInsufficientLength there goes = absurd (goes.1 (page_ranges_within P pages old.present.readable there))
 many_fault P pages old new out OffsetOverflow there goes = goes
-many_fault P pages old new out OutOfMemory there goes = tt
+many_fault P pages old new out OutOfMemory there goes = none_failed_same old new goes.0
 many_fault P pages old new out IdsExhausted there goes = goes
 
 distinct_none : IsDistinct nat_eq []

@@ -13,6 +13,7 @@ use Rattle.cache.specs.declared.piece.Piece.{Piece}
 use Rattle.paged_read.specs.Tail.{Tail, told, CanRead}
 use Rattle.paged_read.specs.Ranges.{missing, slice, AsksForMissing}
 use Rattle.paged_read.specs.Pieces.{pieces_of}
+use Rattle.paged_read.specs.Failures.{none_failed_start}
 use Rattle.paged_read.specs.Parts.{IsPieceOf, ReadsPieces, ReadsBelow, TriesBelow, pages_of, with_told}
 use Rattle.paged_read.proofs.Windows.{missing_pages}
 use Rattle.paged_read.proofs.Copies.{LeavesPieces, held_agrees, told_agrees, left_fit}
@@ -66,6 +67,7 @@ module _ (t : Tail) (cache : CacheState) (offset len : ℕ) (some : 0 < t.page_s
       let pages : missing cache t ((offset, len) ∷ []) ≡ pages_of left = missing_pages cache t offset len 0 some below ∙ ap pages_of (sym those) in (
         copied_all old.present buf after can size (reads.0 ∙ ap (λ (l : List Piece). with_told t.page_size (told t old.present.readable) l mid) those ∙ ap (λ (l : List ℕ). with_told t.page_size (told t old.present.readable) (pieces_left cache t.id (pieces_of t.page_size (offset, len) 0)) l) there),
         full_missing sum cache t ((offset, len) ∷ []) (pages_of left) old.present.readable pages reads.1,
+        reads.2,
       )
   missing_read sum old new left pieces buf mid after (Err e) can size all is copied reads =
       let those : left ≡ pieces_left cache t.id (pieces_of t.page_size (offset, len) 0) = is ∙ ap (λ (l : List Piece). pieces_left cache t.id l) all in
@@ -133,6 +135,7 @@ module _ (t : Tail) (cache : CacheState) (offset : ℕ) (buf mid : List ℕ) (co
             ∙ ap (λ (l : List ℕ). l ++ rest) front ∙ ap (λ (l : List ℕ). slice content (offset, count) ++ l) reads.0
             ∙ sym (slice_two content offset count (length buf - count)) ∙ ap (λ n. slice content (offset, n)) many,
         full_missing sum cache t ((offset, length buf) ∷ []) (missing cache t ((offset + count, length buf - count) ∷ [])) old.present.readable (missing_rest cache t.id offset buf mid count cached t refl can.page_size some) reads.1,
+        reads.2,
       )
   below_joins sum old new rest all (Err e) can below is reads =
       faults_same sum cache t ((offset + count, length buf - count) ∷ []) ((offset, length buf) ∷ []) old new e (missing_rest cache t.id offset buf mid count cached t refl can.page_size some) reads
@@ -165,7 +168,7 @@ module _ (t : Tail) (cache : CacheState) (offset : ℕ) (buf mid : List ℕ) (co
   pub cached_reads : (sum : List ℕ → ℕ) (life : Life) → CanRead t cache life.present → (0 < length buf → offset + length buf ≤ t.full_pages * t.page_size) → count ≡ length buf → ReadsBelow sum t cache (offset, length buf) mid life life (Ok tt)
   cached_reads sum life can below all =
       let none : missing cache t ((offset, length buf) ∷ []) ≡ [] = cached_all cache t.id offset buf mid count cached t refl can.page_size some all in
-      (cached_whole life.present can below all, full_missing sum cache t ((offset, length buf) ∷ []) [] life.present.readable none (λ page has. absurd (omega (arith, has.1))))
+      (cached_whole life.present can below all, full_missing sum cache t ((offset, length buf) ∷ []) [] life.present.readable none (λ page has. absurd (omega (arith, has.1))), none_failed_start life.present)
 
   -- whether it had all says whether the range is served
   pub cached_tries : cache.page_size ≡ t.page_size → t.full_pages * (t.page_size + 12) < 2 ^ 64 → (0 < length buf → offset + length buf ≤ t.full_pages * t.page_size) → TriesBelow t (offset, length buf) cache mid (nat_eq count (length mid))

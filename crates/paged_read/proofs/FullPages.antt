@@ -9,6 +9,7 @@ use Rattle.page.specs.Page.{value_len, active}
 use Rattle.page.specs.declared.slot.ActiveChecksum.{ActiveChecksum}
 use Rattle.crash.proofs.Texts.{active_is, active_none}
 use Rattle.paged_read.specs.Parts.{ReadsPage}
+use Rattle.paged_read.proofs.Failing.{none_failed_same}
 
 -- a page without a slot that verifies isn't full
 pub not_full : (sum : List ℕ → ℕ) (P : ℕ) (page : List ℕ) → 0 < P → length page ≡ P + 12 → None ≡ active sum (length page - 12) page → value_len sum P page ≡ P → ⊥
@@ -33,5 +34,5 @@ page_fault sum P page old new SyncFailed there goes = goes
 page_fault sum P page old new InvalidChecksum there goes = absurd goes
 page_fault sum P page old new BlobInsufficientLength there goes = absurd (omega (arith, there, goes.1))
 page_fault sum P page old new OffsetOverflow there goes = goes
-page_fault sum P page old new OutOfMemory there goes = tt
+page_fault sum P page old new OutOfMemory there goes = none_failed_same old new goes.0
 page_fault sum P page old new IdsExhausted there goes = goes

@@ -67,7 +67,7 @@ module _ (sum : List ℕ → ℕ) (t : Tail) (cache : CacheState) (old new : Lif
     (full : EachFull sum t old.present) where
   -- so no missing page is refused
   pub no_fault : (ranges : List (ℕ × ℕ)) → ReadFault sum cache t ranges old new InvalidChecksum → ⊥
-  no_fault ranges (page, among, part) =
+  no_fault ranges (page, among, part, none) =
       let below : page < t.full_pages =
       omega (arith, counted 0 t.full_pages page (filtered _ (range_with_len 0 t.full_pages) page among)) in
       part (full page below)

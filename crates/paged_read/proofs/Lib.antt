@@ -1,3 +1,4 @@
+pub mod Failing
 pub mod FullPages
 pub mod Spans
 pub mod Windows

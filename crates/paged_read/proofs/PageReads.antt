@@ -10,6 +10,7 @@ use Rattle.page.specs.Page.{value_len}
 use Rattle.crash.specs.Looks.{Looked}
 use Rattle.cache.specs.CacheState.{CacheState}
 use Rattle.cache.specs.declared.piece.Piece.{Piece}
+use Rattle.paged_read.specs.Failures.{NoneFailed, none_failed_joins}
 use Rattle.paged_read.specs.Tail.{Tail}
 use Rattle.paged_read.specs.Ranges.{missing, page_at, AreMissingFull, ReadFault}
 use Rattle.paged_read.specs.Parts.{ReadsPage, ArePagesFull, PagesFault, pages_of, with_told}
@@ -36,10 +37,10 @@ page_faults sum P page old new ReadFailed cause = cause
 page_faults sum P page old new WriteFailed cause = cause
 page_faults sum P page old new ResizeFailed cause = cause
 page_faults sum P page old new SyncFailed cause = cause
-page_faults sum P page old new InvalidChecksum cause = (page, has_first page [], cause)
+page_faults sum P page old new InvalidChecksum cause = (page, has_first page [], cause.0, cause.1)
 page_faults sum P page old new BlobInsufficientLength cause = cause
 page_faults sum P page old new OffsetOverflow cause = cause
-page_faults sum P page old new OutOfMemory cause = tt
+page_faults sum P page old new OutOfMemory cause = cause
 page_faults sum P page old new IdsExhausted cause = cause
 
 -- a full page is
@@ -48,17 +49,17 @@ page_full sum P page bytes readable is full = λ p has.
     ap (λ q. value_len sum P (page_at P q readable)) (one_page page p has) ∙ sym (ap (λ (l : List ℕ). value_len sum P l) is) ∙ full
 
 -- a fault of a later part of a read, of some of its pages, is one of the whole
-pub faults_later : (sum : List ℕ → ℕ) (P : ℕ) (some all : List ℕ) (old mid new : Life) (e : Error) → Looked old mid → ((p : ℕ) → Contains some p → Contains all p) → PagesFault sum P some mid new e → PagesFault sum P all old new e
-faults_later sum P some all old mid new ReadFailed looked among cause = failed_later ReadFailed old.present mid.present new.present looked.log cause
-faults_later sum P some all old mid new WriteFailed looked among cause = cause
-faults_later sum P some all old mid new ResizeFailed looked among cause = cause
-faults_later sum P some all old mid new SyncFailed looked among cause = cause
-faults_later sum P some all old mid new InvalidChecksum looked among cause =
-    (cause.0, among cause.0 cause.1, λ full. cause.2 (ap (λ (d : Disk). value_len sum P (page_at P cause.0 d.readable)) looked.same ∙ full))
-faults_later sum P some all old mid new BlobInsufficientLength looked among cause = cause
-faults_later sum P some all old mid new OffsetOverflow looked among cause = cause
-faults_later sum P some all old mid new OutOfMemory looked among cause = tt
-faults_later sum P some all old mid new IdsExhausted looked among cause = cause
+pub faults_later : (sum : List ℕ → ℕ) (P : ℕ) (some all : List ℕ) (old mid new : Life) (e : Error) → Looked old mid → NoneFailed old.present mid.present → ((p : ℕ) → Contains some p → Contains all p) → PagesFault sum P some mid new e → PagesFault sum P all old new e
+faults_later sum P some all old mid new ReadFailed looked none among cause = failed_later ReadFailed old.present mid.present new.present looked.log cause
+faults_later sum P some all old mid new WriteFailed looked none among cause = cause
+faults_later sum P some all old mid new ResizeFailed looked none among cause = cause
+faults_later sum P some all old mid new SyncFailed looked none among cause = cause
+faults_later sum P some all old mid new InvalidChecksum looked none among cause =
+    (cause.0, among cause.0 cause.1, (λ full. cause.2 (ap (λ (d : Disk). value_len sum P (page_at P cause.0 d.readable)) looked.same ∙ full)), none_failed_joins old.present mid.present new.present none cause.3)
+faults_later sum P some all old mid new BlobInsufficientLength looked none among cause = cause
+faults_later sum P some all old mid new OffsetOverflow looked none among cause = cause
+faults_later sum P some all old mid new OutOfMemory looked none among cause = none_failed_joins old.present mid.present new.present none cause
+faults_later sum P some all old mid new IdsExhausted looked none among cause = cause
 
 -- a fault of the missing pages is one of the read
 pub faults_missing : (sum : List ℕ → ℕ) (cache : CacheState) (t : Tail) (ranges : List (ℕ × ℕ)) (pages : List ℕ) (old new : Life) (e : Error) → missing cache t ranges ≡ pages → PagesFault sum t.page_size pages old new e → ReadFault sum cache t ranges old new e
@@ -66,10 +67,10 @@ faults_missing sum cache t ranges pages old new ReadFailed is cause = cause
 faults_missing sum cache t ranges pages old new WriteFailed is cause = cause
 faults_missing sum cache t ranges pages old new ResizeFailed is cause = cause
 faults_missing sum cache t ranges pages old new SyncFailed is cause = cause
-faults_missing sum cache t ranges pages old new InvalidChecksum is cause = (cause.0, subst (λ (l : List ℕ). Contains l cause.0) (sym is) cause.1, cause.2)
+faults_missing sum cache t ranges pages old new InvalidChecksum is cause = (cause.0, subst (λ (l : List ℕ). Contains l cause.0) (sym is) cause.1, cause.2, cause.3)
 faults_missing sum cache t ranges pages old new BlobInsufficientLength is cause = cause
 faults_missing sum cache t ranges pages old new OffsetOverflow is cause = cause
-faults_missing sum cache t ranges pages old new OutOfMemory is cause = tt
+faults_missing sum cache t ranges pages old new OutOfMemory is cause = cause
 faults_missing sum cache t ranges pages old new IdsExhausted is cause = cause
 
 -- and of one range is one of another that finds the same missing
@@ -78,10 +79,10 @@ faults_same sum cache t one other old new ReadFailed is cause = cause
 faults_same sum cache t one other old new WriteFailed is cause = cause
 faults_same sum cache t one other old new ResizeFailed is cause = cause
 faults_same sum cache t one other old new SyncFailed is cause = cause
-faults_same sum cache t one other old new InvalidChecksum is cause = (cause.0, subst (λ (l : List ℕ). Contains l cause.0) (sym is) cause.1, cause.2)
+faults_same sum cache t one other old new InvalidChecksum is cause = (cause.0, subst (λ (l : List ℕ). Contains l cause.0) (sym is) cause.1, cause.2, cause.3)
 faults_same sum cache t one other old new BlobInsufficientLength is cause = cause
 faults_same sum cache t one other old new OffsetOverflow is cause = cause
-faults_same sum cache t one other old new OutOfMemory is cause = tt
+faults_same sum cache t one other old new OutOfMemory is cause = cause
 faults_same sum cache t one other old new IdsExhausted is cause = cause
 
 -- so with pages that are full

@@ -14,8 +14,10 @@ use Rattle.page.specs.declared.slot.ActiveChecksum.{ActiveChecksum}
 use Rattle.crash.specs.Looks.{Looked, looked_joins}
 use Rattle.crash.proofs.LookLaws.{looked_read, looked_none, looked_readable}
 use Rattle.crash.proofs.Texts.{active_is, active_none}
+use Rattle.paged_read.specs.Failures.{NoneFailed, none_failed_joins}
 use Rattle.paged_read.specs.Ranges.{page_at}
 use Rattle.paged_read.specs.RawReads.{all_of, after_told, ending_at, joined, part_of, parts_told, range_end, range_told, ReadsTold, some_of, tail_told, value_told}
+use Rattle.paged_read.proofs.Failing.{none_failed_read, none_failed_same}
 
 -- ---- one page
 
@@ -60,9 +62,9 @@ value_fault sum of P page size page_start old new ResizeFailed size_is page_star
 value_fault sum of P page size page_start old new SyncFailed size_is page_start_is fits goes = absurd goes
 value_fault sum of P page size page_start old new InvalidChecksum size_is page_start_is fits goes = absurd goes
 value_fault sum of P page size page_start old new BlobInsufficientLength size_is page_start_is fits goes =
-    (value_lacks sum P page old.present.readable fits (omega (arith, goes.1, size_is, page_start_is)), looked_none old new goes.0)
+    (value_lacks sum P page old.present.readable fits (omega (arith, goes.1, size_is, page_start_is)), looked_none old new goes.0, none_failed_same old new goes.0)
 value_fault sum of P page size page_start old new OffsetOverflow size_is page_start_is fits goes = absurd goes
-value_fault sum of P page size page_start old new OutOfMemory size_is page_start_is fits goes = looked_none old new goes.0
+value_fault sum of P page size page_start old new OutOfMemory size_is page_start_is fits goes = (looked_none old new goes.0, none_failed_same old new goes.0)
 value_fault sum of P page size page_start old new IdsExhausted size_is page_start_is fits goes = absurd goes
 
 -- the page that was read, with the numbers that a program has
@@ -79,7 +81,7 @@ pub read_missing_value : {A : Type 0} (sum : List ℕ → ℕ) (of : A → List 
 read_missing_value sum of P page size page_start old new bytes size_is page_start_is fits goes none =
     let there = page_there P page size page_start old new bytes size_is page_start_is goes in
     let is = page_read P page size page_start old new bytes size_is page_start_is goes in
-    (value_missing sum P page old.present.readable fits there (ap (λ (l : List ℕ). value_len sum P l) (sym is) ∙ active_none sum P bytes none), looked_read page_start size old new (Ok bytes) goes)
+    (value_missing sum P page old.present.readable fits there (ap (λ (l : List ℕ). value_len sum P l) (sym is) ∙ active_none sum P bytes none), looked_read page_start size old new (Ok bytes) goes, none_failed_read page_start size old new bytes goes)
 
 -- it has one, of so many bytes
 pub read_value_is : (sum : List ℕ → ℕ) (P page size page_start : ℕ) (old new : Life) (bytes : List ℕ) (slot : ActiveChecksum) → size ≡ P + 12 → page_start ≡ page * (P + 12) → (page + 1) * (P + 12) < 2 ^ 64
@@ -147,25 +149,25 @@ told_looks of told old new (Err SyncFailed) reads = reads.1
 told_looks of told old new (Err InvalidChecksum) reads = reads.1
 told_looks of told old new (Err BlobInsufficientLength) reads = reads.1
 told_looks of told old new (Err OffsetOverflow) reads = reads.1
-told_looks of told old new (Err OutOfMemory) reads = reads
+told_looks of told old new (Err OutOfMemory) reads = reads.0
 told_looks of told old new (Err IdsExhausted) reads = reads.1
 
 -- one that is refused after a look, as a part of another
-pub told_fault : {A B C D : Type 0} (of : A → B) (to : C → D) (told : Result B Error) (whole : Result D Error) (start old new : Life) (e : Error) → Looked start old
+pub told_fault : {A B C D : Type 0} (of : A → B) (to : C → D) (told : Result B Error) (whole : Result D Error) (start old new : Life) (e : Error) → Looked start old → NoneFailed start.present old.present
     → ((f : Error) → told ≡ Err f → whole ≡ Err f) → ReadsTold of told old new (Err e) → ReadsTold to whole start new (Err e)
-told_fault of to told whole start old new ReadFailed so_far meant reads = (failed_later ReadFailed start.present old.present new.present so_far.log reads.0, looked_joins start old new so_far reads.1)
-told_fault of to told whole start old new WriteFailed so_far meant reads = (meant WriteFailed reads.0, looked_joins start old new so_far reads.1)
-told_fault of to told whole start old new ResizeFailed so_far meant reads = (meant ResizeFailed reads.0, looked_joins start old new so_far reads.1)
-told_fault of to told whole start old new SyncFailed so_far meant reads = (meant SyncFailed reads.0, looked_joins start old new so_far reads.1)
-told_fault of to told whole start old new InvalidChecksum so_far meant reads = (meant InvalidChecksum reads.0, looked_joins start old new so_far reads.1)
-told_fault of to told whole start old new BlobInsufficientLength so_far meant reads = (meant BlobInsufficientLength reads.0, looked_joins start old new so_far reads.1)
-told_fault of to told whole start old new OffsetOverflow so_far meant reads = (meant OffsetOverflow reads.0, looked_joins start old new so_far reads.1)
-told_fault of to told whole start old new OutOfMemory so_far meant reads = looked_joins start old new so_far reads
-told_fault of to told whole start old new IdsExhausted so_far meant reads = (meant IdsExhausted reads.0, looked_joins start old new so_far reads.1)
+told_fault of to told whole start old new ReadFailed so_far none meant reads = (failed_later ReadFailed start.present old.present new.present so_far.log reads.0, looked_joins start old new so_far reads.1)
+told_fault of to told whole start old new WriteFailed so_far none meant reads = (meant WriteFailed reads.0, looked_joins start old new so_far reads.1, none_failed_joins start.present old.present new.present none reads.2)
+told_fault of to told whole start old new ResizeFailed so_far none meant reads = (meant ResizeFailed reads.0, looked_joins start old new so_far reads.1, none_failed_joins start.present old.present new.present none reads.2)
+told_fault of to told whole start old new SyncFailed so_far none meant reads = (meant SyncFailed reads.0, looked_joins start old new so_far reads.1, none_failed_joins start.present old.present new.present none reads.2)
+told_fault of to told whole start old new InvalidChecksum so_far none meant reads = (meant InvalidChecksum reads.0, looked_joins start old new so_far reads.1, none_failed_joins start.present old.present new.present none reads.2)
+told_fault of to told whole start old new BlobInsufficientLength so_far none meant reads = (meant BlobInsufficientLength reads.0, looked_joins start old new so_far reads.1, none_failed_joins start.present old.present new.present none reads.2)
+told_fault of to told whole start old new OffsetOverflow so_far none meant reads = (meant OffsetOverflow reads.0, looked_joins start old new so_far reads.1, none_failed_joins start.present old.present new.present none reads.2)
+told_fault of to told whole start old new OutOfMemory so_far none meant reads = (looked_joins start old new so_far reads.0, none_failed_joins start.present old.present new.present none reads.1)
+told_fault of to told whole start old new IdsExhausted so_far none meant reads = (meant IdsExhausted reads.0, looked_joins start old new so_far reads.1, none_failed_joins start.present old.present new.present none reads.2)
 
 -- one that no memory ends
-pub told_memory : {A B : Type 0} (of : A → B) (told : Result B Error) (start new : Life) (e : Error) → Looked start new → e ≡ OutOfMemory → ReadsTold of told start new (Err e)
-told_memory of told start new e so_far is = subst (λ (x : Error). ReadsTold of told start new (Err x)) (sym is) so_far
+pub told_memory : {A B : Type 0} (of : A → B) (told : Result B Error) (start new : Life) (e : Error) → Looked start new → NoneFailed start.present new.present → e ≡ OutOfMemory → ReadsTold of told start new (Err e)
+told_memory of told start new e so_far none is = subst (λ (x : Error). ReadsTold of told start new (Err x)) (sym is) (so_far, none)
 
 -- ---- a range
 
@@ -305,9 +307,9 @@ seen_active sum P size bytes seen slot size_is many same told =
 
 -- a part that was cut out of a page's value, unless memory was refused
 pub part_sliced : (P from to page len start skip stop : ℕ) (bytes : List ℕ) (told : Result (List ℕ) Error) (old new : Life) (result : Result (List ℕ) Error) → start ≡ page * P → skip ≡ from - start → stop ≡ min (to - start) len
-    → skip < stop → stop ≤ length bytes → told ≡ Ok (take len bytes) → Looked old new → IfOk result (λ b. b ≡ slice_range bytes skip stop) → IsOkUnless result OutOfMemory
+    → skip < stop → stop ≤ length bytes → told ≡ Ok (take len bytes) → Looked old new → NoneFailed old.present new.present → IfOk result (λ b. b ≡ slice_range bytes skip stop) → IsOkUnless result OutOfMemory
     → ReadsTold (λ (b : List ℕ). b) (part_of P from to page told) old new result
-part_sliced P from to page len start skip stop bytes told old new (Ok b) is front back less fits value looked ok err =
+part_sliced P from to page len start skip stop bytes told old new (Ok b) is front back less fits value looked none ok err =
     let first : skip ≡ from - page * P = front ∙ ap (λ (n : ℕ). from - n) is in
     let last : stop ≡ min (to - page * P) len = back ∙ ap (λ (n : ℕ). min (to - n) len) is in
     let cut = ap (λ (n : ℕ). slice_range bytes n stop) first ∙ ap (λ (n : ℕ). slice_range bytes (from - page * P) n) last in (
@@ -315,8 +317,9 @@ part_sliced P from to page len start skip stop bytes told old new (Ok b) is fron
           ∙ part_some P from to page len bytes (omega (arith, less, first, last)) (omega (arith, fits, last))
           ∙ ap (λ (l : List ℕ). Ok l) (sym (ok ∙ cut)),
       looked,
+      none,
     )
-part_sliced P from to page len start skip stop bytes told old new (Err e) is front back less fits value looked ok err = told_memory (λ (b : List ℕ). b) (part_of P from to page told) old new e looked err
+part_sliced P from to page len start skip stop bytes told old new (Err e) is front back less fits value looked none ok err = told_memory (λ (b : List ℕ). b) (part_of P from to page told) old new e looked none err
 
 -- none of it is of the range
 pub part_missed : (P from to page len start skip stop : ℕ) (bytes : List ℕ) (told : Result (List ℕ) Error) → start ≡ page * P → skip ≡ from - start → stop ≡ min (to - start) len → stop ≤ skip → told ≡ Ok (take len bytes)

@@ -14,9 +14,11 @@ use Rattle.std.proofs.lemmas.List.{drop-drop, length-take-le, take-take}
 use Rattle.bytes.proofs.Ranges.{drop-take_less}
 use Rattle.std.proofs.Math.Nat.{mul-le-mul_right}
 use Rattle.page.specs.Page.{value_len}
+use Rattle.paged_read.specs.Failures.{TellsFailure}
 use Rattle.paged_read.specs.Ranges.{page_at}
 use Rattle.paged_read.specs.ReadAhead.{AreFullPages, AreNext, FetchesBatch, Follow, IsBatch, batch_bytes, batch_range, after, page_after}
 use Rattle.paged_read.specs.declared.ahead.Ahead.{Ahead}
+use Rattle.paged_read.proofs.Failing.{none_failed_asked, none_failed_same}
 
 -- a slice of pages that is one of them
 pub slice_is_page : (P size page : ℕ) (bytes : List ℕ) → size ≡ P + 12 → take (page * size + size - page * size) (drop (page * size) bytes) ≡ page_at P page bytes
@@ -181,6 +183,24 @@ fetched P batch full page old new read result below reach goes ok err = by read 
     by (Err ReadFailed) is gone = failed ReadFailed is (failed_once (StartReadMany (range ∷ [])) old.present new.present (ap (λ (l : Life). l.present.log) gone))
     by (Err BlobInsufficientLength) is gone = absurd (gone.1 (batch_within P batch full page old.present.readable below reach))
     by (Err OutOfMemory) is gone = failed OutOfMemory is (tt {0})
+    by (Err _) is gone = absurd gone
+
+-- and it tells what failed
+pub fetched_tells : (ranges : List (ℕ × ℕ)) (old new : Life) (want : List ℕ) (read : Result (List (List ℕ)) Error) (result : Result (List ℕ) Error) → bytes_of ranges old.present.readable ≡ want ∷ [] → StartReadGoes ranges old new read
+    → ((bytes : List ℕ) → read ≡ Ok (bytes ∷ []) → result ≡ Ok bytes) → ((error : Error) → read ≡ Err error → result ≡ Err error)
+    → TellsFailure old new result
+fetched_tells ranges old new want read result one goes ok err = by read refl goes
+  where
+    failed : (e : Error) → read ≡ Err e → TellsFailure {A = List ℕ} old new (Err e) → TellsFailure old new result
+    failed e is why = subst (λ (x : Result (List ℕ) Error). TellsFailure old new x) (sym (err e is)) why
+
+    by : (r : Result (List (List ℕ)) Error) → read ≡ r → StartReadGoes ranges old new r → TellsFailure old new result
+    by (Ok all) is gone =
+        let answers : result ≡ Ok want = ok want (subst (λ (l : List (List ℕ)). read ≡ Ok l) (gone.1 ∙ one) is) in
+        subst (λ (x : Result (List ℕ) Error). TellsFailure old new x) (sym answers) (none_failed_asked (StartReadMany ranges) old new gone.2)
+    by (Err ReadFailed) is gone = failed ReadFailed is (λ other. absurd (other refl))
+    by (Err BlobInsufficientLength) is gone = failed BlobInsufficientLength is (λ other. none_failed_same old new gone.0)
+    by (Err OutOfMemory) is gone = failed OutOfMemory is (λ other. none_failed_same old new gone.0)
     by (Err _) is gone = absurd gone
 
 -- ---- the pages of a batch

@@ -257,7 +257,7 @@ up_to_refused sum t cache offset len count bytes old new InvalidChecksum is with
     subst (λ (n : ℕ). ReadFault sum cache t ((offset, n) ∷ []) old new InvalidChecksum) is reads
 up_to_refused sum t cache offset len count bytes old new BlobInsufficientLength is within fits reads = absurd (omega (arith, within, reads.2))
 up_to_refused sum t cache offset len count bytes old new OffsetOverflow is within fits reads = absurd (omega (arith, fits, reads.1))
-up_to_refused sum t cache offset len count bytes old new OutOfMemory is within fits reads = tt
+up_to_refused sum t cache offset len count bytes old new OutOfMemory is within fits reads = reads
 up_to_refused sum t cache offset len count bytes old new IdsExhausted is within fits reads = reads
 
 -- a range that can't be read
@@ -278,10 +278,10 @@ many_refused sum t cache ranges pages bytes old new ReadFailed is within fault =
 many_refused sum t cache ranges pages bytes old new WriteFailed is within fault = (within, fault)
 many_refused sum t cache ranges pages bytes old new ResizeFailed is within fault = (within, fault)
 many_refused sum t cache ranges pages bytes old new SyncFailed is within fault = (within, fault)
-many_refused sum t cache ranges pages bytes old new InvalidChecksum is within fault = (within, (fault.0, subst (λ (l : List ℕ). Contains l fault.0) (sym is) fault.1, fault.2))
+many_refused sum t cache ranges pages bytes old new InvalidChecksum is within fault = (within, (fault.0, subst (λ (l : List ℕ). Contains l fault.0) (sym is) fault.1, fault.2, fault.3))
 many_refused sum t cache ranges pages bytes old new BlobInsufficientLength is within fault = absurd fault
 many_refused sum t cache ranges pages bytes old new OffsetOverflow is within fault = absurd fault
-many_refused sum t cache ranges pages bytes old new OutOfMemory is within fault = (within, tt)
+many_refused sum t cache ranges pages bytes old new OutOfMemory is within fault = (within, fault)
 many_refused sum t cache ranges pages bytes old new IdsExhausted is within fault = (within, fault)
 
 -- where it fails after all pages were put

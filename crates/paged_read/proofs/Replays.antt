@@ -19,6 +19,7 @@ use Rattle.crash.proofs.Pages.{drop-stored, fewer_fit, length-stored, stored_sam
 use Rattle.crash.proofs.Texts.{AreFull_page}
 use Rattle.paged_read.specs.Hand.{payloads}
 use Rattle.paged_read.specs.ReadAhead.{AddsBatch, AreFullPages, AreNext, after, Follow, IsBatch, IsQueue, ReadsBatch}
+use Rattle.paged_read.specs.Failures.{NoneFailed, TellsFailure}
 use Rattle.paged_read.specs.Replay.{IsHad, advanced, CanReplay, CopiesBytes, CopiesToSlice, Gives, end_of, Ensures, FillFault, Fills, FillsOnce, HasFilled, IsAhead, IsReplay, IsReplayOf, IsToppedUp, new_replay, ReplaysOn, ReplaysThrough, ReplayState}
 use Rattle.paged_read.specs.Snapshots.{IsTailOf}
 use Rattle.paged_read.specs.Tail.{HasFullPages, size_of, Tail, told}
@@ -385,6 +386,8 @@ pub record Reached (sum : List ℕ → ℕ) (r : ReplayState) (count : ℕ) (now
   pub filled : HasFilled sum r now old.present
   pub ahead : IsAhead r now old new
   pub idle : IsHad r count → new ≡ old
+  -- nothing is asked for that doesn't come to hand
+  pub alone : length now.hand ≡ length r.hand → new ≡ old
   pub can : CanReplay now new.present
   pub looked : Looked old new
 
@@ -396,6 +399,7 @@ reach_start sum r count old can = record {
   filled = λ page above below. absurd (omega (arith, above, below));
   ahead = inl (refl, refl);
   idle = λ had. refl;
+  alone = λ same. refl;
   can = can;
   looked = looked_start old;
 }
@@ -436,6 +440,7 @@ reach_more sum r count mid now old between new so_far is less filled idle can lo
       ];
       ahead = goes_ahead filled.5 so_far.ahead;
       idle = λ had. reach_idle sum r count mid old between new so_far less idle had;
+      alone = λ same. absurd (omega (arith, same, filled.2, so_far.fills.hand));
       can = can;
       looked = looked_joins old between new so_far.looked looked;
     }
@@ -452,8 +457,8 @@ reach_more sum r count mid now old between new so_far is less filled idle can lo
 
 -- one that fails
 pub reach_fails : (sum : List ℕ → ℕ) (r : ReplayState) (count : ℕ) (mid now : ReplayState) (old between new : Life) (e : Error) → Reached sum r count mid old between
-    → FillsOnce sum mid now between new (Err e) → Ensures sum r count now old new (Err e)
-reach_fails sum r count mid now old between new e so_far filled =
+    → FillsOnce sum mid now between new (Err e) → TellsFailure {A = Unit {0}} between new (Err e) → Ensures sum r count now old new (Err e)
+reach_fails sum r count mid now old between new e so_far filled tells =
     let fills = filled.0 in
     let same : length now.hand ≡ length mid.hand = ap (λ (l : List ℕ). length l) filled.2 in
     let end : end_of now ≡ end_of mid = omega (arith, same, fills.position) in (
@@ -467,6 +472,7 @@ reach_fails sum r count mid now old between new e so_far filled =
       subst (λ (n : ℕ). AreFullPages sum r.tail.page_size (end_of r / r.tail.page_size) (min r.tail.full_pages (n / r.tail.page_size)) old.present.readable) (sym end) so_far.filled,
       omega (arith, same, so_far.few),
       filled.1 ∙ so_far.exhausted,
+      λ none other. subst (λ (l : Life). NoneFailed l.present new.present) (so_far.alone (sym same ∙ none)) (tells other),
     )
   where
     fault : (e : Error) → FillFault sum r.tail between new e → FillFault sum r.tail old new e

@@ -10,6 +10,7 @@ use Rattle.disk.specs.Disk.{Disk, Life}
 use Rattle.disk.specs.declared.error.Error.{Error}
 use Rattle.disk.specs.declared.error.Error.TheVariants.{ReadFailed, WriteFailed, ResizeFailed, SyncFailed, InvalidChecksum, BlobInsufficientLength, OffsetOverflow, OutOfMemory, IdsExhausted}
 use Rattle.cache.specs.CacheState.{CacheState}
+use Rattle.paged_read.specs.Failures.{none_failed_start}
 use Rattle.paged_read.specs.Tail.{Tail, told, size_of, CanRead}
 use Rattle.paged_read.specs.Ranges.{missing, is_served, slice, AsksForMissing, AreMissingFull, ReadFault, Reads, ReadsUpTo, TriesRead}
 use Rattle.paged_read.proofs.Windows.{missing_below, missing_none}
@@ -130,4 +131,5 @@ reads_nothing sum t cache offset len life bytes none empty =
       empty ∙ ap (λ n. slice (told t life.present.readable) (offset, n)) (sym zero_len),
       sym zero_len,
       full_missing sum cache t ((offset, min len (size_of t - offset)) ∷ []) [] life.present.readable lacks (λ page has. absurd (omega (arith, has.1))),
+      none_failed_start life.present,
     )

@@ -12,6 +12,7 @@ use Rattle.page.specs.Page.{value_len}
 use Rattle.cache.specs.CacheState.{CacheState, Puts}
 use Rattle.cache.specs.Pages.{page_of_content}
 use Rattle.cache.specs.declared.piece.Piece.{Piece}
+use Rattle.paged_read.specs.Failures.{NoneFailed}
 use Rattle.paged_read.specs.Tail.{Tail, told, CanRead}
 use Rattle.paged_read.specs.Ranges.{missing, slice, page_ranges}
 use Rattle.paged_read.specs.Parts.{with_told, ArePagesFull, PagesFault}
@@ -47,13 +48,15 @@ pub record Gathered (cache : CacheState) (t : Tail) (ranges : List (ℕ × ℕ))
       → with_told t.page_size (told t d.readable) (pieces_in lacks) (take buf_offset buf)
       ≡ flat_map (slice (told t d.readable)) ranges
 
--- these pages are delivered, each by its number; or the device failed, or memory was refused
+-- these pages are delivered, each by its number; or the device failed; or it didn't, and memory was
+-- refused
 abbrev pub DeliversPages : (P : ℕ) → List ℕ → Life → Life
     → Result (Vec (ℕ × List ℕ) Global) Error → Type 0
 DeliversPages P pages old new (Ok out) =
     Delivers (page_ranges P pages) old.present.readable out.items
+    × NoneFailed old.present new.present
 DeliversPages P pages old new (Err ReadFailed) = HasFailed ReadFailed old.present new.present
-DeliversPages P pages old new (Err OutOfMemory) = Unit {0}
+DeliversPages P pages old new (Err OutOfMemory) = NoneFailed old.present new.present
 DeliversPages P pages old new (Err _) = ⊥
 
 -- a full page is put in the cache, one that isn't full is refused
@@ -108,6 +111,7 @@ abbrev pub ReadsLacks : (List ℕ → ℕ) → Tail → List ℕ → List Lack �
 ReadsLacks sum t pages lacks buf after old new (Ok _) =
     (after ≡ with_told t.page_size (told t old.present.readable) (pieces_in lacks) buf)
     × ArePagesFull sum t.page_size pages old.present.readable
+    × NoneFailed old.present new.present
 ReadsLacks sum t pages lacks buf after old new (Err e) =
     PagesFault sum t.page_size pages old new e
 

@@ -1,4 +1,5 @@
 pub mod Tail
+pub mod Failures
 pub mod Ranges
 pub mod Pieces
 pub mod Parts

@@ -9,18 +9,21 @@ use Rattle.page.specs.Page.{value_len}
 use Rattle.cache.specs.CacheState.{CacheState, put_at, IsPiece}
 use Rattle.cache.specs.Pages.{page_of_content}
 use Rattle.cache.specs.declared.piece.Piece.{Piece}
+use Rattle.paged_read.specs.Failures.{NoneFailed}
 use Rattle.paged_read.specs.Tail.{Tail, told, CanRead}
 use Rattle.paged_read.specs.Ranges.{page_at, slice, is_served, AreMissingFull, ReadFault}
 
--- a physical page that is there is read and found full, or the device failed, or the page isn't
--- full, or memory was refused
+-- a physical page that is there is read and found full; or the device failed; or it didn't, and the
+-- page isn't full, or memory was refused
 abbrev pub ReadsPage : (List ℕ → ℕ) → (P page : ℕ) → Life → Life → Result (List ℕ) Error → Type 0
 ReadsPage sum P page old new (Ok bytes) =
     (bytes ≡ page_at P page old.present.readable) × (value_len sum P bytes ≡ P)
+    × NoneFailed old.present new.present
 ReadsPage sum P page old new (Err ReadFailed) = HasFailed ReadFailed old.present new.present
 ReadsPage sum P page old new (Err InvalidChecksum) =
-    value_len sum P (page_at P page old.present.readable) ≢ P
-ReadsPage sum P page old new (Err OutOfMemory) = Unit {0}
+    (value_len sum P (page_at P page old.present.readable) ≢ P)
+    × NoneFailed old.present new.present
+ReadsPage sum P page old new (Err OutOfMemory) = NoneFailed old.present new.present
 ReadsPage sum P page old new (Err _) = ⊥
 
 -- each of these pages is full
@@ -34,7 +37,8 @@ PagesFault sum P pages old new ReadFailed = HasFailed ReadFailed old.present new
 PagesFault sum P pages old new InvalidChecksum =
     (page : ℕ) × Contains pages page
     × (value_len sum P (page_at P page old.present.readable) ≢ P)
-PagesFault sum P pages old new OutOfMemory = Unit {0}
+    × NoneFailed old.present new.present
+PagesFault sum P pages old new OutOfMemory = NoneFailed old.present new.present
 PagesFault sum P pages old new _ = ⊥
 
 -- a piece is of a page below the tail, and there is room for it
@@ -59,6 +63,7 @@ abbrev pub ReadsPieces : (List ℕ → ℕ) → Tail → List Piece → List ℕ
 ReadsPieces sum t pieces bytes bytes_after old new (Ok _) =
     (bytes_after ≡ with_told t.page_size (told t old.present.readable) pieces bytes)
     × ArePagesFull sum t.page_size (pages_of pieces) old.present.readable
+    × NoneFailed old.present new.present
 ReadsPieces sum t pieces bytes bytes_after old new (Err e) =
     PagesFault sum t.page_size (pages_of pieces) old new e
 
@@ -68,6 +73,7 @@ abbrev pub ReadsBelow : (List ℕ → ℕ) → Tail → CacheState → ℕ × �
 ReadsBelow sum t cache range bytes old new (Ok _) =
     (bytes ≡ slice (told t old.present.readable) range)
     × AreMissingFull sum cache t (range ∷ []) old.present.readable
+    × NoneFailed old.present new.present
 ReadsBelow sum t cache range bytes old new (Err e) = ReadFault sum cache t (range ∷ []) old new e
 
 -- a range below the tail is copied where the cache holds its pages: whether it does, and then these

@@ -14,6 +14,7 @@ use Rattle.page.specs.Page.{value_len}
 use Rattle.cache.specs.CacheState.{CacheState, held}
 use Rattle.cache.specs.Pages.{CachesOnly, IsFresh}
 use Rattle.crash.specs.Looks.{Looked}
+use Rattle.paged_read.specs.Failures.{NoneFailed}
 use Rattle.paged_read.specs.Tail.{Tail, told, size_of, CanRead}
 
 -- a physical page by its offset
@@ -58,15 +59,16 @@ AreMissingFull sum cache t ranges readable =
     (page : ℕ) → Contains (missing cache t ranges) page
     → value_len sum t.page_size (page_at t.page_size page readable) ≡ t.page_size
 
--- why a read within the size may answer this error: a read of the device failed in the call, a page
--- that was missing isn't full, or memory was refused
+-- why a read within the size may answer this error: a read of the device failed in the call; or none
+-- did, and a page that was missing isn't full, or memory was refused
 abbrev pub ReadFault : (List ℕ → ℕ) → CacheState → Tail → List (ℕ × ℕ) → Life → Life → Error
     → Type 0
 ReadFault sum cache t ranges old new ReadFailed = HasFailed ReadFailed old.present new.present
 ReadFault sum cache t ranges old new InvalidChecksum =
     (page : ℕ) × Contains (missing cache t ranges) page
     × (value_len sum t.page_size (page_at t.page_size page old.present.readable) ≢ t.page_size)
-ReadFault sum cache t ranges old new OutOfMemory = Unit {0}
+    × NoneFailed old.present new.present
+ReadFault sum cache t ranges old new OutOfMemory = NoneFailed old.present new.present
 ReadFault sum cache t ranges old new _ = ⊥
 
 -- what a read leaves: the disk but for its log, and the cache but for full pages of the content
@@ -79,13 +81,15 @@ pub record LeavesAll (t : Tail) (cache cache_after : CacheState) (old new : Life
 
 -- ---- one range
 
--- the bytes from an offset on; overflow comes before the end, and both before anything is asked for
+-- the bytes from an offset on, and no device call failed; overflow comes before the end, and both
+-- before anything is asked for
 abbrev pub Reads : {A : Type 0} → (List ℕ → ℕ) → Tail → CacheState → ℕ × ℕ → (A → List ℕ) → Life
     → Life → Result A Error → Type 0
 Reads sum t cache range bytes old new (Ok a) =
     (range.0 + range.1 ≤ size_of t)
     × (bytes a ≡ slice (told t old.present.readable) range)
     × AreMissingFull sum cache t (range ∷ []) old.present.readable
+    × NoneFailed old.present new.present
 Reads sum t cache range bytes old new (Err OffsetOverflow) =
     (new ≡ old) × (2 ^ 64 ≤ range.0 + range.1)
 Reads sum t cache range bytes old new (Err BlobInsufficientLength) =
@@ -104,6 +108,7 @@ ReadsUpTo sum t cache offset len old new (Ok r) =
     ((len ≡ 0) ⊎ (offset < size_of t))
     × (r.0.items ≡ slice (told t old.present.readable) range) × (r.1 ≡ range.1)
     × AreMissingFull sum cache t (range ∷ []) old.present.readable
+    × NoneFailed old.present new.present
 ReadsUpTo sum t cache offset len old new (Err BlobInsufficientLength) =
     (new ≡ old) × (len ≢ 0) × (size_of t ≤ offset)
 ReadsUpTo sum t cache offset len old new (Err OffsetOverflow) = ⊥
@@ -135,6 +140,7 @@ ReadsMany sum t cache ranges bytes old new (Ok count) =
     EndWithin (size_of t) ranges × (count ≡ served cache t ranges)
     × (bytes ≡ flat_map (slice (told t old.present.readable)) ranges)
     × AreMissingFull sum cache t ranges old.present.readable
+    × NoneFailed old.present new.present
 ReadsMany sum t cache ranges bytes old new (Err OffsetOverflow) =
     (new ≡ old) × RangesGo (size_of t) ranges (Err OffsetOverflow)
 ReadsMany sum t cache ranges bytes old new (Err BlobInsufficientLength) =

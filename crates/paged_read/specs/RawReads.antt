@@ -8,6 +8,7 @@ use Rattle.disk.specs.declared.error.Error.TheVariants.{BlobInsufficientLength, 
 use Rattle.disk.specs.declared.error.Error.TheVariants.{OutOfMemory}
 use Rattle.page.specs.Page.{value, value_len}
 use Rattle.crash.specs.Looks.{Looked}
+use Rattle.paged_read.specs.Failures.{NoneFailed}
 use Rattle.paged_read.specs.Ranges.{page_at}
 
 -- a page's value, or why it tells none: its offset passes the greatest, or the blob ends before it
@@ -85,12 +86,15 @@ tail_told sum P size len readable =
     else after_told sum P page len readable (value_told sum P page readable))
     else Err BlobInsufficientLength
 
--- a read gives what is told, or is refused as that is, unless the device failed in the call or
--- memory was refused; and it only looks
+-- a read gives what is told, or is refused as that is, unless the device failed in the call, or it
+-- didn't and memory was refused; and it only looks
 abbrev pub ReadsTold : {A B : Type 0} → (A → B) → Result B Error → Life → Life → Result A Error
     → Type 0
-ReadsTold of told old new (Ok a) = (told ≡ Ok (of a)) × Looked old new
+ReadsTold of told old new (Ok a) =
+    (told ≡ Ok (of a)) × Looked old new × NoneFailed old.present new.present
 ReadsTold of told old new (Err ReadFailed) =
     HasFailed ReadFailed old.present new.present × Looked old new
-ReadsTold of told old new (Err OutOfMemory) = Looked old new
-ReadsTold of told old new (Err e) = (told ≡ Err e) × Looked old new
+ReadsTold of told old new (Err OutOfMemory) =
+    Looked old new × NoneFailed old.present new.present
+ReadsTold of told old new (Err e) =
+    (told ≡ Err e) × Looked old new × NoneFailed old.present new.present

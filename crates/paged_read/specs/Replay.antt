@@ -6,6 +6,7 @@ use Rattle.disk.specs.Disk.{Disk, Life, HasFailed}
 use Rattle.disk.specs.declared.error.Error.{Error}
 use Rattle.disk.specs.declared.error.Error.TheVariants.{ReadFailed, InvalidChecksum, OutOfMemory}
 use Rattle.disk.specs.declared.error.Error.TheVariants.{BlobInsufficientLength}
+use Rattle.paged_read.specs.Failures.{TellsFailure}
 use Rattle.paged_read.specs.Tail.{Tail, told, size_of, HasPages, HasFullPages}
 use Rattle.paged_read.specs.ReadAhead.{batch_of, AreFullPages, AreNext, IsBatch, IsQueue}
 use Rattle.paged_read.specs.Snapshots.{IsTailOf}
@@ -146,7 +147,8 @@ FillsOnce sum r now old new (Err e) =
     × FillFault sum r.tail old new e
 
 -- so many bytes are to be at hand: whether there are so many from the position on. What is fetched
--- is needed, or of the last batch that is.
+-- is needed, or of the last batch that is. Where it fails with nothing more at hand, no device call
+-- failed unless that is its error; else reads ahead may have, which it makes anew.
 abbrev pub Ensures : (List ℕ → ℕ) → ReplayState → (count : ℕ) → ReplayState → Life → Life
     → Result Bool Error → Type 0
 Ensures sum r count now old new (Ok answer) =
@@ -160,6 +162,7 @@ Ensures sum r count now old new (Err e) =
     Fills r now × FillFault sum r.tail old new e × HasFilled sum r now old.present
     × (length now.hand ≤ max (length r.hand) (count + r.batch * r.tail.page_size))
     × (now.exhausted ≡ r.exhausted)
+    × (length now.hand ≡ length r.hand → TellsFailure {A = Bool} old new (Err e))
 
 -- a call that gets so many bytes at hand: the replay gives what it gave
 pub record EnsureGoes (sum : List ℕ → ℕ) (r : ReplayState) (count : ℕ) (now : ReplayState)

@@ -9,6 +9,7 @@ use Rattle.disk.specs.declared.error.Error.TheVariants.{BlobInsufficientLength}
 use Rattle.page.specs.Page.{pieces, text_of_pages}
 use Rattle.crash.specs.Full.{AreFull}
 use Rattle.crash.specs.Looks.{Looked}
+use Rattle.paged_read.specs.Failures.{NoneFailed}
 use Rattle.paged_read.specs.declared.prefix.Prefix.{Prefix}
 use Rattle.paged_read.specs.Prefix.{after, prefix_of}
 use Rattle.paged_read.specs.Searches.{Gained}
@@ -72,14 +73,18 @@ abbrev pub ReadsForward : (most from to : ℕ) → Life → Life → Type 0
 ReadsForward most from to old new = Gained (AreForward most from to) old new
 
 -- a look through pages that end at this offset: it gives this, and only reads; where the blob is
--- too short for them, a read of what isn't there may end it
+-- too short for them, a read of what isn't there may end it. Unless it answers that the device failed
+-- no device call did.
 abbrev pub LooksThrough : {A : Type 0} (reach : ℕ) (a : A) → Life → Life → Result A Error → Type 0
-LooksThrough reach a old new (Ok found) = (found ≡ a) × Looked old new
+LooksThrough reach a old new (Ok found) =
+    (found ≡ a) × Looked old new × NoneFailed old.present new.present
 LooksThrough reach a old new (Err ReadFailed) =
     HasFailed ReadFailed old.present new.present × Looked old new
 LooksThrough reach a old new (Err BlobInsufficientLength) =
     (length old.present.readable < reach) × Looked old new
-LooksThrough reach a old new (Err OutOfMemory) = Looked old new
+    × NoneFailed old.present new.present
+LooksThrough reach a old new (Err OutOfMemory) =
+    Looked old new × NoneFailed old.present new.present
 LooksThrough reach a old new (Err _) = ⊥
 
 -- a scan: the same, unless an offset in its pages passes the greatest

@@ -6,6 +6,7 @@ use Rattle.disk.specs.Disk.{Request, Entry, Life, HasFailed, ReadAt, ReadMany, S
 use Rattle.disk.specs.declared.error.Error.{Error}
 use Rattle.disk.specs.declared.error.Error.TheVariants.{ReadFailed, OutOfMemory}
 use Rattle.crash.specs.Looks.{Looked}
+use Rattle.paged_read.specs.Failures.{NoneFailed}
 use Rattle.paged_read.specs.declared.prefix.Prefix.{Prefix}
 
 -- Q holds of the requests that the log gained, in turn
@@ -30,15 +31,18 @@ ReadsWithin most old new = Gained (AreWithin most) old new
 abbrev pub scan_bytes : (P buffer_size : ℕ) → ℕ
 scan_bytes P buffer_size = max 1 (buffer_size / (P + 12)) * (P + 12)
 
--- a search through pages: it answers this prefix, and only reads
+-- a search through pages: it answers this prefix, and only reads. Unless it answers that the device
+-- failed no device call did.
 abbrev pub Finds : Prefix → Life → Life → Result Prefix Error → Type 0
-Finds p old new (Ok found) = (found ≡ p) × Looked old new
+Finds p old new (Ok found) =
+    (found ≡ p) × Looked old new × NoneFailed old.present new.present
 Finds p old new (Err ReadFailed) = HasFailed ReadFailed old.present new.present × Looked old new
-Finds p old new (Err OutOfMemory) = Looked old new
+Finds p old new (Err OutOfMemory) = Looked old new × NoneFailed old.present new.present
 Finds p old new (Err _) = ⊥
 
 -- the same, with the bad slot of the page of its partial value
 abbrev pub FindsLast : Prefix → Option Slot → Life → Life → Result (Prefix × Option Slot) Error
     → Type 0
-FindsLast p bad old new (Ok found) = (found.0 ≡ p) × Looked old new × (found.1 ≡ bad)
+FindsLast p bad old new (Ok found) =
+    (found.0 ≡ p) × Looked old new × (found.1 ≡ bad) × NoneFailed old.present new.present
 FindsLast p bad old new (Err e) = Finds p old new (Err e)

@@ -1,10 +1,12 @@
 // Batches of pages that are read ahead.
 ghost use Rattle.std.specs.Prelude.{◌≡◌, ◌≤◌, ◌<◌, ◌+◌, ◌-◌, ◌*◌, ◌^◌, ◌∷◌, [], ℕ, List, length};
 ghost use Rattle.std.specs.Prelude.{min};
+ghost use Rattle.std.specs.Prelude.{◌≢◌, IfErr};
 ghost use Rattle.std.specs.Prelude.{All, IfSome, IsTrue, ◌↔◌, Ok, Err, vec_capacity, OnOk};
 ghost use Rattle.std.specs.Int.NonZero.{non_zero_u16_get};
 ghost use Rattle.crash.specs.Looks.{Looked};
 ghost use Rattle.disk.specs.Disk.{Disk, StartReadGoes};
+ghost use Rattle.paged_read.specs.Failures.{NoneFailed, TellsFailure};
 ghost use Rattle.paged_read.specs.ReadAhead.{batch_range, after, batch_bytes, AreFullPages};
 ghost use Rattle.paged_read.specs.ReadAhead.{AddsBatch, AreNext, FetchesBatch, Follow, IsBatch};
 ghost use Rattle.paged_read.specs.ReadAhead.{IsQueue, page_after, ReadsBatch};
@@ -159,6 +161,7 @@ impl Batches {
         ensures fetches { let P = non_zero_u16_get self.page_size in
             FetchesBatch P self.batch self.full_pages page (B.life blob.old) (B.life blob.new)
             result }
+        ensures failed { TellsFailure (B.life blob.old) (B.life blob.new) result }
         ensures looked { Looked (B.life blob.old) (B.life blob.new) }
     {
         self.start(blob, page).wait()
@@ -184,6 +187,7 @@ impl Batches {
             All (IsBatch P self.batch self.full_pages (B.life blob.new).present) queue.new.items }
         ensures few { length queue.new.items ≤ 3 }
         ensures room { vec_capacity queue.new ≡ vec_capacity queue.old }
+        ensures failed { TellsFailure (B.life blob.old) (B.life blob.new) result }
         ensures looked { Looked (B.life blob.old) (B.life blob.new) }
     {
         match self.take(queue, page) {
@@ -219,6 +223,7 @@ impl Batches {
             All (IsBatch P self.batch self.full_pages (B.life blob.new).present) queue.new.items }
         ensures few { length queue.new.items ≤ 3 }
         ensures room { vec_capacity queue.new ≡ vec_capacity queue.old }
+        ensures failed { TellsFailure (B.life blob.old) (B.life blob.new) result }
         ensures looked { Looked (B.life blob.old) (B.life blob.new) }
     {
         let bytes = self.fetch(blob, queue, page)?;
@@ -258,6 +263,8 @@ impl Batches {
         ensures adds { let P = non_zero_u16_get self.page_size in
             AddsBatch H.sum_of P self.batch self.full_pages page skip hand.old.bytes
             hand.new.bytes queue.new.items (B.life blob.old) (B.life blob.new) result }
+        ensures failed { IfErr result (λ e. e ≢ Error.ReadFailed
+            → NoneFailed (B.life blob.old).present (B.life blob.new).present) }
         ensures page_size { hand.new.page_size ≡ hand.old.page_size }
         ensures queue { IsQueue self.batch self.full_pages queue.new.items }
         ensures batches { let P = non_zero_u16_get self.page_size in

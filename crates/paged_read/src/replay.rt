@@ -1,10 +1,11 @@
 // Replays.
 ghost use Rattle.std.specs.Prelude.{◌≡◌, ◌≤◌, ◌<◌, ◌+◌, ◌*◌, [], ℕ, List, length, take};
-ghost use Rattle.std.specs.Prelude.{IfOk};
+ghost use Rattle.std.specs.Prelude.{IfOk, IfErr, ◌≢◌};
 ghost use Rattle.std.specs.Prelude.{IsOkUnless};
 ghost use Rattle.std.specs.Int.NonZero.{non_zero_usize_get};
 ghost use Rattle.crash.specs.Looks.{Looked};
 ghost use Rattle.disk.specs.Disk.{Disk};
+ghost use Rattle.paged_read.specs.Failures.{NoneFailed};
 ghost use Rattle.paged_read.specs.Reads.{LookLeaves};
 ghost use Rattle.paged_read.specs.Replay.{advanced, CanReplay, CopiesBytes, CopiesToSlice};
 ghost use Rattle.paged_read.specs.Replay.{end_of, EnsureCosts, EnsureGoes, FillsOnce, Gives};
@@ -224,6 +225,8 @@ impl<B: Blob, H: Sum> Replay<B, H> {
         requires more { end_of self.old < size_of self.old.tail }
         ensures fills { let old = B.life blob.old in let new = B.life blob.new in
             FillsOnce H.sum_of self.old self.new old new result }
+        ensures failed { IfErr result (λ e. e ≢ Error.ReadFailed
+            → NoneFailed (B.life blob.old).present (B.life blob.new).present) }
         ensures idle { self.old.tail.full_pages * self.old.tail.page_size ≤ end_of self.old
             → B.life blob.new ≡ B.life blob.old }
         ensures can { CanReplay self.new (B.life blob.new).present }

@@ -7,6 +7,8 @@ use Rattle.crash.specs.Looks.{looked_start}
 use Rattle.crash.proofs.LookLaws.{read_gives}
 use Rattle.page.specs.Page.{bad_slot}
 use Rattle.page.specs.declared.slot.Slot.{Slot}
+use Rattle.paged_read.specs.Failures.{none_failed_start}
+use Rattle.paged_read.proofs.Failing.{none_failed_read}
 use Rattle.paged_read.proofs.Looking.{looked_on, look_fault}
 use Rattle.paged.specs.Outlook.{is_torn, last_page}
 use Rattle.paged.proofs.Surveying.{kept_some, last_end, not_torn, torn_is}
@@ -24,7 +26,7 @@ pub returns-then-outlook-from-eq0-clause-tells : goal.returns-then-outlook-from-
 returns-then-outlook-from-eq0-clause-tells g c =
     let P = non_zero_u16_get c.args.page_size in
     let old = g.B.Blob.life c.args.blob.now in
-    (not_torn g.H.Sum.sum_of P old.present.readable c.args.outlook.now (subst (λ (n : ℕ). c.args.outlook.now.len % n ≡ 0) (c.from.ensures ∙ c.get.ensures.value) c.if-outlook-from-eq0.true), looked_start old)
+    (not_torn g.H.Sum.sum_of P old.present.readable c.args.outlook.now (subst (λ (n : ℕ). c.args.outlook.now.len % n ≡ 0) (c.from.ensures ∙ c.get.ensures.value) c.if-outlook-from-eq0.true), looked_start old, none_failed_start old.present)
 
 -- the page is there
 there : (g : Over) (c : After-read_at g) → (c.args.outlook.now.pages - 1) * c.physical_page_size-size.result + c.physical_page_size-size.result ≤ length (g.B.Blob.life c.args.blob.now).present.readable
@@ -41,7 +43,7 @@ returns-in_err-page-clause-tells g c =
     let size = c.physical_page_size-size.result in
     let p = err_from_is_err_and c.from_residual.result c.from_residual.ensures.1 in
     rw (p.1, p.2)
-    (look_fault ((c.args.outlook.now.pages - 1) * size) size (length old.present.readable) (is_torn g.H.Sum.sum_of P old.present.readable c.args.outlook.now) old old (g.B.Blob.life c.read_at.new.self) c.in_err-page.field-0.0 (looked_start old) (there g (goal.at.returns-in_err-page-clause-tells g c).After-read_at) c.in_err-page.ensures.goes)
+    (look_fault ((c.args.outlook.now.pages - 1) * size) size (length old.present.readable) (is_torn g.H.Sum.sum_of P old.present.readable c.args.outlook.now) old old (g.B.Blob.life c.read_at.new.self) c.in_err-page.field-0.0 (looked_start old) (none_failed_start old.present) (there g (goal.at.returns-in_err-page-clause-tells g c).After-read_at) c.in_err-page.ensures.goes)
 
 pub returns-clause-tells : goal.returns-clause-tells
 returns-clause-tells g c =
@@ -62,4 +64,5 @@ returns-clause-tells g c =
       torn_is g.H.Sum.sum_of P readable c.as_ref.result.now c.args.outlook.now c.is_some.result (partial g k) this
           (c.is_some.ensures ∙ ap (λ (o : Option Slot). is_some o) (c.bad_slot.ensures ∙ ap (λ (n : ℕ). bad_slot g.H.Sum.sum_of n c.as_ref.result.now) long)),
       looked_on ((pages - 1) * size) size old old (g.B.Blob.life c.read_at.new.self) bytes (looked_start old) c.in_ok-page.ensures.goes,
+      none_failed_read ((pages - 1) * size) size old (g.B.Blob.life c.read_at.new.self) bytes c.in_ok-page.ensures.goes,
     )

@@ -8,7 +8,8 @@ use Rattle.crash.proofs.LookLaws.{read_gives}
 use Rattle.paged_read.specs.Scans.{pages_from, ReadsForward}
 use Rattle.paged_read.specs.Searches.{scan_bytes}
 use Rattle.paged_read.proofs.Prefixes.{batch_fits}
-use Rattle.paged_read.proofs.Looking.{looked_on, read_there, look_fault}
+use Rattle.paged_read.specs.Failures.{none_failed_start}
+use Rattle.paged_read.proofs.Looking.{looked_on, none_failed_on, read_there, look_fault}
 use Rattle.paged_read.proofs.Forward.{forward_start, forward_end, forward_batch, next_batch}
 use Rattle.paged_read.proofs.Searching.{scan_bytes_is}
 use Rattle.paged.specs.Outlook.{are_zeros, beyond_of, values_of}
@@ -47,7 +48,7 @@ returns-in_err-bytes-clause-counts g c =
     let P = non_zero_u16_get c.args.page_size in
     let fits = batch_fits P size k b c.args.pages (c.args.pages * (P + 12)) c.physical_page_size-size.ensures (omega arith) (omega arith) in
     let p = err_from_is_err_and c.from_residual.result c.from_residual.ensures.1 in
-    rw (p.1, p.2) (look_fault (k * size) (b * size) (c.args.pages * (P + 12)) (beyond_of g.H.Sum.sum_of P c.args.first c.args.pages old.present.readable) old (life c.loop-done.blob) (life c.read_at.new.self) c.in_err-bytes.field-0.0 c.loop-done.invariant.looked fits c.in_err-bytes.ensures.goes)
+    rw (p.1, p.2) (look_fault (k * size) (b * size) (c.args.pages * (P + 12)) (beyond_of g.H.Sum.sum_of P c.args.first c.args.pages old.present.readable) old (life c.loop-done.blob) (life c.read_at.new.self) c.in_err-bytes.field-0.0 c.loop-done.invariant.looked c.loop-done.invariant.answered fits c.in_err-bytes.ensures.goes)
 
 -- what was found, and what the batch has, are those of all pages up to its end
 counted : (g : Over) (c : After-values_in-found g) → let P = non_zero_u16_get c.args.page_size in
@@ -113,6 +114,7 @@ loop-done-preserved-in_ok-bytes g c =
       counted = counted g (goal.at.loop-done-preserved-in_ok-bytes g c).After-values_in-found;
       blank = zeros g (goal.at.loop-done-preserved-in_ok-bytes g c).After-are_zeros-blank;
       looked = looked_on (k * size) (b * size) old (life c.loop-done.blob) new bytes c.loop-done.invariant.looked c.in_ok-bytes.ensures.goes;
+      answered = none_failed_on (k * size) (b * size) old (life c.loop-done.blob) new bytes c.loop-done.invariant.answered c.in_ok-bytes.ensures.goes;
       reads = next_batch P size k b c.max-most.result (c.args.first * (P + 12)) old (life c.loop-done.blob) new bytes c.physical_page_size-size.ensures (omega arith) c.loop-done.invariant.reads c.in_ok-bytes.ensures.goes;
     }
 
@@ -133,6 +135,7 @@ loop-done-preserved g c =
       counted = counted g (goal.at.loop-done-preserved g c).After-values_in-found;
       blank = zeros g (goal.at.loop-done-preserved g c).After-are_zeros-blank;
       looked = looked_on (k * size) (b * size) old (life c.loop-done.blob) new bytes c.loop-done.invariant.looked c.in_ok-bytes.ensures.goes;
+      answered = none_failed_on (k * size) (b * size) old (life c.loop-done.blob) new bytes c.loop-done.invariant.answered c.in_ok-bytes.ensures.goes;
       reads = next_batch P size k b c.max-most.result (c.args.first * (P + 12)) old (life c.loop-done.blob) new bytes c.physical_page_size-size.ensures (omega arith) c.loop-done.invariant.reads c.in_ok-bytes.ensures.goes;
     }
 
@@ -147,6 +150,7 @@ loop-done-init g c =
       counted = ap (λ (n : ℕ). values_of g.H.Sum.sum_of P (pages_from P n c.args.first old.present.readable)) (let e : 0 ≡ c.args.first - c.args.first = omega arith in e);
       blank = sym (ap (λ (n : ℕ). are_zeros (take n (drop (c.args.first * (P + 12)) old.present.readable))) (ap (λ (n : ℕ). n * (P + 12)) (let e : c.args.first - c.args.first ≡ 0 = omega arith in e) ∙ (let e : 0 * (P + 12) ≡ 0 = omega arith in e)));
       looked = looked_start old;
+      answered = none_failed_start old.present;
       reads = forward_start (c.max-most.result * (P + 12)) (c.args.first * (P + 12)) old;
     }
 
@@ -160,6 +164,7 @@ returns-clause-counts g c =
         (c.loop-done.invariant.blank ∙ ap (λ (n : ℕ). are_zeros (take (n * (P + 12)) (drop (c.args.first * (P + 12)) old.present.readable))) all) i,
       )),
       c.loop-done.invariant.looked,
+      c.loop-done.invariant.answered,
     )
 
 pub returns-clause-reads : goal.returns-clause-reads

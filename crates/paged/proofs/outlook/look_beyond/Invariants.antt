@@ -1,6 +1,7 @@
 use Rattle.std.proofs.Common.{◌≡◌, ◌≤◌, ◌<◌, ◌-◌, ◌+◌, ◌*◌, take, drop}
 use Rattle.std.specs.Int.NonZero.{non_zero_u16_get}
 use Rattle.crash.specs.Looks.{Looked}
+use Rattle.paged_read.specs.Failures.{NoneFailed}
 use Rattle.paged_read.specs.Scans.{pages_from}
 use Rattle.paged_read.proofs.Forward.{ReadsTo}
 use Rattle.paged.specs.Outlook.{are_zeros, values_of}
@@ -18,6 +19,7 @@ invariant-loop-done g l =
       counted : l.found ≡ values_of g.H.Sum.sum_of P (pages_from P (l.done - l.first) l.first old.present.readable);
       blank : l.blank ≡ are_zeros (take ((l.done - l.first) * (P + 12)) (drop (l.first * (P + 12)) old.present.readable));
       looked : Looked old now;
+      answered : NoneFailed old.present now.present;
       reads : ReadsTo (l.most * (P + 12)) (l.first * (P + 12)) (l.done * (P + 12)) old now;
     }
 

@@ -1,5 +1,12 @@
-use Rattle.std.proofs.Common.{◌≡◌, ◌∙◌, sym, ap, subst, ℕ, ◌+◌, ◌<◌, List, length, arith, eqb-true, Ok, Err}
-use Rattle.disk.specs.Disk.{ReadManyGoes}
+use Rattle.std.proofs.Common.{rules, ◌≡◌, ◌∙◌, sym, ap, subst, ℕ, ◌+◌, ◌<◌, List, length, arith, eqb-true, Ok, Err}
+use Rattle.std.specs.Prelude.{Result, Vec}
+use Rattle.std.specs.declared.alloc.Global.{Global}
+use Rattle.disk.specs.Disk.{ReadMany, ReadManyGoes}
+use Rattle.disk.specs.declared.error.Error.{Error}
+use Rattle.disk.specs.declared.error.Error.TheVariants.{OutOfMemory}
+use Rattle.paged_read.specs.Batch.{DeliversPages}
+use Rattle.paged_read.specs.Failures.{none_failed_start}
+use Rattle.paged_read.proofs.Failing.{none_failed_asked}
 use Rattle.paged_read.specs.Ranges.{page_ranges}
 use Rattle.std.specs.Int.NonZero.{non_zero_u16_get}
 use Rattle.std.proofs.lemmas.Result.{err_from_is_err_and}
@@ -8,7 +15,32 @@ use Rattle.paged_read.proofs.BatchReads.{delivers_none, looked_many, asks_many, 
 use Rattle.paged_read.proofs.fetch.fetch.Goals as goal
 
 pub returns-then-is_empty-clause-reads : goal.returns-then-is_empty-clause-reads
-returns-then-is_empty-clause-reads g c = delivers_none (non_zero_u16_get c.args.page_size) c.args.pages.now (g.B.Blob.life c.args.blob.now).present.readable c.new-out.result.items (eqb-true _ _ (sym c.is_empty.ensures ∙ c.if-is_empty.true)) c.new-out.ensures.items
+returns-then-is_empty-clause-reads g c = (
+  delivers_none (non_zero_u16_get c.args.page_size) c.args.pages.now (g.B.Blob.life c.args.blob.now).present.readable c.new-out.result.items (eqb-true _ _ (sym c.is_empty.ensures ∙ c.if-is_empty.true)) c.new-out.ensures.items,
+  none_failed_start (g.B.Blob.life c.args.blob.now).present,
+)
+
+pub returns-in_err-ranges-clause-reads : goal.returns-in_err-ranges-clause-reads
+returns-in_err-ranges-clause-reads g c =
+    let old = g.B.Blob.life c.args.blob.now in
+    let is : c.from_residual.result ≡ Err OutOfMemory = search rules in
+    subst (λ (r : Result (Vec (ℕ × List ℕ) Global) Error). DeliversPages (non_zero_u16_get c.args.page_size) c.args.pages.now old old r) (sym is) (none_failed_start old.present)
+
+pub returns-in_err-push-clause-reads : goal.returns-in_err-push-clause-reads
+returns-in_err-push-clause-reads g c =
+    let old = g.B.Blob.life c.args.blob.now in
+    let is : c.from_residual-in_err-push.result ≡ Err OutOfMemory = search rules in
+    subst (λ (r : Result (Vec (ℕ × List ℕ) Global) Error). DeliversPages (non_zero_u16_get c.args.page_size) c.args.pages.now old old r) (sym is) (none_failed_start old.present)
+
+pub returns-clause-reads : goal.returns-clause-reads
+returns-clause-reads g c =
+    let P = non_zero_u16_get c.args.page_size in
+    let old = g.B.Blob.life c.args.blob.now in
+    let new = g.B.Blob.life c.read_many.new.self in
+    let size : c.from-size.result + 12 ≡ P + 12 = ap (λ (n : ℕ). n + 12) (c.from-size.ensures ∙ c.get.ensures.value) in
+    let asked : c.deref.result.now ≡ page_ranges P c.args.pages.now = c.deref.ensures.value ∙ page_ranges_all P (c.from-size.result + 12) c.args.pages.now c.loop-page.page-index c.loop-page.ranges.items size c.loop-page-test.false c.loop-page.invariant in
+    let goes = subst (λ (rs : List (ℕ × ℕ)). ReadManyGoes rs old new c.read_many.new.out.items (Ok tt)) asked c.in_ok-read_many.ensures.goes in
+    (goes.1, none_failed_asked (ReadMany (page_ranges P c.args.pages.now)) old new goes.2)
 
 pub returns-then-is_empty-clause-looked : goal.returns-then-is_empty-clause-looked
 returns-then-is_empty-clause-looked g c = looked_start (g.B.Blob.life c.args.blob.now)

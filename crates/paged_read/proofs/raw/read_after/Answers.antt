@@ -4,6 +4,7 @@ use Rattle.std.specs.Prelude.{slice_range}
 use Rattle.std.specs.Int.NonZero.{non_zero_u16_get}
 use Rattle.std.specs.List.{concat}
 use Rattle.crash.specs.Looks.{Looked, looked_joins}
+use Rattle.paged_read.specs.Failures.{NoneFailed, none_failed_joins}
 use Rattle.paged_read.specs.RawReads.{after_told, range_told, ReadsTold, value_told}
 use Rattle.paged_read.proofs.RawReading.{after_given, after_refused, range_before, told_fault, told_memory}
 use Rattle.paged_read.proofs.raw.read_after.Given.{Over}
@@ -17,6 +18,11 @@ start_is g c = ap (λ (n : ℕ). c.args.last * n) (c.from.ensures ∙ c.get.ensu
 -- both reads only looked
 looks : (g : Over) (c : After-read_range g) → Looked (g.B.Blob.life c.args.blob.now) (g.B.Blob.life c.read_value.new.blob) → Looked (g.B.Blob.life c.args.blob.now) (g.B.Blob.life c.read_range.new.blob)
 looks g c first = looked_joins (g.B.Blob.life c.args.blob.now) (g.B.Blob.life c.read_value.new.blob) (g.B.Blob.life c.read_range.new.blob) first c.read_range.ensures.looked
+
+-- and no device call of them failed
+answered : (g : Over) (c : After-read_range g) → NoneFailed (g.B.Blob.life c.args.blob.now).present (g.B.Blob.life c.read_value.new.blob).present → NoneFailed (g.B.Blob.life c.read_value.new.blob).present (g.B.Blob.life c.read_range.new.blob).present
+    → NoneFailed (g.B.Blob.life c.args.blob.now).present (g.B.Blob.life c.read_range.new.blob).present
+answered g c first second = none_failed_joins (g.B.Blob.life c.args.blob.now).present (g.B.Blob.life c.read_value.new.blob).present (g.B.Blob.life c.read_range.new.blob).present first second
 
 pub returns-in_err-bytes : goal.returns-in_err-bytes
 returns-in_err-bytes g c =
@@ -37,7 +43,7 @@ returns-in_err-bytes g c =
     let reads : ReadsTold concat told mid new (Err e) = range_before sum P offset before old mid new (Err e) first c.in_err-bytes.ensures.told in
     let p = err_from_is_err_and c.from_residual-in_err-bytes.result c.from_residual-in_err-bytes.ensures.1 in
     record {
-      told = rw (p.1, p.2) (told_fault {C = ℕ × List (List ℕ)} concat (λ r. (r.0, concat r.1)) told (after_told sum P c.args.last c.args.len readable (value_told sum P c.args.last readable)) old mid new e first
+      told = rw (p.1, p.2) (told_fault {C = ℕ × List (List ℕ)} concat (λ r. (r.0, concat r.1)) told (after_told sum P c.args.last c.args.len readable (value_told sum P c.args.last readable)) old mid new e first c.in_ok-tail.ensures.told.2
           (after_refused sum P c.args.last c.args.len start end offset before c.in_ok-tail.tail_len readable c.in_ok-tail.tail (start_is g at) c.in_ok-tail.ensures.within (ap (λ (n : ℕ). start + n) c.from-2.ensures) (omega (arith, c.if-end-len.false))
           refl c.saturating_sub-before.ensures c.in_ok-tail.ensures.told.0) reads);
     }
@@ -52,7 +58,7 @@ returns-in_err-slice g c =
     let p = err_from_is_err_and c.from_residual-in_err-slice.result c.from_residual-in_err-slice.ensures.1 in
     record {
       told = rw (p.1, p.2) (told_memory {A = ℕ × List (List ℕ)} (λ r. (r.0, concat r.1)) (after_told sum P c.args.last c.args.len readable (value_told sum P c.args.last readable)) old (g.B.Blob.life c.read_range.new.blob)
-          c.in_err-slice.field-0.0 (looks g at c.in_ok-tail.ensures.told.1) c.in_err-slice.ensures.err);
+          c.in_err-slice.field-0.0 (looks g at c.in_ok-tail.ensures.told.1) (answered g at c.in_ok-tail.ensures.told.2 c.in_ok-bytes.ensures.told.2) c.in_err-slice.ensures.err);
     }
 
 pub returns-in_err-append : goal.returns-in_err-append
@@ -65,7 +71,7 @@ returns-in_err-append g c =
     let p = err_from_is_err_and c.from_residual-in_err-append.result c.from_residual-in_err-append.ensures.1 in
     record {
       told = rw (p.1, p.2) (told_memory {A = ℕ × List (List ℕ)} (λ r. (r.0, concat r.1)) (after_told sum P c.args.last c.args.len readable (value_told sum P c.args.last readable)) old (g.B.Blob.life c.read_range.new.blob)
-          c.in_err-append.field-0.0 (looks g at c.in_ok-tail.ensures.told.1) c.in_err-append.ensures.err);
+          c.in_err-append.field-0.0 (looks g at c.in_ok-tail.ensures.told.1) (answered g at c.in_ok-tail.ensures.told.2 c.in_ok-bytes.ensures.told.2) c.in_err-append.ensures.err);
     }
 
 pub returns : goal.returns
@@ -92,5 +98,6 @@ returns g c =
       told = (
         given ∙ ap (λ (l : List ℕ). Ok (end, concat c.in_ok-bytes.bytes ++ l)) cut ∙ ap (λ (l : List ℕ). Ok (end, l)) (sym c.in_ok-append.ensures.bytes),
         looks g at first,
+        answered g at c.in_ok-tail.ensures.told.2 reads.2,
       );
     }

@@ -12,5 +12,5 @@ returns g c =
     record {
       told = part_sliced P c.args.offset c.args.end c.args.page c.in_ok-bytes.len (c.args.page * c.from.result) c.saturating_sub-skip.result c.min-stop.result c.in_ok-bytes.bytes (value_told g.H.Sum.sum_of P c.args.page old.present.readable) old
           (g.B.Blob.life c.read_value.new.blob) c.slice.result start c.saturating_sub-skip.ensures (search rules) (omega (arith, c.if-stop-skip.false)) (omega (arith, c.min-stop.ensures, c.in_ok-bytes.ensures.within, c.from-2.ensures))
-          c.in_ok-bytes.ensures.told.0 c.in_ok-bytes.ensures.told.1 c.slice.ensures.ok c.slice.ensures.err;
+          c.in_ok-bytes.ensures.told.0 c.in_ok-bytes.ensures.told.1 c.in_ok-bytes.ensures.told.2 c.slice.ensures.ok c.slice.ensures.err;
     }

@@ -5,6 +5,7 @@ use Rattle.std.specs.List.{concat}
 use Rattle.disk.specs.declared.error.Error.{Error}
 use Rattle.disk.specs.declared.error.Error.TheVariants.{OffsetOverflow}
 use Rattle.crash.specs.Looks.{Looked, looked_start, looked_joins}
+use Rattle.paged_read.specs.Failures.{NoneFailed, none_failed_start, none_failed_joins}
 use Rattle.paged_read.specs.RawReads.{part_of, parts_told, range_end, range_told, ReadsTold, value_told}
 use Rattle.paged_read.proofs.Outliving.{look_leaves_writers}
 use Rattle.paged_read.proofs.RawReading.{found_all, found_fault, found_first, found_next, range_empty, range_fault, range_found, range_passes, range_short, same_pages, told_before, told_fault, told_looks, told_memory, IsFound}
@@ -34,7 +35,7 @@ returns-in_err-end-clause-told g c =
     let over : 2 ^ 64 ≤ c.args.offset + c.args.len = search rules in
     let is : c.from_residual.result ≡ Err OffsetOverflow = search rules in
     subst (λ (r : Result (List (List ℕ)) Error). ReadsTold concat (range_told g.H.Sum.sum_of P c.args.offset c.args.len old.present.readable) old old r) (sym is)
-    (range_passes g.H.Sum.sum_of P c.args.offset c.args.len old.present.readable over, looked_start old)
+    (range_passes g.H.Sum.sum_of P c.args.offset c.args.len old.present.readable over, looked_start old, none_failed_start old.present)
 
 pub returns-in_err-end-clause-looked : goal.returns-in_err-end-clause-looked
 returns-in_err-end-clause-looked g c = looked_start (g.B.Blob.life c.args.blob.now)
@@ -48,6 +49,7 @@ returns-then-len-eq0-clause-told g c =
       range_empty g.H.Sum.sum_of (non_zero_u16_get c.args.page_size) c.args.offset c.args.len old.present.readable (fits g (goal.at.returns-then-len-eq0-clause-told g c).In_ok-end) (omega (arith, c.if-len-eq0.true))
           ∙ ap (λ (bufs : List (List ℕ)). Ok (concat bufs)) (sym c.new-bytes.ensures),
       looked_start old,
+      none_failed_start old.present,
     )
 
 pub returns-then-len-eq0-clause-looked : goal.returns-then-len-eq0-clause-looked
@@ -63,7 +65,7 @@ loop-page-init g c =
     let first : IsFound g.H.Sum.sum_of (non_zero_u16_get c.args.page_size) c.args.offset c.in_ok-end.end (c.args.offset / size) ((c.in_ok-end.end - 1) / size + 1) old.present.readable (c.args.offset / size) (concat c.new-bytes.result) =
     subst (λ (bufs : List (List ℕ)). IsFound g.H.Sum.sum_of (non_zero_u16_get c.args.page_size) c.args.offset c.in_ok-end.end (c.args.offset / size) ((c.in_ok-end.end - 1) / size + 1) old.present.readable (c.args.offset / size) (concat bufs)) (sym c.new-bytes.ensures)
     (found_first g.H.Sum.sum_of (non_zero_u16_get c.args.page_size) c.args.offset c.in_ok-end.end (c.args.offset / size) ((c.in_ok-end.end - 1) / size + 1) old.present.readable) in
-    record { found = first; looked = looked_start old }
+    record { found = first; looked = looked_start old; answered = none_failed_start old.present }
 
 -- a part that was read, told of the blob as it was at the start
 part_read : (g : Over) (c : After-read_part g) → let old = g.B.Blob.life c.args.blob.now in let P = non_zero_u16_get c.args.page_size in
@@ -79,6 +81,11 @@ part_looked g c =
     let old = g.B.Blob.life c.args.blob.now in
     looked_joins old (g.B.Blob.life c.loop-page.blob) (g.B.Blob.life c.read_part.new.blob) c.loop-page.invariant.looked
     (told_looks (λ (b : List ℕ). b) (part_of P c.args.offset c.in_ok-end.end c.loop-page.page (value_told g.H.Sum.sum_of P c.loop-page.page old.present.readable)) (g.B.Blob.life c.loop-page.blob) (g.B.Blob.life c.read_part.new.blob) c.read_part.result (part_read g c))
+
+-- and the device answered
+part_answered : (g : Over) (c : After-read_part g) → NoneFailed (g.B.Blob.life c.loop-page.blob).present (g.B.Blob.life c.read_part.new.blob).present → NoneFailed (g.B.Blob.life c.args.blob.now).present (g.B.Blob.life c.read_part.new.blob).present
+part_answered g c here =
+    none_failed_joins (g.B.Blob.life c.args.blob.now).present (g.B.Blob.life c.loop-page.blob).present (g.B.Blob.life c.read_part.new.blob).present c.loop-page.invariant.answered here
 
 pub returns-in_err-part-clause-told : goal.returns-in_err-part-clause-told
 returns-in_err-part-clause-told g c =
@@ -98,7 +105,7 @@ returns-in_err-part-clause-told g c =
     let some : c.args.len ≢ 0 = λ none. omega (arith, none, c.if-len-eq0.false) in
     let reads : ReadsTold (λ (b : List ℕ). b) part mid new (Err e) = told_before sum P offset end page old mid new (Err e) c.loop-page.invariant.looked c.in_err-part.ensures.told in
     let p = err_from_is_err_and c.from_residual-in_err-part.result c.from_residual-in_err-part.ensures.1 in
-    rw (p.1, p.2) (told_fault (λ (b : List ℕ). b) concat part (range_told sum P offset c.args.len readable) old mid new e c.loop-page.invariant.looked
+    rw (p.1, p.2) (told_fault (λ (b : List ℕ). b) concat part (range_told sum P offset c.args.len readable) old mid new e c.loop-page.invariant.looked c.loop-page.invariant.answered
     (λ f is. range_fault sum P offset c.args.len readable f (fits g at.In_ok-end) some
     (met g at.After-from-size ∙ found_fault sum P offset end (offset / size) ((end - 1) / size + 1) readable page (concat c.loop-page.bytes) f (omega (arith, c.loop-page-test.true)) c.loop-page.invariant.found is)) reads)
 
@@ -114,7 +121,7 @@ returns-in_err-append-clause-told g c =
     let old = g.B.Blob.life c.args.blob.now in
     let looked = part_looked g (goal.at.returns-in_err-append-clause-told g c).After-read_part in
     let p = err_from_is_err_and c.from_residual-in_err-append.result c.from_residual-in_err-append.ensures.1 in
-    rw (p.1, p.2) (told_memory concat (range_told g.H.Sum.sum_of P c.args.offset c.args.len old.present.readable) old (g.B.Blob.life c.read_part.new.blob) c.in_err-append.field-0.0 looked c.in_err-append.ensures.err)
+    rw (p.1, p.2) (told_memory concat (range_told g.H.Sum.sum_of P c.args.offset c.args.len old.present.readable) old (g.B.Blob.life c.read_part.new.blob) c.in_err-append.field-0.0 looked (part_answered g (goal.at.returns-in_err-append-clause-told g c).After-read_part c.in_ok-part.ensures.told.2) c.in_err-append.ensures.err)
 
 pub returns-in_err-append-clause-looked : goal.returns-in_err-append-clause-looked
 returns-in_err-append-clause-looked g c = part_looked g (goal.at.returns-in_err-append-clause-looked g c).After-read_part
@@ -141,6 +148,7 @@ loop-page-preserved g c =
     record {
       found = subst (λ (l : List ℕ). IsFound sum P offset end (offset / size) ((end - 1) / size + 1) readable (page + 1) l) (sym c.in_ok-append.ensures.bytes) next;
       looked = part_looked g at.After-read_part;
+      answered = part_answered g at.After-read_part c.in_ok-part.ensures.told.2;
     }
 
 -- what was found after the last page
@@ -158,6 +166,7 @@ returns-then-len-clause-told g c =
       range_short g.H.Sum.sum_of (non_zero_u16_get c.args.page_size) c.args.offset c.args.len (g.B.Blob.life c.args.blob.now).present.readable (concat c.loop-page.bytes) (fits g at.In_ok-end) some
           (met g at.After-from-size ∙ all_found g at.After-loop-page c.loop-page-test.false) few,
       c.loop-page.invariant.looked,
+      c.loop-page.invariant.answered,
     )
 
 pub returns-clause-told : goal.returns-clause-told
@@ -167,6 +176,7 @@ returns-clause-told g c =
       range_found g.H.Sum.sum_of (non_zero_u16_get c.args.page_size) c.args.offset c.args.len (g.B.Blob.life c.args.blob.now).present.readable (concat c.loop-page.bytes) (fits g at.In_ok-end) some
           (met g at.After-from-size ∙ all_found g at.After-loop-page c.loop-page-test.false) (sym c.len.ensures ∙ c.if-len.false),
       c.loop-page.invariant.looked,
+      c.loop-page.invariant.answered,
     )
 
 pub returns-then-len-clause-looked : goal.returns-then-len-clause-looked

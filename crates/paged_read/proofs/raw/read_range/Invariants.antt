@@ -1,6 +1,7 @@
 use Rattle.std.specs.Int.NonZero.{non_zero_u16_get}
 use Rattle.std.specs.List.{concat}
 use Rattle.crash.specs.Looks.{Looked}
+use Rattle.paged_read.specs.Failures.{NoneFailed}
 use Rattle.paged_read.proofs.RawReading.{IsFound}
 use Rattle.paged_read.proofs.raw.read_range.Given as goal
 
@@ -10,4 +11,5 @@ invariant-loop-page g l =
     record {
       found : IsFound g.H.Sum.sum_of (non_zero_u16_get l.page_size) l.offset l.end l.initial.page l.page-end old.present.readable l.page (concat l.bytes);
       looked : Looked old (g.B.Blob.life l.blob);
+      answered : NoneFailed old.present (g.B.Blob.life l.blob).present;
     }

@@ -3,6 +3,7 @@ use Rattle.std.specs.Int.NonZero.{non_zero_u16_get}
 use Rattle.std.specs.List.{concat}
 use Rattle.disk.specs.declared.error.Error.{Error}
 use Rattle.crash.specs.Looks.{Looked, looked_start}
+use Rattle.paged_read.specs.Failures.{none_failed_start}
 use Rattle.paged_read.specs.RawReads.{after_told, ReadsTold, tail_told, value_told}
 use Rattle.paged_read.proofs.Outliving.{look_leaves_writers}
 use Rattle.paged_read.proofs.RawReading.{tail_after, tail_empty, tail_lacks, tail_torn, told_looks}
@@ -15,14 +16,14 @@ returns-then-physical_size-size-ne0-clause-told g c =
     let P = non_zero_u16_get c.args.page_size in
     let old = g.B.Blob.life c.args.blob.now in
     let torn : c.args.physical_size % (P + 12) ≢ 0 = subst (λ (n : ℕ). c.args.physical_size % n ≢ 0) c.physical_page_size-size.ensures c.if-physical_size-size-ne0.true in
-    (tail_torn g.H.Sum.sum_of P c.args.physical_size c.args.len old.present.readable torn, looked_start old)
+    (tail_torn g.H.Sum.sum_of P c.args.physical_size c.args.len old.present.readable torn, looked_start old, none_failed_start old.present)
 
 pub returns-then-len-gt0-clause-told : goal.returns-then-len-gt0-clause-told
 returns-then-len-gt0-clause-told g c =
     let P = non_zero_u16_get c.args.page_size in
     let old = g.B.Blob.life c.args.blob.now in
     let whole : c.args.physical_size % (P + 12) ≡ 0 = subst (λ (n : ℕ). c.args.physical_size % n ≡ 0) c.physical_page_size-size.ensures (omega (arith, c.if-physical_size-size-ne0.false)) in
-    (tail_lacks g.H.Sum.sum_of P c.args.physical_size c.args.len old.present.readable whole (omega (arith, c.if-physical_size-gt0.false)) (λ none. omega (arith, none, c.if-len-gt0.true)), looked_start old)
+    (tail_lacks g.H.Sum.sum_of P c.args.physical_size c.args.len old.present.readable whole (omega (arith, c.if-physical_size-gt0.false)) (λ none. omega (arith, none, c.if-len-gt0.true)), looked_start old, none_failed_start old.present)
 
 pub returns-clause-told : goal.returns-clause-told
 returns-clause-told g c =
@@ -32,6 +33,7 @@ returns-clause-told g c =
       tail_empty g.H.Sum.sum_of P c.args.physical_size c.args.len old.present.readable whole (omega (arith, c.if-physical_size-gt0.false)) (omega (arith, c.if-len-gt0.false))
           ∙ ap (λ (bufs : List (List ℕ)). Ok (0, concat bufs)) (sym c.new.ensures),
       looked_start old,
+      none_failed_start old.present,
     )
 
 -- what the last page decides

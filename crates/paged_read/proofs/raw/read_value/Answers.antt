@@ -7,7 +7,9 @@ use Rattle.page.specs.Page.{active}
 use Rattle.crash.specs.Looks.{looked_start}
 use Rattle.crash.proofs.LookLaws.{looked_read}
 use Rattle.crash.proofs.Texts.{active_is}
+use Rattle.paged_read.specs.Failures.{none_failed_start}
 use Rattle.paged_read.specs.RawReads.{ReadsTold, value_told}
+use Rattle.paged_read.proofs.Failing.{none_failed_read}
 use Rattle.paged_read.proofs.RawReading.{read_len, read_missing_value, read_value_is, seen_active, value_fault, value_passes}
 use Rattle.paged_read.proofs.raw.read_value.Given.{Over}
 use Rattle.paged_read.proofs.raw.read_value.Goals as goal
@@ -26,7 +28,7 @@ returns-in_err-page_start-clause-told g c =
     let p = err_from_is_err_and c.from_residual.result c.from_residual.ensures.1 in
     let over : 2 ^ 64 ≤ (c.args.page + 1) * (P + 12) = omega (arith, subst (λ (n : ℕ). (c.args.page + 1) * (n + 12) < 2 ^ 64 → ⊥) is c.in_err-page_start.ensures.offset) in
     rw (p.1, p.2) (subst (λ (x : Error). ReadsTold {A = List ℕ × ℕ} (λ r. take r.1 r.0) told old old (Err x)) (sym c.in_err-page_start.ensures.err)
-    (value_passes g.H.Sum.sum_of P c.args.page old.present.readable over, looked_start old))
+    (value_passes g.H.Sum.sum_of P c.args.page old.present.readable over, looked_start old, none_failed_start old.present))
 
 -- what was read, and where
 size_is : (g : Over) (c : After-read_at g) → c.in_ok-page_start.size ≡ non_zero_u16_get c.args.page_size + 12
@@ -75,6 +77,7 @@ returns-in-Some-clause-told g c =
     let goes = c.in_ok-bytes.ensures.goes in (
       read_value_is g.H.Sum.sum_of (non_zero_u16_get c.args.page_size) c.args.page c.in_ok-page_start.size c.in_ok-page_start.page_start old new c.in_ok-bytes.bytes c.in-Some.slot (size_is g k) (page_start_is g k) (fits g k) goes (told_by g at.In-Some),
       looked_read c.in_ok-page_start.page_start c.in_ok-page_start.size old new c.read_at.result c.read_at.ensures.goes,
+      none_failed_read c.in_ok-page_start.page_start c.in_ok-page_start.size old new c.in_ok-bytes.bytes goes,
     )
 
 pub returns-in-Some-clause-part : goal.returns-in-Some-clause-part

@@ -6,7 +6,8 @@ use Rattle.paged_read.specs.Prefix.{bad_in, last_prefix}
 use Rattle.paged_read.proofs.Prefixes.{bad_part, bad_read, told_read, value_read, told_full, told_part, found_some, found_none, last_none, last_full, last_part, last_fits, has_bytes_read}
 use Rattle.crash.specs.Looks.{looked_start}
 use Rattle.crash.proofs.LookLaws.{read_gives}
-use Rattle.paged_read.proofs.Looking.{looked_on, finds_fault, finds_memory}
+use Rattle.paged_read.specs.Failures.{none_failed_start}
+use Rattle.paged_read.proofs.Looking.{looked_on, none_failed_on, finds_fault, finds_memory}
 use Rattle.paged_read.proofs.Backward.{down_start, down_page, down_back}
 use Rattle.paged_read.specs.Backward.{ReadsBack}
 use Rattle.paged_read.proofs.search.last_pages.Given.{Over}
@@ -22,7 +23,7 @@ returns-in_err-bytes-clause-finds g c =
     let P = non_zero_u16_get c.args.page_size in
     let fits = last_fits P size n c.args.pages (length old.present.readable) c.physical_page_size-size.ensures c.loop-pages-test.true c.loop-pages.invariant.fewer c.requires.there in
     let p = err_from_is_err_and c.from_residual.result c.from_residual.ensures.1 in
-    rw (p.1, p.2) (finds_fault ((n - 1) * size) size (last_prefix g.H.Sum.sum_of P c.args.pages old.present.readable) old (life c.loop-pages.blob) (life c.read_at.new.self) c.in_err-bytes.field-0.0 c.loop-pages.invariant.looked fits c.in_err-bytes.ensures.goes)
+    rw (p.1, p.2) (finds_fault ((n - 1) * size) size (last_prefix g.H.Sum.sum_of P c.args.pages old.present.readable) old (life c.loop-pages.blob) (life c.read_at.new.self) c.in_err-bytes.field-0.0 c.loop-pages.invariant.looked c.loop-pages.invariant.answered fits c.in_err-bytes.ensures.goes)
 
 pub returns-then-is_full-clause-finds : goal.returns-then-is_full-clause-finds
 returns-then-is_full-clause-finds g c =
@@ -42,6 +43,7 @@ returns-then-is_full-clause-finds g c =
       found,
       looked_on ((n - 1) * size) size old (life c.loop-pages.blob) new c.in_ok-bytes.bytes c.loop-pages.invariant.looked c.in_ok-bytes.ensures.goes,
       ap (bad_in sum P readable) found,
+      none_failed_on ((n - 1) * size) size old (life c.loop-pages.blob) new c.in_ok-bytes.bytes c.loop-pages.invariant.answered c.in_ok-bytes.ensures.goes,
     )
 
 pub returns-in_err-partial-clause-finds : goal.returns-in_err-partial-clause-finds
@@ -52,8 +54,9 @@ returns-in_err-partial-clause-finds g c =
     let n = c.loop-pages.pages in
     let P = non_zero_u16_get c.args.page_size in
     let looked = looked_on ((n - 1) * size) size old (life c.loop-pages.blob) (life c.read_at.new.self) c.in_ok-bytes.bytes c.loop-pages.invariant.looked c.in_ok-bytes.ensures.goes in
+    let none = none_failed_on ((n - 1) * size) size old (life c.loop-pages.blob) (life c.read_at.new.self) c.in_ok-bytes.bytes c.loop-pages.invariant.answered c.in_ok-bytes.ensures.goes in
     let p = err_from_is_err_and c.from_residual-in_err-partial.result c.from_residual-in_err-partial.ensures.1 in
-    rw (p.1, p.2) (finds_memory (last_prefix g.H.Sum.sum_of P c.args.pages old.present.readable) old (life c.read_at.new.self) c.in_err-partial.field-0.0 looked c.in_err-partial.ensures.err)
+    rw (p.1, p.2) (finds_memory (last_prefix g.H.Sum.sum_of P c.args.pages old.present.readable) old (life c.read_at.new.self) c.in_err-partial.field-0.0 looked none c.in_err-partial.ensures.err)
 
 pub returns-then-is_some-clause-finds : goal.returns-then-is_some-clause-finds
 returns-then-is_some-clause-finds g c =
@@ -77,6 +80,7 @@ returns-then-is_some-clause-finds g c =
       found,
       looked_on ((n - 1) * size) size old (life c.loop-pages.blob) new c.in_ok-bytes.bytes c.loop-pages.invariant.looked c.in_ok-bytes.ensures.goes,
       bad ∙ bad_part sum P (n - 1) readable c.in_ok-partial.partial (sym c.is_some.ensures ∙ c.if-is_some.true) ∙ ap (bad_in sum P readable) found,
+      none_failed_on ((n - 1) * size) size old (life c.loop-pages.blob) new c.in_ok-bytes.bytes c.loop-pages.invariant.answered c.in_ok-bytes.ensures.goes,
     )
 
 pub returns-then-is_some-clause-bytes : goal.returns-then-is_some-clause-bytes
@@ -107,6 +111,7 @@ loop-pages-preserved g c =
       fewer = omega arith;
       same = last_none sum P n c.args.pages readable c.loop-pages.invariant.same c.loop-pages-test.true none;
       looked = looked_on ((n - 1) * size) size old (life c.loop-pages.blob) new c.in_ok-bytes.bytes c.loop-pages.invariant.looked c.in_ok-bytes.ensures.goes;
+      answered = none_failed_on ((n - 1) * size) size old (life c.loop-pages.blob) new c.in_ok-bytes.bytes c.loop-pages.invariant.answered c.in_ok-bytes.ensures.goes;
       reads = down_page P size n old (life c.loop-pages.blob) new c.read_at.result c.physical_page_size-size.ensures c.loop-pages-test.true c.loop-pages.invariant.reads c.read_at.ensures.goes;
     }
 
@@ -129,6 +134,7 @@ loop-pages-preserved-else-is_some g c =
       fewer = omega arith;
       same = last_none sum P n c.args.pages readable c.loop-pages.invariant.same c.loop-pages-test.true none;
       looked = looked_on ((n - 1) * size) size old (life c.loop-pages.blob) new c.in_ok-bytes.bytes c.loop-pages.invariant.looked c.in_ok-bytes.ensures.goes;
+      answered = none_failed_on ((n - 1) * size) size old (life c.loop-pages.blob) new c.in_ok-bytes.bytes c.loop-pages.invariant.answered c.in_ok-bytes.ensures.goes;
       reads = down_page P size n old (life c.loop-pages.blob) new c.read_at.result c.physical_page_size-size.ensures c.loop-pages-test.true c.loop-pages.invariant.reads c.read_at.ensures.goes;
     }
 
@@ -163,4 +169,4 @@ pub loop-pages-init : goal.loop-pages-init
 loop-pages-init g c =
     let old = g.B.Blob.life c.args.blob.now in
     let P = non_zero_u16_get c.args.page_size in
-    record { fewer = omega arith; same = refl; looked = looked_start old; reads = down_start (P + 12) (c.args.pages * (P + 12)) old c.requires.there }
+    record { fewer = omega arith; same = refl; looked = looked_start old; answered = none_failed_start old.present; reads = down_start (P + 12) (c.args.pages * (P + 12)) old c.requires.there }

@@ -1,6 +1,7 @@
 use Rattle.std.proofs.Common.{◌≡◌, ◌≤◌, ◌+◌, ◌*◌}
 use Rattle.std.specs.Int.NonZero.{non_zero_u16_get}
 use Rattle.crash.specs.Looks.{Looked}
+use Rattle.paged_read.specs.Failures.{NoneFailed}
 use Rattle.paged_read.specs.Prefix.{last_prefix}
 use Rattle.paged_read.proofs.Backward.{ReadsDownTo}
 use Rattle.paged_read.proofs.search.last_pages.Given as goal
@@ -13,6 +14,7 @@ invariant-loop-pages g l =
       fewer : l.pages ≤ l.initial.pages;
       same : last_prefix g.H.Sum.sum_of P l.pages readable ≡ last_prefix g.H.Sum.sum_of P l.initial.pages readable;
       looked : Looked (g.B.Blob.life l.initial.blob) (g.B.Blob.life l.blob);
+      answered : NoneFailed (g.B.Blob.life l.initial.blob).present (g.B.Blob.life l.blob).present;
       reads : ReadsDownTo (P + 12) (l.pages * (P + 12)) (g.B.Blob.life l.initial.blob) (g.B.Blob.life l.blob);
     }
 

@@ -6,7 +6,8 @@ use Rattle.paged_read.specs.Scans.{prefix_from, ReadsForward}
 use Rattle.paged_read.proofs.Prefixes.{batch_fits, batch_read, stands_ended, stands_on, has_bytes_batch}
 use Rattle.crash.specs.Looks.{looked_start}
 use Rattle.crash.proofs.LookLaws.{read_gives}
-use Rattle.paged_read.proofs.Looking.{looked_on, read_there, look_fault, look_memory}
+use Rattle.paged_read.specs.Failures.{none_failed_start}
+use Rattle.paged_read.proofs.Looking.{looked_on, none_failed_on, read_there, look_fault, look_memory}
 use Rattle.paged_read.specs.Searches.{scan_bytes}
 use Rattle.paged_read.proofs.Forward.{forward_start, forward_end, forward_batch, next_batch}
 use Rattle.paged_read.proofs.Keeping.{kept_ended, kept_fits, kept_from, kept_on}
@@ -25,7 +26,7 @@ returns-in_err-bytes-clause-finds g c =
     let P = non_zero_u16_get c.args.page_size in
     let fits = batch_fits P size k b c.args.pages (c.args.pages * (P + 12)) c.physical_page_size-size.ensures (omega arith) (omega arith) in
     let p = err_from_is_err_and c.from_residual.result c.from_residual.ensures.1 in
-    rw (p.1, p.2) (look_fault (k * size) (b * size) (c.args.pages * (P + 12)) (prefix_from g.H.Sum.sum_of P c.args.first c.args.pages old.present.readable) old (life c.loop-done.blob) (life c.read_at.new.self) c.in_err-bytes.field-0.0 c.loop-done.invariant.looked fits c.in_err-bytes.ensures.goes)
+    rw (p.1, p.2) (look_fault (k * size) (b * size) (c.args.pages * (P + 12)) (prefix_from g.H.Sum.sum_of P c.args.first c.args.pages old.present.readable) old (life c.loop-done.blob) (life c.read_at.new.self) c.in_err-bytes.field-0.0 c.loop-done.invariant.looked c.loop-done.invariant.answered fits c.in_err-bytes.ensures.goes)
 
 pub returns-in_err-prefix-clause-finds : goal.returns-in_err-prefix-clause-finds
 returns-in_err-prefix-clause-finds g c =
@@ -34,8 +35,9 @@ returns-in_err-prefix-clause-finds g c =
     let size = c.physical_page_size-size.result in
     let P = non_zero_u16_get c.args.page_size in
     let looked = looked_on (c.loop-done.done * size) (c.min-batch.result * size) old (life c.loop-done.blob) (life c.read_at.new.self) c.in_ok-bytes.bytes c.loop-done.invariant.looked c.in_ok-bytes.ensures.goes in
+    let none = none_failed_on (c.loop-done.done * size) (c.min-batch.result * size) old (life c.loop-done.blob) (life c.read_at.new.self) c.in_ok-bytes.bytes c.loop-done.invariant.answered c.in_ok-bytes.ensures.goes in
     let p = err_from_is_err_and c.from_residual-in_err-prefix.result c.from_residual-in_err-prefix.ensures.1 in
-    rw (p.1, p.2) (look_memory (c.args.pages * (P + 12)) (prefix_from g.H.Sum.sum_of P c.args.first c.args.pages old.present.readable) old (life c.read_at.new.self) c.in_err-prefix.field-0.0 looked c.in_err-prefix.ensures.err)
+    rw (p.1, p.2) (look_memory (c.args.pages * (P + 12)) (prefix_from g.H.Sum.sum_of P c.args.first c.args.pages old.present.readable) old (life c.read_at.new.self) c.in_err-prefix.field-0.0 looked none c.in_err-prefix.ensures.err)
 
 pub keep-requires-clause-room : goal.keep-requires-clause-room
 keep-requires-clause-room g c =
@@ -63,8 +65,9 @@ returns-in_err-keep-clause-finds g c =
     let size = c.physical_page_size-size.result in
     let P = non_zero_u16_get c.args.page_size in
     let looked = looked_on (c.loop-done.done * size) (c.min-batch.result * size) old (life c.loop-done.blob) (life c.read_at.new.self) c.in_ok-bytes.bytes c.loop-done.invariant.looked c.in_ok-bytes.ensures.goes in
+    let none = none_failed_on (c.loop-done.done * size) (c.min-batch.result * size) old (life c.loop-done.blob) (life c.read_at.new.self) c.in_ok-bytes.bytes c.loop-done.invariant.answered c.in_ok-bytes.ensures.goes in
     let p = err_from_is_err_and c.from_residual-in_err-keep.result c.from_residual-in_err-keep.ensures.1 in
-    rw (p.1, p.2) (look_memory (c.args.pages * (P + 12)) (prefix_from g.H.Sum.sum_of P c.args.first c.args.pages old.present.readable) old (life c.read_at.new.self) c.in_err-keep.field-0.0 looked c.in_err-keep.ensures.err)
+    rw (p.1, p.2) (look_memory (c.args.pages * (P + 12)) (prefix_from g.H.Sum.sum_of P c.args.first c.args.pages old.present.readable) old (life c.read_at.new.self) c.in_err-keep.field-0.0 looked none c.in_err-keep.ensures.err)
 
 pub returns-then-prefix-batch-clause-kept : goal.returns-then-prefix-batch-clause-kept
 returns-then-prefix-batch-clause-kept g c =
@@ -104,6 +107,7 @@ returns-then-prefix-batch-clause-finds g c =
     let batch = batch_read sum P size k b readable bytes q c.physical_page_size-size.ensures there read c.in_ok-prefix.ensures.ok in (
       sym (stands_ended sum P c.args.pages k b readable bytes q le batch (prefix_from sum P c.args.first c.args.pages readable) c.loop-done.invariant.stands c.if-prefix-batch.true),
       looked_on (k * size) (b * size) old (life c.loop-done.blob) new bytes c.loop-done.invariant.looked c.in_ok-bytes.ensures.goes,
+      none_failed_on (k * size) (b * size) old (life c.loop-done.blob) new bytes c.loop-done.invariant.answered c.in_ok-bytes.ensures.goes,
     )
 
 pub returns-then-prefix-batch-clause-bytes : goal.returns-then-prefix-batch-clause-bytes
@@ -147,6 +151,7 @@ loop-done-preserved g c =
       none = λ still. absurd (omega (arith, still, c.loop-done.invariant.some, c.loop-done.invariant.begun));
       stands = stands_on sum P c.args.pages k b readable bytes q le batch (prefix_from sum P c.args.first c.args.pages readable) c.loop-done.invariant.stands (omega arith);
       looked = looked_on (k * size) (b * size) old (life c.loop-done.blob) new bytes c.loop-done.invariant.looked c.in_ok-bytes.ensures.goes;
+      answered = none_failed_on (k * size) (b * size) old (life c.loop-done.blob) new bytes c.loop-done.invariant.answered c.in_ok-bytes.ensures.goes;
       kept = kept_on sum P c.args.first c.args.pages k b readable bytes q le batch c.args.kept.now c.loop-done.kept c.keep.new.kept c.loop-done.invariant.kept c.in_ok-keep.ensures.kept (omega arith);
       reads = next_batch P size k b c.max-most.result (c.args.first * (P + 12)) old (life c.loop-done.blob) new bytes c.physical_page_size-size.ensures (omega arith) c.loop-done.invariant.reads c.in_ok-bytes.ensures.goes;
     }
@@ -175,6 +180,7 @@ loop-done-preserved-else-prefix-batch g c =
       none = λ still. absurd (omega (arith, still, c.loop-done.invariant.some, c.loop-done.invariant.begun));
       stands = stands_on sum P c.args.pages k b readable bytes q le batch (prefix_from sum P c.args.first c.args.pages readable) c.loop-done.invariant.stands (omega arith);
       looked = looked_on (k * size) (b * size) old (life c.loop-done.blob) new bytes c.loop-done.invariant.looked c.in_ok-bytes.ensures.goes;
+      answered = none_failed_on (k * size) (b * size) old (life c.loop-done.blob) new bytes c.loop-done.invariant.answered c.in_ok-bytes.ensures.goes;
       kept = kept_on sum P c.args.first c.args.pages k b readable bytes q le batch c.args.kept.now c.loop-done.kept c.keep.new.kept c.loop-done.invariant.kept c.in_ok-keep.ensures.kept (omega arith);
       reads = next_batch P size k b c.max-most.result (c.args.first * (P + 12)) old (life c.loop-done.blob) new bytes c.physical_page_size-size.ensures (omega arith) c.loop-done.invariant.reads c.in_ok-bytes.ensures.goes;
     }
@@ -218,6 +224,7 @@ loop-done-init g c =
       within = c.requires.order;
       stands = refl;
       looked = looked_start old;
+      answered = none_failed_start old.present;
       none = λ still. refl;
       kept = kept_from g.H.Sum.sum_of P c.args.first c.args.pages old.present.readable c.args.kept.now;
       reads = forward_start (c.max-most.result * (P + 12)) (c.args.first * (P + 12)) old;

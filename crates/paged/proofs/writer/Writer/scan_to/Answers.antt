@@ -68,6 +68,7 @@ returns-clause-scans g c =
           (begins g (goal.at.returns-clause-scans g c).After-scan_from) c.in_ok-prefix.ensures.finds.0 c.size_of.ensures
           ∙ ap (λ (n : ℕ). scan_to g.H.Sum.sum_of n full c.args.end c.args.proven old.present.readable) (same_size g (goal.at.returns-clause-scans g c).After-scan_from),
       c.in_ok-prefix.ensures.finds.1,
+      c.in_ok-prefix.ensures.finds.2,
     )
 
 -- what it reads, whatever the answer

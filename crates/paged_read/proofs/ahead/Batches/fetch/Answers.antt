@@ -1,4 +1,5 @@
 use Rattle.crash.specs.Looks.{looked_start}
+use Rattle.paged_read.specs.Failures.{none_failed_start}
 use Rattle.paged_read.proofs.ahead.Batches.fetch.Goals as goal
 
 pub returns-in-Some-clause-batches : goal.returns-in-Some-clause-batches
@@ -7,3 +8,6 @@ returns-in-Some-clause-batches g c =
 
 pub returns-in-Some-clause-looked : goal.returns-in-Some-clause-looked
 returns-in-Some-clause-looked g c = looked_start (g.B.Blob.life c.args.blob.now)
+
+pub returns-in-Some-clause-failed : goal.returns-in-Some-clause-failed
+returns-in-Some-clause-failed g c = none_failed_start (g.B.Blob.life c.args.blob.now).present

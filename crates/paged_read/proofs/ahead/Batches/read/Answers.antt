@@ -1,4 +1,5 @@
 use Rattle.std.proofs.Common.{◌+◌, ◌-◌, ◌*◌, ℕ, List, length, take, drop, min, ap, ◌∙◌, sym, subst, arith, true≢false}
+use Rattle.std.proofs.lemmas.Result.{err_from_is_err_and}
 use Rattle.std.specs.Int.NonZero.{non_zero_u16_get}
 use Rattle.paged_read.specs.ReadAhead.{AreFullPages}
 use Rattle.paged_read.proofs.ReadAheads.{full_in_run, full_of_run, one_run, run_length}
@@ -46,3 +47,14 @@ returns-else-are_full-clause-reads g c = λ all.
     (sym c.as_ref.ensures)
     (subst (λ n. AreFullPages g.H.Sum.sum_of P 0 n run) (sym c.min-pages.ensures) full)) in
     true≢false (sym yes ∙ c.if-are_full.false)
+
+pub returns-in_err-bytes-clause-failed : goal.returns-in_err-bytes-clause-failed
+returns-in_err-bytes-clause-failed g c =
+    let p = err_from_is_err_and c.from_residual.result c.from_residual.ensures.1 in
+    rw (p.1, p.2) c.in_err-bytes.ensures.failed
+
+pub returns-then-are_full-clause-failed : goal.returns-then-are_full-clause-failed
+returns-then-are_full-clause-failed g c = c.in_ok-bytes.ensures.failed
+
+pub returns-else-are_full-clause-failed : goal.returns-else-are_full-clause-failed
+returns-else-are_full-clause-failed g c = λ other. c.in_ok-bytes.ensures.failed

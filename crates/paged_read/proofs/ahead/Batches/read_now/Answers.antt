@@ -1,7 +1,7 @@
-use Rattle.std.proofs.Common.{[], ◌∷◌}
+use Rattle.std.proofs.Common.{[], ◌∷◌, take, drop, refl}
 use Rattle.std.specs.Int.NonZero.{non_zero_u16_get}
 use Rattle.paged_read.specs.ReadAhead.{batch_range}
-use Rattle.paged_read.proofs.ReadAheads.{fetched, looked_start_read}
+use Rattle.paged_read.proofs.ReadAheads.{fetched, fetched_tells, looked_start_read}
 use Rattle.paged_read.proofs.ahead.Batches.read_now.Goals as goal
 
 pub returns-clause-fetches : goal.returns-clause-fetches
@@ -17,3 +17,10 @@ returns-clause-looked g c =
     c.args.self.full_pages c.args.page in
     looked_start_read (range ∷ []) (g.B.Blob.life c.args.blob.now)
     (g.B.Blob.life c.start.new.blob) c.start.result.read c.start.ensures.goes
+
+pub returns-clause-failed : goal.returns-clause-failed
+returns-clause-failed g c =
+    let range = batch_range (non_zero_u16_get c.args.self.page_size) c.args.self.batch
+    c.args.self.full_pages c.args.page in
+    fetched_tells (range ∷ []) (g.B.Blob.life c.args.blob.now) (g.B.Blob.life c.start.new.blob)
+    (take range.1 (drop range.0 (g.B.Blob.life c.args.blob.now).present.readable)) c.start.result.read c.wait.result refl c.start.ensures.goes c.wait.ensures.ok c.wait.ensures.err

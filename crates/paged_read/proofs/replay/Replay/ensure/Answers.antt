@@ -35,7 +35,7 @@ returns-in_err-fill-clause-goes g c =
     rw (error.1, error.2) (reach_fails g.H.Sum.sum_of c.args.self.now c.args.count c.loop-self.self c.fill.new.self
     (g.B.Blob.life c.args.blob.now) (g.B.Blob.life c.loop-self.blob)
     (g.B.Blob.life c.fill.new.blob) c.in_err-fill.field-0.0 c.loop-self.invariant
-    c.in_err-fill.ensures.fills) in
+    c.in_err-fill.ensures.fills c.in_err-fill.ensures.failed) in
     record { answers = answers; replays = search rules; can = c.fill.ensures.can }
 
 pub returns-in_err-fill-clause-costs : goal.returns-in_err-fill-clause-costs

@@ -8,6 +8,7 @@ use Rattle.paged_read.specs.Hand.{HandState, payloads}
 use Rattle.paged_read.specs.ReadAhead.{IsBatch}
 use Rattle.paged_read.specs.Replay.{CanReplay, end_of, FillsOnce, ReplayState}
 use Rattle.paged_read.specs.Tail.{size_of}
+use Rattle.paged_read.proofs.Failing.{none_failed_kept}
 use Rattle.paged_read.proofs.Replays.{Filled, filled_batch, filled_rest, grows, page_after, page_within}
 use Rattle.paged_read.proofs.replay.Replay.fill.Goals as goal
 use Rattle.paged_read.proofs.replay.Replay.fill.Goals.{After-add, After-from-page_size, After-push}
@@ -273,3 +274,12 @@ returns-clause-idle g c = λ after.
     let under = add_below g here.After-from-page_size c.if-page-self.false in
     let page = page_after g.H.Sum.sum_of was c.self.invariant.0 (batch_more g here.After-add) past in
     absurd (omega (arith, under, page, batch_page g here.After-add, c.self.invariant.3))
+
+pub returns-in_err-rest-clause-failed : goal.returns-in_err-rest-clause-failed
+returns-in_err-rest-clause-failed g c = none_failed_kept c.from_residual.result (g.B.Blob.life c.args.blob.now).present
+
+pub returns-then-page-self-clause-failed : goal.returns-then-page-self-clause-failed
+returns-then-page-self-clause-failed g c = none_failed_kept c.push.result (g.B.Blob.life c.args.blob.now).present
+
+pub returns-clause-failed : goal.returns-clause-failed
+returns-clause-failed g c = c.add.ensures.failed

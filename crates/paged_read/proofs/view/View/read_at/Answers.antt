@@ -1,11 +1,13 @@
-use Rattle.std.proofs.Common.{rules, refl, Ok, Err, ◌≡◌, ◌+◌, ◌≤◌, ◌∙◌, ◌++◌, List, ℕ, [], ◌∷◌, length, take, drop, sym, ap, subst, arith}
+use Rattle.std.proofs.Common.{rules, refl, Ok, Err, Result, ◌≡◌, ◌+◌, ◌≤◌, ◌∙◌, ◌++◌, List, ℕ, [], ◌∷◌, length, take, drop, sym, ap, subst, arith}
 use Rattle.std.specs.List.{concat}
 use Rattle.std.proofs.lemmas.List.{take_all}
+use Rattle.paged_read.specs.Failures.{NoneFailed, none_failed_start}
 use Rattle.paged_read.specs.Tail.{tail_at, told, size_of}
 use Rattle.paged_read.specs.Ranges.{slice, AreMissingFull, Reads}
 use Rattle.paged_read.proofs.WholeReads.{vec_written}
 use Rattle.std.proofs.lemmas.Result.{err_from_is_err_and}
-use Rattle.disk.specs.declared.error.Error.TheVariants.{BlobInsufficientLength, OffsetOverflow}
+use Rattle.disk.specs.declared.error.Error.{Error}
+use Rattle.disk.specs.declared.error.Error.TheVariants.{BlobInsufficientLength, OffsetOverflow, OutOfMemory}
 use Rattle.paged_read.specs.Reads.{ReadCosts}
 use Rattle.paged_read.proofs.ReadLaws.{read_goes, reads_refused, leaves_nothing, costs_nothing, costs_again, costs_refused_again, costs_refused}
 use Rattle.paged_read.proofs.view.View.read_at.Goals as goal
@@ -41,7 +43,10 @@ returns-then-size-end-clause-costs g c =
 pub returns-in_err-resize-clause-goes : goal.returns-in_err-resize-clause-goes
 returns-in_err-resize-clause-goes g c =
     let t = tail_at c.args.self.page_size c.args.self.id c.args.self.tip.now in
-    read_goes g.H.Sum.sum_of t c.args.cache.now (g.B.Blob.life c.args.blob.now) (g.B.Blob.life c.args.blob.now) c.requires.can (c.args.offset, c.args.len) concat c.from_residual.result (search rules) (search rules) (search rules)
+    read_goes g.H.Sum.sum_of t c.args.cache.now (g.B.Blob.life c.args.blob.now) (g.B.Blob.life c.args.blob.now) c.requires.can (c.args.offset, c.args.len) concat c.from_residual.result
+    (let is : c.from_residual.result ≡ Err OutOfMemory = search rules in
+    subst (λ (r : Result (List (List ℕ)) Error). Reads g.H.Sum.sum_of t c.args.cache.now (c.args.offset, c.args.len) concat (g.B.Blob.life c.args.blob.now) (g.B.Blob.life c.args.blob.now) r) (sym is) (none_failed_start (g.B.Blob.life c.args.blob.now).present))
+    (search rules) (search rules)
 
 pub returns-in_err-resize-clause-leaves : goal.returns-in_err-resize-clause-leaves
 returns-in_err-resize-clause-leaves g c =
@@ -94,7 +99,9 @@ returns-in_err-append_front-clause-goes g c =
     let len = c.args.len in
     let many : length c.deref_mut.result.now ≡ len = c.deref_mut.ensures.len ∙ c.in_ok-resize.ensures.len in
     let ends : c.in-Some.end ≡ c.args.offset + len = grind arith in
-    read_goes g.H.Sum.sum_of t c.args.cache.now old new c.requires.can (c.args.offset, len) concat c.from_residual-in_err-append_front.result (search rules)
+    read_goes g.H.Sum.sum_of t c.args.cache.now old new c.requires.can (c.args.offset, len) concat c.from_residual-in_err-append_front.result
+    (let is : c.from_residual-in_err-append_front.result ≡ Err OutOfMemory = search rules in
+    subst (λ (r : Result (List (List ℕ)) Error). Reads g.H.Sum.sum_of t c.args.cache.now (c.args.offset, len) concat old new r) (sym is) c.in_ok-read_into.ensures.goes.answers.3)
     (λ over. absurd (omega (arith, over, ends)))
     (λ fits past. absurd (omega (arith, past, ends, c.size.ensures, c.if-size-end.false)))
 
@@ -123,7 +130,7 @@ returns-clause-goes g c =
     let bytes = c.read_into.new.buf in
     let size : length bytes ≡ len = c.read_into.ensures.goes.size ∙ many in
     let written : take c.resize.new.self.len (bytes ++ drop (length bytes) c.resize.new.self.items) ≡ bytes = vec_written c.resize.new.self.len bytes c.resize.new.self.items (size ∙ sym room) in
-    let read : (c.args.offset + length c.deref_mut.result.now ≤ size_of t) × (bytes ≡ slice (told t d.readable) (c.args.offset, length c.deref_mut.result.now)) × AreMissingFull g.H.Sum.sum_of c.args.cache.now t ((c.args.offset, length c.deref_mut.result.now) ∷ []) d.readable = c.in_ok-read_into.ensures.goes.answers in
+    let read : (c.args.offset + length c.deref_mut.result.now ≤ size_of t) × (bytes ≡ slice (told t d.readable) (c.args.offset, length c.deref_mut.result.now)) × AreMissingFull g.H.Sum.sum_of c.args.cache.now t ((c.args.offset, length c.deref_mut.result.now) ∷ []) d.readable × NoneFailed d (g.B.Blob.life c.read_into.new.blob).present = c.in_ok-read_into.ensures.goes.answers in
     let old = g.B.Blob.life c.args.blob.now in
     let new = g.B.Blob.life c.read_into.new.blob in
     let ends : c.in-Some.end ≡ c.args.offset + len = grind arith in
@@ -132,6 +139,7 @@ returns-clause-goes g c =
       c.in_ok-append_front.ensures.bytes ∙ ap (λ (l : List (List ℕ)). concat l ++ take len (take c.resize.new.self.len (bytes ++ drop (length bytes) c.resize.new.self.items))) c.new-bufs.ensures
           ∙ ap (λ (l : List ℕ). take len l) written ∙ take_all len bytes (omega (arith, size)) ∙ read.1 ∙ ap (λ n. slice (told t d.readable) (c.args.offset, n)) many,
       subst (λ n. AreMissingFull g.H.Sum.sum_of c.args.cache.now t ((c.args.offset, n) ∷ []) d.readable) many read.2,
+      read.3,
     )
     (λ over. absurd (omega (arith, over, ends)))
     (λ fits past. absurd (omega (arith, past, ends, c.size.ensures, c.if-size-end.false)))

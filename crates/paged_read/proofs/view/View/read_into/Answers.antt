@@ -104,6 +104,7 @@ returns-clause-goes g c =
       inside,
       are ∙ parts_join t c.args.cache.now c.args.offset len below c.len_below-below.ensures d c.read_below.new.buf c.copy_tip.new.buf c.requires.can front back,
       part_full t c.args.cache.now c.args.offset len below c.len_below-below.ensures g.H.Sum.sum_of d.readable (subst (λ n. AreMissingFull g.H.Sum.sum_of c.args.cache.now t ((c.args.offset, n) ∷ []) d.readable) many c.in_ok-read_below.ensures.reads.1),
+      c.in_ok-read_below.ensures.reads.2,
     )
     (λ over. absurd (omega (arith, over, ends)))
     (λ fits past. absurd (omega (arith, past, inside)))

@@ -3,6 +3,7 @@ use Rattle.std.specs.Prelude.{All}
 use Rattle.std.proofs.lemmas.Result.{err_from_is_err_and}
 use Rattle.crash.proofs.LookLaws.{looked_readable}
 use Rattle.page.specs.Page.{value_len}
+use Rattle.paged_read.specs.Failures.{none_failed_start}
 use Rattle.paged_read.specs.Tail.{tail_at, told}
 use Rattle.paged_read.specs.Batch.{KeepsFault, pieces_in}
 use Rattle.paged_read.specs.Parts.{with_told, ArePagesFull}
@@ -23,7 +24,7 @@ keep_all-requires-clause-delivered g c =
     let new = g.B.Blob.life c.fetch.new.blob in
     let pages = c.args.batch.now.pages.items in
     let out = c.in_ok-out.out.items in
-    let delivers = delivers_same t.page_size c.deref.result.now pages old.present.readable old.present.readable out out (sym c.deref.ensures.value) refl refl c.in_ok-out.ensures.reads in
+    let delivers = delivers_same t.page_size c.deref.result.now pages old.present.readable old.present.readable out out (sym c.deref.ensures.value) refl refl c.in_ok-out.ensures.reads.0 in
     whole_same t.page_size pages c.deref-2.result.now out c.deref-3.result.now c.deref-2.ensures.value c.deref-3.ensures.value (delivered_whole t pages old.present.readable out c.requires.can.there c.requires.below delivers)
 
 pub returns-in_err-at-clause-reads : goal.returns-in_err-at-clause-reads
@@ -33,10 +34,10 @@ returns-in_err-at-clause-reads g c =
     let new = g.B.Blob.life c.fetch.new.blob in
     let pages = c.args.batch.now.pages.items in
     let out = c.in_ok-out.out.items in
-    let delivers = delivers_same t.page_size c.deref.result.now pages old.present.readable old.present.readable out out (sym c.deref.ensures.value) refl refl c.in_ok-out.ensures.reads in
+    let delivers = delivers_same t.page_size c.deref.result.now pages old.present.readable old.present.readable out out (sym c.deref.ensures.value) refl refl c.in_ok-out.ensures.reads.0 in
     let fault = subst (λ (o : List (ℕ × List ℕ)). KeepsFault g.H.Sum.sum_of t.page_size o c.in_err-at.field-0.0) c.deref-3.ensures.value c.in_err-at.ensures.err in
     let error = err_from_is_err_and c.from_residual-in_err-at.result c.from_residual-in_err-at.ensures.1 in
-    rw (error.1, error.2) (keeps_fault g.H.Sum.sum_of t.page_size pages out old new c.in_err-at.field-0.0 delivers fault)
+    rw (error.1, error.2) (keeps_fault g.H.Sum.sum_of t.page_size pages out old new c.in_err-at.field-0.0 delivers c.in_ok-out.ensures.reads.1 fault)
 
 pub returns-in_err-at-clause-leaves : goal.returns-in_err-at-clause-leaves
 returns-in_err-at-clause-leaves g c =
@@ -45,7 +46,7 @@ returns-in_err-at-clause-leaves g c =
     let new = g.B.Blob.life c.fetch.new.blob in
     let pages = c.args.batch.now.pages.items in
     let out = c.in_ok-out.out.items in
-    let delivers = delivers_same t.page_size c.deref.result.now pages old.present.readable old.present.readable out out (sym c.deref.ensures.value) refl refl c.in_ok-out.ensures.reads in
+    let delivers = delivers_same t.page_size c.deref.result.now pages old.present.readable old.present.readable out out (sym c.deref.ensures.value) refl refl c.in_ok-out.ensures.reads.0 in
     leaves_kept t c.args.cache.now c.keep_all.new.cache old new c.requires.can c.fetch.ensures.looked
     (λ can. c.keep_all.ensures.leaves new can (delivers_same t.page_size pages c.deref-2.result.now old.present.readable new.present.readable out c.deref-3.result.now c.deref-2.ensures.value (looked_readable old new c.fetch.ensures.looked) c.deref-3.ensures.value delivers))
 
@@ -56,7 +57,7 @@ fill-requires g c =
     let new = g.B.Blob.life c.fetch.new.blob in
     let pages = c.args.batch.now.pages.items in
     let out = c.in_ok-out.out.items in
-    let delivers = delivers_same t.page_size c.deref.result.now pages old.present.readable old.present.readable out out (sym c.deref.ensures.value) refl refl c.in_ok-out.ensures.reads in
+    let delivers = delivers_same t.page_size c.deref.result.now pages old.present.readable old.present.readable out out (sym c.deref.ensures.value) refl refl c.in_ok-out.ensures.reads.0 in
     let marked = marked_same c.in_ok-at.at.items out c.deref-3.result.now c.deref-3.ensures.value c.in_ok-at.ensures.found in
     let long : length c.in_ok-at.at.items ≡ length pages = c.in_ok-at.ensures.long ∙ ap (λ (l : List ℕ). length l) c.deref-2.ensures.value in
     ready_same c.in_ok-at.at.items c.deref-5.result.now out c.deref-6.result.now (length c.args.buf.now) c.args.batch.now.lacks.items c.deref-4.result.now c.deref-5.ensures.value c.deref-6.ensures.value c.deref-4.ensures.value
@@ -69,7 +70,7 @@ returns-clause-reads g c =
     let new = g.B.Blob.life c.fetch.new.blob in
     let pages = c.args.batch.now.pages.items in
     let out = c.in_ok-out.out.items in
-    let delivers = delivers_same t.page_size c.deref.result.now pages old.present.readable old.present.readable out out (sym c.deref.ensures.value) refl refl c.in_ok-out.ensures.reads in
+    let delivers = delivers_same t.page_size c.deref.result.now pages old.present.readable old.present.readable out out (sym c.deref.ensures.value) refl refl c.in_ok-out.ensures.reads.0 in
     let marked = marked_same c.in_ok-at.at.items out c.deref-3.result.now c.deref-3.ensures.value c.in_ok-at.ensures.found in
     let content = told t old.present.readable in
     let each = told_same t.page_size content c.in_ok-at.at.items c.deref-5.result.now out c.deref-6.result.now c.args.batch.now.lacks.items c.deref-4.result.now c.deref-5.ensures.value c.deref-6.ensures.value c.deref-4.ensures.value
@@ -77,6 +78,7 @@ returns-clause-reads g c =
     let full = subst (λ (o : List (ℕ × List ℕ)). All (λ page. value_len g.H.Sum.sum_of t.page_size page.1 ≡ t.page_size) o) c.deref-3.ensures.value c.in_ok-at.ensures.full in (
       c.fill.ensures.told t.page_size content each ∙ ap (λ (l : List Lack). with_told t.page_size content (pieces_in l) c.args.buf.now) c.deref-4.ensures.value,
       pages_full g.H.Sum.sum_of t.page_size pages old.present.readable c.in_ok-at.at.items out delivers marked full,
+      c.in_ok-out.ensures.reads.1,
     )
 
 pub returns-clause-leaves : goal.returns-clause-leaves
@@ -86,7 +88,7 @@ returns-clause-leaves g c =
     let new = g.B.Blob.life c.fetch.new.blob in
     let pages = c.args.batch.now.pages.items in
     let out = c.in_ok-out.out.items in
-    let delivers = delivers_same t.page_size c.deref.result.now pages old.present.readable old.present.readable out out (sym c.deref.ensures.value) refl refl c.in_ok-out.ensures.reads in
+    let delivers = delivers_same t.page_size c.deref.result.now pages old.present.readable old.present.readable out out (sym c.deref.ensures.value) refl refl c.in_ok-out.ensures.reads.0 in
     leaves_kept t c.args.cache.now c.keep_all.new.cache old new c.requires.can c.fetch.ensures.looked
     (λ can. c.keep_all.ensures.leaves new can (delivers_same t.page_size pages c.deref-2.result.now old.present.readable new.present.readable out c.deref-3.result.now c.deref-2.ensures.value (looked_readable old new c.fetch.ensures.looked) c.deref-3.ensures.value delivers))
 
@@ -103,7 +105,7 @@ returns-in_err-at-clause-puts g c =
     let old = g.B.Blob.life c.args.blob.now in
     let pages = c.args.batch.now.pages.items in
     let out = c.in_ok-out.out.items in
-    let delivers = delivers_same t.page_size c.deref.result.now pages old.present.readable old.present.readable out out (sym c.deref.ensures.value) refl refl c.in_ok-out.ensures.reads in
+    let delivers = delivers_same t.page_size c.deref.result.now pages old.present.readable old.present.readable out out (sym c.deref.ensures.value) refl refl c.in_ok-out.ensures.reads.0 in
     let there = delivers_same t.page_size pages c.deref-2.result.now old.present.readable old.present.readable out c.deref-3.result.now c.deref-2.ensures.value refl c.deref-3.ensures.value delivers in
     let each = subst (λ (l : List ℕ). IsPermutation l (numbered c.deref-2.result.now c.deref-3.result.now)) c.deref-2.ensures.value (numbered_each t.page_size c.deref-2.result.now old.present.readable c.deref-3.result.now there) in
     let p = err_from_is_err_and c.from_residual-in_err-at.result c.from_residual-in_err-at.ensures.1 in
@@ -115,7 +117,7 @@ returns-clause-puts g c =
     let old = g.B.Blob.life c.args.blob.now in
     let pages = c.args.batch.now.pages.items in
     let out = c.in_ok-out.out.items in
-    let delivers = delivers_same t.page_size c.deref.result.now pages old.present.readable old.present.readable out out (sym c.deref.ensures.value) refl refl c.in_ok-out.ensures.reads in
+    let delivers = delivers_same t.page_size c.deref.result.now pages old.present.readable old.present.readable out out (sym c.deref.ensures.value) refl refl c.in_ok-out.ensures.reads.0 in
     let there = delivers_same t.page_size pages c.deref-2.result.now old.present.readable old.present.readable out c.deref-3.result.now c.deref-2.ensures.value refl c.deref-3.ensures.value delivers in
     let each = subst (λ (l : List ℕ). IsPermutation l (numbered c.deref-2.result.now c.deref-3.result.now)) c.deref-2.ensures.value (numbered_each t.page_size c.deref-2.result.now old.present.readable c.deref-3.result.now there) in
     record { order = numbered c.deref-2.result.now c.deref-3.result.now; each = each; puts = c.in_ok-at.ensures.puts old c.requires.can there }
@@ -127,6 +129,7 @@ returns-then-is_empty-clause-reads g c =
     let none = no_pages c.as_slice.result.now c.args.batch.now.pages.items (sym c.is_empty.ensures ∙ c.if-is_empty.true) c.as_slice.ensures.value in (
       ap (λ (l : List Lack). with_told t.page_size (told t old.present.readable) (pieces_in l) c.args.buf.now) (sym (no_lacks t.page_size (length c.args.buf.now) c.args.batch.now.pages.items c.args.batch.now.lacks.items none c.requires.lacks)),
       subst (λ (l : List ℕ). ArePagesFull g.H.Sum.sum_of t.page_size l old.present.readable) (sym none) (λ page has. absurd (omega (arith, has.1))),
+      none_failed_start old.present,
     )
 
 pub returns-then-is_empty-clause-asks : goal.returns-then-is_empty-clause-asks

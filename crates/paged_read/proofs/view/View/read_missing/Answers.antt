@@ -1,10 +1,13 @@
-use Rattle.std.proofs.Common.{◌≡◌, ◌<◌, ◌+◌, ◌∙◌, List, [], ◌∷◌, ℕ, ◌++◌, length, sym, ap, subst, arith, refl}
+use Rattle.std.proofs.Common.{rules, Err, Result, ◌≡◌, ◌<◌, ◌+◌, ◌∙◌, List, [], ◌∷◌, ℕ, ◌++◌, length, sym, ap, subst, arith, refl}
 use Rattle.std.specs.Prelude.{All}
 use Rattle.cache.specs.CacheState.{IsPiece, pieces_left}
 use Rattle.cache.specs.declared.piece.Piece.{Piece}
 use Rattle.paged_read.specs.Tail.{tail_at}
 use Rattle.paged_read.specs.Pieces.{pieces_of}
-use Rattle.paged_read.specs.Parts.{IsPieceOf}
+use Rattle.disk.specs.declared.error.Error.{Error}
+use Rattle.disk.specs.declared.error.Error.TheVariants.{OutOfMemory}
+use Rattle.paged_read.specs.Failures.{none_failed_start}
+use Rattle.paged_read.specs.Parts.{IsPieceOf, ReadsBelow}
 use Rattle.paged_read.proofs.Leaving.{leaves_none}
 use Rattle.paged_read.proofs.BelowReads.{pieces_are, left_are, left_many, missing_read, page_lacks, left_pages, only_page, only_is, only_many, only_read, offsets_fit}
 use Rattle.paged_read.proofs.PutLaws.{puts_none, puts_page}
@@ -108,3 +111,17 @@ returns-clause-puts g c =
     subst (λ (l : List ℕ). PutsInOrder g.H.Sum.sum_of t l readable c.args.cache.now c.read_pieces.new.cache c.read_pieces.result)
     (left_pages t c.args.cache.now c.args.offset len c.args.self.page_size.ok c.requires.below c.deref.result.now c.deref-2.result.now items (c.deref-2.ensures.value ∙ c.in_ok-left.ensures.reads.0))
     c.read_pieces.ensures.puts
+
+pub returns-in_err-push_pieces-clause-reads : goal.returns-in_err-push_pieces-clause-reads
+returns-in_err-push_pieces-clause-reads g c =
+    let t = tail_at c.args.self.page_size c.args.self.id c.args.self.tip.now in
+    let old = g.B.Blob.life c.args.blob.now in
+    let is : c.from_residual.result ≡ Err OutOfMemory = search rules in
+    subst (λ (r : Result (Unit {0}) Error). ReadsBelow g.H.Sum.sum_of t c.args.cache.now (c.args.offset, length c.args.buf.now) c.args.buf.now old old r) (sym is) (none_failed_start old.present)
+
+pub returns-in_err-left-clause-reads : goal.returns-in_err-left-clause-reads
+returns-in_err-left-clause-reads g c =
+    let t = tail_at c.args.self.page_size c.args.self.id c.args.self.tip.now in
+    let old = g.B.Blob.life c.args.blob.now in
+    let is : c.from_residual-in_err-left.result ≡ Err OutOfMemory = search rules in
+    subst (λ (r : Result (Unit {0}) Error). ReadsBelow g.H.Sum.sum_of t c.args.cache.now (c.args.offset, length c.args.buf.now) c.read_cached_many.new.buf old old r) (sym is) (none_failed_start old.present)

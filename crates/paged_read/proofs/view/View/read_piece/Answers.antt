@@ -28,6 +28,7 @@ returns-clause-reads g c =
     ∙ ap (λ (l : List ℕ). take n (drop piece.skip (take t.page_size l))) (c.as_ref.ensures ∙ c.in_ok-bytes.ensures.reads.0) in (
       piece_told t readable piece c.args.buf.now c.copy_from_slice.new.self c.requires.can.there c.requires.piece part,
       page_full g.H.Sum.sum_of t.page_size piece.page c.in_ok-bytes.bytes readable c.in_ok-bytes.ensures.reads.0 c.in_ok-bytes.ensures.reads.1,
+      c.in_ok-bytes.ensures.reads.2,
     )
 
 pub returns-clause-leaves : goal.returns-clause-leaves

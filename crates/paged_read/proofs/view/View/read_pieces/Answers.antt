@@ -4,6 +4,7 @@ use Rattle.std.proofs.lemmas.Result.{err_from_is_err_and}
 use Rattle.std.specs.List.{Contains}
 use Rattle.crash.proofs.LookLaws.{looked_readable}
 use Rattle.cache.specs.declared.piece.Piece.{Piece}
+use Rattle.paged_read.specs.Failures.{none_failed_start, none_failed_joins}
 use Rattle.paged_read.specs.Tail.{tail_at, told}
 use Rattle.paged_read.specs.Parts.{with_told, pages_of, ArePagesFull}
 use Rattle.paged_read.proofs.Leaving.{leaves_none, leaves_joins, told_later}
@@ -21,6 +22,7 @@ loop-piece-init g c = record {
   full = none_full g.H.Sum.sum_of (tail_at c.args.self.page_size c.args.self.id c.args.self.tip.now).page_size (g.B.Blob.life c.args.blob.now).present.readable;
   asks = omega arith;
   puts = refl;
+  none_failed = none_failed_start (g.B.Blob.life c.args.blob.now).present;
   leaves = leaves_none (tail_at c.args.self.page_size c.args.self.id c.args.self.tip.now) c.args.cache.now (g.B.Blob.life c.args.blob.now) c.requires.can;
 }
 
@@ -32,7 +34,7 @@ returns-in_err-read_piece-clause-reads g c =
     let d : Piece = record { page = 0; skip = 0; buf_offset = 0; len = 0 } in
     let item : Piece = get_or c.args.pieces.now k d in
     let here = piece_among c.args.pieces.now k d c.loop-piece-test.true in
-    rw (p.1, p.2) (faults_later g.H.Sum.sum_of t.page_size (item.page ∷ []) (pages_of c.args.pieces.now) (g.B.Blob.life c.args.blob.now) (g.B.Blob.life c.loop-piece.blob) (g.B.Blob.life c.read_piece.new.blob) c.in_err-read_piece.field-0.0 c.loop-piece.invariant.leaves.looked
+    rw (p.1, p.2) (faults_later g.H.Sum.sum_of t.page_size (item.page ∷ []) (pages_of c.args.pieces.now) (g.B.Blob.life c.args.blob.now) (g.B.Blob.life c.loop-piece.blob) (g.B.Blob.life c.read_piece.new.blob) c.in_err-read_piece.field-0.0 c.loop-piece.invariant.leaves.looked c.loop-piece.invariant.none_failed
     (λ page has. subst (λ q. Contains (pages_of c.args.pieces.now) q) (sym (one_page item.page page has)) here) c.in_err-read_piece.ensures.reads)
 
 pub returns-in_err-read_piece-clause-leaves : goal.returns-in_err-read_piece-clause-leaves
@@ -59,6 +61,7 @@ loop-piece-preserved g c =
           (full_same g.H.Sum.sum_of t.page_size (item.page ∷ []) mid.present.readable old.present.readable (sym (looked_readable old mid looked)) c.in_ok-read_piece.ensures.reads.1);
       asks = omega (arith, c.loop-piece.invariant.asks, c.read_piece.ensures.asks);
       puts = puts_piece_more t c.args.pieces.now k d (told t old.present.readable) (told t mid.present.readable) c.args.cache.now c.loop-piece.cache c.read_piece.new.cache c.loop-piece-test.true (told_later t old mid looked) c.loop-piece.invariant.puts c.in_ok-read_piece.ensures.puts;
+      none_failed = none_failed_joins old.present mid.present (g.B.Blob.life c.read_piece.new.blob).present c.loop-piece.invariant.none_failed c.in_ok-read_piece.ensures.reads.2;
       leaves = leaves_joins t c.args.cache.now c.loop-piece.cache c.read_piece.new.cache old mid (g.B.Blob.life c.read_piece.new.blob) c.loop-piece.invariant.leaves c.read_piece.ensures.leaves;
     }
 
@@ -71,6 +74,7 @@ returns-clause-reads g c =
     let all : take k c.args.pieces.now ≡ c.args.pieces.now = take_all k c.args.pieces.now c.loop-piece-test.false in (
       sym (ap (λ (l : List Piece). with_told t.page_size (told t old.present.readable) l c.loop-piece.buf) none) ∙ c.loop-piece.invariant.bytes,
       subst (λ (l : List Piece). ArePagesFull g.H.Sum.sum_of t.page_size (pages_of l) old.present.readable) all c.loop-piece.invariant.full,
+      c.loop-piece.invariant.none_failed,
     )
 
 pub returns-in_err-read_piece-clause-puts : goal.returns-in_err-read_piece-clause-puts

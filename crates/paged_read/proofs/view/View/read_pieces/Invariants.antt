@@ -1,4 +1,5 @@
 use Rattle.std.proofs.Common.{◌≡◌, ◌≤◌, ◌+◌, length, take, drop}
+use Rattle.paged_read.specs.Failures.{NoneFailed}
 use Rattle.paged_read.specs.Tail.{tail_at, told}
 use Rattle.paged_read.specs.Ranges.{LeavesAll}
 use Rattle.paged_read.specs.Parts.{with_told, pages_of, ArePagesFull}
@@ -16,5 +17,6 @@ invariant-loop-piece g l =
       full : ArePagesFull g.H.Sum.sum_of t.page_size (pages_of (take l.piece-index l.pieces)) old.present.readable;
       asks : length (g.B.Blob.life l.blob).present.log ≤ length old.present.log + l.piece-index;
       puts : PutsPages t.id content (pages_of (take l.piece-index l.pieces)) l.initial.cache l.cache;
+      none_failed : NoneFailed old.present (g.B.Blob.life l.blob).present;
       leaves : LeavesAll t l.initial.cache l.cache old (g.B.Blob.life l.blob);
     }

@@ -1,7 +1,10 @@
-use Rattle.std.proofs.Common.{rules, refl, Ok, ◌≡◌, ◌∙◌, sym, ap, subst, ℕ, ◌<◌, List, length, take, arith}
+use Rattle.std.proofs.Common.{rules, refl, Ok, Err, Result, ◌≡◌, ◌∙◌, sym, ap, subst, ℕ, ◌<◌, List, length, take, arith}
 use Rattle.std.specs.Prelude.{All}
 use Rattle.std.proofs.lemmas.List.{take_all}
 use Rattle.page.specs.Geometry.{EndWithin}
+use Rattle.disk.specs.declared.error.Error.{Error}
+use Rattle.disk.specs.declared.error.Error.TheVariants.{OutOfMemory}
+use Rattle.paged_read.specs.Failures.{none_failed_start}
 use Rattle.paged_read.specs.Ranges.{ReadsMany}
 use Rattle.paged_read.specs.Puts.{PutsSome}
 use Rattle.paged_read.specs.Tail.{tail_at, told}
@@ -36,7 +39,9 @@ returns-in_err-validate_read_ranges-clause-costs g c =
 pub returns-in_err-batch-clause-goes : goal.returns-in_err-batch-clause-goes
 returns-in_err-batch-clause-goes g c =
     let t = tail_at c.args.self.page_size c.args.self.id c.args.self.tip.now in
-    read_ranges_goes g.H.Sum.sum_of t c.args.cache.now (g.B.Blob.life c.args.blob.now) (g.B.Blob.life c.args.blob.now) c.requires.can c.args.ranges.now c.args.buf.now c.gather.new.buf c.from_residual-in_err-batch.result (search rules)
+    read_ranges_goes g.H.Sum.sum_of t c.args.cache.now (g.B.Blob.life c.args.blob.now) (g.B.Blob.life c.args.blob.now) c.requires.can c.args.ranges.now c.args.buf.now c.gather.new.buf c.from_residual-in_err-batch.result
+    (let is : c.from_residual-in_err-batch.result ≡ Err OutOfMemory = search rules in
+    subst (λ (r : Result ℕ Error). ReadsMany g.H.Sum.sum_of t c.args.cache.now c.args.ranges.now c.gather.new.buf (g.B.Blob.life c.args.blob.now) (g.B.Blob.life c.args.blob.now) r) (sym is) (subst (λ (n : ℕ). EndWithin n c.args.ranges.now) c.size.ensures c.in_ok-validate_read_ranges.ensures, none_failed_start (g.B.Blob.life c.args.blob.now).present))
     (let p = err_from_is_err_and c.from_residual-in_err-batch.result c.from_residual-in_err-batch.ensures.1 in rw p.1 (λ within. c.in_err-batch.ensures.refused)) c.gather.ensures.size
 
 pub returns-in_err-batch-clause-leaves : goal.returns-in_err-batch-clause-leaves
@@ -101,6 +106,7 @@ returns-clause-goes g c =
       c.in_ok-batch.ensures.served,
       reads.0 ∙ ap (λ (l : List ℕ). with_told t.page_size content (pieces_in c.in_ok-batch.batch.lacks.items) l) (sym whole) ∙ gathered.bytes old.present c.requires.can,
       full_missing g.H.Sum.sum_of c.args.cache.now t c.args.ranges.now c.in_ok-batch.batch.pages.items old.present.readable (sym gathered.wanted) reads.1,
+      reads.2,
     )
     tt (c.read_lacks.ensures.size ∙ c.gather.ensures.size)
 

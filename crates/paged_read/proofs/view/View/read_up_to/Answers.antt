@@ -1,8 +1,12 @@
-use Rattle.std.proofs.Common.{rules, refl, Ok, Err, ◌≡◌, ◌+◌, ◌-◌, ◌≤◌, ◌∙◌, ◌++◌, [], ◌∷◌, length, take, drop, min, inr, ap, subst, arith}
+use Rattle.std.proofs.Common.{rules, refl, Ok, Err, Result, ℕ, ◌≡◌, ◌+◌, ◌-◌, ◌≤◌, ◌∙◌, ◌++◌, [], ◌∷◌, length, take, drop, min, inr, ap, subst, sym, arith}
+use Rattle.paged_read.specs.Failures.{NoneFailed, none_failed_start}
 use Rattle.paged_read.specs.Tail.{tail_at, told, size_of}
 use Rattle.paged_read.specs.Ranges.{slice, AreMissingFull, ReadsUpTo, range_up_to}
 use Rattle.std.proofs.lemmas.Result.{err_from_is_err_and}
-use Rattle.disk.specs.declared.error.Error.TheVariants.{BlobInsufficientLength}
+use Rattle.std.specs.Prelude.{Vec}
+use Rattle.std.specs.declared.alloc.Global.{Global}
+use Rattle.disk.specs.declared.error.Error.{Error}
+use Rattle.disk.specs.declared.error.Error.TheVariants.{BlobInsufficientLength, OutOfMemory}
 use Rattle.paged_read.specs.Reads.{ReadCosts}
 use Rattle.paged_read.proofs.Windows.{missing_none}
 use Rattle.paged_read.proofs.ReadLaws.{read_up_to_goes, up_to_refused, leaves_nothing, costs_nothing, costs_empty, costs_again, costs_refused_again}
@@ -42,7 +46,10 @@ returns-then-offset-size-clause-costs g c =
 pub returns-in_err-resize-clause-goes : goal.returns-in_err-resize-clause-goes
 returns-in_err-resize-clause-goes g c =
     let t = tail_at c.args.self.page_size c.args.self.id c.args.self.tip.now in
-    read_up_to_goes g.H.Sum.sum_of t c.args.cache.now (g.B.Blob.life c.args.blob.now) (g.B.Blob.life c.args.blob.now) c.requires.can c.args.offset c.args.len c.from_residual.result (search rules) (λ some past. absurd (omega (arith, past, c.size-size.ensures, c.if-offset-size.false))) (search rules)
+    read_up_to_goes g.H.Sum.sum_of t c.args.cache.now (g.B.Blob.life c.args.blob.now) (g.B.Blob.life c.args.blob.now) c.requires.can c.args.offset c.args.len c.from_residual.result
+    (let is : c.from_residual.result ≡ Err OutOfMemory = search rules in
+    subst (λ (r : Result (Vec ℕ Global × ℕ) Error). ReadsUpTo g.H.Sum.sum_of t c.args.cache.now c.args.offset c.args.len (g.B.Blob.life c.args.blob.now) (g.B.Blob.life c.args.blob.now) r) (sym is) (none_failed_start (g.B.Blob.life c.args.blob.now).present))
+    (λ some past. absurd (omega (arith, past, c.size-size.ensures, c.if-offset-size.false))) (search rules)
 
 pub returns-in_err-resize-clause-leaves : goal.returns-in_err-resize-clause-leaves
 returns-in_err-resize-clause-leaves g c =
@@ -93,12 +100,13 @@ returns-clause-goes g c =
     let bytes = c.read_into.new.buf in
     let written : take c.resize.new.self.len (bytes ++ drop (length bytes) c.resize.new.self.items) ≡ bytes =
     vec_written c.resize.new.self.len bytes c.resize.new.self.items (c.read_into.ensures.goes.size ∙ c.deref_mut.ensures.len) in
-    let read : (c.args.offset + length c.deref_mut.result.now ≤ size_of t) × (bytes ≡ slice (told t d.readable) (c.args.offset, length c.deref_mut.result.now)) × AreMissingFull g.H.Sum.sum_of c.args.cache.now t ((c.args.offset, length c.deref_mut.result.now) ∷ []) d.readable = c.in_ok-read_into.ensures.goes.answers in
+    let read : (c.args.offset + length c.deref_mut.result.now ≤ size_of t) × (bytes ≡ slice (told t d.readable) (c.args.offset, length c.deref_mut.result.now)) × AreMissingFull g.H.Sum.sum_of c.args.cache.now t ((c.args.offset, length c.deref_mut.result.now) ∷ []) d.readable × NoneFailed d (g.B.Blob.life c.read_into.new.blob).present = c.in_ok-read_into.ensures.goes.answers in
     read_up_to_goes g.H.Sum.sum_of t c.args.cache.now (g.B.Blob.life c.args.blob.now) (g.B.Blob.life c.read_into.new.blob) c.requires.can c.args.offset c.args.len _ (
       inr (omega (arith, c.size-size.ensures, c.if-offset-size.false)),
       written ∙ read.1 ∙ ap (λ n. slice (told t d.readable) (c.args.offset, n)) many,
       count,
       subst (λ n. AreMissingFull g.H.Sum.sum_of c.args.cache.now t ((c.args.offset, n) ∷ []) d.readable) many read.2,
+      read.3,
     )
     (λ some past. absurd (omega (arith, past, c.size-size.ensures, c.if-offset-size.false))) tt
 
