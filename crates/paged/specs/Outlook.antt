@@ -12,7 +12,7 @@ use Rattle.cache.specs.CacheState.{CacheState}
 use Rattle.writer_state.specs.WriterState.{WriterState}
 use Rattle.crash.specs.Stays.{KeepsAllFloors}
 use Rattle.paged_read.specs.Replay.{LeavesAllReplays}
-use Rattle.paged_read.specs.Scans.{ReadsForward, pages_from}
+use Rattle.paged_read.specs.Scans.{ReadsForward, StopsAt, pages_from, prefix_from}
 use Rattle.paged_read.specs.Searches.{ReadsWithin}
 use Rattle.paged_read.specs.Snapshots.{LeavesAllReads, LeavesAllTails, LeavesWriters}
 use Rattle.paged.specs.declared.outlook.Outlook.{Outlook}
@@ -132,11 +132,14 @@ pub record LeavesAsIs (old new : Life) : Type 0 where
   pub kept : (sum : List ℕ → ℕ) (P : ℕ) → KeepsText sum P old new
   pub only : (sum : List ℕ → ℕ) (P : ℕ) → LeavesText sum P old new
 
--- what a look asks of the device: reads forward, from the first page on, and of no more than a page
--- or what fits the buffer; of less than a page nothing
-pub record LookCosts (P most size : ℕ) (old new : Life) (result : Result Outlook Error)
-    : Type 0 where
+-- what a look asks of the device: reads forward, from the first page on, the last of which has the
+-- first page that isn't full; and of no more than a page or what fits the buffer; of less than a page
+-- nothing
+pub record LookCosts (sum : List ℕ → ℕ) (P most size : ℕ) (old new : Life)
+    (result : Result Outlook Error) : Type 0 where
   pub forward : ReadsForward most 0 (size / (P + 12) * (P + 12)) old new
+  pub stops : let found = prefix_from sum P 0 (size / (P + 12)) old.present.readable in
+      StopsAt P found.full_pages old new
   pub within : ReadsWithin most old new
   pub idle : size < P + 12
       → (result ≡ Ok (record { pages = 0; len = 0; cut = size })) × (new ≡ old)

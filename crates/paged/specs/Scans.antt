@@ -5,7 +5,7 @@ use Rattle.disk.specs.declared.error.Error.{Error}
 use Rattle.page.specs.Page.{text as text_of}
 use Rattle.writer_state.specs.WriterState.{WriterState}
 use Rattle.writer_state.specs.Sound.{IsSound}
-use Rattle.paged_read.specs.Scans.{IsProven, IsWithinBlob, ReadsForward, scan_end, scan_start}
+use Rattle.paged_read.specs.Scans.{IsProven, IsWithinBlob, ReadsUpToEnd, scan_end, scan_start}
 use Rattle.paged_read.specs.Scans.{scan_to, Scans, text_of_first}
 use Rattle.paged_read.specs.Searches.{scan_bytes}
 use Rattle.paged.specs.Recovery.{IsAsOpened, slot_pages}
@@ -38,11 +38,11 @@ pub record ScanGoes (sum : List ℕ → ℕ) (w : WriterState) (proven : ℕ) (o
   pub never : IsSound sum w old.present ⊎ IsAsOpened sum w old.present → IsWithinBlob result
 
 -- what it asks of the device
-pub record ScanCosts (w : WriterState) (proven buffer_size : ℕ) (old new : Life)
+pub record ScanCosts (sum : List ℕ → ℕ) (w : WriterState) (proven buffer_size : ℕ) (old new : Life)
     (result : Result ℕ Error) : Type 0 where
   pub reads : let P = w.page_size in let end = flushed_pages w in
       let start = scan_start P w.full_pages end proven in
-      ReadsForward (scan_bytes P buffer_size) (start * (P + 12)) (end * (P + 12)) old new
+      ReadsUpToEnd sum P (scan_bytes P buffer_size) start end old new
   pub idle : let end = flushed_pages w in
       scan_start w.page_size w.full_pages end proven ≡ end
       → IdlesAt w.page_size end old new result
@@ -63,8 +63,8 @@ pub record ScanFirstGoes (sum : List ℕ → ℕ) (w : WriterState) (proven max_
   pub none : max_size ≡ 0 → (result ≡ Ok 0) × (new ≡ old)
 
 -- what it asks of the device: of no bytes nothing, as its answer has it
-pub record ScanFirstCosts (w : WriterState) (proven max_size buffer_size : ℕ) (old new : Life)
-    : Type 0 where
+pub record ScanFirstCosts (sum : List ℕ → ℕ) (w : WriterState) (proven max_size buffer_size : ℕ)
+    (old new : Life) : Type 0 where
   pub reads : let P = w.page_size in let end = scan_end P (flushed_pages w) max_size in
       let start = scan_start P w.full_pages end proven in
-      ReadsForward (scan_bytes P buffer_size) (start * (P + 12)) (end * (P + 12)) old new
+      ReadsUpToEnd sum P (scan_bytes P buffer_size) start end old new

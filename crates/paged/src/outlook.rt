@@ -77,7 +77,7 @@ pub fn look<B: Blob, H: Sum>(
     ensures costs { let old = B.life blob.old in let new = B.life blob.new in
         let P = non_zero_u16_get page_size in
         let most = scan_bytes P (non_zero_usize_get buffer_size) in
-        LookCosts P most size old new result }
+        LookCosts H.sum_of P most size old new result }
 {
     let physical_page_size = physical_page_size(page_size);
     let whole = size / physical_page_size;

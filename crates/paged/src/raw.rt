@@ -3,7 +3,8 @@ ghost use Rattle.std.specs.Prelude.{◌≡◌, ◌+◌, ◌≤◌, ◌^◌, [], 
 ghost use Rattle.std.specs.Int.NonZero.{non_zero_u16_get};
 ghost use Rattle.std.specs.List.{concat};
 ghost use Rattle.crash.specs.Looks.{Looked};
-ghost use Rattle.paged_read.specs.RawReads.{range_told, ReadsTold, tail_told};
+ghost use Rattle.paged_read.specs.RawReads.{EndsUnread, range_told, ReadsRange, ReadsTail};
+ghost use Rattle.paged_read.specs.RawReads.{ReadsTold, tail_told};
 ghost use Rattle.paged_read.specs.Snapshots.{LeavesWriters};
 
 use crate::Writer;
@@ -40,6 +41,8 @@ impl<B: Blob, H: Sum> Writer<B, H> {
         ensures empty { len ≡ 0 → (result ≡ Ok []) × (B.life blob.new ≡ B.life blob.old) }
         ensures looked { Looked (B.life blob.old) (B.life blob.new) }
         ensures writers { LeavesWriters H.sum_of (B.life blob.old) (B.life blob.new) }
+        ensures costs { let old = B.life blob.old in let new = B.life blob.new in
+            ReadsRange (non_zero_u16_get page_size) offset len old new }
     {
         paged_read::read_range::<B, H>(alloc, blob, page_size, offset, len, options)
     }
@@ -64,8 +67,12 @@ impl<B: Blob, H: Sum> Writer<B, H> {
             let P = non_zero_u16_get page_size in
             ReadsTold (λ r. (r.0, concat r.1))
             (tail_told H.sum_of P physical_size len old.present.readable) old new result }
+        ensures unread { let old = B.life blob.old in let new = B.life blob.new in
+            EndsUnread (non_zero_u16_get page_size) physical_size len old new result }
         ensures looked { Looked (B.life blob.old) (B.life blob.new) }
         ensures writers { LeavesWriters H.sum_of (B.life blob.old) (B.life blob.new) }
+        ensures costs { let old = B.life blob.old in let new = B.life blob.new in
+            ReadsTail H.sum_of (non_zero_u16_get page_size) physical_size len old new }
     {
         paged_read::read_tail::<B, H>(alloc, blob, physical_size, page_size, len, options)
     }

@@ -4,7 +4,7 @@ ghost use Rattle.std.specs.Int.NonZero.{non_zero_usize_get};
 ghost use Rattle.page.specs.Page.{text};
 ghost use Rattle.writer_state.specs.Sound.{IsSound};
 ghost use Rattle.paged_read.specs.Reads.{LookLeaves};
-ghost use Rattle.paged_read.specs.Scans.{IsProven, IsWithinBlob, ReadsForward, scan_end};
+ghost use Rattle.paged_read.specs.Scans.{IsProven, IsWithinBlob, ReadsUpToEnd, scan_end};
 ghost use Rattle.paged_read.specs.Scans.{scan_start, scan_to, Scans, text_of_first};
 ghost use Rattle.paged_read.specs.Searches.{scan_bytes};
 ghost use Rattle.paged.specs.Recovery.{IsAsOpened};
@@ -55,7 +55,8 @@ impl<B: Blob, H: Sum, Phase> Writer<B, H, Phase> {
             ScanGoes H.sum_of self.now proven old new result }
         ensures leaves { LookLeaves H.sum_of (B.life blob.old) (B.life blob.new) }
         ensures costs { let old = B.life blob.old in let new = B.life blob.new in
-            ScanCosts self.now proven (non_zero_usize_get buffer_size) old new result }
+            let most = non_zero_usize_get buffer_size in
+            ScanCosts H.sum_of self.now proven most old new result }
 
         // Of a recovery that was opened over any blob: it can still be cut.
         ensures opened { let old = B.life blob.old in let new = B.life blob.new in
@@ -80,7 +81,7 @@ impl<B: Blob, H: Sum, Phase> Writer<B, H, Phase> {
         ensures leaves { LookLeaves H.sum_of (B.life blob.old) (B.life blob.new) }
         ensures costs { let old = B.life blob.old in let new = B.life blob.new in
             let most = non_zero_usize_get buffer_size in
-            ScanFirstCosts self.now proven max_size most old new }
+            ScanFirstCosts H.sum_of self.now proven max_size most old new }
         ensures opened { let old = B.life blob.old in let new = B.life blob.new in
             IsAsOpened H.sum_of self.now old.present → IsAsOpened H.sum_of self.now new.present }
     {
@@ -106,7 +107,7 @@ impl<B: Blob, H: Sum, Phase> Writer<B, H, Phase> {
             let end = scan_end P (flushed_pages w) max_size in
             let start = scan_start P w.full_pages end proven in
             let most = scan_bytes P (non_zero_usize_get buffer_size) in
-            ReadsForward most (start * (P + 12)) (end * (P + 12)) old new }
+            ReadsUpToEnd H.sum_of P most start end old new }
         ensures none { max_size ≡ 0 → (result ≡ Ok 0) × (B.life blob.new ≡ B.life blob.old) }
         // Where the proven bytes are told, so are all that it counts.
         ensures told { let old = B.life blob.old in
@@ -149,7 +150,7 @@ impl<B: Blob, H: Sum, Phase> Writer<B, H, Phase> {
             let w = self.now in let P = w.page_size in
             let start = scan_start P w.full_pages end proven in
             let most = scan_bytes P (non_zero_usize_get buffer_size) in
-            ReadsForward most (start * (P + 12)) (end * (P + 12)) old new }
+            ReadsUpToEnd H.sum_of P most start end old new }
         ensures idle { let w = self.now in let P = w.page_size in
             scan_start P w.full_pages end proven ≡ end
             → IdlesAt P end (B.life blob.old) (B.life blob.new) result }

@@ -3,16 +3,8 @@ use Rattle.std.proofs.Common.{◌≡◌, inl, inr, ℕ, ◌+◌, ◌-◌, ◌*�
 use Rattle.disk.specs.Disk.{Request, Life, ReadAt, ReadMany, StartReadMany, ReadGoes}
 use Rattle.disk.specs.declared.error.Error.{Error}
 use Rattle.paged_read.specs.Searches.{Gained, AreWithin, ReadsWithin}
-use Rattle.paged_read.specs.Backward.{FallFrom, ReadsBack}
+use Rattle.paged_read.specs.Backward.{FallFrom, FallTo, ReadsBack, ReadsDownTo}
 use Rattle.paged_read.proofs.Searching.{within_joins, gained_none, gained_once, gained_joins, gained_then, read_asks}
-
--- reads that fall, the last one no lower than this offset
-abbrev pub FallTo : (size top bottom : ℕ) → List Request → Type 0
-FallTo size top bottom [] = bottom ≤ top
-FallTo size top bottom (ReadAt offset len ∷ rest) = (len ≡ size) × (offset + size ≤ top) × FallTo size offset bottom rest
-FallTo size top bottom (ReadMany ranges ∷ rest) = ⊥
-FallTo size top bottom (StartReadMany ranges ∷ rest) = ⊥
-FallTo size top bottom (_ ∷ rest) = FallTo size top bottom rest
 
 -- each is of one page
 fall_within : (size top most : ℕ) (xs : List Request) → size ≤ most → FallFrom size top xs → AreWithin most xs
@@ -45,10 +37,6 @@ fall_lower size top bottom offset (ReadMany ranges ∷ xs) fall below = absurd f
 fall_lower size top bottom offset (StartReadMany ranges ∷ xs) fall below = absurd fall
 fall_lower size top bottom offset (_ ∷ xs) fall below = fall_lower size top bottom offset xs fall below
 
--- the reads of a search that goes back, down to an offset
-abbrev pub ReadsDownTo : (size bottom : ℕ) → Life → Life → Type 0
-ReadsDownTo size bottom old new = Gained (FallTo size (length old.present.readable) bottom) old new
-
 -- none yet
 pub down_start : (size bottom : ℕ) (life : Life) → bottom ≤ length life.present.readable → ReadsDownTo size bottom life life
 down_start size bottom life below = gained_none (FallTo size (length life.present.readable) bottom) life life refl below
@@ -71,6 +59,12 @@ down_page P size n start old new answer is some so_far goes =
     let last : n - 1 + 1 ≡ n = omega arith in
     let below : (n - 1) * (P + 12) + (P + 12) ≤ n * (P + 12) = rw last at (let all : (n - 1) * (P + 12) + (P + 12) ≤ (n - 1 + 1) * (P + 12) = omega arith in all) in
     down_read (P + 12) (n * (P + 12)) ((n - 1) * (P + 12)) start old new answer below so_far (subst (λ (k : ℕ). ReadGoes ((n - 1) * k) k old new answer) is goes)
+
+-- no lower than an offset further down
+pub down_lower : (size bottom offset : ℕ) (old new : Life) → offset ≤ bottom → ReadsDownTo size bottom old new → ReadsDownTo size offset old new
+down_lower size bottom offset old new below reads =
+    let top = length old.present.readable in
+    gained_then (FallTo size top bottom) (FallTo size top offset) old new (λ xs fall. fall_lower size top bottom offset xs fall below) reads
 
 -- so it goes back
 pub down_back : (size bottom : ℕ) (old new : Life) → ReadsDownTo size bottom old new → ReadsBack size old new

@@ -3,7 +3,7 @@ use Rattle.std.proofs.Common.{◌≡◌, inl, inr, ℕ, ◌+◌, ◌*◌, ◌≤
 use Rattle.std.proofs.Math.Nat.{mul-le-mul_left}
 use Rattle.disk.specs.Disk.{Request, Life, ReadAt, ReadMany, StartReadMany, AskedOnce, ReadGoes}
 use Rattle.disk.specs.declared.error.Error.{Error}
-use Rattle.paged_read.specs.Scans.{AreForward, ReadsForward}
+use Rattle.paged_read.specs.Scans.{AreForward, BeginBy, ReadsForward, StopsAt}
 use Rattle.paged_read.specs.Searches.{Gained, AreWithin, ReadsWithin}
 use Rattle.paged_read.proofs.Searching.{gained_none, gained_once, gained_joins, gained_then, read_asks}
 
@@ -93,3 +93,28 @@ next_batch P size k b most from start old new bytes is few so_far goes =
     let more : (P + 12) * b ≤ (P + 12) * most = mul-le-mul_left (P + 12) few in
     subst (λ (n : ℕ). ReadsTo (most * (P + 12)) from n start new) (let e : k * (P + 12) + b * (P + 12) ≡ (k + b) * (P + 12) = omega arith in e)
     (forward_next (most * (P + 12)) from (k * (P + 12)) (b * (P + 12)) start old new bytes (omega (arith, more)) so_far (subst (λ (n : ℕ). ReadGoes (k * n) (b * n) old new (Ok bytes)) is goes))
+
+-- ---- where they begin
+
+begin_both : (last : ℕ) (xs ys : List Request) → BeginBy last xs → BeginBy last ys → BeginBy last (xs ++ ys)
+begin_both last [] ys first second = second
+begin_both last (ReadAt offset len ∷ xs) ys first second = (first.0, begin_both last xs ys first.1 second)
+begin_both last (ReadMany ranges ∷ xs) ys first second = absurd first
+begin_both last (StartReadMany ranges ∷ xs) ys first second = absurd first
+begin_both last (_ ∷ xs) ys first second = begin_both last xs ys first second
+
+-- none yet
+pub stops_start : (P page : ℕ) (life : Life) → StopsAt P page life life
+stops_start P page life = gained_none (BeginBy (page * (P + 12))) life life refl tt
+
+-- one more, whatever it answered, with the numbers that a program has
+pub stops_read : (P size k len page : ℕ) (start old new : Life) (answer : Result (List ℕ) Error) → size ≡ P + 12 → k ≤ page → StopsAt P page start old → ReadGoes (k * size) len old new answer → StopsAt P page start new
+stops_read P size k len page start old new answer is le so_far goes =
+    let last = page * (P + 12) in
+    let less : (P + 12) * k ≤ (P + 12) * page = mul-le-mul_left (P + 12) le in
+    let at : k * size ≤ last = omega (arith, less, ap (λ (n : ℕ). k * n) is) in
+    gained_joins (BeginBy last) (BeginBy last) (BeginBy last) start old new (begin_both last) so_far
+    (elim (read_asks (k * size) len old new answer goes) [
+      | inl none ↦ gained_none (BeginBy last) old new none tt
+      | inr asked ↦ gained_once (BeginBy last) (ReadAt (k * size) len) asked.0 old new (ap (λ (l : Life). l.present.log) asked.1) (at, tt)
+    ])

@@ -24,10 +24,12 @@ pub mod Outliving
 pub mod FullReads
 mod Hands
 pub mod ReadAheads
+pub mod AheadCosts
 pub mod Replays
 pub mod ReplayExamples
 pub mod OutlivingReplays
 pub mod ReadLaws
 pub mod Scanning
 pub mod RawReading
+pub mod RawCosts
 pub mod Keeping

@@ -99,6 +99,10 @@ module _ (sum : List ℕ → ℕ) (P : ℕ) where
   abbrev pub StandsAt : Prefix → ℕ → ℕ → List ℕ → Type 0
   StandsAt p n k bytes = p ≡ after k (prefix_of sum P (pieces (n - k) (P + 12) (drop (k * (P + 12)) bytes)))
 
+  -- so it has them
+  pub stands_reach : (p : Prefix) (n k : ℕ) (bytes : List ℕ) → StandsAt p n k bytes → k ≤ p.full_pages
+  stands_reach p n k bytes is = omega (arith, ap (λ (q : Prefix). q.full_pages) is)
+
   -- nothing was looked at
   pub stands_first : (n : ℕ) (bytes : List ℕ) → StandsAt (prefix_of sum P (pieces n (P + 12) bytes)) n 0 bytes
   stands_first n bytes =

@@ -1,11 +1,12 @@
 -- Fills of a replay: what a batch, and the bytes after the full pages, add to what is at hand.
-use Rattle.std.proofs.Common.{◌≡◌, ◌⊎◌, inl, inr, ℕ, zero, suc, ◌+◌, ◌*◌, ◌-◌, ◌/◌, ◌%◌, ◌<◌, ◌≤◌, min, max, List, [], ◌∷◌, ◌++◌, length, take, drop, ◌^◌, refl, sym, ap, ◌∙◌, subst, arith, All, true, false, true≢false, Result, Ok, Err, length-append, length-drop}
+use Rattle.std.proofs.Common.{◌≡◌, ◌⊎◌, inl, inr, ℕ, zero, suc, ◌+◌, ◌*◌, ◌-◌, ◌/◌, ◌%◌, ◌<◌, ◌≤◌, min, max, List, [], ◌∷◌, ◌++◌, length, take, drop, ◌^◌, refl, sym, ap, ◌∙◌, subst, arith, All, Bool, true, false, true≢false, Result, Ok, Err, length-append, length-drop}
 use Rattle.std.proofs.lemmas.Bool.{cases_lt, le-leb, lt-leb}
 use Rattle.std.proofs.lemmas.Nat.{div_below, mod_below, div-add-mod', le-div}
 use Rattle.std.proofs.lemmas.List.{drop_all, drop-drop, drop-take, take-take, take_all, take-append-le, drop-append-le, length-take-le}
-use Rattle.std.proofs.Math.Nat.{le-div_iff_mul-le, mul-div_cancel, mul-le-mul_right, mul-mod_left, suc-mul}
+use Rattle.std.proofs.Math.Nat.{div-mul-le_self, le-div_iff_mul-le, mul-div_cancel, mul-le-mul_right, mul-mod_left, suc-mul}
 use Rattle.std.proofs.Math.Seq.{take-add}
 use Rattle.std.specs.Prelude.{IfErr, IfOk, IsOkUnless, OnErr, OnOk}
+use Rattle.std.specs.Int.{div_ceil}
 use Rattle.disk.specs.Disk.{Disk, Life}
 use Rattle.disk.specs.declared.error.Error.{Error}
 use Rattle.disk.specs.declared.error.Error.TheVariants.{ReadFailed, InvalidChecksum, OutOfMemory}
@@ -18,13 +19,14 @@ use Rattle.crash.proofs.LookLaws.{looked_readable}
 use Rattle.crash.proofs.Pages.{drop-stored, fewer_fit, length-stored, stored_same, stored_suc, take-stored}
 use Rattle.crash.proofs.Texts.{AreFull_page}
 use Rattle.paged_read.specs.Hand.{payloads}
-use Rattle.paged_read.specs.ReadAhead.{AddsBatch, AreFullPages, AreNext, after, Follow, IsBatch, IsQueue, ReadsBatch}
+use Rattle.paged_read.specs.ReadAhead.{AddsBatch, AreFullPages, AreNext, after, Follow, HasFirst, IsBatch, IsQueue, ReadsBatch, ReadsBatches}
 use Rattle.paged_read.specs.Failures.{NoneFailed, TellsFailure}
-use Rattle.paged_read.specs.Replay.{IsHad, advanced, CanReplay, CopiesBytes, CopiesToSlice, Gives, end_of, Ensures, FillFault, Fills, FillsOnce, HasFilled, IsAhead, IsReplay, IsReplayOf, IsToppedUp, new_replay, ReplaysOn, ReplaysThrough, ReplayState}
+use Rattle.paged_read.specs.Replay.{batches_between, EnsureCosts, IsHad, IsReadAhead, advanced, CanReplay, CopiesBytes, CopiesToSlice, Gives, end_of, Ensures, FillFault, Fills, FillsOnce, HasFilled, IsAhead, IsReplay, IsReplayOf, IsToppedUp, new_replay, ReplaysOn, ReplaysThrough, ReplayState}
 use Rattle.paged_read.specs.Snapshots.{IsTailOf}
 use Rattle.paged_read.specs.Tail.{HasFullPages, size_of, Tail, told}
 use Rattle.paged_read.specs.declared.ahead.Ahead.{Ahead}
 use Rattle.paged_read.specs.declared.hand.TooFew.{TooFew}
+use Rattle.paged_read.proofs.AheadCosts.{batches_join, batches_none, ceil_step}
 use Rattle.paged_read.proofs.Hands.{payloads_first, payloads_none, payloads_short}
 use Rattle.paged_read.proofs.Leaving.{length-told, told_in_tip}
 use Rattle.paged_read.proofs.ReadAheads.{one_run}
@@ -142,6 +144,7 @@ next_queue batch full page (a ∷ rest) within next =
 -- what holds of a fill
 pub record Filled (sum : List ℕ → ℕ) (r now : ReplayState) (old new : Life) (result : Result (Unit {0}) Error) : Type 0 where
   pub fills : FillsOnce sum r now old new result
+  pub step : OnOk result (end_of now / r.tail.page_size ≡ after r.batch r.tail.full_pages (end_of r / r.tail.page_size))
   pub can : CanReplay now new.present
   pub is : IsReplay now
 
@@ -198,6 +201,7 @@ module _ (sum : List ℕ → ℕ) (r : ReplayState) (is : IsReplay r) (more : en
       let same = looked_readable old new looked in
       record {
         fills = (record { tail = refl; batch = refl; position = refl; hand = omega arith }, refl, refl, fault);
+        step = tt {0};
         can = record {
           there = omega (arith, can.there, ap (λ (l : List ℕ). length l) same);
           hand = subst (λ (l : List ℕ). r.hand ≡ take (length r.hand) (drop r.position (told r.tail l))) (sym same) can.hand;
@@ -249,6 +253,7 @@ module _ (sum : List ℕ → ℕ) (r : ReplayState) (is : IsReplay r) (more : en
           (λ page above under. absurd (omega (arith, above, under, last))),
           inr (refl, refl, offset ∙ sym last),
         );
+        step = omega (arith, offset, last);
         can = record {
           there = can.there;
           hand = made ∙ hand_more all r.hand added r.position can.hand whole_added ∙ ap (λ (l : List ℕ). take (length l) (drop r.position all)) (sym made);
@@ -316,6 +321,7 @@ module _ (sum : List ℕ → ℕ) (r : ReplayState) (is : IsReplay r) (more : en
           (λ p above below. reads.1 p above (omega (arith, below, offset))),
           inl (subst (λ (n : ℕ). AreNext 3 r.batch t.full_pages n queue) (sym offset) next),
         );
+        step = offset;
         can = record {
           there = omega (arith, can.there, ap (λ (l : List ℕ). length l) same);
           hand = subst (λ (l : List ℕ). hand ≡ take (length hand) (drop r.position (told t l))) (sym same)
@@ -378,6 +384,82 @@ end_within r is =
     let less : end_of r / r.tail.page_size < r.tail.full_pages + 1 = div_below (end_of r) r.tail.page_size (r.tail.full_pages + 1) (omega (arith, is.short)) (omega (arith, is.within, is.short)) in
     omega (arith, less)
 
+-- what fills ask of the device
+pub record Asked (r now : ReplayState) (old new : Life) : Type 0 where
+  pub calls : length new.present.log ≤ length old.present.log + 4 * batches_between r now
+  pub ahead : IsReadAhead r → (length now.hand ≡ length r.hand) ⊎ (length new.present.log + 3 ≤ length old.present.log + 4 * batches_between r now) ⊎
+      ((r.tail.full_pages ≤ end_of r / r.tail.page_size) × (new ≡ old))
+  -- all batches but the last are whole
+  pub whole : (r.tail.full_pages ≤ end_of now / r.tail.page_size) ⊎ ((m : ℕ) × (end_of now / r.tail.page_size ≡ end_of r / r.tail.page_size + m * r.batch))
+  pub reads : ReadsBatches r.tail.page_size r.batch r.tail.full_pages (end_of r / r.tail.page_size) old new
+
+-- none yet
+asked_none : (r : ReplayState) (life : Life) → Asked r r life life
+asked_none r life = record {
+  calls = omega arith;
+  ahead = λ is. inl refl;
+  whole = inr (0, omega arith);
+  reads = batches_none r.tail.page_size r.batch r.tail.full_pages (end_of r / r.tail.page_size) life life refl;
+}
+
+-- a fill more, of a batch
+asked_batch : (r mid now : ReplayState) (old between new : Life) (n : ℕ) → 0 < r.batch → end_of mid / r.tail.page_size < r.tail.full_pages → n ≡ end_of mid / r.tail.page_size → end_of now / r.tail.page_size ≡ after r.batch r.tail.full_pages n
+    → (length mid.hand ≡ length r.hand → between ≡ old) → Asked r mid old between → length new.present.log ≤ length between.present.log + 4
+    → (IsReadAhead r → length mid.hand ≡ length r.hand → length new.present.log ≤ length between.present.log + 1)
+    → ReadsBatches r.tail.page_size r.batch r.tail.full_pages n between new → Asked r now old new
+asked_batch r mid now old between new n some below at step alone so_far calls served reads = elim so_far.whole [
+  | inl ends ↦ absurd (omega (arith, ends, below))
+  | inr whole ↦
+      let m = whole.0 in
+      let first = end_of r / r.tail.page_size in
+      let full = r.tail.full_pages in
+      let page = end_of mid / r.tail.page_size in
+      let next = end_of now / r.tail.page_size in
+      let s = min r.batch (full - page) in
+      let goes : next ≡ page + s = step ∙ ap (λ (k : ℕ). after r.batch full k) at in
+      let was : min full page - first ≡ m * r.batch = omega (arith, whole.1, below) in
+      let is : min full next - first ≡ m * r.batch + s = omega (arith, whole.1, below, goes) in
+      let more : batches_between r mid + 1 ≤ batches_between r now = omega (
+        arith,
+        ceil_step r.batch m s some (omega (arith, some, below)),
+        ap (λ (k : ℕ). div_ceil k r.batch) was,
+        ap (λ (k : ℕ). div_ceil k r.batch) is,
+      ) in
+      record {
+        calls = omega (arith, so_far.calls, calls, more);
+        ahead = λ has. inr (elim (so_far.ahead has) [
+          | inl same ↦ inl (omega (arith, served has same, ap (λ (l : Life). length l.present.log) (alone same), more))
+          | inr (inl few) ↦ inl (omega (arith, few, calls, more))
+          | inr (inr past) ↦ absurd (omega (arith, past.0, whole.1, below))
+        ]);
+        whole = elim (cases_lt (full - page) r.batch) [
+          | inl last ↦ inl (omega (arith, goes, last, below))
+          | inr other ↦ inr (m + 1, omega (arith, goes, other, whole.1))
+        ];
+        reads = batches_join r.tail.page_size r.batch full first n old between new (omega (arith, whole.1, at)) so_far.reads reads;
+      }
+]
+
+-- of the bytes after the full pages
+asked_rest : (r mid now : ReplayState) (old between new : Life) → r.tail.full_pages ≤ end_of mid / r.tail.page_size → end_of mid / r.tail.page_size ≤ r.tail.full_pages → end_of now / r.tail.page_size ≡ after r.batch r.tail.full_pages (end_of mid / r.tail.page_size)
+    → (length mid.hand ≡ length r.hand → (between ≡ old) × (end_of mid ≡ end_of r)) → Asked r mid old between → new ≡ between → Asked r now old new
+asked_rest r mid now old between new ends within step alone so_far same =
+    let next : end_of now / r.tail.page_size ≡ end_of mid / r.tail.page_size = omega (arith, step, ends, within) in
+    let many : batches_between r now ≡ batches_between r mid = ap (λ (k : ℕ). div_ceil (min r.tail.full_pages k - end_of r / r.tail.page_size) r.batch) next in
+    let log = ap (λ (l : Life). length l.present.log) same in
+    record {
+      calls = omega (arith, so_far.calls, log, many);
+      ahead = λ has. inr (elim (so_far.ahead has) [
+        | inl here ↦
+            let start = alone here in
+            inr (subst (λ (e : ℕ). r.tail.full_pages ≤ e / r.tail.page_size) start.1 ends, same ∙ start.0)
+        | inr (inl few) ↦ inl (omega (arith, few, log, many))
+        | inr (inr past) ↦ inr (past.0, same ∙ past.1)
+      ]);
+      whole = inl (omega (arith, ends, next));
+      reads = subst (λ (l : Life). ReadsBatches r.tail.page_size r.batch r.tail.full_pages (end_of r / r.tail.page_size) old l) (sym same) so_far.reads;
+    }
+
 -- what holds before each fill
 pub record Reached (sum : List ℕ → ℕ) (r : ReplayState) (count : ℕ) (now : ReplayState) (old new : Life) : Type 0 where
   pub fills : Fills r now
@@ -387,7 +469,8 @@ pub record Reached (sum : List ℕ → ℕ) (r : ReplayState) (count : ℕ) (now
   pub ahead : IsAhead r now old new
   pub idle : IsHad r count → new ≡ old
   -- nothing is asked for that doesn't come to hand
-  pub alone : length now.hand ≡ length r.hand → new ≡ old
+  pub alone : length now.hand ≡ length r.hand → (new ≡ old) × (now.queue ≡ r.queue)
+  pub asked : Asked r now old new
   pub can : CanReplay now new.present
   pub looked : Looked old new
 
@@ -399,7 +482,8 @@ reach_start sum r count old can = record {
   filled = λ page above below. absurd (omega (arith, above, below));
   ahead = inl (refl, refl);
   idle = λ had. refl;
-  alone = λ same. refl;
+  alone = λ same. (refl, refl);
+  asked = asked_none r old;
   can = can;
   looked = looked_start old;
 }
@@ -415,8 +499,10 @@ reach_idle sum r count mid old between new so_far less idle had = elim had [
 
 -- a fill more
 pub reach_more : (sum : List ℕ → ℕ) (r : ReplayState) (count : ℕ) (mid now : ReplayState) (old between new : Life) → Reached sum r count mid old between → IsReplay mid → length mid.hand < count
-    → FillsOnce sum mid now between new (Ok (tt {0})) → (mid.tail.full_pages * mid.tail.page_size ≤ end_of mid → new ≡ between) → CanReplay now new.present → Looked between new → Reached sum r count now old new
-reach_more sum r count mid now old between new so_far is less filled idle can looked =
+    → FillsOnce sum mid now between new (Ok (tt {0})) → (mid.tail.full_pages * mid.tail.page_size ≤ end_of mid → new ≡ between)
+    → end_of now / mid.tail.page_size ≡ after mid.batch mid.tail.full_pages (end_of mid / mid.tail.page_size) → length new.present.log ≤ length between.present.log + 4 → (IsReadAhead mid → length new.present.log ≤ length between.present.log + 1)
+    → ReadsBatches mid.tail.page_size mid.batch mid.tail.full_pages (end_of mid / mid.tail.page_size) between new → CanReplay now new.present → Looked between new → Reached sum r count now old new
+reach_more sum r count mid now old between new so_far is less filled idle stepped calls served reads can looked =
     let t = r.tail in
     let P = t.page_size in
     let fills = filled.0 in
@@ -441,10 +527,36 @@ reach_more sum r count mid now old between new so_far is less filled idle can lo
       ahead = goes_ahead filled.5 so_far.ahead;
       idle = λ had. reach_idle sum r count mid old between new so_far less idle had;
       alone = λ same. absurd (omega (arith, same, filled.2, so_far.fills.hand));
+      asked = elim (cases_lt (end_of mid / P) t.full_pages) [
+        | inl below ↦ asked_batch r mid now old between new (end_of mid / P) (omega (arith, is.batch, so_far.fills.batch)) below refl
+            (subst (λ (b : ℕ). end_of now / P ≡ after b t.full_pages (end_of mid / P)) so_far.fills.batch (subst (λ (u : Tail). end_of now / u.page_size ≡ after mid.batch u.full_pages (end_of mid / u.page_size)) so_far.fills.tail stepped))
+            (λ same. (so_far.alone same).0) so_far.asked calls (λ has same. served (like has same))
+            (subst (λ (b : ℕ). ReadsBatches P b t.full_pages (end_of mid / P) between new) so_far.fills.batch (subst (λ (u : Tail). ReadsBatches u.page_size mid.batch u.full_pages (end_of mid / u.page_size) between new) so_far.fills.tail reads))
+        | inr ends ↦
+            let past : t.full_pages * P ≤ end_of mid =
+            let le : t.full_pages * P ≤ end_of mid / P * P = mul-le-mul_right P (omega (arith, ends)) in
+            omega (arith, le, div-mul-le_self (end_of mid) P) in
+            asked_rest r mid now old between new (omega (arith, ends)) offset
+            (subst (λ (b : ℕ). end_of now / P ≡ after b t.full_pages (end_of mid / P)) so_far.fills.batch (subst (λ (u : Tail). end_of now / u.page_size ≡ after mid.batch u.full_pages (end_of mid / u.page_size)) so_far.fills.tail stepped))
+            (λ same. ((so_far.alone same).0, omega (arith, same, so_far.fills.position))) so_far.asked
+            (idle (subst (λ (u : Tail). u.full_pages * u.page_size ≤ end_of mid) (sym so_far.fills.tail) past))
+      ];
       can = can;
       looked = looked_joins old between new so_far.looked looked;
     }
   where
+    -- what was read ahead is where nothing came to hand
+    like : IsReadAhead r → length mid.hand ≡ length r.hand → IsReadAhead mid
+    like has same =
+        let queue = (so_far.alone same).1 in
+        let end : end_of r ≡ end_of mid = omega (arith, same, so_far.fills.position) in (
+          subst (λ (q : List Ahead). AreNext 3 mid.batch mid.tail.full_pages (end_of mid / mid.tail.page_size) q) (sym queue)
+              (subst (λ (u : Tail). AreNext 3 mid.batch u.full_pages (end_of mid / u.page_size) r.queue) (sym so_far.fills.tail)
+              (subst (λ (b : ℕ). AreNext 3 b r.tail.full_pages (end_of mid / r.tail.page_size) r.queue) (sym so_far.fills.batch)
+              (subst (λ (e : ℕ). AreNext 3 r.batch r.tail.full_pages (e / r.tail.page_size) r.queue) end has.0))),
+          subst (λ (q : List Ahead). HasFirst q) (sym queue) has.1,
+        )
+
     goes_ahead : IsToppedUp now ⊎ ((new ≡ between) × (now.queue ≡ mid.queue) × (end_of now / mid.tail.page_size ≡ end_of mid / mid.tail.page_size)) → IsAhead r mid old between → IsAhead r now old new
     goes_ahead (inl topped) before = inr topped
     goes_ahead (inr none) (inl same) = inl (none.0 ∙ same.0, none.1 ∙ same.1)
@@ -472,7 +584,7 @@ reach_fails sum r count mid now old between new e so_far filled tells =
       subst (λ (n : ℕ). AreFullPages sum r.tail.page_size (end_of r / r.tail.page_size) (min r.tail.full_pages (n / r.tail.page_size)) old.present.readable) (sym end) so_far.filled,
       omega (arith, same, so_far.few),
       filled.1 ∙ so_far.exhausted,
-      λ none other. subst (λ (l : Life). NoneFailed l.present new.present) (so_far.alone (sym same ∙ none)) (tells other),
+      λ none other. subst (λ (l : Life). NoneFailed l.present new.present) (so_far.alone (sym same ∙ none)).0 (tells other),
     )
   where
     fault : (e : Error) → FillFault sum r.tail between new e → FillFault sum r.tail old new e
@@ -618,3 +730,39 @@ copies_to_slice r now out after (Ok u) first moves enough same few =
     let gives = gives_first r (length out) after enough first in
     record { enough = enough; size = gives.0; first = first; moves = moves; gives = gives.1 }
 copies_to_slice r now out after (Err few) first moves enough same is = record { same = same.0; slice = same.1; requested = is.0; available = is.1; fewer = is.2 }
+
+-- ---- what an ensure costs
+
+pub ensure_costs : (sum : List ℕ → ℕ) (r : ReplayState) (count : ℕ) (now : ReplayState) (old new : Life) (b : Bool) → Reached sum r count now old new → EnsureCosts r count now old new (Ok b)
+ensure_costs sum r count now old new b so_far = record {
+  idle = so_far.idle;
+  calls = omega (arith, so_far.asked.calls);
+  ahead = λ has. elim (so_far.asked.ahead has) [
+    | inl same ↦ omega (arith, ap (λ (l : Life). length l.present.log) (so_far.alone same).0)
+    | inr (inl few) ↦ omega (arith, few)
+    | inr (inr past) ↦ omega (arith, ap (λ (l : Life). length l.present.log) past.1)
+  ];
+  reads = so_far.asked.reads;
+}
+
+-- and one that fails
+pub ensure_fails : (sum : List ℕ → ℕ) (r : ReplayState) (count : ℕ) (mid now : ReplayState) (old between new : Life) (e f : Error) → Reached sum r count mid old between → IsReplay mid → FillsOnce sum mid now between new (Err e) → (IsHad r count → new ≡ old)
+    → length new.present.log ≤ length between.present.log + 1 → ReadsBatches mid.tail.page_size mid.batch mid.tail.full_pages (end_of mid / mid.tail.page_size) between new → EnsureCosts r count now old new (Err f)
+ensure_fails sum r count mid now old between new e f so_far is filled idle calls reads =
+    let t = r.tail in
+    let P = t.page_size in
+    let some : 0 < P = subst (λ (u : Tail). 0 < u.page_size) so_far.fills.tail (omega (arith, is.short)) in
+    let same : length now.hand ≡ length mid.hand = ap (λ (l : List ℕ). length l) filled.2 in
+    let end : end_of now ≡ end_of mid = omega (arith, same, filled.0.position) in
+    let many : batches_between r now ≡ batches_between r mid = ap (λ (k : ℕ). div_ceil (min t.full_pages (k / P) - end_of r / P) r.batch) end in
+    record {
+      idle = idle;
+      calls = omega (arith, so_far.asked.calls, calls, many);
+      ahead = λ has. elim (so_far.asked.ahead has) [
+        | inl none ↦ omega (arith, ap (λ (l : Life). length l.present.log) (so_far.alone none).0, calls)
+        | inr (inl few) ↦ omega (arith, few, calls, many)
+        | inr (inr past) ↦ omega (arith, ap (λ (l : Life). length l.present.log) past.1, calls)
+      ];
+      reads = batches_join P r.batch t.full_pages (end_of r / P) (end_of mid / P) old between new (le-div (end_of r / P) (end_of mid) P some (omega (arith, div-mul-le_self (end_of r) P, so_far.fills.position, so_far.fills.hand))) so_far.asked.reads
+          (subst (λ (b : ℕ). ReadsBatches P b t.full_pages (end_of mid / P) between new) so_far.fills.batch (subst (λ (u : Tail). ReadsBatches u.page_size mid.batch u.full_pages (end_of mid / u.page_size) between new) so_far.fills.tail reads));
+    }

@@ -16,3 +16,17 @@ FallFrom size top (_ ∷ rest) = FallFrom size top rest
 -- each read since is of a page of this size, from the blob's end back, and none is read twice
 abbrev pub ReadsBack : ℕ → Life → Life → Type 0
 ReadsBack size old new = Gained (FallFrom size (length old.present.readable)) old new
+
+-- the same, and none begins before another offset
+abbrev pub FallTo : (size top bottom : ℕ) → List Request → Type 0
+FallTo size top bottom [] = bottom ≤ top
+FallTo size top bottom (ReadAt offset len ∷ rest) =
+    (len ≡ size) × (offset + size ≤ top) × FallTo size offset bottom rest
+FallTo size top bottom (ReadMany ranges ∷ rest) = ⊥
+FallTo size top bottom (StartReadMany ranges ∷ rest) = ⊥
+FallTo size top bottom (_ ∷ rest) = FallTo size top bottom rest
+
+-- each read since is of a page of this size, from the blob's end back to this offset, and none is
+-- read twice
+abbrev pub ReadsDownTo : (size bottom : ℕ) → Life → Life → Type 0
+ReadsDownTo size bottom old new = Gained (FallTo size (length old.present.readable) bottom) old new

@@ -1,7 +1,9 @@
 -- What the pages of a blob that nobody opened tell of a range, and of the last bytes.
 use Rattle.std.specs.Prelude.{◌≡◌, ◌==◌, ◌+◌, ◌-◌, ◌*◌, ◌/◌, ◌%◌, ◌^◌, ℕ, zero, suc, List, [], ◌++◌}
-use Rattle.std.specs.Prelude.{length, take, drop, nat_lt, nat_le, if◌then◌else◌, Result, Ok, Err}
-use Rattle.disk.specs.Disk.{Life, HasFailed}
+use Rattle.std.specs.Prelude.{length, take, drop, map, nat_lt, nat_le, if◌then◌else◌}
+use Rattle.std.specs.Prelude.{◌≢◌, ◌⊎◌, ◌≤◌, Result, Ok, Err}
+use Rattle.std.specs.List.{range_with_len}
+use Rattle.disk.specs.Disk.{Life, HasFailed, Request, ReadAt}
 use Rattle.disk.specs.declared.error.Error.{Error}
 use Rattle.disk.specs.declared.error.Error.TheVariants.{ReadFailed, InvalidChecksum}
 use Rattle.disk.specs.declared.error.Error.TheVariants.{BlobInsufficientLength, OffsetOverflow}
@@ -10,6 +12,7 @@ use Rattle.page.specs.Page.{value, value_len}
 use Rattle.crash.specs.Looks.{Looked}
 use Rattle.paged_read.specs.Failures.{NoneFailed}
 use Rattle.paged_read.specs.Ranges.{page_at}
+use Rattle.paged_read.specs.Searches.{Gained}
 
 -- a page's value, or why it tells none: its offset passes the greatest, or the blob ends before it
 -- does, or no slot of it verifies
@@ -98,3 +101,47 @@ ReadsTold of told old new (Err OutOfMemory) =
     Looked old new × NoneFailed old.present new.present
 ReadsTold of told old new (Err e) =
     (told ≡ Err e) × Looked old new × NoneFailed old.present new.present
+
+-- the read of a physical page
+abbrev pub page_request : (P page : ℕ) → Request
+page_request P page = ReadAt (page * (P + 12)) (P + 12)
+
+-- so many pages from this one on were read since, in rising order, each by a read of its own
+abbrev pub ReadsPages : (P page count : ℕ) → Life → Life → Type 0
+ReadsPages P page count old new =
+    Gained (λ requests. requests ≡ map (page_request P) (range_with_len page count)) old new
+
+-- or the first of them
+abbrev pub ReadsRising : (P page count : ℕ) → Life → Life → Type 0
+ReadsRising P page count old new = (few : ℕ) × (few ≤ count) × ReadsPages P page few old new
+
+-- so a range is read, from the page that has its first byte on, up to that of its last
+abbrev pub ReadsRange : (P offset len : ℕ) → Life → Life → Type 0
+ReadsRange P offset len old new =
+    ReadsRising P (offset / P) (range_end P offset len - offset / P) old new
+
+-- one page is read, unless the read is refused
+abbrev pub ReadsOne : {A : Type 0} → (P page : ℕ) → Life → Life → Result A Error → Type 0
+ReadsOne P page old new (Ok _) = ReadsPages P page 1 old new
+ReadsOne P page old new (Err _) = ReadsRising P page 1 old new
+
+-- this page first, and then those before it, from the one that has this offset on
+abbrev pub ReadsBefore : (P last from : ℕ) → Life → Life → Type 0
+ReadsBefore P last from old new =
+    (mid : Life) × ReadsRising P last 1 old mid × ReadsRising P (from / P) (last - from / P) mid new
+
+-- of the last bytes the last page first, and then the pages before it that have some of them: the
+-- length of its value decides where they begin
+abbrev pub ReadsTail : (List ℕ → ℕ) → (P size len : ℕ) → Life → Life → Type 0
+ReadsTail sum P size len old new =
+    let last = size / (P + 12) - 1 in
+    let from = last * P + value_len sum P (page_at P last old.present.readable) - len in
+    ReadsBefore P last from old new
+
+-- the end that needs no page: a size that isn't whole pages, or none that is to have bytes; and it
+-- comes before memory
+abbrev pub EndsUnread : (P size len : ℕ) → Life → Life → Result (ℕ × List (List ℕ)) Error → Type 0
+EndsUnread P size len old new result =
+    ((size % (P + 12) ≢ 0) ⊎ ((size ≡ 0) × (len ≢ 0))
+    → (result ≡ Err BlobInsufficientLength) × (new ≡ old))
+    × (size ≡ 0 → len ≡ 0 → (result ≡ Ok (0, [])) × (new ≡ old))

@@ -3,12 +3,13 @@ use Rattle.std.specs.Prelude.{◌≡◌, ◌≤◌, ◌<◌, ◌+◌, ◌-◌, �
 use Rattle.std.specs.Prelude.{drop}
 use Rattle.std.specs.Prelude.{length, min, max, Result, Ok, Err}
 use Rattle.std.specs.Int.{div_ceil}
-use Rattle.disk.specs.Disk.{Disk, Life, bytes_of, HasFailed}
+use Rattle.disk.specs.Disk.{Disk, Life, bytes_of, HasFailed, Request, StartReadMany}
 use Rattle.disk.specs.declared.error.Error.{Error}
 use Rattle.disk.specs.declared.error.Error.TheVariants.{ReadFailed, InvalidChecksum, OutOfMemory}
 use Rattle.page.specs.Page.{value_len}
 use Rattle.paged_read.specs.Hand.{payloads}
 use Rattle.paged_read.specs.Ranges.{page_at}
+use Rattle.paged_read.specs.Searches.{Gained}
 use Rattle.paged_read.specs.declared.ahead.Ahead.{Ahead}
 
 -- how many pages a read of a replay has, for a buffer of so many bytes: a quarter of those that fit
@@ -92,3 +93,21 @@ AddsBatch sum P batch full page skip hand now queue old new (Ok _) =
     × AreNext 3 batch full (after batch full page) queue
 AddsBatch sum P batch full page skip hand now queue old new (Err e) =
     (now ≡ hand) × ReadsBatch sum P batch full page old new (Err e)
+
+-- the first of the queue was read
+abbrev pub HasFirst : List Ahead → Type 0
+HasFirst [] = ⊥
+HasFirst (a ∷ rest) = (bytes : List (List ℕ)) × (a.read ≡ Ok bytes)
+
+-- each of these calls starts a read of one batch, which begins at this page or after it
+abbrev pub AreOfBatches : (P batch full first : ℕ) → List Request → Type 0
+AreOfBatches P batch full first [] = Unit {0}
+AreOfBatches P batch full first (StartReadMany ranges ∷ rest) =
+    ((page : ℕ) × (first ≤ page) × (page < full)
+    × (ranges ≡ batch_range P batch full page ∷ []))
+    × AreOfBatches P batch full first rest
+AreOfBatches P batch full first (_ ∷ rest) = ⊥
+
+-- so do all since
+abbrev pub ReadsBatches : (P batch full first : ℕ) → Life → Life → Type 0
+ReadsBatches P batch full first old new = Gained (AreOfBatches P batch full first) old new

@@ -1,14 +1,17 @@
 -- A replay: what is at hand of the bytes that a blob had when it began, and what each call does.
-use Rattle.std.specs.Prelude.{◌≡◌, ◌⊎◌, ◌≤◌, ◌<◌, ◌+◌, ◌*◌, ◌/◌, ◌%◌, ◌^◌, ℕ, Bool, true, false}
+use Rattle.std.specs.Prelude.{◌≡◌, ◌⊎◌, ◌≤◌, ◌<◌, ◌+◌, ◌-◌, ◌*◌, ◌/◌, ◌%◌, ◌^◌, ℕ, Bool}
+use Rattle.std.specs.Prelude.{true, false}
 use Rattle.std.specs.Prelude.{nat_le}
 use Rattle.std.specs.Prelude.{min, max, List, [], length, take, drop, All, Result, Ok, Err}
+use Rattle.std.specs.Int.{div_ceil}
 use Rattle.disk.specs.Disk.{Disk, Life, HasFailed}
 use Rattle.disk.specs.declared.error.Error.{Error}
 use Rattle.disk.specs.declared.error.Error.TheVariants.{ReadFailed, InvalidChecksum, OutOfMemory}
 use Rattle.disk.specs.declared.error.Error.TheVariants.{BlobInsufficientLength}
 use Rattle.paged_read.specs.Failures.{TellsFailure}
 use Rattle.paged_read.specs.Tail.{Tail, told, size_of, HasPages, HasFullPages}
-use Rattle.paged_read.specs.ReadAhead.{batch_of, AreFullPages, AreNext, IsBatch, IsQueue}
+use Rattle.paged_read.specs.ReadAhead.{batch_of, AreFullPages, AreNext, HasFirst, IsBatch}
+use Rattle.paged_read.specs.ReadAhead.{IsQueue, ReadsBatches}
 use Rattle.paged_read.specs.Snapshots.{IsTailOf}
 use Rattle.paged_read.specs.declared.ahead.Ahead.{Ahead}
 use Rattle.paged_read.specs.declared.hand.TooFew.{TooFew}
@@ -171,9 +174,33 @@ pub record EnsureGoes (sum : List ℕ → ℕ) (r : ReplayState) (count : ℕ) (
   pub replays : ReplaysThrough r now old new
   pub can : CanReplay now new.present
 
--- it asks no device where it needs none
-pub record EnsureCosts (r : ReplayState) (count : ℕ) (old new : Life) : Type 0 where
+-- the next three batches are queued, and the first of them was read
+abbrev pub IsReadAhead : ReplayState → Type 0
+IsReadAhead r = IsToppedUp r × HasFirst r.queue
+
+-- how many batches came to hand
+abbrev pub batches_between : ReplayState → ReplayState → ℕ
+batches_between r now =
+    let P = r.tail.page_size in
+    div_ceil (min r.tail.full_pages (end_of now / P) - end_of r / P) r.batch
+
+-- the read that a call may have made in vain
+abbrev pub vain_reads : {A : Type 0} → Result A Error → ℕ
+vain_reads (Ok _) = 0
+vain_reads (Err _) = 1
+
+-- it asks no device where it needs none. Else for each batch that came to hand it makes four reads
+-- at most, of that one and of the next three; for the first one alone, where that was read ahead.
+-- Where it fails, one more. None is of a batch that was at hand.
+pub record EnsureCosts (r : ReplayState) (count : ℕ) (now : ReplayState) (old new : Life)
+    (result : Result Bool Error) : Type 0 where
   pub idle : IsHad r count → new ≡ old
+  pub calls : let most = 4 * batches_between r now + vain_reads result in
+      length new.present.log ≤ length old.present.log + most
+  pub ahead : IsReadAhead r → let most = (4 * batches_between r now - 3) + vain_reads result in
+      length new.present.log ≤ length old.present.log + most
+  pub reads : let P = r.tail.page_size in
+      ReadsBatches P r.batch r.tail.full_pages (end_of r / P) old new
 
 -- so many bytes of those at hand are passed over, or all
 abbrev pub advanced : ℕ → ReplayState → ReplayState

@@ -72,6 +72,25 @@ AreForward most from to (_ ∷ rest) = AreForward most from to rest
 abbrev pub ReadsForward : (most from to : ℕ) → Life → Life → Type 0
 ReadsForward most from to old new = Gained (AreForward most from to) old new
 
+-- each that reads begins at or before this offset
+abbrev pub BeginBy : (last : ℕ) → List Request → Type 0
+BeginBy last [] = Unit {0}
+BeginBy last (ReadAt offset len ∷ rest) = (offset ≤ last) × BeginBy last rest
+BeginBy last (ReadMany ranges ∷ rest) = ⊥
+BeginBy last (StartReadMany ranges ∷ rest) = ⊥
+BeginBy last (_ ∷ rest) = BeginBy last rest
+
+-- no read since begins after this page does
+abbrev pub StopsAt : (P page : ℕ) → Life → Life → Type 0
+StopsAt P page old new = Gained (BeginBy (page * (P + 12))) old new
+
+-- the reads of a search for the first page that isn't full, from one page on to before another: the
+-- last of them has that page
+pub record ReadsUpToEnd (sum : List ℕ → ℕ) (P most first pages : ℕ) (old new : Life)
+    : Type 0 where
+  pub forward : ReadsForward most (first * (P + 12)) (pages * (P + 12)) old new
+  pub stops : StopsAt P (prefix_from sum P first pages old.present.readable).full_pages old new
+
 -- a look through pages that end at this offset: it gives this, and only reads; where the blob is
 -- too short for them, a read of what isn't there may end it. Unless it answers that the device failed
 -- no device call did.

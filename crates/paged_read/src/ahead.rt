@@ -1,7 +1,7 @@
 // Batches of pages that are read ahead.
 ghost use Rattle.std.specs.Prelude.{◌≡◌, ◌≤◌, ◌<◌, ◌+◌, ◌-◌, ◌*◌, ◌^◌, ◌∷◌, [], ℕ, List, length};
 ghost use Rattle.std.specs.Prelude.{min};
-ghost use Rattle.std.specs.Prelude.{◌≢◌, IfErr};
+ghost use Rattle.std.specs.Prelude.{◌≢◌, IfErr, OnErr, Some, slice_get};
 ghost use Rattle.std.specs.Prelude.{All, IfSome, IsTrue, ◌↔◌, Ok, Err, vec_capacity, OnOk};
 ghost use Rattle.std.specs.Int.NonZero.{non_zero_u16_get};
 ghost use Rattle.crash.specs.Looks.{Looked};
@@ -9,7 +9,8 @@ ghost use Rattle.disk.specs.Disk.{Disk, StartReadGoes};
 ghost use Rattle.paged_read.specs.Failures.{NoneFailed, TellsFailure};
 ghost use Rattle.paged_read.specs.ReadAhead.{batch_range, after, batch_bytes, AreFullPages};
 ghost use Rattle.paged_read.specs.ReadAhead.{AddsBatch, AreNext, FetchesBatch, Follow, IsBatch};
-ghost use Rattle.paged_read.specs.ReadAhead.{IsQueue, page_after, ReadsBatch};
+ghost use Rattle.paged_read.specs.ReadAhead.{HasFirst, IsQueue, page_after, ReadsBatch};
+ghost use Rattle.paged_read.specs.ReadAhead.{ReadsBatches};
 
 use crate::full::is_full;
 use crate::hand::Hand;
@@ -121,6 +122,11 @@ impl Batches {
         ensures batches { let P = non_zero_u16_get self.page_size in
             All (IsBatch P self.batch self.full_pages (B.life blob.new).present) queue.new.items }
         ensures room { vec_capacity queue.new ≡ vec_capacity queue.old }
+        ensures calls { let old = B.life blob.old in let new = B.life blob.new in
+            length new.present.log + length queue.old.items
+            ≤ length old.present.log + length queue.new.items }
+        ensures reads { let P = non_zero_u16_get self.page_size in
+            ReadsBatches P self.batch self.full_pages page (B.life blob.old) (B.life blob.new) }
         ensures looked { Looked (B.life blob.old) (B.life blob.new) }
     {
         let mut next = self.after_queue(queue, page);
@@ -143,6 +149,10 @@ impl Batches {
             → All (IsBatch P self.batch self.full_pages d) queue.new.items }
         ensures follow { let next = after self.batch self.full_pages page in
             IfSome result (λ _. Follow self.batch self.full_pages next queue.new.items) }
+        ensures served { (a : Ahead) (bytes : List ℕ) → Some a ≡ slice_get queue.old.items 0
+            → a.page ≡ page → a.read ≡ Ok (bytes ∷ []) → result ≡ Some bytes }
+        ensures fewer { IfSome result (λ _.
+            length queue.new.items + 1 ≡ length queue.old.items) }
         ensures queue { IsQueue self.batch self.full_pages queue.new.items }
         ensures room { vec_capacity queue.new ≡ vec_capacity queue.old }
     {
@@ -162,6 +172,10 @@ impl Batches {
             FetchesBatch P self.batch self.full_pages page (B.life blob.old) (B.life blob.new)
             result }
         ensures failed { TellsFailure (B.life blob.old) (B.life blob.new) result }
+        ensures calls { let old = B.life blob.old in let new = B.life blob.new in
+            length new.present.log ≤ length old.present.log + 1 }
+        ensures reads { let P = non_zero_u16_get self.page_size in
+            ReadsBatches P self.batch self.full_pages page (B.life blob.old) (B.life blob.new) }
         ensures looked { Looked (B.life blob.old) (B.life blob.new) }
     {
         self.start(blob, page).wait()
@@ -188,6 +202,13 @@ impl Batches {
         ensures few { length queue.new.items ≤ 3 }
         ensures room { vec_capacity queue.new ≡ vec_capacity queue.old }
         ensures failed { TellsFailure (B.life blob.old) (B.life blob.new) result }
+        ensures calls { let old = B.life blob.old in let new = B.life blob.new in
+            length new.present.log ≤ length old.present.log + 1 }
+        ensures served { AreNext 3 self.batch self.full_pages page queue.old.items
+            → HasFirst queue.old.items → (B.life blob.new ≡ B.life blob.old)
+            × (length queue.new.items + 1 ≡ length queue.old.items) }
+        ensures reads { let P = non_zero_u16_get self.page_size in
+            ReadsBatches P self.batch self.full_pages page (B.life blob.old) (B.life blob.new) }
         ensures looked { Looked (B.life blob.old) (B.life blob.new) }
     {
         match self.take(queue, page) {
@@ -224,6 +245,13 @@ impl Batches {
         ensures few { length queue.new.items ≤ 3 }
         ensures room { vec_capacity queue.new ≡ vec_capacity queue.old }
         ensures failed { TellsFailure (B.life blob.old) (B.life blob.new) result }
+        ensures calls { let old = B.life blob.old in let new = B.life blob.new in
+            length new.present.log ≤ length old.present.log + 1 }
+        ensures served { AreNext 3 self.batch self.full_pages page queue.old.items
+            → HasFirst queue.old.items → (B.life blob.new ≡ B.life blob.old)
+            × (length queue.new.items + 1 ≡ length queue.old.items) }
+        ensures asks { let P = non_zero_u16_get self.page_size in
+            ReadsBatches P self.batch self.full_pages page (B.life blob.old) (B.life blob.new) }
         ensures looked { Looked (B.life blob.old) (B.life blob.new) }
     {
         let bytes = self.fetch(blob, queue, page)?;
@@ -265,6 +293,16 @@ impl Batches {
             hand.new.bytes queue.new.items (B.life blob.old) (B.life blob.new) result }
         ensures failed { IfErr result (λ e. e ≢ Error.ReadFailed
             → NoneFailed (B.life blob.old).present (B.life blob.new).present) }
+        ensures calls { let old = B.life blob.old in let new = B.life blob.new in
+            OnOk result (length new.present.log ≤ length old.present.log + 4) }
+        ensures refused { let old = B.life blob.old in let new = B.life blob.new in
+            OnErr result (length new.present.log ≤ length old.present.log + 1) }
+        ensures served { let old = B.life blob.old in let new = B.life blob.new in
+            AreNext 3 self.batch self.full_pages page queue.old.items
+            → HasFirst queue.old.items
+            → OnOk result (length new.present.log ≤ length old.present.log + 1) }
+        ensures asks { let P = non_zero_u16_get self.page_size in
+            ReadsBatches P self.batch self.full_pages page (B.life blob.old) (B.life blob.new) }
         ensures page_size { hand.new.page_size ≡ hand.old.page_size }
         ensures queue { IsQueue self.batch self.full_pages queue.new.items }
         ensures batches { let P = non_zero_u16_get self.page_size in

@@ -1,11 +1,14 @@
 // Reads of a blob that nobody opened.
 ghost use Rattle.std.specs.Prelude.{◌≡◌, ◌+◌, ◌*◌, ◌/◌, ◌<◌, ◌≤◌, ◌^◌, [], length, take, Ok, Err};
-ghost use Rattle.std.specs.Prelude.{IfOk};
+ghost use Rattle.std.specs.Prelude.{IfOk, ◌-◌};
 ghost use Rattle.std.specs.Int.NonZero.{non_zero_u16_get};
 ghost use Rattle.std.specs.List.{concat};
+ghost use Rattle.page.specs.Page.{value_len};
 ghost use Rattle.crash.specs.Looks.{Looked};
-ghost use Rattle.paged_read.specs.RawReads.{after_told, part_of, range_told, ReadsTold};
-ghost use Rattle.paged_read.specs.RawReads.{tail_told, value_told};
+ghost use Rattle.paged_read.specs.Ranges.{page_at};
+ghost use Rattle.paged_read.specs.RawReads.{after_told, EndsUnread, part_of, range_told};
+ghost use Rattle.paged_read.specs.RawReads.{ReadsBefore, ReadsOne, ReadsRange, ReadsTail};
+ghost use Rattle.paged_read.specs.RawReads.{ReadsTold, tail_told, value_told};
 ghost use Rattle.paged_read.specs.Snapshots.{LeavesWriters};
 
 use crate::search;
@@ -34,6 +37,10 @@ fn read_value<B: Blob, H: Sum>(
     ensures part { IfOk result (λ r. r.1 ≤ non_zero_u16_get page_size) }
     ensures offset { IfOk result (λ r.
         (page + 1) * (non_zero_u16_get page_size + 12) < 2 ^ 64) }
+    ensures len { let old = B.life blob.old in let P = non_zero_u16_get page_size in
+        IfOk result (λ r. r.1 ≡ value_len H.sum_of P (page_at P page old.present.readable)) }
+    ensures reads { let old = B.life blob.old in let new = B.life blob.new in
+        ReadsOne (non_zero_u16_get page_size) page old new result }
 {
     let (page_start, size) = physical_page(page, u64::from(page_size.get()))?;
     let bytes = blob.read_at(alloc, page_start, size, options)?;
@@ -61,6 +68,8 @@ fn read_part<B: Blob, H: Sum>(
         let P = non_zero_u16_get page_size in
         let told = value_told H.sum_of P page old.present.readable in
         ReadsTold (λ bytes. bytes) (part_of P offset end page told) old new result }
+    ensures reads { let old = B.life blob.old in let new = B.life blob.new in
+        ReadsOne (non_zero_u16_get page_size) page old new result }
 {
     let (bytes, len) = read_value::<B, H>(alloc, blob, page_size, page, options)?;
     let start = page * u64::from(page_size.get());
@@ -98,6 +107,8 @@ pub fn read_range<B: Blob, H: Sum>(
     ensures empty { len ≡ 0 → (result ≡ Ok []) × (B.life blob.new ≡ B.life blob.old) }
     ensures looked { Looked (B.life blob.old) (B.life blob.new) }
     ensures writers { LeavesWriters H.sum_of (B.life blob.old) (B.life blob.new) }
+    ensures costs { let old = B.life blob.old in let new = B.life blob.new in
+        ReadsRange (non_zero_u16_get page_size) offset len old new }
 {
     let end = offset.checked_add(len as u64).ok_or(Error::OffsetOverflow)?;
     let mut bytes = IoBufs::new(alloc);
@@ -134,8 +145,12 @@ pub fn read_tail<B: Blob, H: Sum>(
         let P = non_zero_u16_get page_size in
         ReadsTold (λ r. (r.0, concat r.1))
         (tail_told H.sum_of P physical_size len old.present.readable) old new result }
+    ensures unread { let old = B.life blob.old in let new = B.life blob.new in
+        EndsUnread (non_zero_u16_get page_size) physical_size len old new result }
     ensures looked { Looked (B.life blob.old) (B.life blob.new) }
     ensures writers { LeavesWriters H.sum_of (B.life blob.old) (B.life blob.new) }
+    ensures costs { let old = B.life blob.old in let new = B.life blob.new in
+        ReadsTail H.sum_of (non_zero_u16_get page_size) physical_size len old new }
 {
     let size = search::physical_page_size(page_size);
     if physical_size % size != 0 {
@@ -165,6 +180,11 @@ fn read_after<B: Blob, H: Sum>(
         ReadsTold (λ r. (r.0, concat r.1))
         (after_told H.sum_of P last len readable (value_told H.sum_of P last readable)) old new
         result }
+    ensures reads { let old = B.life blob.old in let new = B.life blob.new in
+        let P = non_zero_u16_get page_size in
+        let value = value_len H.sum_of P (page_at P last old.present.readable) in
+        let from = last * P + value - len in
+        ReadsBefore P last from old new }
 {
     let (tail, tail_len) = read_value::<B, H>(alloc, blob, page_size, last, options)?;
     let start = last * u64::from(page_size.get());

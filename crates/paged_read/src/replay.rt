@@ -1,15 +1,16 @@
 // Replays.
 ghost use Rattle.std.specs.Prelude.{◌≡◌, ◌≤◌, ◌<◌, ◌+◌, ◌*◌, [], ℕ, List, length, take};
-ghost use Rattle.std.specs.Prelude.{IfOk, IfErr, ◌≢◌};
+ghost use Rattle.std.specs.Prelude.{IfOk, IfErr, OnOk, OnErr, ◌≢◌, ◌/◌};
 ghost use Rattle.std.specs.Prelude.{IsOkUnless};
 ghost use Rattle.std.specs.Int.NonZero.{non_zero_usize_get};
 ghost use Rattle.crash.specs.Looks.{Looked};
 ghost use Rattle.disk.specs.Disk.{Disk};
 ghost use Rattle.paged_read.specs.Failures.{NoneFailed};
+ghost use Rattle.paged_read.specs.ReadAhead.{after, ReadsBatches};
 ghost use Rattle.paged_read.specs.Reads.{LookLeaves};
 ghost use Rattle.paged_read.specs.Replay.{advanced, CanReplay, CopiesBytes, CopiesToSlice};
 ghost use Rattle.paged_read.specs.Replay.{end_of, EnsureCosts, EnsureGoes, FillsOnce, Gives};
-ghost use Rattle.paged_read.specs.Replay.{IsReplayOf, new_replay, ReplaysOn, Seeks};
+ghost use Rattle.paged_read.specs.Replay.{IsReadAhead, IsReplayOf, new_replay, ReplaysOn, Seeks};
 ghost use Rattle.paged_read.specs.Snapshots.{IsTailOf};
 ghost use Rattle.paged_read.specs.Tail.{size_of};
 
@@ -200,7 +201,8 @@ impl<B: Blob, H: Sum> Replay<B, H> {
         ensures goes { let old = B.life blob.old in let new = B.life blob.new in
             EnsureGoes H.sum_of self.old count self.new old new result }
         ensures leaves { LookLeaves H.sum_of (B.life blob.old) (B.life blob.new) }
-        ensures costs { EnsureCosts self.old count (B.life blob.old) (B.life blob.new) }
+        ensures costs { let old = B.life blob.old in let new = B.life blob.new in
+            EnsureCosts self.old count self.new old new result }
     {
         while self.hand.remaining() < count && self.end() < self.sealed.size() {
             self.fill(blob)?;
@@ -227,6 +229,18 @@ impl<B: Blob, H: Sum> Replay<B, H> {
             FillsOnce H.sum_of self.old self.new old new result }
         ensures failed { IfErr result (λ e. e ≢ Error.ReadFailed
             → NoneFailed (B.life blob.old).present (B.life blob.new).present) }
+        ensures step { let full = self.old.tail.full_pages in let P = self.old.tail.page_size in
+            OnOk result (end_of self.new / P ≡ after self.old.batch full (end_of self.old / P)) }
+        ensures calls { let old = B.life blob.old in let new = B.life blob.new in
+            OnOk result (length new.present.log ≤ length old.present.log + 4) }
+        ensures refused { let old = B.life blob.old in let new = B.life blob.new in
+            OnErr result (length new.present.log ≤ length old.present.log + 1) }
+        ensures served { let old = B.life blob.old in let new = B.life blob.new in
+            IsReadAhead self.old
+            → OnOk result (length new.present.log ≤ length old.present.log + 1) }
+        ensures reads { let P = self.old.tail.page_size in let full = self.old.tail.full_pages in
+            ReadsBatches P self.old.batch full (end_of self.old / P) (B.life blob.old)
+            (B.life blob.new) }
         ensures idle { self.old.tail.full_pages * self.old.tail.page_size ≤ end_of self.old
             → B.life blob.new ≡ B.life blob.old }
         ensures can { CanReplay self.new (B.life blob.new).present }

@@ -7,10 +7,10 @@ ghost use Rattle.crash.specs.Built.{kept_len};
 ghost use Rattle.paged_read.specs.Prefix.{prefix_of, last_prefix, prefix_pages, value_and_slot};
 ghost use Rattle.paged_read.specs.Prefix.{HasBytes, bad_in, tip_of};
 ghost use Rattle.paged_read.specs.Hand.{HasRoom, IsEmptyHand, kept_with};
-ghost use Rattle.paged_read.specs.Scans.{LooksThrough, pages_from, prefix_from, ReadsForward};
+ghost use Rattle.paged_read.specs.Scans.{LooksThrough, pages_from, prefix_from, ReadsUpToEnd};
 ghost use Rattle.paged_read.specs.Scans.{text_of_first};
-ghost use Rattle.paged_read.specs.Searches.{Finds, FindsLast, ReadsWithin, scan_bytes};
-ghost use Rattle.paged_read.specs.Backward.{ReadsBack};
+ghost use Rattle.paged_read.specs.Searches.{Finds, FindsLast, scan_bytes};
+ghost use Rattle.paged_read.specs.Backward.{ReadsDownTo};
 
 use crate::hand::Hand;
 use crate::prefix::{Partial, Prefix};
@@ -149,7 +149,7 @@ pub fn scan<B: Blob, H: Sum>(
         IfOk result (λ p. HasBytes P p.full_pages old.present.readable p.partial) }
     ensures reads { let old = B.life blob.old in let new = B.life blob.new in
         let P = non_zero_u16_get page_size in
-        ReadsWithin (scan_bytes P (non_zero_usize_get buffer_size)) old new }
+        ReadsUpToEnd H.sum_of P (scan_bytes P (non_zero_usize_get buffer_size)) 0 pages old new }
     ensures kept { let old = B.life blob.old in let P = non_zero_u16_get page_size in
         OnOk result (kept.new
         ≡ kept_with (text_of_first H.sum_of P pages old.present.readable) kept.old) }
@@ -182,7 +182,7 @@ pub fn scan_from<B: Blob, H: Sum>(
     ensures reads { let old = B.life blob.old in let new = B.life blob.new in
         let P = non_zero_u16_get page_size in
         let most = scan_bytes P (non_zero_usize_get buffer_size) in
-        ReadsForward most (first * (P + 12)) (pages * (P + 12)) old new }
+        ReadsUpToEnd H.sum_of P most first pages old new }
     ensures idle { first ≡ pages
         → (result ≡ Ok (record { full_pages = pages; partial = None }))
         × (B.life blob.new ≡ B.life blob.old) }
@@ -223,7 +223,7 @@ fn scan_keeping<B: Blob, H: Sum>(
     ensures reads { let old = B.life blob.old in let new = B.life blob.new in
         let P = non_zero_u16_get page_size in
         let most = scan_bytes P (non_zero_usize_get buffer_size) in
-        ReadsForward most (first * (P + 12)) (pages * (P + 12)) old new }
+        ReadsUpToEnd H.sum_of P most first pages old new }
     ensures idle { first ≡ pages
         → (result ≡ Ok (record { full_pages = pages; partial = None }))
         × (B.life blob.new ≡ B.life blob.old) }
@@ -277,7 +277,8 @@ pub fn last_pages<B: Blob, H: Sum>(
         IfOk result (λ r. HasBytes P r.0.full_pages old.present.readable r.0.partial) }
     ensures reads { let old = B.life blob.old in let new = B.life blob.new in
         let P = non_zero_u16_get page_size in
-        ReadsBack (P + 12) old new }
+        let last = last_prefix H.sum_of P pages old.present.readable in
+        ReadsDownTo (P + 12) ((prefix_pages last - 1) * (P + 12)) old new }
 {
     let size = physical_page_size(page_size);
     while pages > 0 {

@@ -1,10 +1,10 @@
-use Rattle.std.proofs.Common.{rules, ◌≡◌, ◌≤◌, ◌*◌, ◌+◌, ◌-◌, ◌/◌, ℕ, length, sym, ◌∙◌, ap, arith, Ok}
+use Rattle.std.proofs.Common.{rules, ◌≡◌, ◌≤◌, ◌*◌, ◌+◌, ◌-◌, ◌/◌, ℕ, length, subst, sym, ◌∙◌, ap, arith, Ok}
 use Rattle.std.proofs.Math.Nat.{div-eq_of_lt}
 use Rattle.std.specs.Int.NonZero.{non_zero_u16_get, non_zero_usize_get}
 use Rattle.crash.specs.Looks.{Looked}
 use Rattle.page.specs.Page.{pieces}
 use Rattle.paged_read.specs.Prefix.{prefix_of, prefix_pages}
-use Rattle.paged_read.specs.Scans.{prefix_from}
+use Rattle.paged_read.specs.Scans.{StopsAt, prefix_from}
 use Rattle.paged_read.specs.Searches.{ReadsWithin, scan_bytes}
 use Rattle.paged_read.proofs.Looking.{look_finds}
 use Rattle.paged.proofs.Surveying.{leaves_as_is}
@@ -36,7 +36,15 @@ within : (g : Over) (c : After-scan_from g) → ReadsWithin (scan_bytes (non_zer
 within g c =
     let P = non_zero_u16_get c.args.page_size in
     forward_is_within (scan_bytes P (non_zero_usize_get c.args.buffer_size)) (0 * (P + 12)) (c.args.size / c.physical_page_size-physical_page_size.result * (P + 12)) (g.B.Blob.life c.args.blob.now) (g.B.Blob.life c.scan_from.new.blob)
-    c.scan_from.ensures.reads
+    c.scan_from.ensures.reads.forward
+
+-- nor beyond the page in which the text ends
+stops : (g : Over) (c : After-scan_from g) → let P = non_zero_u16_get c.args.page_size in let old = g.B.Blob.life c.args.blob.now in
+    StopsAt P (prefix_from g.H.Sum.sum_of P 0 (c.args.size / (P + 12)) old.present.readable).full_pages old (g.B.Blob.life c.scan_from.new.blob)
+stops g c =
+    let P = non_zero_u16_get c.args.page_size in
+    let old = g.B.Blob.life c.args.blob.now in
+    subst (λ (n : ℕ). StopsAt P (prefix_from g.H.Sum.sum_of P 0 (c.args.size / n) old.present.readable).full_pages old (g.B.Blob.life c.scan_from.new.blob)) c.physical_page_size-physical_page_size.ensures c.scan_from.ensures.reads.stops
 
 pub returns-in_err-prefix-clause-leaves : goal.returns-in_err-prefix-clause-leaves
 returns-in_err-prefix-clause-leaves g c =
@@ -117,6 +125,7 @@ returns-clause-foretells g c =
 pub returns-in_err-prefix-clause-costs : goal.returns-in_err-prefix-clause-costs
 returns-in_err-prefix-clause-costs g c = record {
   forward = search rules;
+  stops = stops g (goal.at.returns-in_err-prefix-clause-costs g c).After-scan_from;
   within = within g (goal.at.returns-in_err-prefix-clause-costs g c).After-scan_from;
   idle = λ less.
       let P = non_zero_u16_get c.args.page_size in
@@ -129,6 +138,7 @@ pub returns-clause-costs : goal.returns-clause-costs
 unfolding answer
 returns-clause-costs g c = record {
   forward = search rules;
+  stops = stops g (goal.at.returns-clause-costs g c).After-scan_from;
   within = within g (goal.at.returns-clause-costs g c).After-scan_from;
   idle = λ less.
       let sum = g.H.Sum.sum_of in

@@ -13,6 +13,7 @@ use Rattle.paged.proofs.Recovered.{counted_length, kept_is, on_ok, opened_length
 use Rattle.paged.proofs.MendedTails.{recovers_mended}
 use Rattle.paged.proofs.Trims.{Owes, scanned_owe, recovers_owe, finds_looked}
 use Rattle.paged_read.specs.Searches.{ReadsWithin, scan_bytes}
+use Rattle.paged_read.proofs.Forward.{forward_is_within}
 use Rattle.paged_read.proofs.Backward.{back_within, scans_within}
 use Rattle.paged_read.proofs.Searching.{page_within, cuts_within}
 use Rattle.paged_read.specs.Hand.{IsEmptyHand, kept_with}
@@ -239,7 +240,9 @@ reads g c =
     let new = life c.scan.new.blob in
     let buffer_size = non_zero_usize_get c.args.buffer_size in
     let same = ap (λ (x : WriterState). x.page_size) c.recovery.view_is ∙ opened_page_size g.H.Sum.sum_of cache c.args.capacity old mid c.in_ok-recovery.recovery c.in_ok-recovery.ensures.opens in
-    let scanned = subst (λ (n : ℕ). ReadsWithin (scan_bytes n buffer_size) mid new) same c.scan.ensures.reads in
+    let Q = non_zero_u16_get c.recovery.inside.page_size in
+    let scanned = subst (λ (n : ℕ). ReadsWithin (scan_bytes n buffer_size) mid new) same
+    (forward_is_within (scan_bytes Q buffer_size) (0 * (Q + 12)) (c.flushed_pages-pages.result * (Q + 12)) mid new c.scan.ensures.reads.forward) in
     scans_within (P + 12) (scan_bytes P buffer_size) old mid new (page_within P buffer_size (P + 12) refl) c.in_ok-recovery.ensures.reads scanned
 
 pub returns-in_err-prefix-clause-reads : goal.returns-in_err-prefix-clause-reads

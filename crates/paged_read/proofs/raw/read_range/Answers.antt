@@ -6,8 +6,9 @@ use Rattle.disk.specs.declared.error.Error.{Error}
 use Rattle.disk.specs.declared.error.Error.TheVariants.{OffsetOverflow}
 use Rattle.crash.specs.Looks.{Looked, looked_start, looked_joins}
 use Rattle.paged_read.specs.Failures.{NoneFailed, none_failed_start, none_failed_joins}
-use Rattle.paged_read.specs.RawReads.{part_of, parts_told, range_end, range_told, ReadsTold, value_told}
+use Rattle.paged_read.specs.RawReads.{part_of, parts_told, range_end, range_told, ReadsPages, ReadsRising, ReadsTold, value_told}
 use Rattle.paged_read.proofs.Outliving.{look_leaves_writers}
+use Rattle.paged_read.proofs.RawCosts.{pages_join, pages_none, pages_rise, range_read, rising_joins, rising_none}
 use Rattle.paged_read.proofs.RawReading.{found_all, found_fault, found_first, found_next, range_empty, range_fault, range_found, range_passes, range_short, same_pages, told_before, told_fault, told_looks, told_memory, IsFound}
 use Rattle.paged_read.proofs.raw.read_range.Given.{Over}
 use Rattle.paged_read.proofs.raw.read_range.Goals as goal
@@ -65,7 +66,7 @@ loop-page-init g c =
     let first : IsFound g.H.Sum.sum_of (non_zero_u16_get c.args.page_size) c.args.offset c.in_ok-end.end (c.args.offset / size) ((c.in_ok-end.end - 1) / size + 1) old.present.readable (c.args.offset / size) (concat c.new-bytes.result) =
     subst (λ (bufs : List (List ℕ)). IsFound g.H.Sum.sum_of (non_zero_u16_get c.args.page_size) c.args.offset c.in_ok-end.end (c.args.offset / size) ((c.in_ok-end.end - 1) / size + 1) old.present.readable (c.args.offset / size) (concat bufs)) (sym c.new-bytes.ensures)
     (found_first g.H.Sum.sum_of (non_zero_u16_get c.args.page_size) c.args.offset c.in_ok-end.end (c.args.offset / size) ((c.in_ok-end.end - 1) / size + 1) old.present.readable) in
-    record { found = first; looked = looked_start old; answered = none_failed_start old.present }
+    record { found = first; looked = looked_start old; answered = none_failed_start old.present; from = omega arith; within = omega arith; reads = subst (λ (n : ℕ). ReadsPages (non_zero_u16_get c.args.page_size) (c.args.offset / size) n old old) (let e : 0 ≡ c.args.offset / size - c.args.offset / size = omega arith in e) (pages_none (non_zero_u16_get c.args.page_size) (c.args.offset / size) old) }
 
 -- a part that was read, told of the blob as it was at the start
 part_read : (g : Over) (c : After-read_part g) → let old = g.B.Blob.life c.args.blob.now in let P = non_zero_u16_get c.args.page_size in
@@ -149,6 +150,12 @@ loop-page-preserved g c =
       found = subst (λ (l : List ℕ). IsFound sum P offset end (offset / size) ((end - 1) / size + 1) readable (page + 1) l) (sym c.in_ok-append.ensures.bytes) next;
       looked = part_looked g at.After-read_part;
       answered = part_answered g at.After-read_part c.in_ok-part.ensures.told.2;
+      from = omega (arith, c.loop-page.invariant.from);
+      within = omega (arith, c.loop-page-test.true);
+      reads =
+          let first = c.loop-page.invariant.from in
+          subst (λ (n : ℕ). ReadsPages P (offset / size) n old new) (let e : page - offset / size + 1 ≡ page + 1 - offset / size = omega (arith, first) in e)
+          (pages_join P (offset / size) (page - offset / size) 1 old mid new c.loop-page.invariant.reads (subst (λ (n : ℕ). ReadsPages P n 1 mid new) (let e : page ≡ offset / size + (page - offset / size) = omega (arith, first) in e) c.in_ok-part.ensures.reads));
     }
 
 -- what was found after the last page
@@ -190,3 +197,58 @@ returns-then-len-clause-writers g c = look_leaves_writers g.H.Sum.sum_of (g.B.Bl
 
 pub returns-clause-writers : goal.returns-clause-writers
 returns-clause-writers g c = look_leaves_writers g.H.Sum.sum_of (g.B.Blob.life c.args.blob.now) (g.B.Blob.life c.loop-page.blob) c.loop-page.invariant.looked
+
+pub returns-in_err-end-clause-costs : goal.returns-in_err-end-clause-costs
+returns-in_err-end-clause-costs g c =
+    let P = non_zero_u16_get c.args.page_size in
+    rising_none P (c.args.offset / P) (range_end P c.args.offset c.args.len - c.args.offset / P) (g.B.Blob.life c.args.blob.now)
+
+pub returns-then-len-eq0-clause-costs : goal.returns-then-len-eq0-clause-costs
+returns-then-len-eq0-clause-costs g c =
+    let P = non_zero_u16_get c.args.page_size in
+    rising_none P (c.args.offset / P) (range_end P c.args.offset c.args.len - c.args.offset / P) (g.B.Blob.life c.args.blob.now)
+
+-- one page more
+one_more : (g : Over) (c : After-read_part g) → let P = non_zero_u16_get c.args.page_size in let first = c.args.offset / c.from-size.result in
+    ReadsRising P c.loop-page.page 1 (g.B.Blob.life c.loop-page.blob) (g.B.Blob.life c.read_part.new.blob) → ReadsRising P first (c.loop-page.page - first + 1) (g.B.Blob.life c.args.blob.now) (g.B.Blob.life c.read_part.new.blob)
+one_more g c here =
+    let P = non_zero_u16_get c.args.page_size in
+    let first = c.args.offset / c.from-size.result in
+    let mid = g.B.Blob.life c.loop-page.blob in
+    let new = g.B.Blob.life c.read_part.new.blob in
+    let from = c.loop-page.invariant.from in
+    rising_joins P first (c.loop-page.page - first) 1 (g.B.Blob.life c.args.blob.now) mid new c.loop-page.invariant.reads
+    (subst (λ (n : ℕ). ReadsRising P n 1 mid new) (let e : c.loop-page.page ≡ first + (c.loop-page.page - first) = omega (arith, from) in e) here)
+
+pub returns-in_err-part-clause-costs : goal.returns-in_err-part-clause-costs
+returns-in_err-part-clause-costs g c =
+    let at = goal.at.returns-in_err-part-clause-costs g c in
+    range_read (non_zero_u16_get c.args.page_size) c.from-size.result c.args.offset c.args.len c.in_ok-end.end (c.loop-page.page - c.args.offset / c.from-size.result + 1) (g.B.Blob.life c.args.blob.now) (g.B.Blob.life c.read_part.new.blob)
+    (c.from-size.ensures ∙ c.get.ensures.value) (ends g at.In_ok-end) (omega (arith, c.loop-page-test.true, c.loop-page.invariant.from)) (one_more g at.After-read_part c.in_err-part.ensures.reads)
+
+pub returns-in_err-append-clause-costs : goal.returns-in_err-append-clause-costs
+returns-in_err-append-clause-costs g c =
+    let at = goal.at.returns-in_err-append-clause-costs g c in
+    range_read (non_zero_u16_get c.args.page_size) c.from-size.result c.args.offset c.args.len c.in_ok-end.end (c.loop-page.page - c.args.offset / c.from-size.result + 1) (g.B.Blob.life c.args.blob.now) (g.B.Blob.life c.read_part.new.blob)
+    (c.from-size.ensures ∙ c.get.ensures.value) (ends g at.In_ok-end) (omega (arith, c.loop-page-test.true, c.loop-page.invariant.from))
+    (one_more g at.After-read_part (pages_rise (non_zero_u16_get c.args.page_size) c.loop-page.page 1 1 (g.B.Blob.life c.loop-page.blob) (g.B.Blob.life c.read_part.new.blob) (omega arith) c.in_ok-part.ensures.reads))
+
+pub returns-then-len-clause-costs : goal.returns-then-len-clause-costs
+returns-then-len-clause-costs g c =
+    let at = goal.at.returns-then-len-clause-costs g c in
+    let P = non_zero_u16_get c.args.page_size in
+    let count = c.loop-page.page - c.args.offset / c.from-size.result in
+    let old = g.B.Blob.life c.args.blob.now in
+    let now = g.B.Blob.life c.loop-page.blob in
+    range_read P c.from-size.result c.args.offset c.args.len c.in_ok-end.end count old now (c.from-size.ensures ∙ c.get.ensures.value) (ends g at.In_ok-end) (omega (arith, c.loop-page.invariant.within))
+    (pages_rise P (c.args.offset / c.from-size.result) count count old now (omega arith) c.loop-page.invariant.reads)
+
+pub returns-clause-costs : goal.returns-clause-costs
+returns-clause-costs g c =
+    let at = goal.at.returns-clause-costs g c in
+    let P = non_zero_u16_get c.args.page_size in
+    let count = c.loop-page.page - c.args.offset / c.from-size.result in
+    let old = g.B.Blob.life c.args.blob.now in
+    let now = g.B.Blob.life c.loop-page.blob in
+    range_read P c.from-size.result c.args.offset c.args.len c.in_ok-end.end count old now (c.from-size.ensures ∙ c.get.ensures.value) (ends g at.In_ok-end) (omega (arith, c.loop-page.invariant.within))
+    (pages_rise P (c.args.offset / c.from-size.result) count count old now (omega arith) c.loop-page.invariant.reads)

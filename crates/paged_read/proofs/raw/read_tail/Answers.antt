@@ -1,15 +1,20 @@
-use Rattle.std.proofs.Common.{◌≡◌, ◌≢◌, ◌+◌, ◌-◌, ◌/◌, ◌%◌, ℕ, List, sym, ◌∙◌, ap, subst, arith, Result, Ok}
+use Rattle.std.proofs.Math.Nat.{zero-mod}
+use Rattle.std.proofs.Common.{◌≡◌, ◌≢◌, inl, inr, ◌+◌, ◌-◌, ◌*◌, ◌/◌, ◌%◌, ℕ, List, refl, sym, ◌∙◌, ap, subst, arith, Result, Ok}
 use Rattle.std.specs.Int.NonZero.{non_zero_u16_get}
 use Rattle.std.specs.List.{concat}
 use Rattle.disk.specs.declared.error.Error.{Error}
 use Rattle.crash.specs.Looks.{Looked, looked_start}
 use Rattle.paged_read.specs.Failures.{none_failed_start}
-use Rattle.paged_read.specs.RawReads.{after_told, ReadsTold, tail_told, value_told}
+use Rattle.paged_read.specs.RawReads.{after_told, ReadsBefore, ReadsTail, ReadsTold, tail_told, value_told}
+use Rattle.disk.specs.Disk.{Life}
+use Rattle.page.specs.Page.{value_len}
+use Rattle.paged_read.specs.Ranges.{page_at}
+use Rattle.paged_read.proofs.RawCosts.{rising_none}
 use Rattle.paged_read.proofs.Outliving.{look_leaves_writers}
 use Rattle.paged_read.proofs.RawReading.{tail_after, tail_empty, tail_lacks, tail_torn, told_looks}
 use Rattle.paged_read.proofs.raw.read_tail.Given.{Over}
 use Rattle.paged_read.proofs.raw.read_tail.Goals as goal
-use Rattle.paged_read.proofs.raw.read_tail.Goals.{After-read_after}
+use Rattle.paged_read.proofs.raw.read_tail.Goals.{After-read_after, After-physical_page_size-size}
 
 pub returns-then-physical_size-size-ne0-clause-told : goal.returns-then-physical_size-size-ne0-clause-told
 returns-then-physical_size-size-ne0-clause-told g c =
@@ -87,3 +92,63 @@ returns-clause-looked g c = looked_start (g.B.Blob.life c.args.blob.now)
 
 pub returns-clause-writers : goal.returns-clause-writers
 returns-clause-writers g c = look_leaves_writers g.H.Sum.sum_of (g.B.Blob.life c.args.blob.now) (g.B.Blob.life c.args.blob.now) (looked_start (g.B.Blob.life c.args.blob.now))
+
+-- with the numbers of the program
+costs : (g : Over) (c : After-read_after g) → ReadsTail g.H.Sum.sum_of (non_zero_u16_get c.args.page_size) c.args.physical_size c.args.len (g.B.Blob.life c.args.blob.now) (g.B.Blob.life c.read_after.new.blob)
+costs g c =
+    let P = non_zero_u16_get c.args.page_size in
+    let old = g.B.Blob.life c.args.blob.now in
+    let new = g.B.Blob.life c.read_after.new.blob in
+    subst (λ (n : ℕ). let last = c.args.physical_size / n - 1 in ReadsBefore P last (last * P + value_len g.H.Sum.sum_of P (page_at P last old.present.readable) - c.args.len) old new) c.physical_page_size-size.ensures c.read_after.ensures.reads
+
+pub returns-then-physical_size-gt0-clause-costs : goal.returns-then-physical_size-gt0-clause-costs
+returns-then-physical_size-gt0-clause-costs g c = costs g (goal.at.returns-then-physical_size-gt0-clause-costs g c).After-read_after
+
+-- nothing is read
+unread : (sum : List ℕ → ℕ) (P size len : ℕ) (life : Life) → ReadsTail sum P size len life life
+unread sum P size len life =
+    let last = size / (P + 12) - 1 in
+    let from = last * P + value_len sum P (page_at P last life.present.readable) - len in
+    (life, rising_none P last 1 life, rising_none P (from / P) (last - from / P) life)
+
+pub returns-then-physical_size-size-ne0-clause-costs : goal.returns-then-physical_size-size-ne0-clause-costs
+returns-then-physical_size-size-ne0-clause-costs g c = unread g.H.Sum.sum_of (non_zero_u16_get c.args.page_size) c.args.physical_size c.args.len (g.B.Blob.life c.args.blob.now)
+
+pub returns-then-len-gt0-clause-costs : goal.returns-then-len-gt0-clause-costs
+returns-then-len-gt0-clause-costs g c = unread g.H.Sum.sum_of (non_zero_u16_get c.args.page_size) c.args.physical_size c.args.len (g.B.Blob.life c.args.blob.now)
+
+pub returns-clause-costs : goal.returns-clause-costs
+returns-clause-costs g c = unread g.H.Sum.sum_of (non_zero_u16_get c.args.page_size) c.args.physical_size c.args.len (g.B.Blob.life c.args.blob.now)
+
+-- whole pages, with the numbers of the program
+whole : (g : Over) (c : After-physical_page_size-size g) → c.args.physical_size % c.physical_page_size-size.result ≡ c.args.physical_size % (non_zero_u16_get c.args.page_size + 12)
+whole g c = ap (λ (n : ℕ). c.args.physical_size % n) c.physical_page_size-size.ensures
+
+pub returns-then-physical_size-size-ne0-clause-unread : goal.returns-then-physical_size-size-ne0-clause-unread
+returns-then-physical_size-size-ne0-clause-unread g c =
+    let is = whole g (goal.at.returns-then-physical_size-size-ne0-clause-unread g c).After-physical_page_size-size in
+    let n = c.physical_page_size-size.result in
+    ((λ ends. (refl, refl)), λ none few. absurd (c.if-physical_size-size-ne0.true (ap (λ (m : ℕ). m % n) none ∙ zero-mod n)))
+
+pub returns-then-physical_size-gt0-clause-unread : goal.returns-then-physical_size-gt0-clause-unread
+returns-then-physical_size-gt0-clause-unread g c =
+    let is = whole g (goal.at.returns-then-physical_size-gt0-clause-unread g c).After-physical_page_size-size in (
+      (λ ends. elim ends [
+        | inl torn ↦ absurd (torn (omega (arith, is, c.if-physical_size-size-ne0.false)))
+        | inr none ↦ absurd (omega (arith, none.0, c.if-physical_size-gt0.true))
+      ]),
+      λ none few. absurd (omega (arith, none, c.if-physical_size-gt0.true)),
+    )
+
+pub returns-then-len-gt0-clause-unread : goal.returns-then-len-gt0-clause-unread
+returns-then-len-gt0-clause-unread g c = ((λ ends. (refl, refl)), λ none few. absurd (omega (arith, few, c.if-len-gt0.true)))
+
+pub returns-clause-unread : goal.returns-clause-unread
+returns-clause-unread g c =
+    let is = whole g (goal.at.returns-clause-unread g c).After-physical_page_size-size in (
+      (λ ends. elim ends [
+        | inl torn ↦ absurd (torn (omega (arith, is, c.if-physical_size-size-ne0.false)))
+        | inr some ↦ absurd (some.1 (omega (arith, c.if-len-gt0.false)))
+      ]),
+      λ none few. (ap (λ (bufs : List (List ℕ)). Ok (0, bufs)) c.new.ensures, refl),
+    )

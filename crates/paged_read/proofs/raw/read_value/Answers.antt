@@ -1,16 +1,17 @@
-use Rattle.std.proofs.Common.{◌≡◌, ◌+◌, ◌*◌, ◌<◌, ◌≤◌, ◌^◌, ℕ, List, take, sym, ◌∙◌, ap, subst, arith, Err}
+use Rattle.std.proofs.Common.{◌≡◌, ◌+◌, ◌*◌, ◌<◌, ◌≤◌, ◌^◌, ℕ, List, take, sym, ◌∙◌, ap, subst, arith, Ok, Err, false}
 use Rattle.std.specs.Prelude.{Some, None}
 use Rattle.std.proofs.lemmas.Result.{err_from_is_err_and}
 use Rattle.std.specs.Int.NonZero.{non_zero_u16_get}
 use Rattle.disk.specs.declared.error.Error.{Error}
-use Rattle.page.specs.Page.{active}
+use Rattle.page.specs.Page.{active, value_len}
 use Rattle.crash.specs.Looks.{looked_start}
 use Rattle.crash.proofs.LookLaws.{looked_read}
 use Rattle.crash.proofs.Texts.{active_is}
 use Rattle.paged_read.specs.Failures.{none_failed_start}
 use Rattle.paged_read.specs.RawReads.{ReadsTold, value_told}
 use Rattle.paged_read.proofs.Failing.{none_failed_read}
-use Rattle.paged_read.proofs.RawReading.{read_len, read_missing_value, read_value_is, seen_active, value_fault, value_passes}
+use Rattle.paged_read.proofs.RawCosts.{page_asked, page_refused, rising_none}
+use Rattle.paged_read.proofs.RawReading.{page_read, read_len, read_missing_value, read_value_is, seen_active, value_fault, value_passes}
 use Rattle.paged_read.proofs.raw.read_value.Given.{Over}
 use Rattle.paged_read.proofs.raw.read_value.Goals as goal
 use Rattle.paged_read.proofs.raw.read_value.Goals.{After-read_at, After-physical_page, In-Some}
@@ -90,3 +91,35 @@ returns-in-Some-clause-within g c =
     let told = active_is g.H.Sum.sum_of (non_zero_u16_get c.args.page_size) c.in_ok-bytes.bytes c.in-Some.slot (told_by g at.In-Some) in
     let many = read_len c.in_ok-page_start.page_start c.in_ok-page_start.size (g.B.Blob.life c.args.blob.now) (g.B.Blob.life c.read_at.new.self) c.in_ok-bytes.bytes c.in_ok-bytes.ensures.goes in
     omega (arith, told.fits, many, size_is g at.After-read_at)
+
+pub returns-in_err-page_start-clause-reads : goal.returns-in_err-page_start-clause-reads
+returns-in_err-page_start-clause-reads g c =
+    let p = err_from_is_err_and c.from_residual.result c.from_residual.ensures.1 in
+    rw p.1 (rising_none (non_zero_u16_get c.args.page_size) c.args.page 1 (g.B.Blob.life c.args.blob.now))
+
+pub returns-in_err-bytes-clause-reads : goal.returns-in_err-bytes-clause-reads
+returns-in_err-bytes-clause-reads g c =
+    let k = (goal.at.returns-in_err-bytes-clause-reads g c).After-read_at in
+    let p = err_from_is_err_and c.from_residual-in_err-bytes.result c.from_residual-in_err-bytes.ensures.1 in
+    rw p.1 (page_refused (non_zero_u16_get c.args.page_size) c.args.page c.in_ok-page_start.size c.in_ok-page_start.page_start (g.B.Blob.life c.args.blob.now) (g.B.Blob.life c.read_at.new.self) (Err c.in_err-bytes.field-0.0)
+    (size_is g k) (page_start_is g k) c.in_err-bytes.ensures.goes)
+
+pub returns-in-None-clause-reads : goal.returns-in-None-clause-reads
+returns-in-None-clause-reads g c =
+    let k = (goal.at.returns-in-None-clause-reads g c).After-read_at in
+    page_refused (non_zero_u16_get c.args.page_size) c.args.page c.in_ok-page_start.size c.in_ok-page_start.page_start (g.B.Blob.life c.args.blob.now) (g.B.Blob.life c.read_at.new.self) (Ok c.in_ok-bytes.bytes)
+    (size_is g k) (page_start_is g k) c.in_ok-bytes.ensures.goes
+
+pub returns-in-Some-clause-reads : goal.returns-in-Some-clause-reads
+returns-in-Some-clause-reads g c =
+    let k = (goal.at.returns-in-Some-clause-reads g c).After-read_at in
+    page_asked (non_zero_u16_get c.args.page_size) c.args.page c.in_ok-page_start.size c.in_ok-page_start.page_start false (g.B.Blob.life c.args.blob.now) (g.B.Blob.life c.read_at.new.self)
+    (size_is g k) (page_start_is g k) c.in_ok-bytes.ensures.goes.2
+
+pub returns-in-Some-clause-len : goal.returns-in-Some-clause-len
+returns-in-Some-clause-len g c =
+    let at = goal.at.returns-in-Some-clause-len g c in
+    let k = at.After-read_at in
+    let P = non_zero_u16_get c.args.page_size in
+    let told = active_is g.H.Sum.sum_of P c.in_ok-bytes.bytes c.in-Some.slot (told_by g at.In-Some) in
+    told.len ∙ ap (λ (l : List ℕ). value_len g.H.Sum.sum_of P l) (page_read P c.args.page c.in_ok-page_start.size c.in_ok-page_start.page_start (g.B.Blob.life c.args.blob.now) (g.B.Blob.life c.read_at.new.self) c.in_ok-bytes.bytes (size_is g k) (page_start_is g k) c.in_ok-bytes.ensures.goes)

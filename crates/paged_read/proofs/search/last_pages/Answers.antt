@@ -1,15 +1,17 @@
-use Rattle.std.proofs.Common.{◌-◌, ◌+◌, ◌*◌, ◌<◌, length, ◌∙◌, ap, arith, refl, sym}
+use Rattle.std.proofs.Common.{◌≡◌, ◌≤◌, ◌-◌, ◌+◌, ◌*◌, ◌<◌, ℕ, List, length, ◌∙◌, ap, arith, refl, sym}
+use Rattle.std.proofs.Math.Nat.{mul-le-mul_right}
 use Rattle.std.proofs.lemmas.Result.{err_from_is_err_and}
 use Rattle.std.specs.Int.NonZero.{non_zero_u16_get}
 use Rattle.paged_read.specs.Ranges.{page_at}
-use Rattle.paged_read.specs.Prefix.{bad_in, last_prefix}
-use Rattle.paged_read.proofs.Prefixes.{bad_part, bad_read, told_read, value_read, told_full, told_part, found_some, found_none, last_none, last_full, last_part, last_fits, has_bytes_read}
+use Rattle.paged_read.specs.Prefix.{bad_in, last_prefix, prefix_pages}
+use Rattle.paged_read.specs.declared.prefix.Prefix.{Prefix}
+use Rattle.paged_read.proofs.Prefixes.{bad_part, bad_read, told_read, value_read, told_full, told_part, found_some, found_none, last_is, last_none, last_full, last_part, last_fits, has_bytes_read}
 use Rattle.crash.specs.Looks.{looked_start}
 use Rattle.crash.proofs.LookLaws.{read_gives}
 use Rattle.paged_read.specs.Failures.{none_failed_start}
 use Rattle.paged_read.proofs.Looking.{looked_on, none_failed_on, finds_fault, finds_memory}
-use Rattle.paged_read.proofs.Backward.{down_start, down_page, down_back}
-use Rattle.paged_read.specs.Backward.{ReadsBack}
+use Rattle.paged_read.proofs.Backward.{down_start, down_page, down_lower}
+use Rattle.paged_read.specs.Backward.{ReadsDownTo}
 use Rattle.paged_read.proofs.search.last_pages.Given.{Over}
 use Rattle.paged_read.proofs.search.last_pages.Goals as goal
 use Rattle.paged_read.proofs.search.last_pages.Goals.{After-read_at}
@@ -138,15 +140,24 @@ loop-pages-preserved-else-is_some g c =
       reads = down_page P size n old (life c.loop-pages.blob) new c.read_at.result c.physical_page_size-size.ensures c.loop-pages-test.true c.loop-pages.invariant.reads c.read_at.ensures.goes;
     }
 
+-- it is none of those that are left
+few_left : (sum : List ℕ → ℕ) (P n m : ℕ) (readable : List ℕ) → last_prefix sum P n readable ≡ last_prefix sum P m readable → (prefix_pages (last_prefix sum P m readable) - 1) * (P + 12) ≤ (n - 1) * (P + 12)
+few_left sum P n m readable same =
+    let within = (last_is sum P n readable).within in
+    mul-le-mul_right (P + 12) (omega (arith, within, ap (λ (p : Prefix). prefix_pages p) same))
+
 -- a page was read, whatever the answer
-reads : (g : Over) (c : After-read_at g) → ReadsBack (non_zero_u16_get c.args.page_size + 12) (g.B.Blob.life c.args.blob.now) (g.B.Blob.life c.read_at.new.self)
+reads : (g : Over) (c : After-read_at g) → let P = non_zero_u16_get c.args.page_size in
+    ReadsDownTo (P + 12) ((prefix_pages (last_prefix g.H.Sum.sum_of P c.args.pages (g.B.Blob.life c.args.blob.now).present.readable) - 1) * (P + 12)) (g.B.Blob.life c.args.blob.now) (g.B.Blob.life c.read_at.new.self)
 reads g c =
     let life = g.B.Blob.life in
     let P = non_zero_u16_get c.args.page_size in
     let n = c.loop-pages.pages in
     let old = life c.args.blob.now in
     let new = life c.read_at.new.self in
-    down_back (P + 12) ((n - 1) * (P + 12)) old new (down_page P c.physical_page_size-size.result n old (life c.loop-pages.blob) new c.read_at.result c.physical_page_size-size.ensures c.loop-pages-test.true c.loop-pages.invariant.reads c.read_at.ensures.goes)
+    let whole = last_prefix g.H.Sum.sum_of P c.args.pages old.present.readable in
+    down_lower (P + 12) ((n - 1) * (P + 12)) ((prefix_pages whole - 1) * (P + 12)) old new (few_left g.H.Sum.sum_of P n c.args.pages old.present.readable c.loop-pages.invariant.same)
+    (down_page P c.physical_page_size-size.result n old (life c.loop-pages.blob) new c.read_at.result c.physical_page_size-size.ensures c.loop-pages-test.true c.loop-pages.invariant.reads c.read_at.ensures.goes)
 
 pub returns-in_err-bytes-clause-reads : goal.returns-in_err-bytes-clause-reads
 returns-in_err-bytes-clause-reads g c = reads g (goal.at.returns-in_err-bytes-clause-reads g c).After-read_at
@@ -163,7 +174,12 @@ returns-then-is_some-clause-reads g c = reads g (goal.at.returns-then-is_some-cl
 pub returns-clause-reads : goal.returns-clause-reads
 returns-clause-reads g c =
     let P = non_zero_u16_get c.args.page_size in
-    down_back (P + 12) (c.loop-pages.pages * (P + 12)) (g.B.Blob.life c.args.blob.now) (g.B.Blob.life c.loop-pages.blob) c.loop-pages.invariant.reads
+    let n = c.loop-pages.pages in
+    let old = g.B.Blob.life c.args.blob.now in
+    let whole = last_prefix g.H.Sum.sum_of P c.args.pages old.present.readable in
+    let few = few_left g.H.Sum.sum_of P n c.args.pages old.present.readable c.loop-pages.invariant.same in
+    let less : (n - 1) * (P + 12) ≤ n * (P + 12) = mul-le-mul_right (P + 12) (omega arith) in
+    down_lower (P + 12) (n * (P + 12)) ((prefix_pages whole - 1) * (P + 12)) old (g.B.Blob.life c.loop-pages.blob) (omega (arith, few, less)) c.loop-pages.invariant.reads
 
 pub loop-pages-init : goal.loop-pages-init
 loop-pages-init g c =

@@ -3,7 +3,7 @@ use Rattle.std.specs.Int.NonZero.{non_zero_u16_get}
 use Rattle.crash.specs.Looks.{Looked}
 use Rattle.paged_read.specs.Failures.{NoneFailed}
 use Rattle.paged_read.specs.Prefix.{last_prefix}
-use Rattle.paged_read.proofs.Backward.{ReadsDownTo}
+use Rattle.paged_read.specs.Backward.{ReadsDownTo}
 use Rattle.paged_read.proofs.search.last_pages.Given as goal
 
 abbrev pub invariant-loop-pages : goal.invariant-loop-pages

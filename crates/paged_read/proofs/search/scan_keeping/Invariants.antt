@@ -2,7 +2,7 @@ use Rattle.std.proofs.Common.{◌≡◌, ◌≤◌, ◌<◌, ◌-◌, ◌+◌, �
 use Rattle.std.specs.Int.NonZero.{non_zero_u16_get}
 use Rattle.crash.specs.Looks.{Looked}
 use Rattle.paged_read.specs.Failures.{NoneFailed}
-use Rattle.paged_read.specs.Scans.{prefix_from}
+use Rattle.paged_read.specs.Scans.{prefix_from, StopsAt}
 use Rattle.paged_read.proofs.Prefixes.{StandsAt}
 use Rattle.paged_read.proofs.Forward.{ReadsTo}
 use Rattle.paged_read.proofs.Keeping.{KeptTo}
@@ -23,6 +23,7 @@ invariant-loop-done g l =
       answered : NoneFailed old.present now.present;
       none : l.done ≡ l.first → now ≡ old;
       kept : KeptTo sum P l.first l.pages l.done old.present.readable l.initial.kept l.kept;
+      stops : StopsAt P (prefix_from sum P l.first l.pages old.present.readable).full_pages old now;
       reads : ReadsTo (l.most * (P + 12)) (l.first * (P + 12)) (l.done * (P + 12)) old now;
     }
 

@@ -1,3 +1,4 @@
+use Rattle.paged_read.proofs.Backward.{down_back}
 use Rattle.paged.proofs.OpenedReads.{opened_reads, opened_others}
 use Rattle.std.proofs.Common.{◌≡◌, ◌+◌, ◌*◌, ◌/◌, ◌%◌, ◌^◌, ◌<◌, ℕ, length, ◌∙◌, ap, arith, refl, subst}
 use Rattle.std.proofs.lemmas.Result.{err_from_is_err_and}
@@ -158,8 +159,14 @@ reads g c =
     let life = g.B.Blob.life in
     let old = life c.args.blob.now in
     let mid = life c.last_pages.new.blob in
-    let back = subst (λ (n : ℕ). ReadsBack (n + 12) old mid) c.page_size-page_size.ensures c.in_ok-last.ensures.reads in
+    let back = subst (λ (n : ℕ). ReadsBack (n + 12) old mid) c.page_size-page_size.ensures (down_back _ _ old mid c.in_ok-last.ensures.reads) in
     opens_back (c.args.cache.now.page_size + 12) _ _ _ _ old mid (life c.keep_pages.new.blob) c.keep_pages.result back c.keep_pages.ensures.keeps
+
+pub returns-in_err-last-clause-reads : goal.returns-in_err-last-clause-reads
+returns-in_err-last-clause-reads g c =
+    let old = g.B.Blob.life c.args.blob.now in
+    let new = g.B.Blob.life c.last_pages.new.blob in
+    subst (λ (n : ℕ). ReadsBack (n + 12) old new) c.page_size-page_size.ensures (down_back _ _ old new c.last_pages.ensures.reads)
 
 pub returns-in_err-sync_state-clause-reads : goal.returns-in_err-sync_state-clause-reads
 returns-in_err-sync_state-clause-reads g c = reads g (goal.at.returns-in_err-sync_state-clause-reads g c).After-keep_pages

@@ -2,7 +2,7 @@ use Rattle.std.proofs.Common.{◌≡◌, ◌*◌, ◌+◌, ℕ, length, subst}
 use Rattle.std.specs.Int.NonZero.{non_zero_usize_get}
 use Rattle.page.specs.Page.{text}
 use Rattle.crash.specs.Looks.{Looked}
-use Rattle.paged_read.specs.Scans.{ReadsForward, scan_start, scan_to, Scans, text_of_first}
+use Rattle.paged_read.specs.Scans.{ReadsUpToEnd, scan_start, scan_to, Scans, text_of_first}
 use Rattle.paged_read.specs.Searches.{scan_bytes}
 use Rattle.paged_read.proofs.ReadLaws.{look_leaves}
 use Rattle.paged_read.proofs.Scanning.{scan_counts_text}
@@ -57,7 +57,7 @@ returns-clause-costs g c =
     let P = w.page_size in
     let most : ℕ = scan_bytes P (non_zero_usize_get c.args.buffer_size) in
     record {
-      reads = subst (λ (n : ℕ). ReadsForward most (scan_start P w.full_pages n c.args.proven * (P + 12)) (n * (P + 12)) old new) c.flushed_pages.ensures c.scan_to.ensures.reads;
+      reads = subst (λ (n : ℕ). ReadsUpToEnd g.H.Sum.sum_of P most (scan_start P w.full_pages n c.args.proven) n old new) c.flushed_pages.ensures c.scan_to.ensures.reads;
       idle = subst (λ (n : ℕ). scan_start P w.full_pages n c.args.proven ≡ n → IdlesAt P n old new c.scan_to.result) c.flushed_pages.ensures c.scan_to.ensures.idle;
     }
 

@@ -1,7 +1,9 @@
 use Rattle.std.proofs.Common.{◌≡◌, ◌∙◌, ◌<◌, ℕ, min, ap, subst, arith}
 use Rattle.std.specs.Int.{div_ceil}
 use Rattle.writer_state.specs.WriterState.{WriterState}
-use Rattle.paged_read.specs.Scans.{scan_end, scan_to}
+use Rattle.std.specs.Int.NonZero.{non_zero_usize_get}
+use Rattle.paged_read.specs.Scans.{ReadsUpToEnd, scan_end, scan_start, scan_to}
+use Rattle.paged_read.specs.Searches.{scan_bytes}
 use Rattle.paged_read.proofs.Scanning.{bounded_scan}
 use Rattle.paged.specs.Scans.{flushed_pages}
 use Rattle.paged.proofs.Scanned.{sound_scan_most}
@@ -32,3 +34,20 @@ returns-clause-text g c = λ sound.
     c.min.ensures ∙ ap (λ (n : ℕ). min c.args.max_size n) (c.in_ok-len.ensures.scans.0
     ∙ ap (λ (n : ℕ). scan_to g.H.Sum.sum_of w.page_size w.full_pages n c.args.proven old.present.readable) (ends g (goal.at.returns-clause-text g c).After-scan_to))
     ∙ sound_scan_most g.H.Sum.sum_of w old.present c.args.proven c.args.max_size some sound
+
+-- what it reads, whatever the answer
+reads : (g : Over) (c : After-scan_to g) → let w = c.args.self.now in let P = w.page_size in
+    let end = scan_end P (flushed_pages w) c.args.max_size in
+    ReadsUpToEnd g.H.Sum.sum_of P (scan_bytes P (non_zero_usize_get c.args.buffer_size)) (scan_start P w.full_pages end c.args.proven) end (g.B.Blob.life c.args.blob.now) (g.B.Blob.life c.scan_to.new.blob)
+reads g c =
+    let w = c.args.self.now in
+    let P = w.page_size in
+    let old = g.B.Blob.life c.args.blob.now in
+    let new = g.B.Blob.life c.scan_to.new.blob in
+    subst (λ (n : ℕ). ReadsUpToEnd g.H.Sum.sum_of P (scan_bytes P (non_zero_usize_get c.args.buffer_size)) (scan_start P w.full_pages n c.args.proven) n old new) (ends g c) c.scan_to.ensures.reads
+
+pub returns-in_err-len-clause-reads : goal.returns-in_err-len-clause-reads
+returns-in_err-len-clause-reads g c = reads g (goal.at.returns-in_err-len-clause-reads g c).After-scan_to
+
+pub returns-clause-reads : goal.returns-clause-reads
+returns-clause-reads g c = reads g (goal.at.returns-clause-reads g c).After-scan_to

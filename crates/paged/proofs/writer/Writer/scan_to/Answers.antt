@@ -3,7 +3,7 @@ use Rattle.std.proofs.lemmas.Result.{err_from_is_err_and}
 use Rattle.std.specs.Int.NonZero.{non_zero_u16_get, non_zero_usize_get}
 use Rattle.disk.specs.declared.error.Error.TheVariants.{OffsetOverflow}
 use Rattle.writer_state.specs.WriterState.{WriterState}
-use Rattle.paged_read.specs.Scans.{prefix_from, ReadsForward, Scans, scan_start, scan_to}
+use Rattle.paged_read.specs.Scans.{prefix_from, ReadsUpToEnd, Scans, scan_start, scan_to}
 use Rattle.paged_read.specs.Searches.{scan_bytes}
 use Rattle.paged.specs.Writer.{FitsBlob}
 use Rattle.paged.proofs.Scanned.{look_refused, scan_within, scanned_fits, scanned_short, scanned_size}
@@ -73,16 +73,16 @@ returns-clause-scans g c =
 
 -- what it reads, whatever the answer
 reads : (g : Over) (c : After-scan_from g) → let w = c.args.self.now in let P = w.page_size in
-    ReadsForward (scan_bytes P (non_zero_usize_get c.args.buffer_size)) (scan_start P w.full_pages c.args.end c.args.proven * (P + 12)) (c.args.end * (P + 12)) (g.B.Blob.life c.args.blob.now) (g.B.Blob.life c.scan_from.new.blob)
+    ReadsUpToEnd g.H.Sum.sum_of P (scan_bytes P (non_zero_usize_get c.args.buffer_size)) (scan_start P w.full_pages c.args.end c.args.proven) c.args.end (g.B.Blob.life c.args.blob.now) (g.B.Blob.life c.scan_from.new.blob)
 reads g c =
     let old = g.B.Blob.life c.args.blob.now in
     let new = g.B.Blob.life c.scan_from.new.blob in
     let B = non_zero_usize_get c.args.buffer_size in
     let full = c.args.self.now.full_pages in
     let Q = non_zero_u16_get c.self.inside.page_size in
-    let there : ReadsForward (scan_bytes Q B) (scan_start Q full c.args.end c.args.proven * (Q + 12)) (c.args.end * (Q + 12)) old new =
-    subst (λ (n : ℕ). ReadsForward (scan_bytes Q B) (n * (Q + 12)) (c.args.end * (Q + 12)) old new) (begins g c) c.scan_from.ensures.reads in
-    subst (λ (n : ℕ). ReadsForward (scan_bytes n B) (scan_start n full c.args.end c.args.proven * (n + 12)) (c.args.end * (n + 12)) old new) (same_size g c) there
+    let there : ReadsUpToEnd g.H.Sum.sum_of Q (scan_bytes Q B) (scan_start Q full c.args.end c.args.proven) c.args.end old new =
+    subst (λ (n : ℕ). ReadsUpToEnd g.H.Sum.sum_of Q (scan_bytes Q B) n c.args.end old new) (begins g c) c.scan_from.ensures.reads in
+    subst (λ (n : ℕ). ReadsUpToEnd g.H.Sum.sum_of n (scan_bytes n B) (scan_start n full c.args.end c.args.proven) c.args.end old new) (same_size g c) there
 
 pub returns-clause-reads : goal.returns-clause-reads
 returns-clause-reads g c = reads g (goal.at.returns-clause-reads g c).After-scan_from

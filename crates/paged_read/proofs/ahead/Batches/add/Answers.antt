@@ -1,4 +1,7 @@
-use Rattle.std.proofs.Common.{◌≤◌, ◌-◌, ◌+◌, ◌*◌, min, arith}
+use Rattle.std.proofs.Common.{ℕ, ◌≤◌, ◌-◌, ◌+◌, ◌*◌, min, length, ap, subst, arith}
+use Rattle.disk.specs.Disk.{Life}
+use Rattle.paged_read.specs.ReadAhead.{AreNext}
+use Rattle.paged_read.proofs.AheadCosts.{batches_join, next_few, next_no_more}
 use Rattle.std.proofs.Math.Nat.{mul-le-mul_right}
 use Rattle.std.proofs.lemmas.Result.{err_from_is_err_and}
 use Rattle.std.specs.Int.NonZero.{non_zero_u16_get}
@@ -32,3 +35,20 @@ pub returns-in_err-push-clause-failed : goal.returns-in_err-push-clause-failed
 returns-in_err-push-clause-failed g c =
     let p = err_from_is_err_and c.from_residual-in_err-push.result c.from_residual-in_err-push.ensures.1 in
     rw (p.1, p.2) (λ other. c.in_ok-bytes.ensures.failed)
+
+pub returns-clause-calls : goal.returns-clause-calls
+returns-clause-calls g c =
+    let few = next_few 3 c.args.self.batch c.args.self.full_pages c.after-next.result c.top_up.new.queue.items c.top_up.ensures.next in
+    omega (arith, c.read.ensures.calls, c.top_up.ensures.calls, few)
+
+pub returns-clause-served : goal.returns-clause-served
+returns-clause-served g c = λ next has.
+    let served = c.read.ensures.served next has in
+    let later = subst (λ (n : ℕ). AreNext 3 c.args.self.batch c.args.self.full_pages n c.top_up.new.queue.items) c.after-next.ensures c.top_up.ensures.next in
+    let few = next_no_more c.args.self.batch c.args.self.full_pages c.args.page c.args.queue.now.items c.top_up.new.queue.items next has later in
+    omega (arith, ap (λ (l : Life). length l.present.log) served.0, served.1, c.top_up.ensures.calls, few)
+
+pub returns-clause-asks : goal.returns-clause-asks
+returns-clause-asks g c =
+    batches_join (non_zero_u16_get c.args.self.page_size) c.args.self.batch c.args.self.full_pages c.args.page c.after-next.result (g.B.Blob.life c.args.blob.now) (g.B.Blob.life c.read.new.blob) (g.B.Blob.life c.top_up.new.blob)
+    (omega (arith, c.after-next.ensures)) c.read.ensures.asks c.top_up.ensures.reads

@@ -3,6 +3,7 @@ use Rattle.std.specs.Int.NonZero.{non_zero_u16_get}
 use Rattle.std.proofs.lemmas.List.Elements.{All-drop}
 use Rattle.paged_read.specs.declared.ahead.Ahead.{Ahead}
 use Rattle.paged_read.specs.ReadAhead.{IsBatch}
+use Rattle.paged_read.proofs.AheadCosts.{taken_first}
 use Rattle.paged_read.proofs.ReadAheads.{taken_is}
 use Rattle.paged_read.proofs.ahead.Batches.take.Goals as goal
 
@@ -21,3 +22,7 @@ returns-in-Some-clause-bytes c = λ d are.
     (c.in-Some.ensures.value ∙ ap (λ (l : List Ahead). slice_get l 0) c.deref.ensures.value)
     c.remove.ensures.value c.if-first-page.true c.wait.ensures.ok c.wait.ensures.err
     c.ok.ensures.value
+
+pub returns-in-Some-clause-served : goal.returns-in-Some-clause-served
+returns-in-Some-clause-served c = λ a bytes first here read.
+    taken_first c.args.queue.now.items a a c.remove.result bytes c.wait.result c.ok.result first c.remove.ensures.value read c.wait.ensures.ok c.ok.ensures.value

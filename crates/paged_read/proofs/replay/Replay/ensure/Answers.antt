@@ -1,10 +1,10 @@
-use Rattle.std.proofs.Common.{rules, ◌≡◌, ◌<◌, ◌∙◌, ap, arith, length, subst, sym, true}
+use Rattle.std.proofs.Common.{rules, ◌≡◌, ◌<◌, ◌∙◌, ap, arith, length, subst, sym, true, false}
 use Rattle.std.proofs.lemmas.Result.{err_from_is_err_and}
 use Rattle.crash.specs.Looks.{looked_joins}
 use Rattle.paged_read.specs.Replay.{end_of, Ensures, IsReplay, ReplayState}
 use Rattle.paged_read.specs.Tail.{size_of}
 use Rattle.paged_read.proofs.ReadLaws.{look_leaves}
-use Rattle.paged_read.proofs.Replays.{Reached, filled_replays, reach_ends, reach_fails, reach_idle, reach_more, reach_start}
+use Rattle.paged_read.proofs.Replays.{Reached, ensure_costs, ensure_fails, filled_replays, reach_ends, reach_fails, reach_idle, reach_more, reach_start}
 use Rattle.paged_read.proofs.replay.Replay.ensure.Goals as goal
 use Rattle.paged_read.proofs.replay.Replay.ensure.Goals.{After-remaining-2, then-loop-self-test+else-end-size, else-loop-self-test}
 use Rattle.paged_read.proofs.replay.Replay.ensure.Given.{Over}
@@ -26,7 +26,7 @@ loop-self-preserved g c =
       c.remaining.ensures,
       ap (λ (r : ReplayState). length r.hand) c.self.view_is,
     ))
-    c.in_ok-fill.ensures.fills c.fill.ensures.idle c.fill.ensures.can c.fill.ensures.looked
+    c.in_ok-fill.ensures.fills c.fill.ensures.idle c.in_ok-fill.ensures.step c.in_ok-fill.ensures.calls c.in_ok-fill.ensures.served c.fill.ensures.reads c.fill.ensures.can c.fill.ensures.looked
 
 pub returns-in_err-fill-clause-goes : goal.returns-in_err-fill-clause-goes
 returns-in_err-fill-clause-goes g c =
@@ -39,19 +39,23 @@ returns-in_err-fill-clause-goes g c =
     record { answers = answers; replays = search rules; can = c.fill.ensures.can }
 
 pub returns-in_err-fill-clause-costs : goal.returns-in_err-fill-clause-costs
-returns-in_err-fill-clause-costs g c = record {
-  idle =
-      reach_idle g.H.Sum.sum_of c.args.self.now c.args.count c.loop-self.self
-      (g.B.Blob.life c.args.blob.now) (g.B.Blob.life c.loop-self.blob) (g.B.Blob.life c.fill.new.blob)
-      c.loop-self.invariant
-      (omega (
-        arith,
-        c.loop-self-test.true,
-        c.remaining.ensures,
-        ap (λ (r : ReplayState). length r.hand) c.self.view_is,
-      ))
-      c.fill.ensures.idle;
-}
+returns-in_err-fill-clause-costs g c =
+    let error = err_from_is_err_and c.from_residual.result c.from_residual.ensures.1 in
+    let idle = reach_idle g.H.Sum.sum_of c.args.self.now c.args.count c.loop-self.self
+    (g.B.Blob.life c.args.blob.now) (g.B.Blob.life c.loop-self.blob) (g.B.Blob.life c.fill.new.blob)
+    c.loop-self.invariant
+    (omega (
+      arith,
+      c.loop-self-test.true,
+      c.remaining.ensures,
+      ap (λ (r : ReplayState). length r.hand) c.self.view_is,
+    ))
+    c.fill.ensures.idle in
+    rw error.1 (ensure_fails g.H.Sum.sum_of c.args.self.now c.args.count c.loop-self.self c.fill.new.self
+    (g.B.Blob.life c.args.blob.now) (g.B.Blob.life c.loop-self.blob) (g.B.Blob.life c.fill.new.blob)
+    c.in_err-fill.field-0.0 error.0 c.loop-self.invariant
+    (subst (λ (r : ReplayState). IsReplay r) c.self.view_is c.self.invariant.0)
+    c.in_err-fill.ensures.fills idle c.in_err-fill.ensures.refused c.fill.ensures.reads)
 
 pub returns-in_err-fill-clause-leaves : goal.returns-in_err-fill-clause-leaves
 returns-in_err-fill-clause-leaves g c =
@@ -127,3 +131,15 @@ returns-clause-goes g c =
 pub returns-clause-leaves : goal.returns-clause-leaves
 returns-clause-leaves g c =
     look_leaves g.H.Sum.sum_of (g.B.Blob.life c.args.blob.now) (g.B.Blob.life c.loop-self.blob) c.loop-self.invariant.looked
+
+pub returns-then-count-remaining-clause-costs : goal.returns-then-count-remaining-clause-costs
+returns-then-count-remaining-clause-costs g c =
+    ensure_costs g.H.Sum.sum_of c.args.self.now c.args.count c.loop-self.self
+    (g.B.Blob.life c.args.blob.now) (g.B.Blob.life c.loop-self.blob) true c.loop-self.invariant
+
+pub returns-clause-costs : goal.returns-clause-costs
+returns-clause-costs g c =
+    let here = (goal.at.returns-clause-costs g c).After-remaining-2 in
+    let costs = ensure_costs g.H.Sum.sum_of c.args.self.now c.args.count (left g here)
+    (g.B.Blob.life c.args.blob.now) (g.B.Blob.life c.loop-self.blob) false (reached g here) in
+    record { idle = costs.idle; calls = costs.calls; ahead = costs.ahead; reads = costs.reads }

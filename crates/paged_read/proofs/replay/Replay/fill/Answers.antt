@@ -1,13 +1,15 @@
-use Rattle.std.proofs.Common.{◌≡◌, ◌+◌, ◌-◌, ◌*◌, ◌/◌, ◌%◌, ◌^◌, ◌++◌, ◌<◌, ◌≤◌, inl, inr, drop, length, ℕ, List, Result, Ok, Err, All, ap, ◌∙◌, sym, subst, arith}
+use Rattle.std.proofs.Common.{◌≡◌, ◌+◌, ◌-◌, ◌*◌, ◌/◌, ◌%◌, ◌^◌, ◌++◌, ◌<◌, ◌≤◌, inl, inr, drop, length, ℕ, List, Result, Ok, Err, All, refl, ap, ◌∙◌, sym, subst, arith}
 use Rattle.std.proofs.lemmas.Bool.{cases_lt}
+use Rattle.std.proofs.lemmas.Result.{err_from_is_err_and}
 use Rattle.std.specs.Int.NonZero.{non_zero_u16_get}
 use Rattle.std.specs.Prelude.{OnErr, OnOk}
 use Rattle.disk.specs.declared.error.Error.{Error}
 use Rattle.crash.specs.Looks.{looked_start}
 use Rattle.paged_read.specs.Hand.{HandState, payloads}
-use Rattle.paged_read.specs.ReadAhead.{IsBatch}
-use Rattle.paged_read.specs.Replay.{CanReplay, end_of, FillsOnce, ReplayState}
+use Rattle.paged_read.specs.ReadAhead.{after, AreNext, IsBatch, ReadsBatches}
+use Rattle.paged_read.specs.Replay.{CanReplay, end_of, FillsOnce, IsReadAhead, ReplayState}
 use Rattle.paged_read.specs.Tail.{size_of}
+use Rattle.paged_read.proofs.AheadCosts.{batches_none, err_holds, ok_holds}
 use Rattle.paged_read.proofs.Failing.{none_failed_kept}
 use Rattle.paged_read.proofs.Replays.{Filled, filled_batch, filled_rest, grows, page_after, page_within}
 use Rattle.paged_read.proofs.replay.Replay.fill.Goals as goal
@@ -283,3 +285,69 @@ returns-then-page-self-clause-failed g c = none_failed_kept c.push.result (g.B.B
 
 pub returns-clause-failed : goal.returns-clause-failed
 returns-clause-failed g c = c.add.ensures.failed
+
+pub returns-clause-step : goal.returns-clause-step
+returns-clause-step g c =
+    let now = record (batch_was g c) { hand = c.add.new.hand.bytes; queue = c.add.new.queue.items } in
+    subst (λ (r : ReplayState). OnOk c.add.result (end_of now / r.tail.page_size ≡ after r.batch r.tail.full_pages (end_of r / r.tail.page_size))) c.self.view_is (batch g c).step
+
+pub returns-clause-served : goal.returns-clause-served
+returns-clause-served g c = λ has.
+    let here = (goal.at.returns-clause-served g c).After-add in
+    let was = batch_was g here in
+    let ahead = subst (λ (r : ReplayState). IsReadAhead r) (sym c.self.view_is) has in
+    c.add.ensures.served
+    (subst (λ (n : ℕ). AreNext 3 was.batch n (c.end-end.result / c.from-page_size.result) was.queue) (sym c.self.invariant.3)
+    (subst (λ (n : ℕ). AreNext 3 was.batch was.tail.full_pages n was.queue) (sym (batch_page g here)) ahead.0))
+    ahead.1
+
+pub returns-clause-reads : goal.returns-clause-reads
+returns-clause-reads g c =
+    let here = (goal.at.returns-clause-reads g c).After-add in
+    let was = batch_was g here in
+    let old = g.B.Blob.life c.args.blob.now in
+    let new = g.B.Blob.life c.add.new.blob in
+    let page = c.end-end.result / c.from-page_size.result in
+    let full = c.self.inside.batches.full_pages in
+    subst (λ (r : ReplayState). ReadsBatches r.tail.page_size r.batch r.tail.full_pages (end_of r / r.tail.page_size) old new) c.self.view_is
+    (subst (λ (n : ℕ). ReadsBatches was.tail.page_size was.batch was.tail.full_pages n old new) (batch_page g here)
+    (subst (λ (n : ℕ). ReadsBatches was.tail.page_size was.batch n page old new) c.self.invariant.3
+    (subst (λ (n : ℕ). ReadsBatches n was.batch full page old new) c.self.invariant.2 c.add.ensures.asks)))
+
+pub returns-in_err-rest-clause-step : goal.returns-in_err-rest-clause-step
+returns-in_err-rest-clause-step g c =
+    let p = err_from_is_err_and c.from_residual.result c.from_residual.ensures.1 in
+    rw p.1 (tt {0})
+
+pub returns-in_err-rest-clause-calls : goal.returns-in_err-rest-clause-calls
+returns-in_err-rest-clause-calls g c = ok_holds c.from_residual.result _ (omega arith)
+
+pub returns-in_err-rest-clause-refused : goal.returns-in_err-rest-clause-refused
+returns-in_err-rest-clause-refused g c = err_holds c.from_residual.result _ (omega arith)
+
+pub returns-in_err-rest-clause-served : goal.returns-in_err-rest-clause-served
+returns-in_err-rest-clause-served g c = λ has. ok_holds c.from_residual.result _ (omega arith)
+
+pub returns-in_err-rest-clause-reads : goal.returns-in_err-rest-clause-reads
+returns-in_err-rest-clause-reads g c =
+    let r = c.args.self.now in
+    batches_none r.tail.page_size r.batch r.tail.full_pages (end_of r / r.tail.page_size) (g.B.Blob.life c.args.blob.now) (g.B.Blob.life c.args.blob.now) refl
+
+pub returns-then-page-self-clause-step : goal.returns-then-page-self-clause-step
+returns-then-page-self-clause-step g c =
+    let now = record (rest_was g c) { hand = c.push.new.self.bytes } in
+    subst (λ (r : ReplayState). OnOk c.push.result (end_of now / r.tail.page_size ≡ after r.batch r.tail.full_pages (end_of r / r.tail.page_size))) c.self.view_is (rest g c).step
+
+pub returns-then-page-self-clause-calls : goal.returns-then-page-self-clause-calls
+returns-then-page-self-clause-calls g c = ok_holds c.push.result _ (omega arith)
+
+pub returns-then-page-self-clause-refused : goal.returns-then-page-self-clause-refused
+returns-then-page-self-clause-refused g c = err_holds c.push.result _ (omega arith)
+
+pub returns-then-page-self-clause-served : goal.returns-then-page-self-clause-served
+returns-then-page-self-clause-served g c = λ has. ok_holds c.push.result _ (omega arith)
+
+pub returns-then-page-self-clause-reads : goal.returns-then-page-self-clause-reads
+returns-then-page-self-clause-reads g c =
+    let r = c.args.self.now in
+    batches_none r.tail.page_size r.batch r.tail.full_pages (end_of r / r.tail.page_size) (g.B.Blob.life c.args.blob.now) (g.B.Blob.life c.args.blob.now) refl
