@@ -1,5 +1,5 @@
 -- Reads of pages one by one.
-use Rattle.std.proofs.Common.{◌≡◌, ◌⊎◌, inl, inr, ℕ, zero, suc, ◌+◌, ◌<◌, List, [], ◌∷◌, ◌++◌, length, take, drop, refl, sym, ap, ◌∙◌, subst, arith, Err, get_or, drop-cons}
+use Rattle.std.proofs.Common.{◌≡◌, ◌⊎◌, inl, inr, ℕ, zero, suc, ◌+◌, ◌<◌, List, [], ◌∷◌, ◌++◌, length, take, drop, refl, sym, ap, ◌∙◌, subst, arith, get_or, drop-cons}
 use Rattle.std.proofs.lemmas.List.{take_more, map-append}
 use Rattle.std.specs.List.{Contains}
 use Rattle.disk.specs.Disk.{Disk, Life}
@@ -12,7 +12,7 @@ use Rattle.cache.specs.CacheState.{CacheState}
 use Rattle.cache.specs.declared.piece.Piece.{Piece}
 use Rattle.paged_read.specs.Tail.{Tail}
 use Rattle.paged_read.specs.Ranges.{missing, page_at, AreMissingFull, ReadFault}
-use Rattle.paged_read.specs.Parts.{ReadsPage, ArePagesFull, PagesFault, pages_of, with_told}
+use Rattle.paged_read.specs.Parts.{ArePagesFull, PagesFault, pages_of, with_told}
 
 -- one page alone
 pub one_page : (page p : ℕ) → Contains (page ∷ []) p → p ≡ page
@@ -29,18 +29,6 @@ has_later page p pages (k, within, is) = (suc k, omega (arith, within), is)
 pub first_or_later : (page p : ℕ) (pages : List ℕ) → Contains (page ∷ pages) p → (p ≡ page) ⊎ Contains pages p
 first_or_later page p pages (zero, within, is) = inl (sym is)
 first_or_later page p pages (suc k, within, is) = inr (k, omega (arith, within), is)
-
--- why the read of a page answers an error
-pub page_faults : (sum : List ℕ → ℕ) (P page : ℕ) (old new : Life) (e : Error) → ReadsPage sum P page old new (Err e) → PagesFault sum P (page ∷ []) old new e
-page_faults sum P page old new ReadFailed cause = cause
-page_faults sum P page old new WriteFailed cause = cause
-page_faults sum P page old new ResizeFailed cause = cause
-page_faults sum P page old new SyncFailed cause = cause
-page_faults sum P page old new InvalidChecksum cause = (page, has_first page [], cause)
-page_faults sum P page old new BlobInsufficientLength cause = cause
-page_faults sum P page old new OffsetOverflow cause = cause
-page_faults sum P page old new OutOfMemory cause = tt
-page_faults sum P page old new IdsExhausted cause = cause
 
 -- a full page is
 pub page_full : (sum : List ℕ → ℕ) (P page : ℕ) (bytes readable : List ℕ) → bytes ≡ page_at P page readable → value_len sum P bytes ≡ P → ArePagesFull sum P (page ∷ []) readable

@@ -1,6 +1,6 @@
 -- Fills of a replay: what a batch, and the bytes after the full pages, add to what is at hand.
 use Rattle.std.proofs.Common.{◌≡◌, ◌⊎◌, inl, inr, ℕ, zero, suc, ◌+◌, ◌*◌, ◌-◌, ◌/◌, ◌%◌, ◌<◌, ◌≤◌, min, max, List, [], ◌∷◌, ◌++◌, length, take, drop, ◌^◌, refl, sym, ap, ◌∙◌, subst, arith, All, true, false, true≢false, Result, Ok, Err, length-append, length-drop}
-use Rattle.std.proofs.lemmas.Bool.{cases_lt, le-leb, lt-leb}
+use Rattle.std.proofs.lemmas.Bool.{cases_lt, lt-leb}
 use Rattle.std.proofs.lemmas.Nat.{div_below, mod_below, div-add-mod', le-div}
 use Rattle.std.proofs.lemmas.List.{drop_all, drop-drop, drop-take, take-take, take_all, take-append-le, drop-append-le, length-take-le}
 use Rattle.std.proofs.Math.Nat.{le-div_iff_mul-le, mul-div_cancel, mul-le-mul_right, mul-mod_left, suc-mul}
@@ -475,14 +475,6 @@ reach_fails sum r count mid now old between new e so_far filled =
         not_full (subst (λ (l : List ℕ). AreFull sum r.tail.page_size (take r.tail.full_pages (pages r.tail.page_size l))) (sym (looked_readable old between so_far.looked)) full)
     fault OutOfMemory none = tt {0}
     fault _ none = absurd none
-
--- enough
-pub reach_enough : (sum : List ℕ → ℕ) (r : ReplayState) (count : ℕ) (now : ReplayState) (old new : Life) → Reached sum r count now old new → IsReplay now → count ≤ length now.hand
-    → Ensures sum r count now old new (Ok true)
-reach_enough sum r count now old new so_far is enough =
-    let size : size_of now.tail ≡ size_of r.tail = ap (λ (u : Tail). size_of u) so_far.fills.tail in
-    let there : r.position + count ≤ size_of r.tail = omega (arith, is.within, size, so_far.fills.position, enough) in
-    (so_far.fills, sym (le-leb (r.position + count) (size_of r.tail) there), (λ _. enough), (λ no. absurd (true≢false no)), so_far.few, so_far.filled, so_far.ahead, (λ _. so_far.exhausted))
 
 -- and all that is left
 pub reach_ends : (sum : List ℕ → ℕ) (r : ReplayState) (count : ℕ) (now : ReplayState) (old new : Life) → Reached sum r count now old new → length now.hand < count → end_of now ≡ size_of now.tail
