@@ -6,18 +6,7 @@ use Rattle.std.proofs.lemmas.Option.{same_Some}
 use Rattle.std.proofs.Math.Nat.{mul-le-mul_right}
 use Rattle.cache.specs.CacheState.{CacheState, held, empty_cache, SameSettings, IsHeld, PutGoes, Puts, PutsAll}
 use Rattle.cache.specs.Pages.{page_of_content, IsTrueFor, IsFresh, CachesOnly}
-
--- two keys are the same or not
-same_keys : (a b : ℕ × ℕ) → (a ≡ b) ⊎ (a ≢ b)
-same_keys (a, p) (b, q) = elim (cases_order a b) [
-  | inl same ↦ elim (cases_order p q) [
-    | inl here ↦ inl (λ i. (same i, here i))
-    | inr (inl less) ↦ inr (λ is. omega (arith, less, ap (λ (k : ℕ × ℕ). k.1) is))
-    | inr (inr more) ↦ inr (λ is. omega (arith, more, ap (λ (k : ℕ × ℕ). k.1) is))
-  ]
-  | inr (inl less) ↦ inr (λ is. omega (arith, less, ap (λ (k : ℕ × ℕ). k.0) is))
-  | inr (inr more) ↦ inr (λ is. omega (arith, more, ap (λ (k : ℕ × ℕ). k.0) is))
-]
+use Rattle.cache.proofs.Found.{either_key}
 
 -- what one put does to a key: the page is held, or nothing; each other key stays or goes
 abbrev pub PutKey : ℕ × ℕ → List ℕ → ℕ × ℕ → CacheState → CacheState → Type 0
@@ -33,9 +22,9 @@ held_weakly : (key gone : ℕ × ℕ) (bytes : List ℕ) (count : ℕ) (old new 
 held_weakly key gone bytes count old new went h = record {
   settings = h.settings;
   here = h.here;
-  each = λ other. elim (same_keys other key) [
+  each = λ other. elim (either_key other key) [
     | inl same ↦ inr (inr (same, ap (λ (k : ℕ × ℕ). held new k) same ∙ h.here))
-    | inr apart ↦ elim (same_keys other gone) [
+    | inr apart ↦ elim (either_key other gone) [
       | inl lost ↦ elim went [
         | inl same ↦ absurd (apart (lost ∙ sym same))
         | inr none ↦ inr (inl (ap (λ (k : ℕ × ℕ). held new k) lost ∙ none))
@@ -169,10 +158,6 @@ never_empties key other was bytes old new apart there room none puts = by_held (
 
 -- ---- pages put in a row
 
--- the first page of what a content has from a page on
-page_here : (P page : ℕ) (content : List ℕ) → take P (drop (page * P) content) ≡ page_of_content P content page
-page_here P page content = refl
-
 page_next : (P page : ℕ) (content : List ℕ) → drop P (drop (page * P) content) ≡ drop ((page + 1) * P) content
 page_next P page content =
     let offset : page * P + P ≡ (page + 1) * P = omega arith in
@@ -273,18 +258,3 @@ fresh_stays id from content old new given caches fresh key later = elim (caches.
   | inr (inl goes) ↦ goes
   | inr (inr (same, after, full, now)) ↦ absurd (omega (arith, given, later, same, caches.settings.ids_given))
 ]
-
--- nor does giving one
-pub fresh_given : (cache : CacheState) → IsFresh cache → IsFresh (record cache { ids_given = cache.ids_given + 1 })
-fresh_given cache fresh key later = fresh key (omega (arith, later))
-
--- ---- a call of the same blob, by another tail of it: true for one content is true for another that agrees below the tip
-pub caches_true_same : (id from : ℕ) (content my_content : List ℕ) (tip : ℕ) (old new : CacheState) → CachesOnly id from content old new
-    → ((page : ℕ) → page < tip → page_of_content old.page_size content page ≡ page_of_content old.page_size my_content page) → IsTrueFor id my_content tip old → IsTrueFor id my_content tip new
-caches_true_same id from content my_content tip old new caches same true_old p bytes below there =
-    elim (caches.each (id, p)) [
-      | inl stays ↦ true_old p bytes below (sym stays ∙ there) ∙ ap (λ (P : ℕ). page_of_content P my_content p) (sym caches.settings.page_size)
-      | inr (inl goes) ↦ absurd (cc (goes, there))
-      | inr (inr (mine, after, full, now)) ↦
-          same_Some bytes (page_of_content old.page_size content p) (sym there ∙ now) ∙ same p below ∙ ap (λ (P : ℕ). page_of_content P my_content p) (sym caches.settings.page_size)
-    ]

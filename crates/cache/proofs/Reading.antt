@@ -1,5 +1,5 @@
 -- Bytes copied from pages that are held.
-use Rattle.std.proofs.Common.{◌≡◌, ◌∙◌, ◌⊎◌, inl, inr, ℕ, ◌+◌, ◌-◌, ◌*◌, ◌/◌, ◌%◌, ◌<◌, ◌≤◌, List, [], ◌∷◌, ◌++◌, zero, suc, length, take, drop, sym, ap, subst, refl, arith, drop-drop, length-take, length-drop, length-append, slice_index_or, append-nil}
+use Rattle.std.proofs.Common.{◌≡◌, ◌∙◌, inl, inr, ℕ, ◌+◌, ◌-◌, ◌*◌, ◌/◌, ◌%◌, ◌<◌, ◌≤◌, List, [], ◌∷◌, ◌++◌, length, take, drop, sym, ap, subst, refl, arith, drop-drop, length-take, length-drop, length-append, slice_index_or, append-nil}
 use Rattle.std.proofs.Math.Seq.{drop-append_seam}
 use Rattle.std.proofs.lemmas.List.Elements.{filter-append}
 use Rattle.std.specs.Prelude.{Option, Some, None, slice_get, not, is_some}
@@ -12,33 +12,7 @@ use Rattle.disk.specs.declared.error.Error.TheVariants.{OutOfMemory}
 use Rattle.cache.specs.CacheState.{CacheState, held, HoldsByte, put_at, with_piece, with_pieces, pieces_left, ReadsPieces}
 use Rattle.cache.specs.declared.piece.Piece.{Piece}
 use Rattle.std.proofs.lemmas.List.{take_more, take-append-drop}
-
--- an element of a joined list is one of the first part or of the second
-joined_element : {X : Type 0} (xs ys : List X) (i : ℕ) (x : X) → slice_get (xs ++ ys) i ≡ Some x
-    → (slice_get xs i ≡ Some x) ⊎ ((j : ℕ) × (i ≡ length xs + j) × (slice_get ys j ≡ Some x))
-joined_element [] ys i x is = inr (i, omega arith, is)
-joined_element (y ∷ xs) ys zero x is = inl is
-joined_element (y ∷ xs) ys (suc i) x is = elim (joined_element xs ys i x is) [
-  | inl first ↦ inl first
-  | inr second ↦ inr (second.0, omega (arith, second.1), second.2)
-]
-
--- an element of a list's beginning is one of the list
-taken_element : {X : Type 0} (n : ℕ) (xs : List X) (i : ℕ) (x : X) → slice_get (take n xs) i ≡ Some x
-    → slice_get xs i ≡ Some x
-taken_element zero xs i x is = absurd (cc is)
-taken_element (suc n) [] i x is = is
-taken_element (suc n) (y ∷ xs) zero x is = is
-taken_element (suc n) (y ∷ xs) (suc i) x is = taken_element n xs i x is
-
--- an element of a list's rest is one of the list
-dropped_element : {X : Type 0} (n : ℕ) (xs : List X) (i : ℕ)
-    → slice_get (drop n xs) i ≡ slice_get xs (n + i)
-dropped_element zero xs i = ap (slice_get xs) (let e : i ≡ 0 + i = omega arith in e)
-dropped_element (suc n) [] i = refl
-dropped_element (suc n) (x ∷ xs) i =
-    dropped_element n xs i
-    ∙ ap (slice_get (x ∷ xs)) (let e : suc (n + i) ≡ suc n + i = omega arith in e)
+use Rattle.disk.proofs.Lists.{joined_element, taken_element, slice_get-drop}
 
 -- an offset of the same page
 same_page : (P a j : ℕ) → 0 < P → a % P + j < P → ((a + j) / P ≡ a / P) × ((a + j) % P ≡ a % P + j)
@@ -74,7 +48,7 @@ copied_more cache id offset done len page before so_far there some fits size wit
               ap (λ n. held cache (id, n / P)) (sym at_offset)
                   ∙ ap (λ n. held cache (id, n)) parts.0 ∙ there,
               ap (λ n. slice_get page (n % P)) (sym at_offset)
-                  ∙ ap (slice_get page) parts.1 ∙ sym (dropped_element skip page j)
+                  ∙ ap (slice_get page) parts.1 ∙ sym (slice_get-drop skip page j)
                   ∙ taken_element len (drop skip page) j byte here,
             )
       ]
@@ -109,7 +83,8 @@ pub record HasCome (cache : CacheState) (id offset most done : ℕ) (before now 
       → HoldsByte cache id (offset + i) byte
   pub rest : drop done now ≡ drop done before
 
-put_length : (offset : ℕ) (bytes buf : List ℕ) → offset + length bytes ≤ length buf
+-- the length stays
+pub put_length : (offset : ℕ) (bytes buf : List ℕ) → offset + length bytes ≤ length buf
     → length (put_at offset bytes buf) ≡ length buf
 put_length offset bytes buf fits =
     omega (

@@ -1,12 +1,12 @@
 -- The pages of a flush: what they say, and their bytes joined.
-use Rattle.std.proofs.Common.{◌≡◌, ℕ, zero, suc, ◌+◌, ◌-◌, ◌*◌, ◌^◌, ◌<◌, ◌≤◌, List, [], ◌∷◌, ◌++◌, length, take, drop, refl, sym, ◌∙◌, ap, subst, arith, append_assoc, length-append, length-drop, length-take}
-use Rattle.std.specs.Prelude.{slice_get, Option, Some, None, replicate, ◌==◌, Bool, nat_le, ◌&&◌, if◌then◌else◌}
+use Rattle.std.proofs.Common.{◌≡◌, ℕ, zero, suc, ◌+◌, ◌-◌, ◌*◌, ◌^◌, ◌<◌, ◌≤◌, List, ◌∷◌, ◌++◌, length, take, drop, refl, sym, ◌∙◌, ap, arith, length-append, length-drop, length-take}
+use Rattle.std.specs.Prelude.{slice_get, Option, Some, None, replicate, ◌==◌, nat_le, ◌&&◌, if◌then◌else◌}
 use Rattle.std.specs.List.{flat_map}
-use Rattle.std.proofs.lemmas.List.{take-take, take_at, drop_at, take_all, drop-drop, append-nil, take-append-le, length-take-le, length-replicate}
+use Rattle.std.proofs.lemmas.List.{take-take, take_at, drop_at, take_all, drop-drop, take-append-le, length-take-le, length-replicate}
 use Rattle.std.proofs.lemmas.Nat.{from_be_bytes-to_be_bytes_2, from_be_bytes-to_be_bytes_4}
 use Rattle.std.proofs.lemmas.Bool.Decides.{nat_tests}
 use Rattle.page.specs.Slot.{slot_offset, other}
-use Rattle.page.specs.Page.{pieces, slot_bytes, slot_of, slot_len, slot_crc, verified_len, value_len, value}
+use Rattle.page.specs.Page.{pieces, slot_bytes, slot_of, slot_len, slot_crc, verified_len, value_len}
 use Rattle.page.specs.declared.slot.Slot.{Slot}
 use Rattle.page.specs.declared.slot.Slot.TheVariants.{First, Second}
 use Rattle.page.specs.declared.slot.ActiveChecksum.{ActiveChecksum}
@@ -14,11 +14,7 @@ use Rattle.crash.specs.Full.{AreFull}
 use Rattle.crash.specs.Built.{kept_slot, kept_len, kept_bytes, footer, page_of, built_pages, built, durable_after}
 use Rattle.crash.proofs.Lists.{drop_past}
 use Rattle.std.proofs.Math.Seq.{take-add}
-use Rattle.crash.proofs.Texts.{verified_le_value}
-
--- a slot has six bytes
-pub length-slot_bytes : (len crc : ℕ) → length (slot_bytes len crc) ≡ 6
-length-slot_bytes len crc = refl
+use Rattle.page.proofs.Values.{verified_len-le_said}
 
 -- the length that a written slot says
 pub slot_len_of : (len crc : ℕ) → len < 2 ^ 16 → slot_len (slot_bytes len crc) ≡ len
@@ -39,17 +35,17 @@ slot_len_kept None lt = slot_len_of 0 0 lt
 slot_len_kept (Some w) lt = slot_len_of w.len w.crc lt
 
 -- a footer has twelve bytes
-length-footer : (s : Slot) (kept new : List ℕ) → length kept ≡ 6 → length new ≡ 6 → length (footer s kept new) ≡ 12
+pub length-footer : (s : Slot) (kept new : List ℕ) → length kept ≡ 6 → length new ≡ 6 → length (footer s kept new) ≡ 12
 length-footer First kept new a b = omega (arith, length-append kept new)
 length-footer Second kept new a b = omega (arith, length-append new kept)
 
 -- the kept slot of a footer
-footer_kept : (s : Slot) (kept new : List ℕ) → length kept ≡ 6 → length new ≡ 6 → take 6 (drop (slot_offset s) (footer s kept new)) ≡ kept
+pub footer_kept : (s : Slot) (kept new : List ℕ) → length kept ≡ 6 → length new ≡ 6 → take 6 (drop (slot_offset s) (footer s kept new)) ≡ kept
 footer_kept First kept new a b = take_at kept new 6 a
 footer_kept Second kept new a b = ap (λ (l : List ℕ). take 6 l) (drop_at new kept 6 b) ∙ take_all 6 kept (omega arith)
 
 -- the new slot of a footer
-footer_new : (s : Slot) (kept new : List ℕ) → length kept ≡ 6 → length new ≡ 6 → take 6 (drop (slot_offset (other s)) (footer s kept new)) ≡ new
+pub footer_new : (s : Slot) (kept new : List ℕ) → length kept ≡ 6 → length new ≡ 6 → take 6 (drop (slot_offset (other s)) (footer s kept new)) ≡ new
 footer_new First kept new a b = ap (λ (l : List ℕ). take 6 l) (drop_at kept new 6 a) ∙ take_all 6 new (omega arith)
 footer_new Second kept new a b = take_at new kept 6 b
 
@@ -58,17 +54,9 @@ greatest : (sum : List ℕ → ℕ) (P n : ℕ) (s : Slot) (page : List ℕ) →
 greatest sum P n First page a b = omega arith
 greatest sum P n Second page a b = omega arith
 
--- a tested length is at most what the slot says
-tested : (v P : ℕ) (checks : Bool) → (if nat_le 1 v && nat_le v P && checks then v else 0) ≤ v
-tested v P checks = grind (arith, nat_tests)
-
 -- a length that passes the tests
 passes : (v P a b : ℕ) → 0 < v → v ≤ P → a ≡ b → (if nat_le 1 v && nat_le v P && (a == b) then v else 0) ≡ v
 passes v P a b some small same = grind (arith, nat_tests)
-
--- a slot that verifies does so over the length that it says
-pub verified_le_slot : (sum : List ℕ → ℕ) (P : ℕ) (s : Slot) (page : List ℕ) → verified_len sum P s page ≤ slot_len (slot_of P s page)
-verified_le_slot sum P s page = tested (slot_len (slot_of P s page)) P (sum (take (slot_len (slot_of P s page)) page) == slot_crc (slot_of P s page))
 
 module _ (sum : List ℕ → ℕ) (P : ℕ) (durable : Option ActiveChecksum) (chunk : List ℕ) (small : length chunk ≤ P) where
   payload : List ℕ
@@ -138,30 +126,13 @@ module _ (sum : List ℕ → ℕ) (P : ℕ) (durable : Option ActiveChecksum) (c
   verified_kept =
       let page = page_of sum P durable chunk in
       let len : slot_len (slot_of P (kept_slot durable) page) ≡ kept_len durable = ap slot_len (slot_kept sum P durable chunk fits) ∙ slot_len_kept durable (omega arith) in
-      omega (arith, verified_le_slot sum P (kept_slot durable) page, len)
+      omega (arith, verified_len-le_said sum P (kept_slot durable) page, len)
 
   -- the page's value is as long as its chunk
   pub value_len_of : value_len sum P (page_of sum P durable chunk) ≡ length chunk
   value_len_of = greatest sum P (length chunk) (kept_slot durable) (page_of sum P durable chunk) verified_new (omega (arith, verified_kept))
 
-  -- the page's value is its chunk
-  pub value_of : value sum P (page_of sum P durable chunk) ≡ chunk
-  value_of = ap (λ (n : ℕ). take n (page_of sum P durable chunk)) value_len_of ∙ page_begins sum P durable chunk fits
-
-  -- each slot that verifies does so over the chunk
-  pub verified_le_chunk : (s : Slot) → verified_len sum P s (page_of sum P durable chunk) ≤ length chunk
-  verified_le_chunk s = omega (arith, verified_le_value sum P s (page_of sum P durable chunk), value_len_of)
-
-  -- each slot that verifies does so over bytes of the chunk
-  pub verified_over_chunk : (s : Slot) → take (verified_len sum P s (page_of sum P durable chunk)) (page_of sum P durable chunk) ≡ take (verified_len sum P s (page_of sum P durable chunk)) chunk
-  verified_over_chunk s = page_begins_less sum P durable chunk fits (verified_len sum P s (page_of sum P durable chunk)) (verified_le_chunk s)
-
 -- ---- pages joined
-
--- the pages joined are their pages
-pub built_joined : (sum : List ℕ → ℕ) (P : ℕ) (durable : Option ActiveChecksum) (m : ℕ) (bytes : List ℕ) → built sum P durable m bytes ≡ flat_map (λ page. page) (built_pages sum P durable m bytes)
-built_joined sum P durable zero bytes = refl
-built_joined sum P durable (suc m) bytes = ap (λ (l : List ℕ). page_of sum P durable (take P bytes) ++ l) (built_joined sum P None m (drop P bytes))
 
 -- a page's chunk is at most a page's payload
 chunk_fits : (P : ℕ) (bytes : List ℕ) → length (take P bytes) ≤ P
@@ -174,11 +145,6 @@ length-built sum P durable (suc m) bytes =
     let page = page_of sum P durable (take P bytes) in
     let rest = built sum P None m (drop P bytes) in
     omega (arith, length-append page rest, length-page_of sum P durable (take P bytes) (chunk_fits P bytes), length-built sum P None m (drop P bytes))
-
--- there are as many pages as were asked for
-pub length-built_pages : (sum : List ℕ → ℕ) (P : ℕ) (durable : Option ActiveChecksum) (m : ℕ) (bytes : List ℕ) → length (built_pages sum P durable m bytes) ≡ m
-length-built_pages sum P durable zero bytes = refl
-length-built_pages sum P durable (suc m) bytes = ap suc (length-built_pages sum P None m (drop P bytes))
 
 -- the pieces of what is built are the pages
 pub pieces-built : (sum : List ℕ → ℕ) (P : ℕ) (durable : Option ActiveChecksum) (m : ℕ) (bytes : List ℕ) → pieces m (P + 12) (built sum P durable m bytes) ≡ built_pages sum P durable m bytes
@@ -206,34 +172,6 @@ built_pages_at sum P durable (suc m) (suc i) bytes lt =
     built_pages_at sum P None m i (drop P bytes) (omega arith)
     ∙ ap (λ (d : Option ActiveChecksum). Some (page_of sum P d (take P (drop (i * P) (drop P bytes))))) (durable_later i)
     ∙ ap (λ (l : List ℕ). Some (page_of sum P None (take P l))) (drop-drop (i * P) P bytes ∙ ap (λ (n : ℕ). drop n bytes) e)
-
--- one page more
-pub built_pages_more : (sum : List ℕ → ℕ) (P : ℕ) (durable : Option ActiveChecksum) (m : ℕ) (bytes : List ℕ)
-    → built_pages sum P durable (m + 1) bytes ≡ built_pages sum P durable m bytes ++ page_of sum P (durable_after durable m) (take P (drop (m * P) bytes)) ∷ []
-built_pages_more sum P durable zero bytes = let e : 0 * P ≡ 0 = omega arith in rw e
-built_pages_more sum P durable (suc m) bytes =
-    let e : suc m + 1 ≡ suc (m + 1) = omega arith in
-    let f : P + m * P ≡ suc m * P = omega arith in
-    let head = page_of sum P durable (take P bytes) in
-    ap (λ (n : ℕ). built_pages sum P durable n bytes) e
-    ∙ ap (λ (l : List (List ℕ)). head ∷ l) (built_pages_more sum P None m (drop P bytes))
-    ∙ ap (λ (d : Option ActiveChecksum). head ∷ built_pages sum P None m (drop P bytes) ++ page_of sum P d (take P (drop (m * P) (drop P bytes))) ∷ []) (durable_later m)
-    ∙ ap (λ (l : List ℕ). head ∷ built_pages sum P None m (drop P bytes) ++ page_of sum P None (take P l) ∷ []) (drop-drop (m * P) P bytes ∙ ap (λ (n : ℕ). drop n bytes) f)
-
--- the bytes of one page more
-pub built_more : (sum : List ℕ → ℕ) (P : ℕ) (durable : Option ActiveChecksum) (m : ℕ) (bytes : List ℕ)
-    → built sum P durable (m + 1) bytes ≡ built sum P durable m bytes ++ page_of sum P (durable_after durable m) (take P (drop (m * P) bytes))
-built_more sum P durable zero bytes = let e : 0 * P ≡ 0 = omega arith in rw e (append-nil (page_of sum P durable (take P bytes)))
-built_more sum P durable (suc m) bytes =
-    let e : suc m + 1 ≡ suc (m + 1) = omega arith in
-    let f : P + m * P ≡ suc m * P = omega arith in
-    let head = page_of sum P durable (take P bytes) in
-    let rest = built sum P None m (drop P bytes) in
-    ap (λ (n : ℕ). built sum P durable n bytes) e
-    ∙ ap (λ (l : List ℕ). head ++ l) (built_more sum P None m (drop P bytes))
-    ∙ ap (λ (d : Option ActiveChecksum). head ++ (rest ++ page_of sum P d (take P (drop (m * P) (drop P bytes))))) (durable_later m)
-    ∙ ap (λ (l : List ℕ). head ++ (rest ++ page_of sum P None (take P l))) (drop-drop (m * P) P bytes ∙ ap (λ (n : ℕ). drop n bytes) f)
-    ∙ sym (append_assoc head rest (page_of sum P None (take P (drop (suc m * P) bytes))))
 
 -- the first of the pages
 pub take-built_pages : (sum : List ℕ → ℕ) (P : ℕ) (durable : Option ActiveChecksum) (k m : ℕ) (bytes : List ℕ) → k ≤ m → take k (built_pages sum P durable m bytes) ≡ built_pages sum P durable k bytes
@@ -263,12 +201,3 @@ built_full sum P durable (suc k) bytes small some small_page carries le =
       value_len_of sum P durable chunk small small_page (omega (arith, len)) (omega (arith, len)) (omega (arith, len)) ∙ len,
       built_full sum P None k (drop P bytes) small some small_page (omega arith) (omega (arith, length-drop P bytes)),
     )
-
--- the payloads of the first pages are the first bytes
-pub built_payloads_first : (sum : List ℕ → ℕ) (P : ℕ) (durable : Option ActiveChecksum) (k m : ℕ) (bytes : List ℕ) → k ≤ m → k * P ≤ length bytes → flat_map (take P) (take k (built_pages sum P durable m bytes)) ≡ take (k * P) bytes
-built_payloads_first sum P durable k m bytes le fits = ap (λ (l : List (List ℕ)). flat_map (take P) l) (take-built_pages sum P durable k m bytes le) ∙ built_payloads sum P durable k bytes fits
-
--- the first pages are full where their chunks are whole
-pub built_full_first : (sum : List ℕ → ℕ) (P : ℕ) (durable : Option ActiveChecksum) (k m : ℕ) (bytes : List ℕ) → IsSmall sum → 0 < P → P < 2 ^ 16 → kept_len durable ≤ P → k ≤ m → k * P ≤ length bytes → AreFull sum P (take k (built_pages sum P durable m bytes))
-built_full_first sum P durable k m bytes small some small_page carries le fits =
-    subst (λ (l : List (List ℕ)). AreFull sum P l) (sym (take-built_pages sum P durable k m bytes le)) (built_full sum P durable k bytes small some small_page carries fits)

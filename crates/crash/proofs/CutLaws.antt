@@ -14,11 +14,12 @@ use Rattle.crash.proofs.DistinctLaws.{resize_vouched, vouched_at_rest}
 use Rattle.crash.specs.Kept.{AllKeep}
 use Rattle.crash.specs.Looks.{Looked, SameButLog}
 use Rattle.crash.specs.Stays.{Stays, StaysThrough}
-use Rattle.crash.proofs.Lists.{within_take, same_elements, slice_get-take, taken_element}
+use Rattle.crash.proofs.Lists.{within_take, same_elements, slice_get-take}
 use Rattle.crash.proofs.Pages.{length-page, length-pages, page_fits, page_is, pages_at, pages_fit, pages_of_take, take-pages_same, cut_is}
 use Rattle.crash.proofs.Texts.{text_full, text_part, value_len_le, verified_le_value}
 use Rattle.crash.proofs.Disks.{fixed_at_rest, fixed_in_image, fixed_length, fixed_stays, length-applied_resize, operated_base, operated_since, resize_leaves}
 use Rattle.disk.specs.Images.{only_image}
+use Rattle.disk.proofs.Lists.{taken_element}
 use Rattle.crash.proofs.PageFacts.{value_len_slot}
 use Rattle.crash.proofs.Promise.{guarded_is_kept, guards_at_rest, guards_below, keeps_at_rest, keeps_less, resize_leaves_below}
 use Rattle.crash.specs.Moments.{through_end, through_more, through_start, through_then}
@@ -63,20 +64,6 @@ module _ (sum : List ℕ → ℕ) (P : ℕ) where
         (sym (drop_at (take P page) (text_of_pages sum P rest) P size) ∙ ap (λ (l : List ℕ). drop P l) after ∙ drop_at (take P page) (text_of_pages sum P (take k rest)) P size))
   ]
 
-  -- the page after the first k has no value
-  pub ends_where_none : (k : ℕ) (ps : List (List ℕ)) → ((page : List ℕ) → slice_get ps k ≡ Some page → value_len sum P page ≡ 0) → EndsBy sum P k ps
-  ends_where_none zero [] none = tt
-  ends_where_none zero (page ∷ rest) none = none page refl
-  ends_where_none (suc k) [] none = tt
-  ends_where_none (suc k) (page ∷ rest) none = inr (ends_where_none k rest none)
-
-  -- one of the first k isn't full
-  pub ends_where_part : (k p : ℕ) (ps : List (List ℕ)) (page : List ℕ) → p < k → slice_get ps p ≡ Some page → value_len sum P page < P → EndsBy sum P k ps
-  ends_where_part zero p ps page below is part = absurd (omega arith)
-  ends_where_part (suc k) p [] page below is part = tt
-  ends_where_part (suc k) zero (first ∷ rest) page below is part = let same : first ≡ page = same_Some first page is in inl (rw same part)
-  ends_where_part (suc k) (suc p) (first ∷ rest) page below is part = inr (ends_where_part k p rest page (omega arith) is part)
-
   -- so does the text of pages of which the first k are the same, and the next has a value only where the one there has
   pub ends_alike : (k : ℕ) (ps qs : List (List ℕ)) → k ≤ length ps → take k ps ≡ take k qs
       → ((page : List ℕ) → slice_get qs k ≡ Some page → 0 < value_len sum P page → (held : List ℕ) × (slice_get ps k ≡ Some held) × (0 < value_len sum P held))
@@ -109,31 +96,6 @@ module _ (sum : List ℕ → ℕ) (P : ℕ) where
   ]
 
 -- ---- cuts that leave a blob's text as it is
-
--- a cut to the first pages leaves the text where it ends within them
-pub cut_leaves : (sum : List ℕ → ℕ) (P k : ℕ) (bytes : List ℕ) → 0 < P → k * (P + 12) ≤ length bytes → EndsBy sum P k (pages P bytes) → text sum P (take (k * (P + 12)) bytes) ≡ text sum P bytes
-cut_leaves sum P k bytes some within ends =
-    ap (λ (l : List (List ℕ)). text_of_pages sum P l) (pages_of_take P k bytes within) ∙ sym (ends_taken sum P k (pages P bytes) some ends)
-
--- so where the next page, if it is whole, has no value, whatever the pages before are: full or not
-pub cut_leaves_before : (sum : List ℕ → ℕ) (P k : ℕ) (bytes : List ℕ) → 0 < P → k * (P + 12) ≤ length bytes
-    → ((k + 1) * (P + 12) ≤ length bytes → value_len sum P (take (P + 12) (drop (k * (P + 12)) bytes)) ≡ 0)
-    → text sum P (take (k * (P + 12)) bytes) ≡ text sum P bytes
-cut_leaves_before sum P k bytes some within none = cut_leaves sum P k bytes some within (ends_where_none sum P k (pages P bytes)
-    (λ page is. ap (λ (l : List ℕ). value_len sum P l) (page_is P k bytes page is) ∙ none (page_fits P k bytes page is)))
-
--- the cut after a page that isn't full, whatever stands after it
-pub cut_leaves_part : (sum : List ℕ → ℕ) (P k : ℕ) (bytes : List ℕ) → 0 < P → (k + 1) * (P + 12) ≤ length bytes
-    → value_len sum P (take (P + 12) (drop (k * (P + 12)) bytes)) < P
-    → text sum P (take ((k + 1) * (P + 12)) bytes) ≡ text sum P bytes
-cut_leaves_part sum P k bytes some within part = cut_leaves sum P (k + 1) bytes some within
-    (ends_where_part sum P (k + 1) k (pages P bytes) (take (P + 12) (drop (k * (P + 12)) bytes)) (omega arith) (pages_at P k bytes within) part)
-
--- the cut of pages that have no value each
-pub cut_leaves_after : (sum : List ℕ → ℕ) (P k : ℕ) (bytes : List ℕ) → 0 < P → k * (P + 12) ≤ length bytes
-    → ((p : ℕ) → k ≤ p → (p + 1) * (P + 12) ≤ length bytes → value_len sum P (take (P + 12) (drop (p * (P + 12)) bytes)) ≡ 0)
-    → text sum P (take (k * (P + 12)) bytes) ≡ text sum P bytes
-cut_leaves_after sum P k bytes some within none = cut_leaves_before sum P k bytes some within (none k (omega arith))
 
 -- where a cut leaves the text, it ends within the pages that are left
 pub cut_ends : (sum : List ℕ → ℕ) (P k : ℕ) (bytes : List ℕ) → 0 < P → k * (P + 12) ≤ length bytes → text sum P (take (k * (P + 12)) bytes) ≡ text sum P bytes → EndsBy sum P k (pages P bytes)
@@ -343,12 +305,6 @@ stays_then_itself sum P content d e stays = record {
   only = stays.only;
 }
 
--- a sync where nothing is unsynced owes nothing
-pub rest_sync_stays : (sum : List ℕ → ℕ) (P : ℕ) (content : List ℕ) (old new : Life) (answer : Result (Unit {0}) Error) → old.present.since ≡ [] → old.present.base ≡ old.present.readable
-    → text sum P old.present.readable ≡ content → SyncGoes old new answer → StaysThrough sum P content old new
-rest_sync_stays sum P content old new answer at_rest base says goes =
-    sync_stays sum P content old new answer (rest_stays sum P content old.present old.present at_rest (ap (λ (l : List ℕ). text sum P l) base ∙ says)) says goes
-
 -- nor do reads
 pub rest_looked_stays : (sum : List ℕ → ℕ) (P : ℕ) (content : List ℕ) (old new : Life) → old.present.since ≡ [] → old.present.base ≡ old.present.readable
     → text sum P old.present.readable ≡ content → Looked old new → StaysThrough sum P content old new
@@ -383,32 +339,6 @@ resize_says sum P k content old new answer some within says cut_says goes = elim
   | inl none ↦ ap (λ (life : Life). text sum P life.present.readable) none ∙ says
   | inr (d, is, same, since, partial) ↦
       ap (λ (life : Life). text sum P life.present.readable) is ∙ partial_says sum P k content old.present.readable d.readable some within says cut_says partial
-]
-
--- where it is done, the blob is cut, and the cut isn't durable
-pub resize_done : (len : ℕ) (old new : Life) → old.present.since ≡ [] → len ≤ length old.present.readable → ResizeGoes len old new (Ok tt)
-    → (new.present.base ≡ old.present.base) × (new.present.since ≡ Resize len ∷ []) × (new.present.readable ≡ take len old.present.readable)
-resize_done len old new at_rest within (d, goes, operated) = (
-  ap (λ (life : Life). life.present.base) goes ∙ operated_base (Resize len) (ResizeTo len) false old.present d operated,
-  ap (λ (life : Life). life.present.since) goes ∙ operated_since (Resize len) (ResizeTo len) false old.present d operated ∙ ap (λ (os : List Operation). os ++ Resize len ∷ []) at_rest,
-  ap (λ (life : Life). life.present.readable) goes ∙ operated.done refl ∙ cut_is len old.present.readable within,
-)
-
--- where a sync is done, what is readable is durable
-pub sync_done : (old new : Life) → SyncGoes old new (Ok tt) → (new.present.since ≡ []) × (new.present.base ≡ new.present.readable) × (new.present.readable ≡ old.present.readable)
-sync_done old new goes = (
-  ap (λ (life : Life). life.present.since) goes,
-  ap (λ (life : Life). life.present.base) goes ∙ sym (ap (λ (life : Life). life.present.readable) goes),
-  ap (λ (life : Life). life.present.readable) goes,
-)
-
--- a sync where nothing is unsynced leaves that so, whatever its answer
-pub rest_sync_rests : (old new : Life) (answer : Result (Unit {0}) Error) → old.present.since ≡ [] → old.present.base ≡ old.present.readable → SyncGoes old new answer
-    → (new.present.since ≡ []) × (new.present.base ≡ new.present.readable) × (new.present.readable ≡ old.present.readable)
-rest_sync_rests old new answer at_rest base goes = elim (sync_cases old new answer goes) [
-  | inl none ↦ rw none (at_rest, base, refl)
-  | inr (d, is, readable, inl (same, since)) ↦ rw is (since ∙ at_rest, same ∙ base ∙ sym readable, readable)
-  | inr (d, is, readable, inr (same, since)) ↦ rw is (since, same ∙ sym readable, readable)
 ]
 
 -- and so do reads

@@ -5,9 +5,10 @@ use Rattle.std.proofs.lemmas.Option.{slice_get_within, same_Some}
 use Rattle.std.proofs.lemmas.List.{length-replicate}
 use Rattle.disk.specs.Disk.{Disk, Operation, Request, Operated, IsImage, IsWhole, IsPartial, SomeWrites, Writes, applied}
 use Rattle.disk.specs.Disk.Operation.{Write, Resize}
+use Rattle.disk.proofs.Lists.{slice_get-drop, joined_element, taken_element}
 use Rattle.crash.specs.Guard.{Fixed}
 use Rattle.crash.specs.Contents.{latest}
-use Rattle.crash.proofs.Lists.{element_within, slice_get-take, slice_get-drop, slice_get-replicate, same_elements, joined_element, taken_element}
+use Rattle.crash.proofs.Lists.{element_within, slice_get-take, slice_get-replicate, same_elements}
 
 -- how long a blob is after a write
 pub length-applied_write : (offset : ℕ) (bytes old : List ℕ) → length (applied (Write offset bytes) old) ≡ max (length old) (offset + length bytes)
@@ -85,11 +86,6 @@ whole_is_image d whole is_whole = record {
 -- the base is an image
 pub base_is_image : (d : Disk) → IsImage d d.base
 base_is_image d = whole_is_image d d.base (base_is_whole d.base d.since)
-
--- how long an operation leaves a blob depends on how long it was
-pub applied_no_shorter : (o : Operation) (old more : List ℕ) → length old ≤ length more → length (applied o old) ≤ length (applied o more)
-applied_no_shorter (Write offset bytes) old more le = omega (arith, length-applied_write offset bytes old, length-applied_write offset bytes more)
-applied_no_shorter (Resize len) old more le = omega (arith, length-applied_resize len old, length-applied_resize len more)
 
 -- a write of some operations is one of theirs and of those after them
 pub writes_before : (os ps : List Operation) (at byte : ℕ) → SomeWrites os at byte → SomeWrites (os ++ ps) at byte
@@ -330,16 +326,6 @@ image_alike d e image base since is_image = record {
     | inr (inl written) ↦ inr (inl (rw since at written))
     | inr (inr gap) ↦ inr (inr (gap.0, (gap.1.0, rw (base, since) at gap.1.1, gap.1.2)))
   ];
-}
-
--- an operation may leave nothing of itself
-pub partial_none : (o : Operation) (old : List ℕ) → IsPartial o old old
-partial_none o old = record {
-  length = elim (cases_lt (length (applied o old)) (length old)) [
-    | inl shorter ↦ inr (omega arith, le_refl (length old))
-    | inr longer ↦ inl (le_refl (length old), longer)
-  ];
-  each = λ at byte is. inl is;
 }
 
 -- or be done whole

@@ -1,14 +1,14 @@
 -- Promises at each moment of a life, and how they compose.
-use Rattle.std.proofs.Common.{◌≡◌, inl, inr, ℕ, ◌≤◌, List, [], ◌++◌, length, take, sym, ap, ◌∙◌, arith, append-nil, length-take}
+use Rattle.std.proofs.Common.{◌≡◌, inl, ℕ, ◌≤◌, List, [], ◌++◌, length, take, sym, ap, ◌∙◌, arith, append-nil, length-take}
 use Rattle.std.proofs.lemmas.List.{take-take}
-use Rattle.disk.specs.Disk.{Disk, Operation, Life, next}
+use Rattle.disk.specs.Disk.{Disk, Operation, Life}
 use Rattle.page.specs.Page.{text}
 use Rattle.crash.specs.Guard.{Guards, IsTruthful, IsChanceFree}
 use Rattle.crash.specs.Distinct.{IsVouched}
 use Rattle.crash.proofs.DistinctLaws.{vouched_alike, vouched_at_rest}
 use Rattle.crash.specs.Kept.{AllKeep, AllOnly, Through}
 use Rattle.crash.specs.Contents.{latest}
-use Rattle.crash.specs.Moments.{through_start, through_more, through_joins, through_end, through_then}
+use Rattle.crash.specs.Moments.{through_start, through_joins, through_end, through_then}
 use Rattle.crash.specs.Stays.{Stays, StaysThrough}
 use Rattle.crash.proofs.Disks.{base_is_whole, base_is_image, image_alike, image_covered, whole_covered}
 use Rattle.crash.proofs.Promise.{guarded_is_kept, floor_is_durable, guards_alike, guards_covered, guards_less, keeps_on, keeps_same, only_content, whole_is_chance_free}
@@ -82,12 +82,6 @@ stays_through_joins sum P content old mid new first second =
     through_joins (Stays sum P content old.present) old mid new first
     (through_then (Stays sum P content mid.present) (Stays sum P content old.present) mid new (λ d later. stays_joins sum P content old.present mid.present d reached later) second)
 
--- one moment more
-pub stays_through_more : (sum : List ℕ → ℕ) (P : ℕ) (content : List ℕ) (old new : Life) (d : Disk) → StaysThrough sum P content old new → Stays sum P content new.present d → StaysThrough sum P content old (next new d)
-stays_through_more sum P content old new d through later =
-    let reached = through_end (Stays sum P content old.present) old new through in
-    through_more (Stays sum P content old.present) old new d through (stays_joins sum P content old.present new.present d reached later)
-
 -- no moment has passed
 pub stays_through_start : (sum : List ℕ → ℕ) (P : ℕ) (content : List ℕ) (life : Life) → IsTruthful sum P content life.present → IsVouched sum P life.present → StaysThrough sum P content life life
 stays_through_start sum P content life truthful vouched = through_start (Stays sum P content life.present) life (stays_itself sum P content life.present truthful vouched)
@@ -101,11 +95,6 @@ kept_through sum P content old new through floor enough keeps =
 pub only_through : (sum : List ℕ → ℕ) (P : ℕ) (content after : List ℕ) (old new : Life) → StaysThrough sum P content old new → Through (AllOnly sum P content after) old new
 only_through sum P content after old new through =
     through_then (Stays sum P content old.present) (AllOnly sum P content after) old new (λ d stays. record { only = λ image is_image free. inl (stays.only image is_image free); vouched = stays.vouched }) through
-
--- also where the content is the one after the call
-pub only_after : (sum : List ℕ → ℕ) (P : ℕ) (before content : List ℕ) (old new : Life) → StaysThrough sum P content old new → Through (AllOnly sum P before content) old new
-only_after sum P before content old new through =
-    through_then (Stays sum P content old.present) (AllOnly sum P before content) old new (λ d stays. record { only = λ image is_image free. inr (stays.only image is_image free); vouched = stays.vouched }) through
 
 -- a content that grows keeps its beginning
 pub same_floor : (content longer : List ℕ) (floor : ℕ) → content ≡ take (length content) longer → floor ≤ length content → take floor content ≡ take floor longer
@@ -139,10 +128,3 @@ pub stays_through_longer : (sum : List ℕ → ℕ) (P : ℕ) (content longer : 
 unfolding Through
 stays_through_longer sum P content longer old new begins through =
     through_then (Stays sum P content old.present) (Stays sum P longer old.present) old new (λ d stays. stays_longer sum P content longer old.present d begins through.start stays) through
-
--- where the content grew within a call, each floor of the content before is kept
-pub kept_through_longer : (sum : List ℕ → ℕ) (P : ℕ) (before content : List ℕ) (old new : Life) → before ≡ take (length before) content → StaysThrough sum P content old new → (floor : ℕ) → floor ≤ length before → AllKeep sum P before floor old.present → Through (AllKeep sum P before floor) old new
-kept_through_longer sum P before content old new begins through floor enough keeps =
-    let more : length before ≤ length content = omega (arith, ap length begins, length-take (length before) content) in
-    through_then (AllKeep sum P content floor) (AllKeep sum P before floor) old new (λ d kept. keeps_shorter sum P before content floor d begins enough kept)
-    (kept_through sum P content old new through floor (omega arith) (keeps_longer sum P before content floor old.present begins enough keeps))

@@ -249,15 +249,6 @@ stored-add P a b readable le =
     ∙ ap (λ (l : List (List ℕ)). flat_map (take P) l ++ flat_map (take P) (pieces b (P + 12) rest)) (sym (take-pages P a readable front))
     ∙ ap (λ (l : List (List ℕ)). stored P a readable ++ flat_map (take P) l) (sym (take-pages P b rest back))
 
--- one payload more at the end
-pub stored_more : (P full : ℕ) (readable : List ℕ) → (full + 1) * (P + 12) ≤ length readable → stored P (full + 1) readable ≡ stored P full readable ++ take P (drop (full * (P + 12)) readable)
-stored_more P full readable le =
-    let rest = drop (full * (P + 12)) readable in
-    let reach : 1 * (P + 12) ≤ length rest = omega (arith, length-drop (full * (P + 12)) readable) in
-    stored-add P full 1 readable le
-    ∙ ap (λ (l : List (List ℕ)). stored P full readable ++ flat_map (take P) l) (take-pages P 1 rest reach)
-    ∙ ap (λ (l : List ℕ). stored P full readable ++ l) (append-nil (take P (take (P + 12) rest)) ∙ take-take P (P + 12) rest (omega arith))
-
 -- the first of the payloads
 pub take-stored : (P k full : ℕ) (readable : List ℕ) → k ≤ full → full * (P + 12) ≤ length readable → take (k * P) (stored P full readable) ≡ stored P k readable
 take-stored P k full readable le reach =

@@ -10,9 +10,9 @@ use Rattle.page.specs.declared.slot.Slot.{Slot}
 use Rattle.crash.specs.Guard.{Held, IsSlotFor, IsGuarded, Guards, IsTruthful, IsChanceFree}
 use Rattle.crash.specs.Kept.{AllKeep, AreHeld}
 use Rattle.crash.specs.Contents.{latest}
-use Rattle.crash.proofs.Disks.{fixed_length, fixed_in_image, fixed_stays, fixed_settles, fixed_at_rest, fixed_alike, Leaves, resize_leaves, write_after_leaves, base_is_image, one_more_whole, fixed_covered, whole_covered, length-applied_resize}
+use Rattle.crash.proofs.Disks.{fixed_length, fixed_in_image, fixed_stays, fixed_settles, fixed_at_rest, fixed_alike, Leaves, resize_leaves, write_after_leaves, base_is_image, one_more_whole, fixed_covered}
 use Rattle.crash.proofs.Lists.{take_same, within_take}
-use Rattle.crash.proofs.Pages.{pages_at, page_fits, page_is, length-page, cut_is}
+use Rattle.crash.proofs.Pages.{pages_at, page_fits, length-page}
 use Rattle.crash.proofs.Texts.{verified_len_le, verified_le_value, value_len_le}
 use Rattle.crash.proofs.PageFacts.{slot_offset_le, page_begins, slot_at, slot_from_verified, value_len_slot, verified_len_held, Says, text_begins, text_within, has_part}
 
@@ -315,14 +315,6 @@ pub truthful_at_rest : (sum : List ℕ → ℕ) (P : ℕ) (content : List ℕ) (
 truthful_at_rest sum P content d at_rest says =
     λ whole is_whole. subst (λ (bytes : List ℕ). SaysOnly sum P content bytes) (sym (subst (λ (os : List Operation). IsWhole d.base os whole) at_rest is_whole)) says
 
--- and stays so when a whole state becomes the base
-pub truthful_settles : (sum : List ℕ → ℕ) (P : ℕ) (content : List ℕ) (d e : Disk) → IsWhole d.base d.since e.base → e.since ≡ [] → IsTruthful sum P content d → IsTruthful sum P content e
-truthful_settles sum P content d e is_whole at_rest truthful = truthful_at_rest sum P content e at_rest (truthful e.base is_whole)
-
--- and when the operations that a sync covers become durable
-pub truthful_covered : (sum : List ℕ → ℕ) (P : ℕ) (content : List ℕ) (d e : Disk) (os ps : List Operation) → d.since ≡ os ++ ps → e.base ≡ latest d.base os → e.since ≡ ps → IsTruthful sum P content d → IsTruthful sum P content e
-truthful_covered sum P content d e os ps since base rest truthful = λ whole is_whole. truthful whole (whole_covered d e os ps since base rest whole is_whole)
-
 -- and where only what is readable, the started syncs or the log differ
 pub truthful_alike : (sum : List ℕ → ℕ) (P : ℕ) (content : List ℕ) (d e : Disk) → e.base ≡ d.base → e.since ≡ d.since → IsTruthful sum P content d → IsTruthful sum P content e
 truthful_alike sum P content d e base since truthful = λ whole is_whole. truthful whole (rw (base, since) at is_whole)
@@ -344,13 +336,3 @@ says_only_longer sum P content longer whole begins says = λ p page is s.
 -- a truthful disk stays so when the content grows
 pub truthful_longer : (sum : List ℕ → ℕ) (P : ℕ) (content longer : List ℕ) (d : Disk) → content ≡ take (length content) longer → IsTruthful sum P content d → IsTruthful sum P longer d
 truthful_longer sum P content longer d begins truthful = λ whole is_whole. says_only_longer sum P content longer whole begins (truthful whole is_whole)
-
--- what is cut says only the content too
-pub cut_says_only : (sum : List ℕ → ℕ) (P : ℕ) (content whole : List ℕ) (len : ℕ) → len ≤ length whole → SaysOnly sum P content whole → SaysOnly sum P content (applied (Resize len) whole)
-cut_says_only sum P content whole len shorter says = λ p page is s.
-    let within : (p + 1) * (P + 12) ≤ len = omega (arith, page_fits P p (applied (Resize len) whole) page is, length-applied_resize len whole) in
-    let cut : applied (Resize len) whole ≡ take len whole = cut_is len whole shorter in
-    let was : slice_get (pages P whole) p ≡ Some page =
-    pages_at P p whole (omega arith)
-    ∙ ap (λ (l : List ℕ). Some l) (sym (within_take (P + 12) (p * (P + 12)) len whole (omega arith)) ∙ ap (λ (l : List ℕ). take (P + 12) (drop (p * (P + 12)) l)) (sym cut) ∙ sym (page_is P p (applied (Resize len) whole) page is)) in
-    says p page was s

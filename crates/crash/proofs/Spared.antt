@@ -1,26 +1,25 @@
 -- What one flush spares: the pages below the tip, and in the tip's page the durable slot and what it covers.
-use Rattle.std.proofs.Common.{◌≡◌, ◌⊎◌, inl, inr, ℕ, zero, suc, ◌+◌, ◌*◌, ◌^◌, ◌<◌, ◌≤◌, min, List, [], ◌∷◌, ◌++◌, length, take, drop, slice_get, Option, Some, None, refl, sym, ap, ◌∙◌, subst, arith, length-take, length-take-le, length-drop, mul-le-mul_right, le_refl}
+use Rattle.std.proofs.Common.{◌≡◌, inl, inr, ℕ, zero, suc, ◌+◌, ◌*◌, ◌^◌, ◌<◌, ◌≤◌, min, List, [], ◌∷◌, ◌++◌, length, take, drop, slice_get, Option, Some, None, refl, sym, ap, ◌∙◌, subst, arith, length-take, length-take-le, length-drop, mul-le-mul_right, le_refl}
 use Rattle.std.proofs.lemmas.Bool.{cases_order}
 use Rattle.std.proofs.lemmas.List.{take-take, drop-drop, take-append-le}
 use Rattle.disk.specs.Disk.{Disk, applied}
 use Rattle.disk.specs.Disk.Operation.{Write}
-use Rattle.page.specs.Slot.{slot_offset, other}
-use Rattle.page.specs.Page.{slot_of, slot_bytes, slot_len, verified_len, pages, text}
+use Rattle.disk.proofs.Lists.{taken_element, joined_element}
+use Rattle.page.specs.Slot.{slot_offset}
+use Rattle.page.specs.Page.{slot_of, slot_bytes, slot_len, verified_len, pages}
 use Rattle.page.specs.declared.slot.Slot.{Slot}
-use Rattle.page.specs.declared.slot.Slot.TheVariants.{First, Second}
 use Rattle.page.specs.declared.slot.ActiveChecksum.{ActiveChecksum}
 use Rattle.crash.specs.Built.{kept_slot, kept_len, page_of, built_pages, built}
 use Rattle.crash.specs.Guard.{Held, IsGuarded, Guards, IsTruthful}
-use Rattle.crash.specs.Distinct.{IsVouched}
 use Rattle.crash.specs.Contents.{latest}
-use Rattle.crash.specs.Stays.{Stays}
 use Rattle.crash.proofs.Disks.{latest_is_whole, write_in_front_leaves, write_again_leaves}
 use Rattle.crash.proofs.Promise.{LeavesPage, held_stays, guards_below, write_leaves_below, SaysOnly, truthful_stays}
-use Rattle.crash.proofs.Moments.{stays_guarded}
-use Rattle.crash.proofs.Lists.{within_append, taken_element, joined_element}
-use Rattle.crash.proofs.BuiltLaws.{length-page_of, page_begins_less, slot_kept, slot_new, slot_len_of, slot_len_kept, verified_le_slot}
-use Rattle.crash.proofs.PageFacts.{own_beginning, slot_offset_le}
+use Rattle.crash.proofs.Lists.{within_append}
+use Rattle.crash.proofs.BuiltLaws.{length-page_of, page_begins_less, slot_kept, slot_new, slot_len_of, slot_len_kept}
+use Rattle.crash.proofs.PageFacts.{slot_offset_le}
 use Rattle.std.proofs.lemmas.Option.{same_Some}
+use Rattle.page.proofs.Values.{verified_len-le_said}
+use Rattle.crash.proofs.DistinctLaws.{slot_cases}
 
 -- a page that is built, before others, has the durable slot
 pub built_keeps_slot : (sum : List ℕ → ℕ) (P : ℕ) (w : ActiveChecksum) (m : ℕ) (tip : List ℕ) → take 6 (drop (P + slot_offset w.slot) (built sum P (Some w) (suc m) tip)) ≡ slot_bytes w.len w.crc
@@ -84,18 +83,6 @@ pub flush_keeps_full : (sum : List ℕ → ℕ) (P full : ℕ) (content : List �
 flush_keeps_full sum P full content floor d e written base since few guards =
     guards_below sum P full content floor (full * (P + 12)) d e (Write (full * (P + 12)) written) base since (write_leaves_below (full * (P + 12)) written) (le_refl (full * (P + 12))) few guards
 
--- and of the tip's page what the durable slot holds
-pub flush_keeps_tip : (sum : List ℕ → ℕ) (P full : ℕ) (content : List ℕ) (len : ℕ) (d e : Disk) (w : ActiveChecksum) (m : ℕ) (tip : List ℕ) → e.base ≡ d.base → e.since ≡ d.since ++ Write (full * (P + 12)) (built sum P (Some w) m tip) ∷ []
-    → drop (full * P) content ≡ tip → full * P + len ≤ length content → Guards sum P content (full * P) d → Held sum P d full w.slot (slot_bytes w.len w.crc) (take len (drop (full * P) content))
-    → Guards sum P content (full * P + len) e
-flush_keeps_tip sum P full content len d e w m tip base since after there guards held =
-    let bytes = take len (drop (full * P) content) in
-    let begins : bytes ≡ take (length bytes) tip =
-    own_beginning len bytes tip (ap (λ (l : List ℕ). take len l) after) in
-    guards_with_tip sum P full content len e w.slot (slot_bytes w.len w.crc) there
-    (flush_keeps_full sum P full content (full * P) d e (built sum P (Some w) m tip) base since (le_refl (full * P)) guards)
-    (held_through_flush sum P full d e w m tip bytes base since begins held)
-
 -- each slot of these pages that verifies does so over bytes of the content
 abbrev pub PagesSayOnly : (List ℕ → ℕ) → ℕ → List ℕ → List (List ℕ) → Type 0
 PagesSayOnly sum P content ps = (p : ℕ) (page : List ℕ) → slice_get ps p ≡ Some page → (s : Slot) → take (verified_len sum P s page) page ≡ take (verified_len sum P s page) (drop (p * P) content)
@@ -114,13 +101,6 @@ pages_say_joined sum P content ps qs first second = λ p page is s. elim (joined
       ∙ ap (λ (k : ℕ). take (verified_len sum P s page) (drop k content)) further
 ]
 
--- a slot is this one or the other
-slot_cases : (s t : Slot) → (t ≡ s) ⊎ (t ≡ other s)
-slot_cases First First = inl refl
-slot_cases First Second = inr refl
-slot_cases Second First = inr refl
-slot_cases Second Second = inl refl
-
 -- no slot of a page that is built verifies over more than the page has
 built_within : (sum : List ℕ → ℕ) (P : ℕ) (durable : Option ActiveChecksum) (chunk : List ℕ) (t : Slot) → P < 2 ^ 16 → length chunk ≤ P → kept_len durable ≤ length chunk → verified_len sum P t (page_of sum P durable chunk) ≤ length chunk
 built_within sum P durable chunk t small fits carries =
@@ -131,7 +111,7 @@ built_within sum P durable chunk t small fits carries =
       | inr new ↦
           omega (arith, ap slot_len (ap (λ (s : Slot). slot_of P s page) new ∙ slot_new sum P durable chunk fits), slot_len_of (length chunk) (sum chunk) (omega arith))
     ] in
-    omega (arith, verified_le_slot sum P t page, says)
+    omega (arith, verified_len-le_said sum P t page, says)
 
 -- each slot of the pages that are built says only the bytes that they were built of
 pub built_say_only : (sum : List ℕ → ℕ) (P : ℕ) (durable : Option ActiveChecksum) (m : ℕ) (tip : List ℕ) → P < 2 ^ 16 → kept_len durable ≤ P → kept_len durable ≤ length tip → PagesSayOnly sum P tip (built_pages sum P durable m tip)
@@ -171,16 +151,3 @@ truthful_through_flush sum P full content d e durable m tip written small fits t
     truthful_stays sum P content d e (Write (full * (P + 12)) written) base since
     (flush_says_only sum P full content (latest d.base d.since) (applied (Write (full * (P + 12)) written) (latest d.base d.since)) durable m tip small fits there after enough new_pages (truthful (latest d.base d.since) (latest_is_whole d.base d.since)))
     truthful
-
--- a flush owes nothing, done or failed, where what was durable lies below the tip
-pub flush_stays_full : (sum : List ℕ → ℕ) (P full : ℕ) (content : List ℕ) (floor : ℕ) (d e : Disk) (written : List ℕ) → e.base ≡ d.base → e.since ≡ d.since ++ Write (full * (P + 12)) written ∷ [] → floor ≤ full * P → length (text sum P d.base) ≤ floor
-    → Guards sum P content floor d → IsTruthful sum P content e → IsVouched sum P e → Stays sum P content d e
-flush_stays_full sum P full content floor d e written base since few durable guards truthful vouched =
-    stays_guarded sum P content floor d e durable (flush_keeps_full sum P full content floor d e written base since few guards) truthful vouched
-
--- or reaches into the tip's page, as far as the durable slot
-pub flush_stays_tip : (sum : List ℕ → ℕ) (P full : ℕ) (content : List ℕ) (len : ℕ) (d e : Disk) (w : ActiveChecksum) (m : ℕ) (tip : List ℕ) → e.base ≡ d.base → e.since ≡ d.since ++ Write (full * (P + 12)) (built sum P (Some w) m tip) ∷ []
-    → drop (full * P) content ≡ tip → full * P + len ≤ length content → length (text sum P d.base) ≤ full * P + len
-    → Guards sum P content (full * P) d → Held sum P d full w.slot (slot_bytes w.len w.crc) (take len (drop (full * P) content)) → IsTruthful sum P content e → IsVouched sum P e → Stays sum P content d e
-flush_stays_tip sum P full content len d e w m tip base since after there durable guards held truthful vouched =
-    stays_guarded sum P content (full * P + len) d e durable (flush_keeps_tip sum P full content len d e w m tip base since after there guards held) truthful vouched

@@ -17,7 +17,7 @@ use Rattle.page.specs.declared.slot.ActiveChecksum.{ActiveChecksum}
 use Rattle.crash.specs.Full.{AreFull}
 use Rattle.crash.specs.Contents.{stored}
 use Rattle.crash.proofs.Lists.{slice_get-take, within_take}
-use Rattle.crash.proofs.Pages.{pages_at, fewer_fit, take_pages_more, pages_split, pages_below, stored_same, take-pages_same}
+use Rattle.crash.proofs.Pages.{pages_at, fewer_fit, pages_split, pages_below, stored_same, take-pages_same}
 
 -- a length that was tested against a bound, or 0
 bounded : (v P : ℕ) (checks : Bool) → (if nat_le 1 v && nat_le v P && checks then v else 0) ≤ P
@@ -59,10 +59,6 @@ module _ (sum : List ℕ → ℕ) (P : ℕ) where
   AreFull-append [] back full rest = rest
   AreFull-append (page ∷ front) back full rest = (full.0, AreFull-append front back full.1 rest)
 
-  -- one full page more
-  pub AreFull_push : (front : List (List ℕ)) (page : List ℕ) → AreFull sum P front → value_len sum P page ≡ P → AreFull sum P (front ++ page ∷ [])
-  AreFull_push front page full is = AreFull-append front (page ∷ []) full (is, tt)
-
   -- the first of full pages
   pub AreFull-take : (k : ℕ) (some : List (List ℕ)) → AreFull sum P some → AreFull sum P (take k some)
   AreFull-take zero some full = tt
@@ -79,24 +75,11 @@ module _ (sum : List ℕ → ℕ) (P : ℕ) where
   AreFull_at (head ∷ some) zero page full is = rw (← same_Some head page is) full.0
   AreFull_at (head ∷ some) (suc i) page full is = AreFull_at some i page full.1 is
 
-  -- pages of which each is full
-  pub AreFull_each : (some : List (List ℕ)) → ((i : ℕ) (page : List ℕ) → slice_get some i ≡ Some page → value_len sum P page ≡ P) → AreFull sum P some
-  AreFull_each [] each = tt
-  AreFull_each (head ∷ some) each = (each zero head refl, AreFull_each some (λ i page is. each (suc i) page is))
-
   -- a page below the first that is not full
   pub AreFull_page : (full p : ℕ) (bytes : List ℕ) → AreFull sum P (take full (pages P bytes)) → full * (P + 12) ≤ length bytes → p < full → value_len sum P (take (P + 12) (drop (p * (P + 12)) bytes)) ≡ P
   AreFull_page full p bytes are reach lt =
       let fits : (p + 1) * (P + 12) ≤ length bytes = fewer_fit P (p + 1) full bytes (omega arith) reach in
       AreFull_at (take full (pages P bytes)) p (take (P + 12) (drop (p * (P + 12)) bytes)) are (slice_get-take full (pages P bytes) p lt ∙ pages_at P p bytes fits)
-
-  -- one full page more in the blob
-  pub AreFull_more : (k : ℕ) (bytes : List ℕ) → AreFull sum P (take k (pages P bytes)) → (k + 1) * (P + 12) ≤ length bytes
-      → value_len sum P (take (P + 12) (drop (k * (P + 12)) bytes)) ≡ P → AreFull sum P (take (k + 1) (pages P bytes))
-  AreFull_more k bytes full reach is =
-      let page = take (P + 12) (drop (k * (P + 12)) bytes) in
-      let more : take (k + 1) (pages P bytes) ≡ take k (pages P bytes) ++ page ∷ [] = take_pages_more P k bytes reach in
-      subst (λ (l : List (List ℕ)). AreFull sum P l) (sym more) (AreFull_push (take k (pages P bytes)) page full is)
 
   -- the first pages of a blob that begins alike
   pub AreFull_same : (k : ℕ) (xs ys : List ℕ) → k * (P + 12) ≤ length xs → take (k * (P + 12)) xs ≡ take (k * (P + 12)) ys → AreFull sum P (take k (pages P xs)) → AreFull sum P (take k (pages P ys))

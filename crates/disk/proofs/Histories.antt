@@ -3,7 +3,7 @@ use Rattle.std.proofs.Common.{suc, zero, ◌≡◌, ◌≤◌, ◌<◌, ℕ, nat
 use Rattle.std.proofs.Math.Seq.{take-append-add}
 use Rattle.std.proofs.lemmas.Bool.{cases_lt}
 use Rattle.std.proofs.lemmas.Bool.Decides.{nat_tests}
-use Rattle.std.proofs.lemmas.List.{take-append-le, drop-append-le, take_all, drop_all, length_push, length-take-le, take-append-drop, drop-drop, drop_at, take_at}
+use Rattle.std.proofs.lemmas.List.{take-append-le, drop-append-le, take_all, drop_all, length_push, length-take-le, take-append-drop, drop-drop, drop_at, take_at, nil_from_length}
 use Rattle.disk.specs.Disk.{Entry, Request, Life, failures, Operation, Write, Disk, Started, StartSync, WaitSync, disk_settled_to, starts, waited, waited_for, failed_at}
 use Rattle.disk.specs.declared.action.Action.{Action}
 use Rattle.disk.specs.declared.action.Action.TheVariants as actions
@@ -216,10 +216,6 @@ idle_replayed (e ∷ es) bytes none =
     let long = length-append (operation_of e.action) (operations_of es) in
     ap (replayed es) (idle_redone e.action e.failed bytes (omega (arith, none, long))) ∙ idle_replayed es bytes (omega (arith, none, long))
 
-none_of : (os : List Operation) → length os ≡ 0 → os ≡ []
-none_of [] none = refl
-none_of (o ∷ os) none = absurd (omega (arith, none))
-
 -- between two counts of events
 module _ (es : List Event) (m k : ℕ) (order : m ≤ k) (within : k ≤ length es) where
   abbrev between : List Event
@@ -273,7 +269,7 @@ module _ (h : History) (m k : ℕ) (d : Disk) (at : DurableTo h m d) (covered : 
       let none : length (operations_of es) ≡ 0 = omega (arith, few, at.count, ap length (front_operations h.events m k order covered), length-append (operations_of (take m h.events)) (operations_of es)) in
       record {
         base = at.base ∙ sym (ap (λ (l : List Event). replayed l h.first) (front_is h.events m k order covered) ∙ replayed-append (take m h.events) es h.first ∙ idle_replayed es (replayed (take m h.events) h.first) none);
-        since = at.since ∙ back_operations h.events m k order covered ∙ ap (λ (l : List Operation). l ++ operations_of (drop k h.events)) (none_of (operations_of es) none);
+        since = at.since ∙ back_operations h.events m k order covered ∙ ap (λ (l : List Operation). l ++ operations_of (drop k h.events)) (nil_from_length (operations_of es) none);
         count = omega (arith, at.count, few, fewer_operations h.events m k order covered);
         within = covered;
       }

@@ -8,3 +8,5 @@ pub mod Examples
 pub mod Starts
 pub mod Deliveries
 pub mod Stops
+pub mod Lists
+pub mod Moments

@@ -27,17 +27,6 @@ failing_out [] name out = refl
 failing_out (t ∷ ss) zero out = absurd (omega (arith, out))
 failing_out (t ∷ ss) (suc name) out = ap (λ (l : List Start). t ∷ l) (failing_out ss name (omega (arith, out)))
 
--- whether one of a history's failed
-pub failed_of : (h : History) (starts : List Start) (name : ℕ) (s : Start) → slice_get starts name ≡ Some s → is_failed (slice_get (map (started_by h) starts) name) ≡ s.failed
-failed_of h [] name s is = absurd (cc)
-failed_of h (t ∷ ss) zero s is = let same : t ≡ s = cc in ap (λ (x : Start). x.failed) same
-failed_of h (t ∷ ss) (suc name) s is = failed_of h ss name s is
-
-pub none_of_name : (h : History) (starts : List Start) (name : ℕ) → length starts ≤ name → is_failed (slice_get (map (started_by h) starts) name) ≡ true
-none_of_name h [] name out = refl
-none_of_name h (t ∷ ss) zero out = absurd (omega (arith, out))
-none_of_name h (t ∷ ss) (suc name) out = none_of_name h ss name (omega (arith, out))
-
 -- those of earlier lives cover nothing
 pub spent_starts : (h : History) (n : ℕ) → map (started_by h) (replicate n (record { events = 0; failed = true })) ≡ replicate n (spent h.first)
 spent_starts h zero = refl

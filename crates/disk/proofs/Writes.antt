@@ -1,5 +1,5 @@
 -- A write among bytes that are long enough.
-use Rattle.std.proofs.Common.{◌≡◌, ◌≤◌, ℕ, List, ◌++◌, ◌+◌, ◌-◌, min, length, take, drop, replicate, refl, sym, ap, ap₂, ◌∙◌, inl, inr, arith, [], append-nil, append_assoc, length-append, length-take}
+use Rattle.std.proofs.Common.{◌≡◌, ◌≤◌, ℕ, List, ◌++◌, ◌+◌, ◌-◌, length, take, drop, replicate, refl, sym, ap, ap₂, ◌∙◌, inl, inr, arith, [], append-nil, append_assoc, length-append, length-take}
 use Rattle.std.proofs.Math.Seq.{take-append-add}
 use Rattle.std.proofs.lemmas.Bool.{cases_lt}
 use Rattle.std.proofs.lemmas.List.{take-append-drop, take_at, drop_at, drop-drop, take-append-le, take_all, take-replicate, drop_all, length-replicate}
@@ -64,23 +64,3 @@ put_reaches old so_far offset at is among =
 -- nothing put leaves all as it was
 pub put_none : (old : List ℕ) (offset : ℕ) → take offset old ++ [] ++ drop offset old ≡ old
 put_none old offset = ap (λ l. l ++ drop offset old) (append-nil (take offset old)) ∙ take-append-drop offset old
-
--- bytes put over those that stand at an offset, and then after them
-pub put_beyond : (old new : List ℕ) (offset over : ℕ) → offset ≤ length old → over ≡ min (length new) (length old - offset)
-    → (take offset old ++ take over new ++ drop (offset + over) old) ++ drop over new ≡ take offset old ++ new ++ drop (offset + length new) old
-put_beyond old new offset over among is =
-    elim (cases_lt (length old) (offset + length new)) [
-      | inl past ↦
-          let e : offset + over ≡ length old = omega (arith, is, past, among) in
-          ap (λ v. (take offset old ++ take over new ++ v) ++ drop over new) (drop_all (offset + over) old (omega (arith, e)))
-          ∙ ap (λ v. v ++ drop over new) (append-nil (take offset old ++ take over new))
-          ∙ append_assoc (take offset old) (take over new) (drop over new)
-          ∙ ap (λ v. take offset old ++ v) (take-append-drop over new)
-          ∙ sym (append-nil (take offset old ++ new))
-          ∙ ap (λ v. take offset old ++ new ++ v) (sym (drop_all (offset + length new) old (omega (arith, past))))
-      | inr within ↦
-          let e : over ≡ length new = omega (arith, is, within, among) in
-          rw e (ap (λ v. (take offset old ++ take (length new) new ++ drop (offset + length new) old) ++ v) (drop_all (length new) new (omega arith))
-          ∙ append-nil (take offset old ++ take (length new) new ++ drop (offset + length new) old)
-          ∙ ap (λ v. take offset old ++ v ++ drop (offset + length new) old) (take_all (length new) new (omega arith)))
-    ]

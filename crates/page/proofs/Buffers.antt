@@ -5,7 +5,6 @@ use Rattle.std.specs.List.{concat}
 use Rattle.std.proofs.Math.Nat.{mul-mod_left, div-mul-le_self, mod-lt, div-eq_of_lt}
 use Rattle.std.proofs.lemmas.Nat.{div-add-mod'}
 use Rattle.std.proofs.lemmas.List.{length-take-le, length-drop, drop_all, take-append-drop}
-use Rattle.std.proofs.lemmas.List.Folds.{concat-append}
 use Rattle.disk.specs.Bufs.{with_buf}
 use Rattle.page.specs.Tip.{AppendGoes, DrainGoes, IsBuffer, AreWholePages, page_limit, grown_limit, kept_limit}
 use Rattle.page.proofs.Chunks.{range_join, range_min, take_join, drop_join, full_join, whole_concat, whole_with, concat_with, multiple_enough, multiple_whole, partial_room, partial_whole}
@@ -142,12 +141,6 @@ pub read_rest : (front tail : List ℕ) (start end at from to : ℕ) (old so_far
 read_rest front tail start end at from to old so_far read order at_is from_is to_is so_far_is read_is =
     rw (read_is, so_far_is, from_is, to_is, at_is, range_join front tail start end order)
     (append_assoc old (slice_range front start end) (slice_range tail (start - length front) (end - length front)))
-
--- some chunks are within all
-pub chunks_within : (chunks : List (List ℕ)) (n : ℕ) → length (concat (take n chunks)) ≤ length (concat chunks)
-chunks_within chunks n =
-    let split : concat chunks ≡ concat (take n chunks) ++ concat (drop n chunks) = ap concat (sym (take-append-drop n chunks)) ∙ concat-append (take n chunks) (drop n chunks) in
-    omega (arith, ap length split, length-append (concat (take n chunks)) (concat (drop n chunks)))
 
 -- what follows from what holds at Ok
 pub on_ok_then : {A E P Q : Type 0} (result : Result A E) → (P → Q) → OnOk result P → OnOk result Q

@@ -89,6 +89,14 @@ no_room_for_a_footer = refl
 pub a_full_page : active const_sum 4 (replicate 4 255 ++ slot_bytes 4 0 ++ slot_bytes 0 0) ≡ Some (record { slot = First; len = 4; crc = 0 })
 a_full_page = refl
 
+-- of two slots of the same length the first
+pub the_first_of_two : active const_sum 4 (0 ∷ 0 ∷ 0 ∷ 0 ∷ 0 ∷ 3 ∷ 0 ∷ 0 ∷ 0 ∷ 0 ∷ 0 ∷ 3 ∷ 0 ∷ 0 ∷ 0 ∷ 0 ∷ []) ≡ Some (record { slot = First; len = 3; crc = 0 })
+the_first_of_two = refl
+
+-- a length past the page doesn't verify
+pub no_length_past_the_page : active const_sum 4 (0 ∷ 0 ∷ 0 ∷ 0 ∷ 0 ∷ 4 ∷ 0 ∷ 0 ∷ 0 ∷ 0 ∷ 0 ∷ 5 ∷ 0 ∷ 0 ∷ 0 ∷ 0 ∷ []) ≡ Some (record { slot = First; len = 4; crc = 0 })
+no_length_past_the_page = refl
+
 -- "fallback data", and its sum
 abbrev fallback : List ℕ
 fallback = 102 ∷ 97 ∷ 108 ∷ 108 ∷ 98 ∷ 97 ∷ 99 ∷ 107 ∷ 32 ∷ 100 ∷ 97 ∷ 116 ∷ 97 ∷ []

@@ -3,7 +3,6 @@ pub mod Values
 pub mod Footers
 pub mod WholePages
 pub mod Ranges
-pub mod Rows
 pub mod Examples
-mod Chunks
+pub mod Chunks
 mod Buffers

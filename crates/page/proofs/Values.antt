@@ -69,12 +69,6 @@ pub active-second : (sum : List ℕ → ℕ) (P : ℕ) (page : List ℕ) → ver
     → active sum P page ≡ Some (record { slot = Second; len = verified_len sum P Second page; crc = slot_crc (slot_of P Second page) })
 active-second sum P page most = chosen-second P page _ _ most
 
--- what the slot of a page's value tells
-pub record Tells (sum : List ℕ → ℕ) (P : ℕ) (page : List ℕ) (a : ActiveChecksum) : Type 0 where
-  pub some : 0 < a.len
-  pub fits : a.len ≤ P
-  pub value : value_len sum P page ≡ a.len
-
 -- whether a slot's bytes verify depends on the page's first P bytes
 pub slot_verifies-take : (sum : List ℕ → ℕ) (P : ℕ) (slot page : List ℕ) (n : ℕ) → P ≤ n → slot_verifies sum P slot (take n page) ≡ slot_verifies sum P slot page
 slot_verifies-take sum P slot page n enough = elim (cases_lt P (slot_len slot)) [

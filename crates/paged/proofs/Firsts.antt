@@ -8,6 +8,7 @@ use Rattle.std.proofs.lemmas.Option.{same_Some}
 use Rattle.std.proofs.lemmas.Bool.{cases_eq, cases_lt}
 use Rattle.page.specs.Page.{pages, pieces, active, value_len, text_of_pages, text}
 use Rattle.page.specs.declared.slot.ActiveChecksum.{ActiveChecksum}
+use Rattle.page.proofs.Values.{active-none}
 use Rattle.crash.specs.Built.{kept_len}
 use Rattle.crash.specs.Full.{AreFull}
 use Rattle.crash.proofs.Pages.{length-pages, pages_at, pages_fit, pages_reach, take-pieces, pieces_of_take}
@@ -16,7 +17,7 @@ use Rattle.paged_read.specs.declared.prefix.Prefix.{Prefix}
 use Rattle.paged_read.specs.Ranges.{page_at}
 use Rattle.paged_read.specs.Prefix.{after, value_and_slot, prefix_of, prefix_pages, prefix_size, partial_pages, tip_of}
 use Rattle.paged.specs.Recovery.{opened_prefix, opened_size, slot_of_tip}
-use Rattle.paged_read.proofs.Prefixes.{partial_pages_le, active_zero, one_page, prefix_full, prefix_part, tip_short, last_is}
+use Rattle.paged_read.proofs.Prefixes.{partial_pages_le, one_page, prefix_full, prefix_part, tip_short, last_is}
 
 module _ (sum : List ℕ → ℕ) (P : ℕ) where
   -- what stands after the full pages: nothing that has a value, or the page whose value this is
@@ -85,29 +86,10 @@ module _ (sum : List ℕ → ℕ) (P : ℕ) where
   prefix_valued (head ∷ rest) zero page positive lt is = λ none.
       let empty : value_len sum P head ≡ 0 = ap (λ (l : List ℕ). value_len sum P l) (same_Some head page is) ∙ none in
       let part = prefix_part sum P head rest (λ full. omega (arith, full, empty)) in
-      omega (arith, lt, ap (λ (q : Prefix). prefix_pages q) part, ap (λ (s : Option ActiveChecksum). partial_pages (value_and_slot s head)) (active_zero sum P head empty))
+      omega (arith, lt, ap (λ (q : Prefix). prefix_pages q) part, ap (λ (s : Option ActiveChecksum). partial_pages (value_and_slot s head)) (active-none sum P head empty))
   prefix_valued (head ∷ rest) (suc k) page positive lt is = elim (cases_eq (value_len sum P head) P) [
     | inl full ↦ prefix_valued rest k page positive (omega (arith, lt, ap (λ (q : Prefix). prefix_pages q) (prefix_full sum P head rest full))) is
     | inr part ↦ absurd (omega (arith, lt, ap (λ (q : Prefix). prefix_pages q) (prefix_part sum P head rest part), partial_pages_le (value_and_slot (active sum P head) head)))
-  ]
-
-  -- pages that have the prefix have no other
-  pub prefix_take : (some : List (List ℕ)) (j : ℕ) → 0 < P → prefix_pages (prefix_of sum P some) ≤ j → prefix_of sum P (take j some) ≡ prefix_of sum P some
-  prefix_take [] zero positive le = refl
-  prefix_take [] (suc j) positive le = refl
-  prefix_take (page ∷ rest) zero positive le = elim (cases_eq (value_len sum P page) 0) [
-    | inl none ↦ sym (prefix_part sum P page rest (λ full. omega (arith, full, none)) ∙ ap (λ (s : Option ActiveChecksum). record { full_pages = 0; partial = value_and_slot s page }) (active_zero sum P page none))
-    | inr some ↦ absurd (elim (cases_eq (value_len sum P page) P) [
-      | inl full ↦ omega (arith, le, ap (λ (q : Prefix). prefix_pages q) (prefix_full sum P page rest full))
-      | inr part ↦ omega (arith, le, ap (λ (q : Prefix). prefix_pages q) (prefix_part sum P page rest part), one_page sum P page some)
-    ])
-  ]
-  prefix_take (page ∷ rest) (suc j) positive le = elim (cases_eq (value_len sum P page) P) [
-    | inl full ↦
-        prefix_full sum P page (take j rest) full
-        ∙ ap (λ (q : Prefix). after 1 q) (prefix_take rest j positive (omega (arith, le, ap (λ (q : Prefix). prefix_pages q) (prefix_full sum P page rest full))))
-        ∙ sym (prefix_full sum P page rest full)
-    | inr part ↦ prefix_part sum P page (take j rest) part ∙ sym (prefix_part sum P page rest part)
   ]
 
   -- and say no other text
@@ -201,9 +183,6 @@ module _ (sum : List ℕ → ℕ) (P : ℕ) where
   module _ (m : ℕ) (bytes : List ℕ) (positive : 0 < P) (le : m ≤ length bytes) (kept : prefix_pages (prefix_of sum P (pages P bytes)) * (P + 12) ≤ m) where
     enough : prefix_pages (prefix_of sum P (pages P bytes)) ≤ m / (P + 12)
     enough = omega (arith, pages_fit P (prefix_pages (prefix_of sum P (pages P bytes))) (take m bytes) (omega (arith, kept, length-take-le m bytes le)), ap (λ (k : ℕ). k / (P + 12)) (length-take-le m bytes le))
-
-    pub prefix_of_beginning : prefix_of sum P (pages P (take m bytes)) ≡ prefix_of sum P (pages P bytes)
-    prefix_of_beginning = ap (λ (l : List (List ℕ)). prefix_of sum P l) (pages_of_beginning m bytes le) ∙ prefix_take (pages P bytes) (m / (P + 12)) positive enough
 
     pub text_of_beginning : text sum P (take m bytes) ≡ text sum P bytes
     text_of_beginning = ap (λ (l : List (List ℕ)). text_of_pages sum P l) (pages_of_beginning m bytes le) ∙ text_take (pages P bytes) (m / (P + 12)) positive enough

@@ -1,5 +1,6 @@
 -- The two halves of the promise, read off what each moment of a call owes.
-use Rattle.std.proofs.Common.{◌≡◌, ℕ, ◌≤◌, arith, List, [], ◌++◌, sym, ◌∙◌, subst, append-nil, Ok, Err, Result}
+use Rattle.std.proofs.Common.{◌≡◌, ℕ, ◌≤◌, arith, List, [], ◌++◌, sym, ◌∙◌, subst, append-nil, Ok, Err, Result, length, take, length-take}
+use Rattle.std.proofs.lemmas.List.{take-take}
 use Rattle.std.specs.Prelude.{OnOk, IfOk}
 use Rattle.disk.specs.Disk.{Life}
 use Rattle.disk.specs.declared.error.Error.{Error}
@@ -7,12 +8,15 @@ use Rattle.disk.specs.declared.error.Error.TheVariants.{ReadFailed, WriteFailed,
 use Rattle.writer_state.specs.WriterState.{WriterState}
 use Rattle.writer_state.specs.Sound.{IsSound, Soundness, content}
 use Rattle.crash.specs.Stays.{StaysThrough, KeepsAll, KeepsFloors, LeavesOnly, KeepsAllFloors}
+use Rattle.crash.specs.Kept.{AllKeep, Through}
+use Rattle.crash.specs.Moments.{through_then}
 use Rattle.writer_state.proofs.FloorLaws.{floors_of_sound}
-use Rattle.crash.proofs.Moments.{kept_through, only_through, only_after, kept_through_longer}
+use Rattle.crash.proofs.Moments.{kept_through, only_through}
+use Rattle.crash.proofs.Promise.{keeps_same}
 use Rattle.writer_state.proofs.Soundness.{settle_keeps}
 use Rattle.disk.specs.declared.started_sync.StartedSync.{StartedSync}
 use Rattle.paged.specs.Calls.{GoesOn, Syncs, Appends, StartsSync, WaitsForSync, HoldsWithin}
-use Rattle.paged.proofs.Flushes.{begins}
+use Rattle.paged.specs.Truncate.{KeepsFloorsWithin}
 use Rattle.paged.proofs.Appends.{append_unasked}
 
 -- whatever a sync answers
@@ -52,31 +56,9 @@ keeps_floors sum P content old new stays = λ floor enough kept. kept_through su
 pub leaves_only : (sum : List ℕ → ℕ) (P : ℕ) (content : List ℕ) (old new : Life) → StaysThrough sum P content old new → LeavesOnly sum P content content old new
 leaves_only sum P content old new stays = only_through sum P content content old new stays
 
--- also where the content grew
-pub keeps_floors_before : (sum : List ℕ → ℕ) (P : ℕ) (content bytes : List ℕ) (old new : Life) → StaysThrough sum P (content ++ bytes) old new → KeepsFloors sum P content old new
-keeps_floors_before sum P content bytes old new stays = λ floor enough kept. kept_through_longer sum P content (content ++ bytes) old new (begins content bytes) stays floor enough kept
-
-pub leaves_only_after : (sum : List ℕ → ℕ) (P : ℕ) (content bytes : List ℕ) (old new : Life) → StaysThrough sum P (content ++ bytes) old new → LeavesOnly sum P content (content ++ bytes) old new
-leaves_only_after sum P content bytes old new stays = only_after sum P content (content ++ bytes) old new stays
-
--- so an append keeps floors, whatever it answers, and leaves only content
-pub append_keeps : (sum : List ℕ → ℕ) (w : WriterState) (bytes : List ℕ) (old new : Life) (result : Result (WriterState × ℕ) Error) → IsSound sum w old.present → Appends sum w bytes old new result
-    → KeepsAllFloors sum w.page_size old new
-unfolding IsSound
-append_keeps sum w bytes old new result sound appends = floors_of_sound sum w old new sound (keeps_floors_before sum w.page_size (content w old.present.readable) bytes old new (appends_stay sum w bytes old new result sound appends))
-
-pub append_leaves : (sum : List ℕ → ℕ) (w : WriterState) (bytes : List ℕ) (old new : Life) (result : Result (WriterState × ℕ) Error) → IsSound sum w old.present → Appends sum w bytes old new result
-    → LeavesOnly sum w.page_size (content w old.present.readable) (content w old.present.readable ++ bytes) old new
-unfolding IsSound
-append_leaves sum w bytes old new result sound appends = leaves_only_after sum w.page_size (content w old.present.readable) bytes old new (appends_stay sum w bytes old new result sound appends)
-
 -- and a sync does
 pub sync_keeps : (sum : List ℕ → ℕ) (w : WriterState) (old new : Life) (result : Result WriterState Error) → IsSound sum w old.present → Syncs sum w old new result → KeepsAllFloors sum w.page_size old new
 sync_keeps sum w old new result sound syncs = floors_of_sound sum w old new sound (keeps_floors sum w.page_size (content w old.present.readable) old new (syncs_stay sum w old new result syncs))
-
-pub sync_leaves : (sum : List ℕ → ℕ) (w : WriterState) (old new : Life) (result : Result WriterState Error) → Syncs sum w old new result
-    → LeavesOnly sum w.page_size (content w old.present.readable) (content w old.present.readable) old new
-sync_leaves sum w old new result syncs = leaves_only sum w.page_size (content w old.present.readable) old new (syncs_stay sum w old new result syncs)
 
 -- so do a start and a wait
 pub goes_stay : (sum : List ℕ → ℕ) (w now : WriterState) (old new : Life) → GoesOn sum w old [] now new → StaysThrough sum w.page_size (content w old.present.readable) old new
@@ -90,20 +72,16 @@ pub waits_stay : (sum : List ℕ → ℕ) (w : WriterState) (old new : Life) (re
 waits_stay sum w old new (Ok now) (goes, is) = goes_stay sum w now old new goes
 waits_stay sum w old new (Err e) refused = refused.stays
 
-module _ (sum : List ℕ → ℕ) (w : WriterState) (old new : Life) (sound : IsSound sum w old.present) where
-  pub start_keeps : (result : Result (WriterState × StartedSync) Error) → StartsSync sum w old new result → KeepsAllFloors sum w.page_size old new
-  start_keeps result starts = floors_of_sound sum w old new sound (keeps_floors sum w.page_size (content w old.present.readable) old new (starts_stay sum w old new result starts))
-
-  pub start_leaves : (result : Result (WriterState × StartedSync) Error) → StartsSync sum w old new result → LeavesOnly sum w.page_size (content w old.present.readable) (content w old.present.readable) old new
-  start_leaves result starts = leaves_only sum w.page_size (content w old.present.readable) old new (starts_stay sum w old new result starts)
-
-  pub wait_keeps : (result : Result WriterState Error) → WaitsForSync sum w old new result → KeepsAllFloors sum w.page_size old new
-  wait_keeps result waits = floors_of_sound sum w old new sound (keeps_floors sum w.page_size (content w old.present.readable) old new (waits_stay sum w old new result waits))
-
-  pub wait_leaves : (result : Result WriterState Error) → WaitsForSync sum w old new result → LeavesOnly sum w.page_size (content w old.present.readable) (content w old.present.readable) old new
-  wait_leaves result waits = leaves_only sum w.page_size (content w old.present.readable) old new (waits_stay sum w old new result waits)
-
 -- less than a page is buffered after a start
 pub start_within : (sum : List ℕ → ℕ) (w : WriterState) (old new : Life) (result : Result (WriterState × StartedSync) Error) → w.page_size ≤ w.capacity → StartsSync sum w old new result → IfOk result (λ r. HoldsWithin r.0)
 start_within sum w old new (Ok r) room (goes, written, state, covered) = omega (arith, written.short, goes.same.page_size, goes.same.capacity, room)
 start_within sum w old new (Err e) room refused = tt
+
+-- floors within the first n bytes of any content are kept from mid on
+pub within_kept : (sum : List ℕ → ℕ) (P n : ℕ) (content : List ℕ) (floor : ℕ) (mid new : Life) → floor ≤ n → floor ≤ length content → KeepsFloorsWithin n sum P mid new
+    → AllKeep sum P content floor mid.present → Through (AllKeep sum P content floor) mid new
+within_kept sum P n content floor mid new le within keeps kept =
+    let same : take floor (take n content) ≡ take floor content = take-take floor n content le in
+    through_then (AllKeep sum P (take n content) floor) (AllKeep sum P content floor) mid new
+    (λ d. keeps_same sum P (take n content) content floor d same)
+    (keeps content floor (omega (arith, le, within, length-take n content)) (keeps_same sum P content (take n content) floor mid.present (sym same) kept))

@@ -24,7 +24,7 @@ use Rattle.crash.specs.Contents.{latest}
 use Rattle.crash.proofs.BelowLaws.{pages_none, pages_one, pages_join, write_pages_stay, sync_pages_stay}
 use Rattle.crash.proofs.BuiltLaws.{IsSmall}
 use Rattle.crash.proofs.Disks.{length-applied_resize, length-applied_write}
-use Rattle.crash.proofs.Lists.{slice_get-take, same_elements, taken_element}
+use Rattle.crash.proofs.Lists.{slice_get-take, same_elements}
 use Rattle.crash.proofs.LookLaws.{looked_asked, looked_none}
 use Rattle.crash.proofs.PageFacts.{slot_offset_le}
 use Rattle.crash.proofs.Pages.{cut_is}
@@ -35,6 +35,7 @@ use Rattle.paged_read.specs.Searches.{AreWithin, ReadsWithin}
 use Rattle.paged.specs.Recovery.{IsDurable, RecoveryCause}
 use Rattle.paged.specs.Truncate.{Then, WritesSlot, Stages, Rewrites, ReadsOnce, Cutting, SparesSlot}
 use Rattle.disk.specs.Images.{only_image}
+use Rattle.disk.proofs.Lists.{taken_element}
 use Rattle.paged.proofs.Causes.{write_cause, sync_cause, no_overflow}
 use Rattle.crash.proofs.Texts.{AreBytes, active_is}
 use Rattle.paged_read.specs.Ranges.{page_at}

@@ -1,7 +1,7 @@
 -- How a truncate ends: the blob and the writer that a cut leaves, and what the cut keeps after a sync.
 use Rattle.std.proofs.Common.{◌≡◌, inl, inr, ℕ, ◌+◌, ◌-◌, ◌*◌, ◌/◌, ◌%◌, ◌<◌, ◌≤◌, ◌^◌, List, [], ◌++◌, length, take, drop, Some, None, Ok, refl, sym, ap, ◌∙◌, subst, arith, append_assoc, append-nil, length-append, length-drop, length-take-le, lit<, mul-le-mul_right, ◌⊎◌}
 use Rattle.std.specs.Prelude.{Option}
-use Rattle.std.proofs.lemmas.List.{take_at, drop_at, take-take, take_all, take-append-le}
+use Rattle.std.proofs.lemmas.List.{drop_at, take-take, take_all, take-append-le}
 use Rattle.std.proofs.lemmas.Bool.{cases_lt}
 use Rattle.std.proofs.lemmas.Nat.{div-add-mod', mod_below}
 use Rattle.std.proofs.Math.Seq.{take-add}
@@ -26,7 +26,7 @@ use Rattle.crash.specs.Contents.{stored, latest}
 use Rattle.crash.specs.Full.{AreFull}
 use Rattle.crash.specs.Kept.{AllOnly}
 use Rattle.crash.specs.Stays.{KeepsAll, LeavesOnly, StaysThrough}
-use Rattle.crash.proofs.BuiltLaws.{IsSmall, slot_crc_of, slot_len_of, verified_le_slot}
+use Rattle.crash.proofs.BuiltLaws.{IsSmall, slot_crc_of, slot_len_of, length-footer, footer_kept, footer_new}
 use Rattle.writer_state.proofs.FlushLaws.{content_in_page, content_in_tip, rest_settled, tip_reach}
 use Rattle.crash.proofs.Lists.{drop_past, same_reach, take_same}
 use Rattle.writer_state.proofs.CoverLaws.{covers_shorter, covers_through_join}
@@ -42,21 +42,9 @@ use Rattle.paged.specs.Reads.{HasPages, size_of}
 use Rattle.paged.specs.Recovery.{BesideIsMended, IsAsOpened, IsDurable, slot_pages}
 use Rattle.paged.specs.Truncate.{CutsTo, IsShortened, KeepsFloorsWithin, shortened, shortened_slot, shortened_writer}
 use Rattle.paged.proofs.Shortened.{shortened_whole, shortened_part, slot_whole, slot_part}
+use Rattle.page.proofs.Values.{verified_len-le_said}
 
 -- ---- the page that was rewritten
-
--- the slots of a footer
-footer_first : (s : Slot) (kept new : List ℕ) → length kept ≡ 6 → length new ≡ 6 → take 6 (drop (slot_offset s) (footer s kept new)) ≡ kept
-footer_first First kept new a b = take_at kept new 6 a
-footer_first Second kept new a b = ap (λ (l : List ℕ). take 6 l) (drop_at new kept 6 b) ∙ take_all 6 kept (omega (arith, a))
-
-footer_other : (s : Slot) (kept new : List ℕ) → length kept ≡ 6 → length new ≡ 6 → take 6 (drop (slot_offset (other s)) (footer s kept new)) ≡ new
-footer_other First kept new a b = ap (λ (l : List ℕ). take 6 l) (drop_at kept new 6 a) ∙ take_all 6 new (omega (arith, b))
-footer_other Second kept new a b = take_at new kept 6 b
-
-length-footer : (s : Slot) (kept new : List ℕ) → length kept ≡ 6 → length new ≡ 6 → length (footer s kept new) ≡ 12
-length-footer First kept new a b = omega (arith, a, b, length-append kept new)
-length-footer Second kept new a b = omega (arith, a, b, length-append new kept)
 
 -- the value's length, from one slot that tells it and one that tells nothing
 value_of_slots : (sum : List ℕ → ℕ) (P len : ℕ) (s : Slot) (page : List ℕ) → verified_len sum P (other s) page ≡ len → verified_len sum P s page ≤ 0 → value_len sum P page ≡ len
@@ -77,10 +65,10 @@ module _ (sum : List ℕ → ℕ) (small_sum : IsSmall sum) (P len : ℕ) (s : S
       ap (λ (l : List ℕ). take 6 l) (drop_past (P + slot_offset t) payload ft (omega (arith, size)) ∙ ap (λ (k : ℕ). drop k ft) (let e : P + slot_offset t - length payload ≡ slot_offset t = omega (arith, size) in e))
 
   pub rewritten_slot : slot_of P (other s) rewritten_page ≡ slot_bytes len crc
-  rewritten_slot = slot_in_footer (other s) ∙ footer_other s (slot_bytes 0 0) (slot_bytes len crc) refl refl
+  rewritten_slot = slot_in_footer (other s) ∙ footer_new s (slot_bytes 0 0) (slot_bytes len crc) refl refl
 
   pub emptied_slot : slot_of P s rewritten_page ≡ slot_bytes 0 0
-  emptied_slot = slot_in_footer s ∙ footer_first s (slot_bytes 0 0) (slot_bytes len crc) refl refl
+  emptied_slot = slot_in_footer s ∙ footer_kept s (slot_bytes 0 0) (slot_bytes len crc) refl refl
 
   rewritten_begins : take len rewritten_page ≡ take len payload
   rewritten_begins = take-append-le len payload (footer s (slot_bytes 0 0) (slot_bytes len crc)) (omega (arith, size, fits))
@@ -96,7 +84,7 @@ module _ (sum : List ℕ → ℕ) (small_sum : IsSmall sum) (P len : ℕ) (s : S
       }) in
       let told : verified_len sum P (other s) rewritten_page ≡ len =
       verified_len_held sum P (other s) rewritten_page bytes slot_is (omega (arith, long, some)) (omega (arith, long, fits)) (ap (λ (k : ℕ). take k rewritten_page) long ∙ rewritten_begins) ∙ long in
-      let none : verified_len sum P s rewritten_page ≤ 0 = omega (arith, verified_le_slot sum P s rewritten_page, ap slot_len emptied_slot, slot_len_of 0 0 (lit< tt)) in
+      let none : verified_len sum P s rewritten_page ≤ 0 = omega (arith, verified_len-le_said sum P s rewritten_page, ap slot_len emptied_slot, slot_len_of 0 0 (lit< tt)) in
       value_of_slots sum P len s rewritten_page told none
 
   -- neither slot of it is bad

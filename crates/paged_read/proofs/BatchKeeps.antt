@@ -1,11 +1,11 @@
 -- Pages that were delivered: what is kept of them, and the pieces that are copied.
-use Rattle.std.proofs.Common.{◌≡◌, inl, inr, ℕ, zero, suc, ◌+◌, ◌-◌, ◌*◌, ◌<◌, ◌≤◌, List, [], ◌∷◌, ◌++◌, length, take, drop, map, get_or, set, refl, sym, ap, ◌∙◌, subst, arith, append_assoc, Err, length-drop}
+use Rattle.std.proofs.Common.{◌≡◌, inl, inr, ℕ, zero, suc, ◌+◌, ◌-◌, ◌*◌, ◌<◌, ◌≤◌, List, [], ◌∷◌, length, take, drop, map, get_or, set, refl, sym, ap, ◌∙◌, subst, arith, Err, length-drop}
 use Rattle.std.specs.Prelude.{All, slice_get, Some, Option}
 use Rattle.std.specs.Option.{option_map}
 use Rattle.std.proofs.lemmas.Bool.{cases_eq, cases_lt}
 use Rattle.std.proofs.lemmas.Option.{same_Some, slice_get-map, slice_get-get_or, slice_get_within, get_or_from_slice_get}
 use Rattle.std.proofs.lemmas.List.{get_or-set_same, get_or-set_other, get_or_default, take_more, map-append, length-take-le, length-map, length-take, get_or-take, get_or-map}
-use borrow.Rule.Slice.PartMut.{put_mid, post_of, Post-is}
+use borrow.Rule.Slice.PartMut.{put_mid}
 use Rattle.disk.specs.Disk.{Life, Delivers, bytes_of}
 use Rattle.crash.specs.Looks.{Looked, looked_start}
 use Rattle.page.specs.Page.{value_len}
@@ -17,9 +17,9 @@ use Rattle.paged_read.specs.Tail.{Tail, told, CanRead}
 use Rattle.paged_read.specs.Ranges.{LeavesAll, page_ranges, page_at}
 use Rattle.paged_read.specs.Parts.{with_told, ArePagesFull, PagesFault}
 use Rattle.paged_read.specs.Puts.{PutsPages, PutsFirst, numbered}
-use Rattle.paged_read.specs.Batch.{KeepsPage, AreMarked, IsDelivered, KeepsFault, IsReady, IsTold, IsLack, pieces_in, bytes_found, DeliversPages}
+use Rattle.paged_read.specs.Batch.{KeepsPage, AreMarked, IsDelivered, KeepsFault, IsReady, IsTold, IsLack, pieces_in, bytes_found}
 use Rattle.paged_read.specs.declared.lack.Lack.{Lack}
-use Rattle.paged_read.proofs.Leaving.{leaves_put, leaves_joins, leaves_cache, length-page_at, payload_told}
+use Rattle.paged_read.proofs.Leaving.{leaves_put, leaves_joins, leaves_cache, length-page_at, payload_told, put_mid_is}
 use Rattle.crash.proofs.Lists.{within_take}
 use Rattle.disk.specs.declared.error.Error.{Error}
 use Rattle.disk.specs.declared.error.Error.TheVariants.{ReadFailed, WriteFailed, ResizeFailed, SyncFailed, InvalidChecksum, BlobInsufficientLength, OffsetOverflow, OutOfMemory, IdsExhausted}
@@ -157,14 +157,6 @@ refused_not_put sum P key bytes old new IdsExhausted keeps = absurd keeps
 
 -- ---- pieces that are copied
 
--- the part of a buffer that was written over
-put_over : (buf_offset len : ℕ) (buf part bytes : List ℕ) → part ≡ bytes → length bytes ≡ len → put_mid buf_offset (buf_offset + len - buf_offset) buf part ≡ put_at buf_offset bytes buf
-put_over buf_offset len buf part bytes is many =
-    ap (λ (l : List ℕ). take buf_offset buf ++ (l ++ post_of buf_offset (buf_offset + len - buf_offset) buf)) is
-    ∙ ap (λ (l : List ℕ). take buf_offset buf ++ (bytes ++ l)) (Post-is buf_offset (buf_offset + len) buf (omega arith))
-    ∙ ap (λ (n : ℕ). take buf_offset buf ++ (bytes ++ drop (buf_offset + n) buf)) (sym many)
-    ∙ sym (append_assoc (take buf_offset buf) bytes (drop (buf_offset + length bytes) buf))
-
 -- one piece more
 pub told_more : (P : ℕ) (content : List ℕ) (lacks : List Lack) (i : ℕ) (d : Lack) (at : List ℕ) (out : List (ℕ × List ℕ)) (buf part first : List ℕ) (room : ℕ) → i < length lacks → IsReady at out room (get_or lacks i d)
     → IsTold P content at out (get_or lacks i d) → part ≡ take ((get_or lacks i d).piece.skip + (get_or lacks i d).piece.len - (get_or lacks i d).piece.skip) (drop (get_or lacks i d).piece.skip (bytes_found at out (get_or lacks i d).number))
@@ -176,7 +168,7 @@ told_more P content lacks i d at out buf part first room there ready told is bef
     let found = bytes_found at out lack.number in
     let n : piece.skip + piece.len - piece.skip ≡ piece.len = omega arith in
     let many : length (take piece.len (drop piece.skip found)) ≡ piece.len = length-take-le piece.len (drop piece.skip found) (omega (arith, ready.within, length-drop piece.skip found)) in
-    put_over piece.buf_offset piece.len buf part (take piece.len (drop piece.skip found)) (is ∙ ap (λ (m : ℕ). take m (drop piece.skip found)) n) many
+    put_mid_is piece.buf_offset piece.len buf part (take piece.len (drop piece.skip found)) (is ∙ ap (λ (m : ℕ). take m (drop piece.skip found)) n) many
     ∙ ap (λ (l : List ℕ). put_at piece.buf_offset l buf) told
     ∙ ap (λ (l : List ℕ). put_at piece.buf_offset (take piece.len (drop piece.skip (page_of_content P content piece.page))) l) before
     ∙ sym (told_push P content (pieces_in (take i lacks)) piece first)

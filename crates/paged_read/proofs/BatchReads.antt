@@ -1,44 +1,32 @@
 -- Pages that are read together.
-use Rattle.std.proofs.Common.{eqb-true, ◌≡◌, inl, inr, ℕ, suc, ◌+◌, ◌*◌, ◌<◌, ◌≤◌, List, [], ◌∷◌, ◌++◌, length, take, map, get_or, refl, sym, ap, ◌∙◌, subst, arith, Bool, true, false, Ok, Err, Result}
+use Rattle.std.proofs.Common.{eqb-true, ◌≡◌, inl, inr, ℕ, suc, ◌+◌, ◌*◌, ◌<◌, ◌≤◌, List, [], ◌∷◌, length, take, map, refl, sym, ap, ◌∙◌, subst, arith, Bool, true, false, Ok, Err, Result}
 use Rattle.std.specs.Prelude.{All, nat_eq, ◌==◌}
 use Rattle.std.specs.List.{IsDistinct}
-use Rattle.std.proofs.lemmas.List.{take_more, map-append, take_all}
+use Rattle.std.proofs.lemmas.List.{take_all}
 use Rattle.std.proofs.lemmas.List.Elements.{All-nil, All-cons}
 use Rattle.std.proofs.Math.Nat.{suc-mul}
 use Rattle.disk.specs.Disk.Request.{ReadMany}
-use Rattle.disk.specs.Disk.{Life, Request, logged, AskedOnce, ReadManyGoes, Delivers, IsWithin}
+use Rattle.disk.specs.Disk.{Life, AskedOnce, ReadManyGoes, Delivers, IsWithin}
 use Rattle.disk.specs.declared.error.Error.{Error}
 use Rattle.disk.specs.declared.error.Error.TheVariants.{ReadFailed, WriteFailed, ResizeFailed, SyncFailed, InvalidChecksum, BlobInsufficientLength, OffsetOverflow, OutOfMemory, IdsExhausted}
-use Rattle.disk.proofs.Logs.{grows_once, failed_once}
-use Rattle.crash.specs.Kept.{Through}
-use Rattle.crash.specs.Looks.{Looked, looked_start}
+use Rattle.disk.proofs.Logs.{failed_once}
+use Rattle.crash.specs.Looks.{Looked}
+use Rattle.crash.proofs.LookLaws.{looked_asked, looked_none}
 use Rattle.paged_read.specs.Ranges.{AsksTogether, page_ranges}
 use Rattle.paged_read.specs.Batch.{DeliversPages}
 use Rattle.paged_read.proofs.Failing.{none_failed_same}
 
--- a call that only reads
-asked_looks : (request : Request) (failed : Bool) (old new : Life) → AskedOnce request failed old new → Looked old new
-unfolding Through
-asked_looks request failed old new is = subst (λ l. Looked old l) (sym is) (record {
-  same = refl;
-  log = grows_once request failed old.present (logged request failed old.present) refl;
-  through = record { moments = logged request failed old.present ∷ []; goes = refl; start = refl; each = (refl, tt) };
-})
-
-none_looks : (old new : Life) → new ≡ old → Looked old new
-none_looks old new is = subst (λ l. Looked old l) (sym is) (looked_start old)
-
 -- a read of many ranges, whatever it answers
 pub looked_many : (ranges : List (ℕ × ℕ)) (old new : Life) (out : List (ℕ × List ℕ)) (result : Result (Unit {0}) Error) → ReadManyGoes ranges old new out result → Looked old new
-looked_many ranges old new out (Ok u) goes = asked_looks (ReadMany ranges) false old new goes.2
-looked_many ranges old new out (Err ReadFailed) goes = asked_looks (ReadMany ranges) true old new goes
+looked_many ranges old new out (Ok u) goes = looked_asked (ReadMany ranges) false old new goes.2
+looked_many ranges old new out (Err ReadFailed) goes = looked_asked (ReadMany ranges) true old new goes
 looked_many ranges old new out (Err WriteFailed) goes = absurd goes
 looked_many ranges old new out (Err ResizeFailed) goes = absurd goes
 looked_many ranges old new out (Err SyncFailed) goes = absurd goes
 looked_many ranges old new out (Err InvalidChecksum) goes = absurd goes
-looked_many ranges old new out (Err BlobInsufficientLength) goes = none_looks old new goes.0
+looked_many ranges old new out (Err BlobInsufficientLength) goes = looked_none old new goes.0
 looked_many ranges old new out (Err OffsetOverflow) goes = absurd goes
-looked_many ranges old new out (Err OutOfMemory) goes = none_looks old new goes.0
+looked_many ranges old new out (Err OutOfMemory) goes = looked_none old new goes.0
 looked_many ranges old new out (Err IdsExhausted) goes = absurd goes
 
 asked_together : (ranges : List (ℕ × ℕ)) (failed : Bool) (old new : Life) → 0 < length ranges → AskedOnce (ReadMany ranges) failed old new → AsksTogether ranges old new
@@ -95,15 +83,6 @@ delivers_none P [] readable out none no_out =
     } in
     subst (λ (l : List (ℕ × List ℕ)). Delivers [] readable l) (sym no_out) nothing
 delivers_none P (page ∷ pages) readable out none no_out = absurd (omega arith)
-
--- one offset more
-pub page_ranges_more : (size : ℕ) (pages : List ℕ) (i : ℕ) (d : ℕ) (ranges : List (ℕ × ℕ)) → i < length pages → ranges ≡ map (λ (page : ℕ). (page * size, size)) (take i pages)
-    → ranges ++ (get_or pages i d * size, size) ∷ [] ≡ map (λ (page : ℕ). (page * size, size)) (take (i + 1) pages)
-page_ranges_more size pages i d ranges there before =
-    let f : ℕ → ℕ × ℕ = λ page. (page * size, size) in
-    ap (λ (l : List (ℕ × ℕ)). l ++ (get_or pages i d * size, size) ∷ []) before
-    ∙ sym (map-append f (take i pages) (get_or pages i d ∷ []))
-    ∙ ap (λ (l : List ℕ). map f l) (sym (take_more pages i d there))
 
 -- all of them
 pub page_ranges_all : (P size : ℕ) (pages : List ℕ) (n : ℕ) (ranges : List (ℕ × ℕ)) → size ≡ P + 12 → length pages ≤ n → ranges ≡ map (λ (page : ℕ). (page * size, size)) (take n pages) → ranges ≡ page_ranges P pages

@@ -2,7 +2,7 @@
 use Rattle.std.proofs.Common.{◌≡◌, ℕ, suc, ◌+◌, ◌-◌, ◌*◌, ◌/◌, ◌%◌, ◌<◌, ◌≤◌, List, [], ◌∷◌, ◌++◌, length, take, drop, get_or, refl, sym, ap, ◌∙◌, subst, arith, Bool, true, false, append_assoc, append-nil, length-append, length-drop, length-take, cond, nat_eq}
 use Rattle.std.specs.Prelude.{Option, Some, None, slice_get, All, nat_le, ◌&&◌}
 use Rattle.std.specs.List.{flat_map}
-use Rattle.std.proofs.lemmas.List.{take-append-le, drop-append-le, take_at, drop_all, drop-drop, map-append, take-append-drop, take-take, drop-take}
+use Rattle.std.proofs.lemmas.List.{take-append-le, drop-append-le, take_at, drop_all, drop-drop, map-append}
 use Rattle.std.proofs.lemmas.List.Elements.{All-push, All-cons, All-nil}
 use Rattle.std.proofs.lemmas.List.Concat.{flat_map-append}
 use Rattle.std.proofs.Math.Nat.{div-add-mod'}
@@ -13,15 +13,16 @@ use Rattle.std.proofs.lemmas.Bool.{eqb-true, le-leb, and_parts}
 use Rattle.cache.specs.CacheState.{CacheState, put_at}
 use Rattle.cache.specs.Pages.{page_of_content}
 use Rattle.cache.specs.declared.piece.Piece.{Piece}
+use Rattle.cache.proofs.Reading.{put_length}
 use Rattle.page.specs.Geometry.{EndWithin}
 use Rattle.paged_read.specs.Tail.{Tail, told, size_of, CanRead}
 use Rattle.paged_read.specs.Ranges.{is_served, slice, TriesRead}
 use Rattle.paged_read.specs.Parts.{with_told}
 use Rattle.paged_read.specs.Batch.{is_page, with_page, IsLack, pieces_in, Gathered}
 use Rattle.paged_read.specs.declared.lack.Lack.{Lack}
-use Rattle.paged_read.proofs.Copies.{length-put_at}
 use Rattle.paged_read.proofs.Leaving.{length-told}
 use Rattle.paged_read.proofs.RangedPages.{missing_nil, missing_split, missing_none, missing_served, missing_page, unserved_page, last_pushed, served_none, served_split}
+use Rattle.paged_read.proofs.BelowReads.{slice_two}
 
 -- ---- pieces that are put at their offsets
 
@@ -46,7 +47,7 @@ HaveRoom room pieces = All (λ piece. piece.buf_offset + piece.len ≤ room) pie
 pub length_told_pieces : (P : ℕ) (content : List ℕ) (pieces : List Piece) (xs : List ℕ) → HaveRoom (length xs) pieces → length (with_told P content pieces xs) ≡ length xs
 length_told_pieces P content [] xs room = refl
 length_told_pieces P content (piece ∷ pieces) xs room =
-    let same : length (put_at piece.buf_offset (piece_bytes P content piece) xs) ≡ length xs = length-put_at piece.buf_offset (piece_bytes P content piece) xs (omega (arith, length_piece P content piece, room 0 piece (omega arith))) in
+    let same : length (put_at piece.buf_offset (piece_bytes P content piece) xs) ≡ length xs = put_length piece.buf_offset (piece_bytes P content piece) xs (omega (arith, length_piece P content piece, room 0 piece (omega arith))) in
     length_told_pieces P content pieces (put_at piece.buf_offset (piece_bytes P content piece) xs) (λ k d less. omega (arith, same, room (suc k) d (omega arith))) ∙ same
 
 -- pieces of the front leave the rest
@@ -54,7 +55,7 @@ pub told_front : (P : ℕ) (content : List ℕ) (pieces : List Piece) (xs ys : L
 told_front P content [] xs ys room = refl
 told_front P content (piece ∷ pieces) xs ys room =
     let fits : piece.buf_offset + length (piece_bytes P content piece) ≤ length xs = omega (arith, length_piece P content piece, room 0 piece (omega arith)) in
-    let same : length (put_at piece.buf_offset (piece_bytes P content piece) xs) ≡ length xs = length-put_at piece.buf_offset (piece_bytes P content piece) xs fits in
+    let same : length (put_at piece.buf_offset (piece_bytes P content piece) xs) ≡ length xs = put_length piece.buf_offset (piece_bytes P content piece) xs fits in
     ap (λ (l : List ℕ). with_told P content pieces l) (put_front piece.buf_offset (piece_bytes P content piece) xs ys fits)
     ∙ told_front P content pieces (put_at piece.buf_offset (piece_bytes P content piece) xs) ys (λ k d less. omega (arith, same, room (suc k) d (omega arith)))
 
@@ -75,18 +76,11 @@ lacks_room P pages room (lack ∷ lacks) xs each is =
 push_slices : (content : List ℕ) (ranges : List (ℕ × ℕ)) (range : ℕ × ℕ) → flat_map (slice content) (ranges ++ range ∷ []) ≡ flat_map (slice content) ranges ++ slice content range
 push_slices content ranges range = flat_map-append (slice content) ranges (range ∷ []) ∙ ap (λ (l : List ℕ). flat_map (slice content) ranges ++ l) (append-nil (slice content range))
 
--- a range that is cut has what its parts have
-slice_split : (content : List ℕ) (o d n : ℕ) → slice content (o, d + n) ≡ slice content (o, d) ++ slice content (o + d, n)
-slice_split content o d n =
-    sym (take-append-drop d (take (d + n) (drop o content)))
-    ∙ ap (λ (l : List ℕ). l ++ drop d (take (d + n) (drop o content))) (take-take d (d + n) (drop o content) (omega arith))
-    ∙ ap (λ (l : List ℕ). take d (drop o content) ++ l) (drop-take d n (drop o content) ∙ ap (λ (l : List ℕ). take n l) (drop-drop d o content))
-
 slices_split : (content : List ℕ) (ranges : List (ℕ × ℕ)) (o d n : ℕ) → flat_map (slice content) (ranges ++ (o, d + n) ∷ []) ≡ flat_map (slice content) ((ranges ++ (o, d) ∷ []) ++ (o + d, n) ∷ [])
 slices_split content ranges o d n =
     let before = flat_map (slice content) ranges in
     push_slices content ranges (o, d + n)
-    ∙ ap (λ (l : List ℕ). before ++ l) (slice_split content o d n)
+    ∙ ap (λ (l : List ℕ). before ++ l) (slice_two content o d n)
     ∙ sym (append_assoc before (slice content (o, d)) (slice content (o + d, n)))
     ∙ ap (λ (l : List ℕ). l ++ slice content (o + d, n)) (sym (push_slices content ranges (o, d)))
     ∙ sym (push_slices content (ranges ++ (o, d) ∷ []) (o + d, n))

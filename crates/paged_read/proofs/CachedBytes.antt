@@ -7,8 +7,9 @@ use Rattle.std.proofs.lemmas.Bool.{cases_lt}
 use Rattle.std.proofs.lemmas.List.{length-take-le}
 use Rattle.std.proofs.lemmas.Nat.{div_below, le-div}
 use Rattle.std.proofs.lemmas.Option.{slice_get_within}
-use Rattle.crash.proofs.Lists.{slice_get-take, slice_get-drop, element_within, same_elements}
+use Rattle.crash.proofs.Lists.{slice_get-take, element_within, same_elements}
 use Rattle.disk.specs.Disk.{Disk}
+use Rattle.disk.proofs.Lists.{slice_get-drop}
 use Rattle.cache.specs.CacheState.{CacheState, held, ReadsCached, HoldsByte, IsMissing}
 use Rattle.cache.specs.Pages.{page_of_content}
 use Rattle.paged_read.specs.Tail.{Tail, told, CanRead}

@@ -1,14 +1,16 @@
 -- Pieces of a content that are copied into a buffer: which of its bytes are right.
-use Rattle.std.proofs.Common.{◌≡◌, ◌⊎◌, inl, inr, ℕ, ◌+◌, ◌-◌, ◌<◌, ◌≤◌, List, [], ◌∷◌, ◌++◌, length, take, drop, refl, sym, ap, ◌∙◌, subst, arith, Bool, true, false, cond, length-append, length-drop, append_assoc}
+use Rattle.std.proofs.Common.{◌≡◌, ◌⊎◌, inl, inr, ℕ, ◌+◌, ◌-◌, ◌<◌, ◌≤◌, List, [], ◌∷◌, ◌++◌, length, take, drop, refl, sym, ap, ◌∙◌, subst, arith, Bool, true, false, cond, length-drop, append_assoc}
 use Rattle.std.specs.Prelude.{slice_get, Some, None, Option, not, is_some}
 use Rattle.std.proofs.lemmas.Bool.{cases_lt}
 use Rattle.std.proofs.lemmas.List.{length-take-le}
 use Rattle.std.proofs.lemmas.Option.{slice_get_within}
-use Rattle.crash.proofs.Lists.{slice_get-take, slice_get-drop, slice_get-append_left, slice_get-append_right, same_elements}
+use Rattle.crash.proofs.Lists.{slice_get-take, slice_get-append_left, slice_get-append_right, same_elements}
 use Rattle.cache.specs.CacheState.{CacheState, held, put_at, with_piece, with_pieces, pieces_left}
 use Rattle.cache.specs.Pages.{page_of_content}
 use Rattle.cache.specs.declared.piece.Piece.{Piece}
+use Rattle.cache.proofs.Reading.{put_length}
 use Rattle.paged_read.specs.Parts.{with_told}
+use Rattle.disk.proofs.Lists.{slice_get-drop}
 
 -- an offset of the buffer lies in a piece
 abbrev pub Covers : Piece → ℕ → Type 0
@@ -44,11 +46,6 @@ length_of buf_offset n bytes wanted is within = ap length is ∙ length-take-le 
 
 put_parts : (buf_offset : ℕ) (bytes buf : List ℕ) → put_at buf_offset bytes buf ≡ take buf_offset buf ++ (bytes ++ drop (buf_offset + length bytes) buf)
 put_parts buf_offset bytes buf = append_assoc (take buf_offset buf) bytes (drop (buf_offset + length bytes) buf)
-
--- its length stays
-pub length-put_at : (buf_offset : ℕ) (bytes buf : List ℕ) → buf_offset + length bytes ≤ length buf → length (put_at buf_offset bytes buf) ≡ length buf
-length-put_at buf_offset bytes buf fits =
-    omega (arith, ap length (put_parts buf_offset bytes buf), length-append (take buf_offset buf) (bytes ++ drop (buf_offset + length bytes) buf), length-append bytes (drop (buf_offset + length bytes) buf), length-take-le buf_offset buf (omega (arith, fits)), length-drop (buf_offset + length bytes) buf, fits)
 
 -- before them it is as it was
 put_before : (buf_offset : ℕ) (bytes buf : List ℕ) (i : ℕ) → buf_offset + length bytes ≤ length buf → i < buf_offset → slice_get (put_at buf_offset bytes buf) i ≡ slice_get buf i
@@ -112,7 +109,7 @@ put_agrees Else P content piece buf wanted size fits agrees i below =
 put_size : (P : ℕ) (content : List ℕ) (piece : Piece) (buf wanted : List ℕ) → length buf ≡ length wanted → Fits P content wanted piece → length (put_at piece.buf_offset (told_of P content piece) buf) ≡ length wanted
 put_size P content piece buf wanted size fits =
     let many = length_of piece.buf_offset piece.len (told_of P content piece) wanted fits.bytes fits.within in
-    length-put_at piece.buf_offset (told_of P content piece) buf (omega (arith, many, size, fits.within)) ∙ size
+    put_length piece.buf_offset (told_of P content piece) buf (omega (arith, many, size, fits.within)) ∙ size
 
 -- all these pieces make their offsets right
 pub told_agrees : (P : ℕ) (content : List ℕ) (pieces : List Piece) (buf wanted : List ℕ) → length buf ≡ length wanted → AllFit P content wanted pieces → AgreesOr (SomeCovers pieces) buf wanted

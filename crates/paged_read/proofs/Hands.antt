@@ -3,7 +3,7 @@ use Rattle.std.proofs.Common.{◌^◌, ◌≡◌, ◌⊎◌, inl, inr, ℕ, zero
 use Rattle.std.proofs.lemmas.Bool.{cases_lt}
 use Rattle.std.proofs.lemmas.Nat.{div_below, mod_below, div-add-mod'}
 use Rattle.std.proofs.Math.Nat.{add-div_right, suc-mul}
-use Rattle.std.proofs.lemmas.List.{take-take, drop-drop, take_all, drop_all, drop_at, take_at, drop_more, length-take-le, drop-append-le}
+use Rattle.std.proofs.lemmas.List.{take-take, drop-drop, take_all, drop_all, drop_at, drop_more, length-take-le, drop-append-le}
 use Rattle.bytes.proofs.Ranges.{drop-take_less}
 use Rattle.std.proofs.Math.Seq.{take-add}
 use Rattle.std.specs.List.{flat_map}
@@ -62,13 +62,6 @@ payloads_begin P bytes = elim (cases_lt (length bytes) P) [
 
 -- ---- cursors
 
--- the first bytes from a cursor on are those left of its page
-pub cursor_first : (P : ℕ) (first : List ℕ) (runs : List (List ℕ)) (start left : ℕ) → start + left ≤ length first
-    → take left (payloads_from P (first ∷ runs) start left) ≡ take left (drop start first)
-cursor_first P first runs start left within =
-    take_at (take left (drop start first)) (payloads P (drop (start + left + 12) first) ++ flat_map (payloads P) runs) left
-    (length-take-le left (drop start first) (omega (arith, within, length-drop start first)))
-
 -- and then the other pages
 pub cursor_others : (P : ℕ) (first : List ℕ) (runs : List (List ℕ)) (start left : ℕ) → start + left ≤ length first
     → drop left (payloads_from P (first ∷ runs) start left) ≡ payloads P (drop (start + left + 12) first) ++ flat_map (payloads P) runs
@@ -125,10 +118,6 @@ pub cursor_in : (runs : List (List ℕ)) (run start left : ℕ) (first : List �
     → IsCursor (drop run runs) start left → (0 < left) × (start + left ≤ length first)
 cursor_in runs run start left first below is cursor = subst (λ (l : List (List ℕ)). IsCursor l start left) (runs_from runs run first below is) cursor
 
-pub cursor_of : (runs : List (List ℕ)) (run start left : ℕ) (first : List ℕ) → run < length runs → first ≡ slice_index_or runs run first
-    → 0 < left → start + left ≤ length first → IsCursor (drop run runs) start left
-cursor_of runs run start left first below is some within = subst (λ (l : List (List ℕ)). IsCursor l start left) (sym (runs_from runs run first below is)) (some, within)
-
 pub after_same : (P run start left rest : ℕ) (runs : List (List ℕ)) (first : List ℕ) → run < length runs → first ≡ slice_index_or runs run first → start + left + 12 + rest ≡ length first
     → drop left (payloads_at P runs run start left) ≡ payloads_at P runs run (start + left + 12) (min rest P)
 after_same P run start left rest runs first below is whole =
@@ -159,12 +148,6 @@ passed P (first ∷ runs) start left count cursor few there =
     drop-append-le count page others (omega (arith, less, size))
     ∙ ap (λ (l : List ℕ). l ++ others) (drop-take_less (drop start first) count left (omega (arith, less)) ∙ ap (λ (l : List ℕ). take (left - count) l) (drop-drop count start first))
     ∙ ap (λ (k : ℕ). take (left - count) (drop (start + count) first) ++ (payloads P (drop k first) ++ flat_map (payloads P) runs)) (let e : start + left + 12 ≡ start + count + (left - count) + 12 = omega (arith, less) in e)
-
-pub passed_cursor : (runs : List (List ℕ)) (start left count : ℕ) → IsCursor runs start left → (left ≡ 0) ⊎ (count < left) → IsCursor runs (start + count) (left - count)
-passed_cursor [] start left count cursor few = omega (arith, cursor)
-passed_cursor (first ∷ runs) start left count cursor few =
-    let less : count < left = elim few [ inl none ↦ absurd (omega (arith, none, cursor.0)) | inr less ↦ less ] in
-    (omega (arith, less), omega (arith, less, cursor.1))
 
 -- a cursor with no byte left is after all
 pub none_left : (P : ℕ) (runs : List (List ℕ)) (start : ℕ) → IsCursor runs start 0 → payloads_from P runs start 0 ≡ []
@@ -220,18 +203,6 @@ hand_passed P all now start left remaining run next_start next_left count h same
     })
 
 -- ---- copied page by page
-
--- where bytes are left after a cursor, it is in a run, and some are of its page
-pub still_some : (P : ℕ) (runs : List (List ℕ)) (run start left : ℕ) → run ≤ length runs → IsCursor (drop run runs) start left → 0 < length (payloads_at P runs run start left)
-    → (run < length runs) × (0 < left)
-still_some P runs run start left within cursor more = elim (cases_lt 0 left) [
-  | inl some ↦ (some_left runs run start left within cursor some, some)
-  | inr none ↦
-      let zero_left : left ≡ 0 = omega (arith, none) in
-      let nothing : payloads_at P runs run start left ≡ [] =
-      ap (λ (k : ℕ). payloads_at P runs run start k) zero_left ∙ none_left P (drop run runs) start (subst (λ (k : ℕ). IsCursor (drop run runs) start k) zero_left cursor) in
-      absurd (let size : length (payloads_at P runs run start left) ≡ 0 = ap (λ (l : List ℕ). length l) nothing in omega (arith, more, size))
-]
 
 pub copied_more : (told bytes chunk here : List ℕ) (left len : ℕ) → bytes ≡ take (length bytes) told → here ≡ drop (length bytes) told → chunk ≡ take left here → len ≤ left
     → bytes ++ take len chunk ≡ take (length bytes + len) told

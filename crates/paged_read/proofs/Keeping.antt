@@ -197,10 +197,3 @@ module _ (sum : List ℕ → ℕ) (P : ℕ) where
           is = joined;
           few = omega (arith, so_far.few, length-append so_far.values (text_of_pages sum P these), values_few b rest reach);
         }
-
-  -- all pages are full
-  pub kept_all : (from n : ℕ) (readable : List ℕ) (start now : Option HandState) → KeptTo from n n readable start now → now ≡ kept_with (text_of_pages sum P (pages_from P (n - from) from readable)) start
-  kept_all from n readable start now so_far =
-      let none : n - n ≡ 0 = omega arith in
-      let nothing : text_of_pages sum P (pages_from P (n - n) n readable) ≡ [] = ap (λ (m : ℕ). text_of_pages sum P (pages_from P m n readable)) none in
-      so_far.is ∙ ap (λ (l : List ℕ). kept_with l start) (sym (so_far.whole ∙ ap (λ (l : List ℕ). so_far.values ++ l) nothing ∙ append-nil so_far.values))

@@ -101,7 +101,7 @@ leaves_joins t cache between after old mid new first second = record {
 -- ---- a piece of a page that was read
 
 -- the part of a buffer that was written over is bytes put at its offset
-put_mid_is : (buf_offset len : ℕ) (buf part bytes : List ℕ) → part ≡ bytes → length bytes ≡ len → put_mid buf_offset (buf_offset + len - buf_offset) buf part ≡ put_at buf_offset bytes buf
+pub put_mid_is : (buf_offset len : ℕ) (buf part bytes : List ℕ) → part ≡ bytes → length bytes ≡ len → put_mid buf_offset (buf_offset + len - buf_offset) buf part ≡ put_at buf_offset bytes buf
 put_mid_is buf_offset len buf part bytes is many =
     ap (λ (l : List ℕ). take buf_offset buf ++ (l ++ post_of buf_offset (buf_offset + len - buf_offset) buf)) is
     ∙ ap (λ (l : List ℕ). take buf_offset buf ++ (bytes ++ l)) (Post-is buf_offset (buf_offset + len) buf (omega arith))

@@ -159,10 +159,6 @@ module _ (sum : List ℕ → ℕ) (mine : Tail) (cache after : CacheState) (old 
         can = reads_still t within stands.can;
       }
 
-  pub read_leaves_tails : LeavesTails sum mine.full_pages cache after old new
-  read_leaves_tails t held below stands =
-      still t held (λ page under fits. omega (arith, under, below)) stands
-
   fits_below : length mine.bytes < mine.page_size → (t : Tail) → IsWithin t
   fits_below short t page under fits =
       elim (cases_lt page mine.full_pages) [

@@ -1,5 +1,5 @@
 -- Reads of pages one by one.
-use Rattle.std.proofs.Common.{◌≡◌, ◌⊎◌, inl, inr, ℕ, zero, suc, ◌+◌, ◌<◌, List, [], ◌∷◌, ◌++◌, length, take, drop, refl, sym, ap, ◌∙◌, subst, arith, Err, get_or, drop-cons}
+use Rattle.std.proofs.Common.{◌≡◌, ◌⊎◌, inl, inr, ℕ, zero, suc, ◌+◌, ◌<◌, List, [], ◌∷◌, ◌++◌, length, take, drop, refl, sym, ap, ◌∙◌, subst, arith, get_or, drop-cons}
 use Rattle.std.proofs.lemmas.List.{take_more, map-append}
 use Rattle.std.specs.List.{Contains}
 use Rattle.disk.specs.Disk.{Disk, Life}
@@ -13,7 +13,7 @@ use Rattle.cache.specs.declared.piece.Piece.{Piece}
 use Rattle.paged_read.specs.Failures.{NoneFailed, none_failed_joins}
 use Rattle.paged_read.specs.Tail.{Tail}
 use Rattle.paged_read.specs.Ranges.{missing, page_at, AreMissingFull, ReadFault}
-use Rattle.paged_read.specs.Parts.{ReadsPage, ArePagesFull, PagesFault, pages_of, with_told}
+use Rattle.paged_read.specs.Parts.{ArePagesFull, PagesFault, pages_of, with_told}
 
 -- one page alone
 pub one_page : (page p : ℕ) → Contains (page ∷ []) p → p ≡ page

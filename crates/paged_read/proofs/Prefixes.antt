@@ -7,6 +7,7 @@ use Rattle.std.proofs.lemmas.Bool.{eq-eqb, ne_eqb, eqb-true, cases_eq, cond-true
 use Rattle.page.specs.Page.{pieces, pages, active, value_len, value_slot, slot_crc, slot_of, bad_slot}
 use Rattle.page.specs.declared.slot.Slot.{Slot}
 use Rattle.page.specs.declared.slot.ActiveChecksum.{ActiveChecksum}
+use Rattle.page.proofs.Values.{active-none}
 use Rattle.crash.specs.Built.{kept_len}
 use Rattle.crash.proofs.Texts.{AreBytes, active_is, active_none, value_len_le}
 use Rattle.crash.proofs.Lists.{within_take, within_drop}
@@ -64,10 +65,6 @@ module _ (sum : List ℕ → ℕ) (P : ℕ) where
     | inl none ↦ ap kept_len (cond-true (value_len sum P page == 0) None (Some (record { slot = value_slot sum P page; len = value_len sum P page; crc = slot_crc (slot_of P (value_slot sum P page) page) })) (eq-eqb _ _ none)) ∙ sym none
     | inr some ↦ ap kept_len (cond-false (value_len sum P page == 0) None (Some (record { slot = value_slot sum P page; len = value_len sum P page; crc = slot_crc (slot_of P (value_slot sum P page) page) })) (ne_eqb _ _ some))
   ]
-
-  -- no slot tells a page without a value
-  pub active_zero : (page : List ℕ) → value_len sum P page ≡ 0 → active sum P page ≡ None
-  active_zero page none = cond-true (value_len sum P page == 0) None (Some (record { slot = value_slot sum P page; len = value_len sum P page; crc = slot_crc (slot_of P (value_slot sum P page) page) })) (eq-eqb _ _ none)
 
   -- what is told of a page whose value isn't there
   none_told : (page : List ℕ) (slot : Option ActiveChecksum) → active sum P page ≡ slot → is_some (value_and_slot slot page) ≡ false → value_len sum P page ≡ 0
@@ -182,7 +179,7 @@ module _ (sum : List ℕ → ℕ) (P : ℕ) where
 
   -- a page has a value
   pub found_some : (page : List ℕ) (found : Option (List ℕ × ActiveChecksum)) → found ≡ value_and_slot (active sum P page) page → is_some found ≡ true → value_len sum P page ≢ 0
-  found_some page found is some = λ none. false≢true (ap (λ (s : Option ActiveChecksum). is_some (value_and_slot s page)) (sym (active_zero page none)) ∙ ap (λ (f : Option (List ℕ × ActiveChecksum)). is_some f) (sym is) ∙ some)
+  found_some page found is some = λ none. false≢true (ap (λ (s : Option ActiveChecksum). is_some (value_and_slot s page)) (sym (active-none sum P page none)) ∙ ap (λ (f : Option (List ℕ × ActiveChecksum)). is_some f) (sym is) ∙ some)
 
   -- a page has none
   pub found_none : (page : List ℕ) (found : Option (List ℕ × ActiveChecksum)) → found ≡ value_and_slot (active sum P page) page → is_some found ≡ false → value_len sum P page ≡ 0

@@ -2,7 +2,7 @@
 use Rattle.std.proofs.Common.{◌≡◌, ◌≢◌, inl, inr, ℕ, zero, suc, ◌+◌, ◌-◌, ◌*◌, ◌/◌, ◌%◌, ◌<◌, ◌≤◌, List, [], ◌∷◌, ◌++◌, length, refl, sym, ap, ◌∙◌, arith, Bool, true, false, cond, append-nil}
 use Rattle.std.specs.Prelude.{All, get_or, Option, Some, None, slice_get, nat_eq, is_some, not, ◌&&◌, ◌||◌}
 use Rattle.std.specs.List.{filter, range_with_len, list_any}
-use Rattle.std.proofs.lemmas.Bool.{false_from_ne_true, and_parts, and_from, and_right, or_cases, or_left, or_right, ltb-true, eqb-true, lt-ltb, eq-eqb, ne_eqb, cases_lt, cases_eq, both_ways}
+use Rattle.std.proofs.lemmas.Bool.{false_from_ne_true, and_parts, and_from, and_right, or_cases, or_left, or_right, ltb-true, eqb-true, eq-eqb, ne_eqb, cases_lt, cases_eq, both_ways}
 use Rattle.std.proofs.lemmas.List.{get_or_at, length_push}
 use Rattle.std.proofs.lemmas.List.Elements.{filter-append}
 use Rattle.std.proofs.lemmas.Option.{same_Some, slice_get-get_or}
@@ -14,6 +14,7 @@ use Rattle.page.specs.Geometry.{EndWithin}
 use Rattle.paged_read.specs.Tail.{Tail}
 use Rattle.paged_read.specs.Ranges.{touches, missing, is_served}
 use Rattle.paged_read.specs.Batch.{is_page, with_page}
+use Rattle.paged_read.proofs.Windows.{filter_none, filter_same, touches_yes}
 
 -- ---- filters over page numbers
 
@@ -22,18 +23,6 @@ pub same_tests : (a b : Bool) → (a ≡ true → b ≡ true) → (b ≡ true �
 same_tests true b there back = sym (there refl)
 same_tests false true there back = back refl
 same_tests false false there back = refl
-
-filter_none : (f : ℕ → Bool) (a n : ℕ) → ((p : ℕ) → a ≤ p → p < a + n → f p ≡ false) → filter f (range_with_len a n) ≡ []
-filter_none f a zero never = refl
-filter_none f a (suc n) never =
-    ap (λ (b : Bool). cond b (a ∷ filter f (range_with_len (a + 1) n)) (filter f (range_with_len (a + 1) n))) (never a (omega arith) (omega arith))
-    ∙ filter_none f (a + 1) n (λ p lo hi. never p (omega arith) (omega arith))
-
-filter_same : (f g : ℕ → Bool) (a n : ℕ) → ((p : ℕ) → a ≤ p → p < a + n → f p ≡ g p) → filter f (range_with_len a n) ≡ filter g (range_with_len a n)
-filter_same f g a zero same = refl
-filter_same f g a (suc n) same =
-    ap (λ (b : Bool). cond b (a ∷ filter f (range_with_len (a + 1) n)) (filter f (range_with_len (a + 1) n))) (same a (omega arith) (omega arith))
-    ∙ ap (λ (l : List ℕ). cond (g a) (a ∷ l) l) (filter_same f g (a + 1) n (λ p lo hi. same p (omega arith) (omega arith)))
 
 pub range_split : (a n m k b : ℕ) → k ≡ n + m → b ≡ a + n → range_with_len a k ≡ range_with_len a n ++ range_with_len b m
 range_split a zero m k b is at =
@@ -110,9 +99,6 @@ touch_true P o n p met =
     let b = and_parts _ _ a.0 in
     (ltb-true _ _ b.0, ltb-true _ _ b.1, ltb-true _ _ a.1)
 
-pub touch_from : (P o n p : ℕ) → 0 < n → p * P < o + n → o < (p + 1) * P → touches P (o, n) p ≡ true
-touch_from P o n p some before after = and_from _ _ (and_from _ _ (lt-ltb _ _ some) (lt-ltb _ _ before)) (lt-ltb _ _ after)
-
 -- a range that is cut touches what its parts touch
 pub touches_split : (P o d n p : ℕ) → 0 < P → touches P (o, d + n) p ≡ (touches P (o, d) p || touches P (o + d, n) p)
 touches_split P o d n p wide = same_tests _ _ there back
@@ -123,16 +109,16 @@ touches_split P o d n p wide = same_tests _ _ there back
         let more : (p + 1) * P ≡ p * P + P = omega (arith, suc-mul p P) in
         elim (cases_lt (p * P) (o + d)) [
           | inl first ↦ elim (cases_lt 0 d) [
-            | inl some ↦ or_left _ _ (touch_from P o d p some first h.2)
-            | inr none ↦ or_right _ _ (touch_from P (o + d) n p (omega (arith, h.0, none)) (omega (arith, h.1)) (omega (arith, h.2, none)))
+            | inl some ↦ or_left _ _ (touches_yes P o d p some first h.2)
+            | inr none ↦ or_right _ _ (touches_yes P (o + d) n p (omega (arith, h.0, none)) (omega (arith, h.1)) (omega (arith, h.2, none)))
           ]
-          | inr second ↦ or_right _ _ (touch_from P (o + d) n p (omega (arith, h.1, second)) (omega (arith, h.1)) (omega (arith, second, more, wide)))
+          | inr second ↦ or_right _ _ (touches_yes P (o + d) n p (omega (arith, h.1, second)) (omega (arith, h.1)) (omega (arith, second, more, wide)))
         ]
 
     back : (touches P (o, d) p || touches P (o + d, n) p) ≡ true → touches P (o, d + n) p ≡ true
     back met = elim (or_cases _ _ met) [
-      | inl first ↦ let h = touch_true P o d p first in touch_from P o (d + n) p (omega (arith, h.0)) (omega (arith, h.1)) h.2
-      | inr second ↦ let h = touch_true P (o + d) n p second in touch_from P o (d + n) p (omega (arith, h.0)) (omega (arith, h.1)) (omega (arith, h.2))
+      | inl first ↦ let h = touch_true P o d p first in touches_yes P o (d + n) p (omega (arith, h.0)) (omega (arith, h.1)) h.2
+      | inr second ↦ let h = touch_true P (o + d) n p second in touches_yes P o (d + n) p (omega (arith, h.0)) (omega (arith, h.1)) (omega (arith, h.2))
     ]
 
 -- a page within which a range begins and ends is the only one that it touches
@@ -342,7 +328,7 @@ missing_page cache t ranges o n wide some ends fits unserved =
     let h = unserved_page cache t o n wide fits unserved in
     let whole : o / P * P + o % P ≡ o = div-add-mod' o P in
     let short : o % P < P = mod-lt o wide in
-    let here : touches P (o, n) (o / P) ≡ true = touch_from P o n (o / P) some (omega (arith, whole, some)) (omega (arith, whole, short, suc-mul (o / P) P)) in
+    let here : touches P (o, n) (o / P) ≡ true = touches_yes P o n (o / P) some (omega (arith, whole, some)) (omega (arith, whole, short, suc-mul (o / P) P)) in
     filter_step (is_lacked cache t ranges) (is_lacked cache t (ranges ++ (o, n) ∷ [])) (o / P) t.full_pages h.0
     (and_from _ _ (ap not h.2) (touched_push P ranges (o, n) (o / P) ∙ or_right _ _ here))
     (λ p less apart. ap (λ (b : Bool). not (is_some (held cache (t.id, p))) && b) (touched_push P ranges (o, n) p ∙ ap (λ (b : Bool). is_touched P ranges p || b) (false_from_ne_true _ (λ met. apart (touches_one P o n p wide h.1 met))) ∙ or_false _))

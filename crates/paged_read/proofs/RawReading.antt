@@ -102,10 +102,6 @@ read_value_is sum P page size page_start old new bytes slot size_is page_start_i
 pub some_bytes : (bytes : List ℕ) → length bytes ≢ 0 → some_of bytes ≡ Ok bytes
 some_bytes bytes some = cond-false (length bytes == 0) _ _ (ne_eqb (length bytes) 0 some)
 
--- none
-pub no_bytes : (bytes : List ℕ) → length bytes ≡ 0 → some_of bytes ≡ Err BlobInsufficientLength
-no_bytes bytes none = cond-true (length bytes == 0) _ _ (eq-eqb (length bytes) 0 none)
-
 -- a beginning of a beginning
 take_less : (a b : ℕ) (xs : List ℕ) → take a (take b xs) ≡ take (min a b) xs
 take_less a b xs = elim (cases_lt a b) [
@@ -132,10 +128,6 @@ module _ (P from to page len : ℕ) (bytes : List ℕ) where
       let is = part_is (omega (arith, less)) in
       let many : length part ≡ stop - skip = ap (λ (l : List ℕ). length l) is ∙ length-take-le (stop - skip) (drop skip bytes) (omega (arith, length-drop skip bytes, fits)) in
       some_bytes part (λ none. omega (arith, many, none, less)) ∙ ap (λ (l : List ℕ). Ok l) is
-
-  -- it has none
-  pub part_none : stop ≤ skip → part_of P from to page (Ok (take len bytes)) ≡ Err BlobInsufficientLength
-  part_none le = no_bytes part (omega (arith, le, length-drop skip (take (to - page * P) (take len bytes)), length-take (to - page * P) (take len bytes), length-take len bytes))
 
 -- ---- reads that are told
 
@@ -277,10 +269,6 @@ module _ (sum : List ℕ → ℕ) (P page len : ℕ) (readable bytes : List ℕ)
   abbrev front : Result (List ℕ) Error
   front = range_told sum P (after_end - len) (page * P - (after_end - len)) readable
 
-  -- there are fewer
-  pub after_short : after_end < len → after_told sum P page len readable (Ok bytes) ≡ Err BlobInsufficientLength
-  after_short few = cond-true (nat_lt after_end len) _ _ (lt-ltb after_end len few)
-
   after_is : len ≤ after_end → after_told sum P page len readable (Ok bytes) ≡ ending_at after_end (joined front (Ok (drop (after_end - len - page * P) bytes)))
   after_is le = cond-false (nat_lt after_end len) _ _ (le-ltb after_end len le)
 
@@ -320,18 +308,6 @@ part_sliced P from to page len start skip stop bytes told old new (Ok b) is fron
       none,
     )
 part_sliced P from to page len start skip stop bytes told old new (Err e) is front back less fits value looked none ok err = told_memory (λ (b : List ℕ). b) (part_of P from to page told) old new e looked none err
-
--- none of it is of the range
-pub part_missed : (P from to page len start skip stop : ℕ) (bytes : List ℕ) (told : Result (List ℕ) Error) → start ≡ page * P → skip ≡ from - start → stop ≡ min (to - start) len → stop ≤ skip → told ≡ Ok (take len bytes)
-    → part_of P from to page told ≡ Err BlobInsufficientLength
-part_missed P from to page len start skip stop bytes told is front back le value =
-    let first : skip ≡ from - page * P = front ∙ ap (λ (n : ℕ). from - n) is in
-    let last : stop ≡ min (to - page * P) len = back ∙ ap (λ (n : ℕ). min (to - n) len) is in
-    ap (λ (r : Result (List ℕ) Error). part_of P from to page r) value ∙ part_none P from to page len bytes (omega (arith, le, first, last))
-
--- a page's value that isn't told is no part
-pub part_fault : (P from to page : ℕ) (told : Result (List ℕ) Error) (e : Error) → told ≡ Err e → part_of P from to page told ≡ Err e
-part_fault P from to page told e is = ap (λ (r : Result (List ℕ) Error). part_of P from to page r) is
 
 -- the pages that a range meets
 pub same_pages : (sum : List ℕ → ℕ) (P offset len size end : ℕ) (readable : List ℕ) → size ≡ P → end ≡ offset + len

@@ -35,16 +35,8 @@ full_more sum P end bytes so_far one = λ page above below. elim (cases_lt page 
 
 -- ---- batches that follow one another
 
--- the page after them, one batch at a time
-pub after_more : (batch full page : ℕ) (queue : List Ahead) → page ≤ full → page ≤ after batch full page
-after_more batch full page queue within = omega arith
-
 pub after_within : (batch full page : ℕ) → page ≤ full → after batch full page ≤ full
 after_within batch full page within = omega (arith, within)
-
-pub follow_within : (batch full page : ℕ) (queue : List Ahead) → Follow batch full page queue → page_after batch full page queue ≤ full
-follow_within batch full page [] follow = follow
-follow_within batch full page (a ∷ rest) follow = follow_within batch full (after batch full page) rest follow.2
 
 -- one more at the end
 pub follow_more : (batch full page : ℕ) (queue : List Ahead) (a : Ahead) → Follow batch full page queue → a.page ≡ page_after batch full page queue → page_after batch full page queue < full

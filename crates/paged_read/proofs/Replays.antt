@@ -594,14 +594,6 @@ reach_fails sum r count mid now old between new e so_far filled tells =
     fault OutOfMemory none = tt {0}
     fault _ none = absurd none
 
--- enough
-pub reach_enough : (sum : List ℕ → ℕ) (r : ReplayState) (count : ℕ) (now : ReplayState) (old new : Life) → Reached sum r count now old new → IsReplay now → count ≤ length now.hand
-    → Ensures sum r count now old new (Ok true)
-reach_enough sum r count now old new so_far is enough =
-    let size : size_of now.tail ≡ size_of r.tail = ap (λ (u : Tail). size_of u) so_far.fills.tail in
-    let there : r.position + count ≤ size_of r.tail = omega (arith, is.within, size, so_far.fills.position, enough) in
-    (so_far.fills, sym (le-leb (r.position + count) (size_of r.tail) there), (λ _. enough), (λ no. absurd (true≢false no)), so_far.few, so_far.filled, so_far.ahead, (λ _. so_far.exhausted))
-
 -- and all that is left
 pub reach_ends : (sum : List ℕ → ℕ) (r : ReplayState) (count : ℕ) (now : ReplayState) (old new : Life) → Reached sum r count now old new → length now.hand < count → end_of now ≡ size_of now.tail
     → Ensures sum r count (record now { exhausted = true }) old new (Ok false)

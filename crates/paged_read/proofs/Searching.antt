@@ -61,15 +61,6 @@ read_asks offset len old new (Err InvalidChecksum) goes = absurd goes
 read_asks offset len old new (Err OffsetOverflow) goes = absurd goes
 read_asks offset len old new (Err IdsExhausted) goes = absurd goes
 
--- a read more
-pub within_read : (most offset len : ℕ) (start old new : Life) (answer : Result (List ℕ) Error) → len ≤ most → ReadsWithin most start old → ReadGoes offset len old new answer → ReadsWithin most start new
-within_read most offset len start old new answer few so_far goes =
-    gained_joins (AreWithin most) (AreWithin most) (AreWithin most) start old new (within_joins most) so_far
-    (elim (read_asks offset len old new answer goes) [
-      | inl none ↦ gained_none (AreWithin most) old new none tt
-      | inr asked ↦ gained_once (AreWithin most) (ReadAt offset len) asked.0 old new (ap (λ (l : Life). l.present.log) asked.1) (few, tt)
-    ])
-
 -- ---- one search after another
 
 -- and what follows it, which reads no more at once
@@ -77,13 +68,6 @@ pub cuts_within : (few most : ℕ) (old mid new : Life) → few ≤ most → Rea
 cuts_within few most old mid new enough within last =
     gained_joins (AreWithin most) (AreWithin most) (AreWithin most) old mid new (within_joins most) within
     (gained_then (AreWithin few) (AreWithin most) mid new (λ xs fit. within_more few most xs enough fit) last)
-
--- a batch of pages, no more than the most
-pub within_batch : (P size offset batch most : ℕ) (start old new : Life) (answer : Result (List ℕ) Error) → size ≡ P + 12 → batch ≤ most → ReadsWithin (most * (P + 12)) start old → ReadGoes offset (batch * size) old new answer
-    → ReadsWithin (most * (P + 12)) start new
-within_batch P size offset batch most start old new answer is few so_far goes =
-    let more : (P + 12) * batch ≤ (P + 12) * most = mul-le-mul_left (P + 12) few in
-    within_read (most * (P + 12)) offset (batch * size) start old new answer (omega (arith, more, ap (λ (k : ℕ). batch * k) is)) so_far goes
 
 -- the most that fit, and at least one
 pub scan_bytes_is : (P size buffer_size most : ℕ) → size ≡ P + 12 → most ≡ max (buffer_size / size) 1 → most * (P + 12) ≡ scan_bytes P buffer_size

@@ -1,6 +1,6 @@
 -- The pages that a range has bytes of.
 use Rattle.std.proofs.Common.{◌≡◌, inl, inr, ℕ, zero, suc, refl, ◌+◌, ◌*◌, ◌/◌, ◌%◌, ◌<◌, ◌≤◌, arith}
-use Rattle.std.proofs.Math.Nat.{div-add-mod', mod-lt, suc-mul, mul-le-mul_right, mul-le-mul_left, add-mul}
+use Rattle.std.proofs.Math.Nat.{div-add-mod', mod-lt, suc-mul, mul-le-mul_right, add-mul}
 use Rattle.std.proofs.lemmas.Bool.{cases_lt}
 use Rattle.std.proofs.lemmas.Bool.Decides.{nat_tests}
 use Rattle.std.proofs.lemmas.Grind.{div_ceil_times}
@@ -60,16 +60,6 @@ pub spans_to : (P offset len first count page : ℕ) → Spans P offset len firs
 spans_to P offset len first count page spans before = elim (cases_lt page (first + count)) [
   | inl below ↦ below
   | inr above ↦ absurd (let h : (first + count) * P ≤ page * P = mul-le-mul_right P above in omega (arith, h, before, spans.ends))
-]
-
--- all of them are numbers of 64 bits, where the offsets are
-pub spans_fit : (P offset len first count : ℕ) → 0 < P → 0 < len → Spans P offset len first count → first + count ≤ offset + len
-spans_fit P offset len first count some more spans = elim (cases_lt (offset + len) (first + count)) [
-  | inl above ↦
-      let h : (offset + len + 1) * P ≤ (first + count) * P = mul-le-mul_right P (omega (arith, above)) in
-      let k : (offset + len) * 1 ≤ (offset + len) * P = omega (arith, mul-le-mul_left (offset + len) some) in
-      absurd (omega (arith, h, k, suc-mul (offset + len) P, spans.last))
-  | inr within ↦ within
 ]
 
 -- how many pages a range has bytes of, where it has some

@@ -42,9 +42,6 @@ module _ (t : Tail) (cache : CacheState) (offset len below : ℕ) (is : below �
   pub part_missing : missing cache t ((offset, len) ∷ []) ≡ missing cache t ((offset, below) ∷ [])
   part_missing = missing_below cache t offset len ∙ ap (λ n. missing cache t ((offset, n) ∷ [])) (sym is)
 
-  pub part_asks : (old new : Life) → AsksForMissing cache t (offset, below) old new → AsksForMissing cache t (offset, len) old new
-  part_asks old new asks = asks_same cache t (offset, below) (offset, len) old new part_missing asks
-
   -- so it is served where the whole is
   pub part_served : is_served cache t (offset, len) ≡ is_served cache t (offset, below)
   part_served = ap (λ (l : List ℕ). nat_eq (length l) 0) part_missing

@@ -91,7 +91,7 @@ module _ (sum : List ℕ → ℕ) (w : WriterState) (old new : Life) (k : ℕ) (
   write_covers_through false (Err e) (fault, (d, goes, done)) = covers_one sum w.page_size whole old new d goes (operated (WriteAt offset (length bytes) false) true d done)
 
 -- what is covered of a longer content is covered of its beginning
-would_longer : (sum : List ℕ → ℕ) (P : ℕ) (content longer : List ℕ) (name cover : ℕ) (d : Disk) → content ≡ take (length content) longer → cover ≤ length content → WouldKeep sum P content name cover d → WouldKeep sum P longer name cover d
+pub would_longer : (sum : List ℕ → ℕ) (P : ℕ) (content longer : List ℕ) (name cover : ℕ) (d : Disk) → content ≡ take (length content) longer → cover ≤ length content → WouldKeep sum P content name cover d → WouldKeep sum P longer name cover d
 would_longer sum P content longer name cover d begins enough would = record { covers = would.covers; named = would.named; keeps = keeps_longer sum P content longer cover (disk_settled_to would.covers d) begins enough would.keeps }
 
 would_shorter : (sum : List ℕ → ℕ) (P : ℕ) (content longer : List ℕ) (name cover : ℕ) (d : Disk) → content ≡ take (length content) longer → cover ≤ length content → WouldKeep sum P longer name cover d → WouldKeep sum P content name cover d

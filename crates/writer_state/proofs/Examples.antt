@@ -7,6 +7,7 @@ use Rattle.disk.specs.Images.{only_image}
 use Rattle.disk.specs.Disk.{Disk, Operation, Operated, Request, Life, IsWhole, IsImage, LeavesNoMore, IsPartial, applied, failures, logged, next, life_after, settled_disk, disk_settled_to, starts}
 use Rattle.disk.specs.Disk.Operation.{Write, Resize}
 use Rattle.disk.specs.Disk.Request.{ReadAt, WriteAt, SyncAll}
+use Rattle.disk.proofs.Lists.{joined_element, taken_element, slice_get-drop}
 use Rattle.page.specs.Page.{slot_of, slot_len, slot_crc, text, pages, verified_len}
 use Rattle.page.specs.Sums.{add_sum, small_add_sum, const_sum}
 use Rattle.page.specs.declared.slot.Slot.{Slot}
@@ -32,7 +33,6 @@ use Rattle.crash.specs.Contents.{latest, stored}
 use Rattle.writer_state.specs.Sound.{content, HasPage, Stands, guard_slot, IsSafe, Soundness, IsSound, LeavesItsContent, IsPending}
 use Rattle.crash.specs.Started.{WouldKeep, CoversStay, StartsStand}
 use Rattle.crash.specs.Below.{SamePages, PagesStay}
-use Rattle.crash.proofs.Lists.{joined_element, taken_element, slice_get-drop}
 use Rattle.crash.proofs.Disks.{whole_is_image, torn_is_image, base_is_image, partial_whole, fixed_at_rest}
 use Rattle.crash.proofs.Moments.{stays_itself, kept_through, only_through}
 use Rattle.crash.proofs.Spared.{held_through_flush}

@@ -297,10 +297,6 @@ module _ (sum : List ℕ → ℕ) (w : WriterState) (d e : Disk) (stands : Stand
   pub settle_stands : (s : SyncState) → e.base ≡ d.readable → e.since ≡ [] → StartsFit e s → Stands sum (record w { sync = s }) e
   settle_stands s base since starts = state_stands s (same ∙ sym base ∙ ap (λ (os : List Operation). latest e.base os) (sym since)) (settled_fits e s since (base ∙ sym same)) starts
 
-  -- a disk with the same bytes, base and operations, as after a read, serves as well
-  pub alike_stands : e.base ≡ d.base → e.since ≡ d.since → coverings e ≡ coverings d → e.settled ≡ d.settled → Stands sum w e
-  alike_stands base since covers settled = state_stands w.sync (same ∙ stands.done ∙ sym (cc (base, since))) (fits_alike d e w.sync same base since stands.state) (starts_alike d e w.sync same since covers settled stands.starts)
-
   -- and holds the same content
   pub alike_content : content w e.readable ≡ content w d.readable
   alike_content = ap (λ (l : List ℕ). content w l) same
@@ -358,10 +354,6 @@ module _ (sum : List ℕ → ℕ) (w : WriterState) (d : Disk) (since : d.since 
   -- the blob ends with a full page, and the writer buffers nothing
   pub exact_stands : StartsFit d w.sync → w.flushed ≡ None → length d.readable ≡ w.full_pages * (w.page_size + 12) → Stands sum w d
   exact_stands starts none size = settled_stands starts (subst (λ (f : Option ActiveChecksum). TipPage sum w.page_size w.full_pages w.tip d.readable f) (sym none) size)
-
-  -- the blob ends with the tip's page
-  pub page_stands : StartsFit d w.sync → (a : ActiveChecksum) → w.flushed ≡ Some a → HasPage sum w.page_size w.full_pages w.tip d.readable a → Stands sum w d
-  page_stands starts a is has = settled_stands starts (subst (λ (f : Option ActiveChecksum). TipPage sum w.page_size w.full_pages w.tip d.readable f) (sym is) has)
 
   -- the content is then the text
   pub exact_content : w.tip ≡ [] → length d.readable ≡ w.full_pages * (w.page_size + 12) → content w d.readable ≡ text sum w.page_size d.readable

@@ -14,12 +14,11 @@ use Rattle.page.specs.declared.slot.Slot.TheVariants.{First, Second}
 use Rattle.page.proofs.Examples.{abcd_page, ef_page, efg_page}
 use Rattle.crash.specs.Built.{footer, kept_len}
 use Rattle.crash.specs.Shrink.{slot_write}
-use Rattle.crash.specs.Guard.{IsSlotFor, IsGuarded, Guards}
+use Rattle.crash.specs.Guard.{IsSlotFor, IsGuarded}
 use Rattle.crash.specs.Distinct.{IsOld, IsVouched}
 use Rattle.crash.specs.Kept.{AreHeld}
 use Rattle.crash.proofs.DistinctLaws.{vouched_at_rest}
-use Rattle.crash.proofs.Promise.{guards_at_rest}
-use Rattle.writer_state.proofs.Examples.{at_rest, and_then, durable, rewritten, six, ef_slot}
+use Rattle.writer_state.proofs.Examples.{at_rest, and_then, durable, rewritten, six, ef_slot, six_are_guarded}
 
 -- ---- pages and slots
 
@@ -172,10 +171,6 @@ not_of_another_sum is = omega (arith, is.crc)
 
 pub not_of_another_length : IsSlotFor add_sum (101 ∷ 102 ∷ []) (slot_bytes 3 203) → ⊥
 not_of_another_length is = omega (arith, is.len)
-
--- "abcd" and "ef" are held by their pages' slots
-pub six_are_guarded : Guards add_sum 4 six 6 durable
-six_are_guarded = guards_at_rest add_sum 4 durable (omega arith) refl
 
 pub the_second_page_is : IsGuarded add_sum 4 six 6 durable 1
 the_second_page_is = six_are_guarded 1 (omega arith)

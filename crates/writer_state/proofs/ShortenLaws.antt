@@ -1,14 +1,15 @@
 -- Cutting a blob of which all is durable: what each moment of the cut holds of the blob's text.
-use Rattle.std.proofs.Common.{◌≡◌, ◌⊎◌, inl, inr, ℕ, zero, suc, ◌+◌, ◌*◌, ◌^◌, ◌<◌, ◌≤◌, min, List, [], ◌∷◌, ◌++◌, length, take, drop, slice_get, map, Some, Result, Ok, Err, Bool, true, false, refl, sym, ap, ap₂, ◌∙◌, subst, arith, length-append, length-take, length-take-le, length-drop, mul-le-mul_right}
+use Rattle.std.proofs.Common.{◌≡◌, ◌⊎◌, inl, inr, ℕ, zero, suc, ◌+◌, ◌*◌, ◌^◌, ◌<◌, ◌≤◌, min, List, [], ◌∷◌, ◌++◌, length, take, drop, slice_get, map, Some, Result, Ok, Err, Bool, true, false, refl, sym, ap, ◌∙◌, subst, arith, length-append, length-take, length-take-le, length-drop, mul-le-mul_right}
 use Rattle.std.specs.Int.{w16, w32, to_be_bytes}
 use Rattle.std.proofs.lemmas.Bool.{cases_lt, cases_order}
 use Rattle.std.proofs.lemmas.List.{drop-drop, take-take, take_all}
 use Rattle.std.proofs.Math.Seq.{take-add}
 use Rattle.std.proofs.lemmas.Option.{same_Some}
-use Rattle.disk.specs.Disk.{Disk, Life, Started, Operation, Operated, Request, ResizeTo, WriteAt, SyncAll, IsImage, IsWhole, OperationGoes, ResizeGoes, SyncGoes, WriteGoes, life_after, applied, coverings, next, logged, settled_disk}
+use Rattle.disk.specs.Disk.{Disk, Life, Started, Operation, Operated, Request, ResizeTo, WriteAt, SyncAll, IsImage, IsWhole, OperationGoes, ResizeGoes, SyncGoes, WriteGoes, applied, coverings, next, logged, settled_disk}
 use Rattle.disk.specs.Disk.Operation.{Write, Resize}
 use Rattle.disk.specs.declared.error.Error.{Error}
 use Rattle.disk.specs.declared.error.Error.TheVariants.{WriteFailed, ResizeFailed, SyncFailed, OffsetOverflow, OutOfMemory}
+use Rattle.disk.proofs.Moments.{same_moments}
 use Rattle.page.specs.Slot.{slot_offset, other}
 use Rattle.page.specs.Page.{active, pages, slot_bytes, slot_crc, slot_len, slot_of, value, value_len, verified_len, text, text_of_pages}
 use Rattle.page.specs.declared.slot.Slot.{Slot}
@@ -21,7 +22,7 @@ use Rattle.crash.proofs.SlotLaws.{slot_write_vouched, staged_good, published_goo
 use Rattle.crash.specs.Kept.{AllKeep, AllOnly, Each, Through}
 use Rattle.crash.specs.Looks.{Looked, SameButLog}
 use Rattle.crash.specs.Moments.{through_end, through_joins, through_more, through_start, through_then}
-use Rattle.crash.specs.Shrink.{CutStays, HeldBy, HoldsText, SaysText, StaysHeld, published, slot_write, staged}
+use Rattle.crash.specs.Shrink.{HeldBy, HoldsText, SaysText, StaysHeld, published, slot_write, staged}
 use Rattle.crash.specs.Started.{AllSettled, CoversStay, CoversThrough, StartsStand, WouldKeep}
 use Rattle.writer_state.specs.Sound.{IsSound, content}
 use Rattle.crash.specs.Contents.{latest}
@@ -583,24 +584,6 @@ module _ (sum : List ℕ → ℕ) (P n : ℕ) (old new : Life) (at_rest : old.pr
       through_then (HoldsText sum P told (min n (length told))) (AllOnly sum P told after) old new
       (λ e holds. record { only = λ image is_image free. inl (holds_only sum P told (min n (length told)) e holds image is_image free); vouched = holds.vouched }) through
 
-  -- so each moment stays, up to what is left of the text: after the text's end there is no floor to keep
-  pub shorten_stays : Through (CutStays sum P (text sum P old.present.readable) (min n (length (text sum P old.present.readable))) old.present) old new
-  shorten_stays =
-      let told = text sum P old.present.readable in
-      let left = min n (length told) in
-      through_then (HoldsText sum P told left) (CutStays sum P told left old.present) old new (λ e holds. record {
-        kept = λ floor few keeps. holds_keeps sum P told left e holds floor few;
-        only = λ image is_image free. holds_only sum P told left e holds image is_image free;
-        vouched = holds.vouched;
-      }) through
-
-  -- up to n, where the text goes so far
-  pub shorten_stays_within : n ≤ length (text sum P old.present.readable) → Through (CutStays sum P (text sum P old.present.readable) n old.present) old new
-  shorten_stays_within within =
-      let told = text sum P old.present.readable in
-      let left : min n (length told) ≡ n = omega (arith, within) in
-      subst (λ (m : ℕ). Through (CutStays sum P told m old.present) old new) left shorten_stays
-
 -- ---- a sound writer all of which is written
 
 -- what is readable has its content as the text
@@ -660,24 +643,6 @@ goes_on_joins old mid new first second =
     through_joins (StartsGoOn old.present) old mid new first
     (through_then (StartsGoOn mid.present) (StartsGoOn old.present) mid new (λ d on. (on.0 ∙ reached.0, omega (arith, on.1, reached.1))) second)
 
--- how long a life's past is after these moments
-length-life_after : (life : Life) (ds : List Disk) → length (life_after life ds).past ≡ length ds + length life.past
-length-life_after life [] = omega arith
-length-life_after life (d ∷ ds) = omega (arith, length-life_after (next life d) ds)
-
--- a life knows its moments
-after_once : (ds es : List Disk) (one two : Life) → length one.past ≡ length two.past → life_after one ds ≡ life_after two es → (one ≡ two) × (ds ≡ es)
-after_once [] [] one two size same = (same, refl)
-after_once [] (e ∷ es) one two size same = absurd (omega (arith, size, ap (λ (life : Life). length life.past) same, length-life_after two (e ∷ es)))
-after_once (d ∷ ds) [] one two size same = absurd (omega (arith, size, ap (λ (life : Life). length life.past) same, length-life_after one (d ∷ ds)))
-after_once (d ∷ ds) (e ∷ es) one two size same =
-    let rest = after_once ds es (next one d) (next two e) (ap suc size) same in
-    let first : d ≡ e = ap (λ (life : Life). life.present) rest.0 in
-    let past : one.present ∷ one.past ≡ two.present ∷ two.past = ap (λ (life : Life). life.past) rest.0 in
-    let at : one.present ≡ two.present = cc (past) in
-    let before : one.past ≡ two.past = cc (past) in
-    ((λ i. record { present = at i; past = before i }), ap₂ (λ (x : Disk) (xs : List Disk). x ∷ xs) first rest.1)
-
 module _ (sum : List ℕ → ℕ) (P : ℕ) (content : List ℕ) (old new : Life) (all : AllSettled old.present) (on : Through (StartsGoOn old.present) old new) where
   -- at each of these moments what a started sync covers is kept
   covers_each : (ds : List Disk) → Each (StartsGoOn old.present) ds
@@ -701,7 +666,7 @@ module _ (sum : List ℕ → ℕ) (P : ℕ) (content : List ℕ) (old new : Life
     start = λ name cover enough would. would;
     each = covers_each on.moments on.each (λ name cover enough would.
         let kept = floors cover enough (settled_keeps sum P content name cover old.present all would) in
-        let same : kept.moments ≡ on.moments = (after_once kept.moments on.moments old old refl (sym kept.goes ∙ on.goes)).1 in
+        let same : kept.moments ≡ on.moments = same_moments old kept.moments on.moments (sym kept.goes ∙ on.goes) in
         subst (λ (ds : List Disk). Each (AllKeep sum P content cover) ds) same kept.each);
   }
 
@@ -787,11 +752,3 @@ module _ (sum : List ℕ → ℕ) (P : ℕ) (told : List ℕ) (page : ℕ) (f : 
   pub published_spares : (F len crc : ℕ) (d : Disk) → F ≤ length told → F ≤ page * P + len → MayHold sum P told page (record { slot = other f.slot; len = len; crc = crc }) d → Spares sum P told F page f.slot d
   published_spares F len crc d within enough (inl before) = inl (omega (arith, within, before))
   published_spares F len crc d within enough (inr held) = inr (record { slot = other f.slot; len = len; crc = crc }, held, sym (other_other f.slot), enough)
-
-  -- the third write leaves what the new slot holds
-  pub clear_stays_held : (len crc : ℕ) (written : List ℕ) (sync : Bool) (old new : Life) (answer : Result (Unit {0}) Error) → HeldBy sum P told page (record { slot = other f.slot; len = len; crc = crc }) old.present
-      → WriteGoes (page * (P + 12) + P + slot_offset f.slot) written sync old new answer
-      → length written ≤ 6 → (sync ≡ true → old.present.readable ≡ latest old.present.base old.present.since) → StaysHeld sum P told page (record { slot = other f.slot; len = len; crc = crc }) old new
-  clear_stays_held len crc written sync old new answer held goes few done =
-      stays_held sum P told page (record { slot = other f.slot; len = len; crc = crc }) written sync old new answer held
-      (subst (λ (s : Slot). WriteGoes (page * (P + 12) + P + slot_offset s) written sync old new answer) (sym (other_other f.slot)) goes) few done

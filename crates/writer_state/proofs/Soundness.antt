@@ -4,7 +4,7 @@ use Rattle.std.proofs.Common.{◌≡◌, inl, inr, ◌⊎◌, ℕ, zero, suc, �
 use Rattle.std.specs.Prelude.{Option, Some, None, Bool, false}
 use Rattle.std.proofs.lemmas.Bool.{cases_order}
 use Rattle.std.proofs.lemmas.List.{append-nil, take_all, take_at}
-use Rattle.disk.specs.Disk.{Disk, Operation, Operated, Request, Life, IsImage, IsWhole, applied, coverings}
+use Rattle.disk.specs.Disk.{Disk, Operation, Operated, Request, Life, IsWhole, applied, coverings}
 use Rattle.disk.specs.Disk.Operation.{Write}
 use Rattle.page.specs.Slot.{slot_offset}
 use Rattle.page.specs.Page.{pages, slot_bytes, verified_len, value_len, text}
@@ -19,7 +19,7 @@ use Rattle.crash.proofs.DistinctLaws.{flush_keeps_vouched, vouched_at_rest, vouc
 use Rattle.crash.specs.Guard.{Held, Guards, IsTruthful, TipGuard}
 use Rattle.crash.specs.Built.{kept_len, built, durable_after, written_pages}
 use Rattle.crash.specs.Kept.{AllKeep}
-use Rattle.crash.specs.Stays.{Stays, StaysThrough}
+use Rattle.crash.specs.Stays.{Stays}
 use Rattle.crash.specs.Looks.{SameButLog, Looked}
 use Rattle.crash.specs.Contents.{latest, stored}
 use Rattle.writer_state.specs.Sound.{content, HasPage, TipPage, StateFits, Stands, guard_slot, StartsFit, IsRepeated, MayFlush, IsSafe, Soundness, IsSound, LeavesItsContent, CanWrite}
@@ -29,10 +29,8 @@ use Rattle.crash.proofs.Texts.{text_exact, text_of_part, value_at, verified_le_v
 use Rattle.crash.proofs.BuiltLaws.{IsSmall, slot_len_of, slot_crc_of}
 use Rattle.writer_state.proofs.FlushLaws.{tip_reach, flush_reach, pages_written, flush_content, operated_stands, settle_stands, state_stands, fits_alike, starts_alike, alike_content, longer_stands, longer_content, carry_stands, settled_stands, exact_stands, length-content, content_in_page, content_in_tip}
 use Rattle.crash.proofs.Disks.{fixed_at_rest, operated_base, operated_since, latest_is_whole}
-use Rattle.disk.specs.Images.{only_image}
 use Rattle.crash.proofs.PageFacts.{page_begins, slot_at, slot_offset_le, own_beginning}
 use Rattle.crash.proofs.Promise.{keeps_at_rest, keeps_less, keeps_same, guards_at_rest, guards_longer, guards_less, guards_alike, held_alike, held_stays, leaves_page_below, write_leaves_below, part_of_beginning, SaysOnly, truthful_at_rest, truthful_alike, truthful_longer, only_content}
-use Rattle.crash.specs.Moments.{through_then}
 use Rattle.crash.proofs.Moments.{stays_itself, stays_alike, stays_settled, stays_guarded}
 use Rattle.crash.proofs.Spared.{flush_keeps_full, held_through_flush, guards_with_tip, truthful_through_flush}
 
@@ -416,10 +414,6 @@ module _ (sum : List ℕ → ℕ) (w : WriterState) (d : Disk) (sound : Soundnes
   at_rest : (d.since ≡ []) × (d.base ≡ d.readable)
   at_rest = subst (λ (s : SyncState). StateFits d s) clean sound.stands.state
 
-  -- a crash of a clean writer's blob leaves what is readable
-  pub clean_image : (image : List ℕ) → IsImage d image → image ≡ d.readable
-  clean_image image is_image = only_image d image at_rest.0 is_image ∙ at_rest.1
-
   -- so it keeps what is written
   pub clean_keeps : AllKeep sum w.page_size (content w d.readable) (w.full_pages * w.page_size + kept_len w.flushed) d
   clean_keeps =
@@ -573,12 +567,3 @@ module _ (sum : List ℕ → ℕ) (w : WriterState) (old new : Life) (sound : So
   -- a call that only reads keeps soundness
   pub looked_sound : Soundness sum w new.present
   looked_sound = let same = same_parts old.present new.present looked.same in alike_sound sum w old.present new.present sound same.0 same.1 same.2 (ap (λ (x : Disk). coverings x) looked.same) (ap (λ (x : Disk). x.settled) looked.same)
-
-  -- and the content
-  pub looked_content : content w new.present.readable ≡ content w old.present.readable
-  looked_content = ap (λ (l : List ℕ). content w l) (same_parts old.present new.present looked.same).0
-
-  -- and owes nothing
-  pub looked_stays : StaysThrough sum w.page_size (content w old.present.readable) old new
-  looked_stays = through_then (SameButLog old.present) (Stays sum w.page_size (content w old.present.readable) old.present) old new
-      (λ d is. let same = same_parts old.present d is in alike_stays sum w old.present d sound same.0 same.1 same.2) looked.through

@@ -4,7 +4,7 @@ use Rattle.std.specs.Prelude.{Some, nat_lt, if◌then◌else◌}
 use Rattle.std.proofs.lemmas.Bool.{cases_lt}
 use Rattle.std.proofs.lemmas.Bool.Decides.{nat_tests}
 use Rattle.std.proofs.lemmas.Option.{same_Some}
-use Rattle.std.proofs.lemmas.List.{drop_all}
+use Rattle.std.proofs.lemmas.List.{drop_all, nil_from_length}
 use Rattle.disk.specs.Disk.{Disk, Life, Operation, Operated, Request, WaitSync, logged, settled_disk, coverings, disk_settled_to, failed_at, WriteGoes, SyncGoes, WaitGoes}
 use Rattle.disk.specs.Disk.Operation.{Write}
 use Rattle.disk.specs.Disk.Request.{WriteAt, SyncAll}
@@ -22,7 +22,7 @@ use Rattle.writer_state.proofs.Soundness.{alike_sound}
 use Rattle.crash.proofs.Disks.{image_alike, image_covered}
 use Rattle.crash.proofs.DistinctLaws.{vouched_alike, vouched_at_rest}
 use Rattle.crash.proofs.Moments.{keeps_alike, keeps_covered, chance_free_alike, chance_free_covered}
-use Rattle.writer_state.proofs.StartedLaws.{alike_would, settled_already, no_operation, covers_failed, covering_of}
+use Rattle.writer_state.proofs.StartedLaws.{alike_would, settled_already, covers_failed, covering_of}
 
 -- it stands so where a writer is sound
 pub starts_stand : (d : Disk) (s : SyncState) → d.readable ≡ latest d.base d.since → StartsFit d s → StartsStand d
@@ -119,7 +119,7 @@ settles_latest c d all bytes = elim (cases_lt d.settled c.0) [
       }
   | inr none ↦
       let is : disk_settled_to c d ≡ d = settled_already c d none in
-      let nothing : d.since ≡ [] = no_operation d.since (omega (arith, none, all)) in
+      let nothing : d.since ≡ [] = nil_from_length d.since (omega (arith, none, all)) in
       record {
         base = ap (λ (x : Disk). x.base) is ∙ sym (ap (λ (os : List Operation). latest d.base os) nothing);
         since = ap (λ (x : Disk). x.since) is ∙ nothing;

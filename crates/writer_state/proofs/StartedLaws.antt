@@ -4,7 +4,7 @@ use Rattle.std.specs.Prelude.{Option, Some, nat_lt, if◌then◌else◌, option_
 use Rattle.std.proofs.lemmas.Bool.{cases_lt}
 use Rattle.std.proofs.lemmas.Bool.Decides.{nat_tests}
 use Rattle.std.proofs.lemmas.Option.{same_Some, slice_get-map, slice_get_within}
-use Rattle.std.proofs.lemmas.List.{drop_all, map-append, length-map}
+use Rattle.std.proofs.lemmas.List.{drop_all, map-append, length-map, nil_from_length}
 use Rattle.disk.specs.Disk.{Disk, Life, Started, Operation, WaitSync, next, logged, coverings, disk_settled_to, starts, failed_at, WaitGoes, AreCovered}
 use Rattle.disk.specs.declared.error.Error.{Error}
 use Rattle.disk.specs.declared.error.Error.TheVariants.{SyncFailed, OutOfMemory}
@@ -18,8 +18,9 @@ use Rattle.crash.specs.Contents.{latest}
 use Rattle.writer_state.specs.Sound.{content, IsPending, StartsFit, Soundness}
 use Rattle.crash.proofs.BuiltLaws.{IsSmall}
 use Rattle.disk.specs.Disk.Operation.{Write}
+use Rattle.disk.proofs.Lists.{joined_element}
 use Rattle.crash.specs.Built.{kept_len}
-use Rattle.crash.proofs.Lists.{joined_element, slice_get-append_left, slice_get-append_right}
+use Rattle.crash.proofs.Lists.{slice_get-append_left, slice_get-append_right}
 use Rattle.writer_state.proofs.FlushLaws.{starts_within, settled_starts}
 use Rattle.crash.specs.Moments.{through_more}
 use Rattle.crash.proofs.Moments.{stays_through_start, keeps_alike}
@@ -50,10 +51,6 @@ pub record IsSettledAll (d e : Disk) : Type 0 where
   pub settled : e.settled ≡ d.settled + length d.since
   pub covers : coverings e ≡ coverings d
 
-pub no_operation : (os : List Operation) → length os ≡ 0 → os ≡ []
-no_operation [] none = refl
-no_operation (o ∷ os) none = absurd (omega (arith, none))
-
 pub settles_all : (c : ℕ × List ℕ) (d : Disk) → d.readable ≡ latest d.base d.since → c.0 ≡ d.settled + length d.since → c.1 ≡ d.readable → IsSettledAll d (disk_settled_to c d)
 settles_all c d done all bytes = elim (cases_lt d.settled c.0) [
   | inl more ↦
@@ -69,7 +66,7 @@ settles_all c d done all bytes = elim (cases_lt d.settled c.0) [
       }
   | inr none ↦
       let is : disk_settled_to c d ≡ d = settled_already c d none in
-      let nothing : d.since ≡ [] = no_operation d.since (omega (arith, none, all)) in
+      let nothing : d.since ≡ [] = nil_from_length d.since (omega (arith, none, all)) in
       record {
         readable = ap (λ (x : Disk). x.readable) is;
         base = ap (λ (x : Disk). x.base) is ∙ sym (done ∙ ap (λ (os : List Operation). latest d.base os) nothing);
@@ -378,23 +375,3 @@ ab_written = record { readable = ab_page; base = []; since = Write 0 ab_page ∷
 
 abbrev pub ab_started : Disk
 ab_started = starts false ab_written
-
--- the writer that waits for it
-pub ab_pending : IsPending 0 ab_started
-ab_pending = record { covers = (1, ab_page); named = refl; all = refl; bytes = refl; others = λ other c is. first other c is }
-  where
-    first : (other : ℕ) (c : ℕ × List ℕ) → slice_get ((1, ab_page) ∷ []) other ≡ Some c → (c.0 ≤ 0) ⊎ (other ≡ 0)
-    first zero c is = inr refl
-    first (suc other) c is = absurd (cc is)
-
--- once it is waited for the page is durable
-pub ab_waited : disk_settled_to (1, ab_page) ab_started ≡ record ab_started { base = ab_page; since = []; settled = 1 }
-ab_waited = refl
-
--- so it still covers all there is, and a second wait changes nothing
-pub ab_again : disk_settled_to (1, ab_page) (record ab_started { base = ab_page; since = []; settled = 1 }) ≡ record ab_started { base = ab_page; since = []; settled = 1 }
-ab_again = refl
-
--- a wait of a sync that failed marks it, and no more
-pub ab_failed : failed_at 0 ab_started.started ≡ record { covers = 1; bytes = ab_page; failed = true } ∷ []
-ab_failed = refl

@@ -2,8 +2,9 @@ use Rattle.std.proofs.Common.{◌≡◌, ◌≤◌, ◌++◌, ◌+◌, ◌-◌, 
 use Rattle.std.specs.List.{concat}
 use Rattle.page.specs.Tip.{Tip}
 use Rattle.page.proofs.Chunks.{concat_more}
-use Rattle.page.proofs.Buffers.{read_more, read_rest, chunks_within}
+use Rattle.page.proofs.Buffers.{read_more, read_rest}
 use Rattle.page.proofs.buffer.Buffer.copy_to.Goals as goal
+use Rattle.disk.proofs.Bufs.{first_bufs}
 
 pub overflow_add-end : goal.overflow_add-end
 overflow_add-end c =
@@ -22,7 +23,7 @@ overflow_add-at c =
       c.len-at.ensures,
       ap length grows,
       length-append (concat (take i items)) chunk,
-      chunks_within items (i + 1),
+      first_bufs items (i + 1),
       ap (λ l. length (concat l)) c.as_slice-chunks.ensures,
       c.self.invariant.small,
       length-append (concat c.self.inside.chunks) c.self.inside.tail.bytes.items,

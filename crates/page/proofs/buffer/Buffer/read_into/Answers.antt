@@ -2,8 +2,9 @@ use Rattle.std.proofs.Common.{◌≡◌, ◌++◌, ◌+◌, ◌-◌, length, tak
 use Rattle.std.specs.List.{concat}
 use Rattle.page.specs.Tip.{Tip}
 use Rattle.page.proofs.Chunks.{concat_more}
-use Rattle.page.proofs.Buffers.{read_more, read_rest, chunks_within, on_ok_then}
+use Rattle.page.proofs.Buffers.{read_more, read_rest, on_ok_then}
 use Rattle.page.proofs.buffer.Buffer.read_into.Goals as goal
+use Rattle.disk.proofs.Bufs.{first_bufs}
 
 pub overflow_add-at : goal.overflow_add-at
 overflow_add-at c =
@@ -17,7 +18,7 @@ overflow_add-at c =
       c.len-at.ensures,
       ap length grows,
       length-append (concat (take i items)) chunk,
-      chunks_within items (i + 1),
+      first_bufs items (i + 1),
       ap (λ l. length (concat l)) c.as_slice-chunk-items.ensures,
       c.self.invariant.small,
       length-append (concat c.self.inside.chunks) c.self.inside.tail.bytes.items,
