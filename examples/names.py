@@ -2,18 +2,19 @@
 
 It ends with status 1 if it lists any. Its rules:
 
-- **Names.** A definition of crates/*/specs has a name of its own in the whole repository: a record, a type of data, an
-  abbreviation, a function or an opaque word. Constructors and fields aren't looked at, and no lemmas.
+- **Names.** Each definition of crates/*/specs has a name of its own in the whole repository: each record, type of data,
+  abbreviation, function and opaque word. Constructors, fields and lemmas aren't looked at.
 - **Stems.** No two of these names differ only in case, underscores or a plural s, as `Held` and `held`. One pair is
   fine: a function and its plural in one crate, as `frame` and `frames`, the value of one thing and those of several. A
-  proposition has no plural: of a list it is `All..` or `Each..`. A Bool and the proposition of it are `is_x` and `IsX`,
-  if the definition of the one names the other.
-- **Labels.** A clause of a public function, `requires LABEL { .. }` or `ensures LABEL { .. }`, has a relation: the first
-  word of crates/*/specs with a capital letter in its conclusion, after the last arrow outside of brackets. A label
-  stands for one relation in all crates. An equation, or what std's words say, has none, and its label names the value.
-  ROLES lists the labels that stand for a part of a contract instead. Each call has its own relation there, and the name
-  says which part it is: `AppendGoes`, `ReadLeaves`, `ReadCosts`, `OwesWaiting`, `CanRead`. What is `ready` or `asked`
-  says what a value is (`IsReady`, `AreInOrder`), and `costs` may name the calls: `AsksOnce`, `ReadsWithin`.
+  proposition has no plural: of a list it is `All..`, `Each..` or `Are..`. A Bool and the proposition of it are `is_x`
+  and `IsX`, if the definition of the one names the other.
+- **Labels.** Each clause of a public function, or of a method of a public trait, has a label: `requires LABEL { .. }`,
+  `ensures LABEL { .. }`. It has a relation too: the first word of crates/*/specs with a capital letter that stands
+  after its last arrow outside of brackets. A label stands for one relation in all crates. An equation has no relation,
+  and its label names the value. A label of ROLES stands for a part of a contract instead. Each call has a relation of
+  its own there, whose name says which part it is: `AppendGoes`, `ReadLeaves`, `ReadCosts`, `OwesWaiting`, `CanRead`. A
+  relation for `ready` or `asked` says what a value is: `IsReady`, `AreInOrder`. One for `costs` may name the calls:
+  `AsksOnce`, `ReadsWithin`.
 """
 import collections
 import glob
@@ -70,13 +71,13 @@ def stem(name):
 
 
 def is_fine(first, second, found):
-    """Whether two names of one stem are one of the pairs that may stand side by side."""
-    crates = [{crate for crate, _, _ in found[name]} for name in (first, second)]
-    if first.islower() and second.islower():
-        return crates[0] == crates[1] and first != second and (first + "s" == second or second + "s" == first)
-    if {first[:3], second[:2]} == {"is_", "Is"} or {second[:3], first[:2]} == {"is_", "Is"}:
-        bodies = [" ".join(body for _, _, body in found[name]) for name in (first, second)]
-        return any(re.search(rf"\b{name}\b", body) for name, body in zip((second, first), bodies))
+    """Whether two names of one stem, in the order of their letters, are one of the pairs that may stand together."""
+    if first.islower():
+        crates = [{crate for crate, _, _ in found[name]} for name in (first, second)]
+        return second == first + "s" and crates[0] == crates[1]
+    if first.startswith("Is") and second.startswith("is_"):
+        return any(re.search(rf"\b{other}\b", body) for name, other in ((first, second), (second, first))
+                   for _, _, body in found[name])
     return False
 
 
@@ -86,7 +87,7 @@ def same_stems(found):
         groups[stem(name)].append(name)
     pairs = [(first, second) for names in groups.values() for place, first in enumerate(sorted(names))
              for second in sorted(names)[place + 1:]]
-    return [f"{first} and {second}: {found[first][0][0]}/{found[first][0][1]}, {found[second][0][0]}/{found[second][0][1]}"
+    return [f"{first} and {second}: " + ", ".join(f"{crate}/{file}" for crate, file, _ in found[first] + found[second])
             for first, second in sorted(pairs) if not is_fine(first, second, found)]
 
 
@@ -114,17 +115,25 @@ def relation(clause, words):
     return next(named, None)
 
 
+def public_calls(text):
+    """The public functions of a source and the methods of its public traits: each with its name and its clauses."""
+    for call in re.finditer(r"^ *pub fn (\w+)(?:[^{]*? \{$|.*?^ *\{$)", text, re.M | re.S):
+        yield call[1], call[0]
+    for trait in re.finditer(r"^pub trait .*?^\}", text, re.M | re.S):
+        for method in re.finditer(r"^ +fn (\w+).*?(?=^ +fn |\Z)", trait[0], re.M | re.S):
+            yield method[1], method[0]
+
+
 def relations(found):
     """The labels of the clauses of public functions: each with its relations, and a call that has each."""
     words = {name for name, places in found.items() if not any(PLAIN.match(body) for _, _, body in places)}
     labels = collections.defaultdict(dict)
     for path in files("*/src/**/*.rt"):
-        text = re.sub(r"//[^\n]*", "", read(path))
-        for call in re.finditer(r"^ *pub fn (\w+).*?^ *\{$", text, re.M | re.S):
-            for clause in CLAUSE.finditer(call[0]):
-                name = relation(braced(call[0], clause.end()), words)
+        for call, text in public_calls(re.sub(r"//[^\n]*", "", read(path))):
+            for clause in CLAUSE.finditer(text):
+                name = relation(braced(text, clause.end()), words)
                 if name:
-                    labels[clause[1]].setdefault(name, f"{os.path.relpath(path, CRATES)}: {call[1]}")
+                    labels[clause[1]].setdefault(name, f"{os.path.relpath(path, CRATES)}: {call}")
     return labels
 
 
