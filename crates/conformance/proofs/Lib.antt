@@ -1,2 +1,3 @@
 pub mod ReaderLaws
 pub mod ItemLaws
+pub mod PairLaws

@@ -1,1 +1,2 @@
 pub mod ItemStage
+pub mod Pair

@@ -25,6 +25,7 @@ mod mirrored;
 mod names;
 mod nested;
 mod opened;
+mod pair;
 mod pieces;
 mod plain;
 mod played;

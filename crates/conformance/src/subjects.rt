@@ -8,6 +8,7 @@ use crate::journals::{Journals, Sizes};
 use crate::memory::Memory;
 use crate::mirrored::Mirrored;
 use crate::nested::Nested;
+use crate::pair::Pair;
 use crate::plain::Plain;
 use crate::played::Scripts;
 use crate::runs::{MOST, play_session};
@@ -15,7 +16,7 @@ use crate::served::Server;
 use crate::setting::{SumName, sum_of};
 use crate::subject::{Subject, play_all, play_refusing};
 use crate::views::Viewed;
-use crate::words::{bytes_of, page_size, unreadable, words};
+use crate::words::{buffer_size, bytes_of, page_size, unreadable, words};
 use page::{AddSum, ConstSum};
 use std::alloc::Global;
 use std::io;
@@ -30,12 +31,13 @@ enum Kind {
     Plain,
     Mirror,
     Journal,
+    Pair,
     Buffer,
     Cache,
     View,
 }
 
-const KINDS: [Form<Kind>; 13] = [
+const KINDS: [Form<Kind>; 14] = [
     (b"cases", &[], Kind::Cases),
     (b"scripts", &[], Kind::Scripts),
     (b"requests", &[], Kind::Requests),
@@ -45,6 +47,7 @@ const KINDS: [Form<Kind>; 13] = [
     (b"mirror", &[Number, Number], Kind::Mirror),
     (b"journal", &[Word], Kind::Journal),
     (b"journal", &[Word, Number, Number, Number], Kind::Journal),
+    (b"pair", &[Number, Number, Number], Kind::Pair),
     (b"buffer", &[Number, Number, Number], Kind::Buffer),
     (b"cache", &[Number, Number], Kind::Cache),
     (b"view", &[Number], Kind::View),
@@ -137,6 +140,11 @@ fn play_kind(
         Kind::Cases => play_once(alloc, &mut Nested, case, refuses, told),
         Kind::Scripts => play_once(alloc, &mut Scripts, case, refuses, told),
         Kind::Journal => over_journal(alloc, case, words, refuses, told),
+        Kind::Pair => {
+            let pages = buffer_size(words.number(2));
+            let made = Pair::<AddSum>::new(alloc, page_size(first)?, len, pages);
+            play_made(alloc, made, case, refuses, told)
+        }
         Kind::Buffer => {
             let made = Buffered::new(alloc, first, len, words.length(2));
             play_made(alloc, made, case, refuses, told)
