@@ -261,18 +261,6 @@ keeps_fault sum P pages out old new OffsetOverflow delivers none fault = fault
 keeps_fault sum P pages out old new OutOfMemory delivers none fault = none
 keeps_fault sum P pages out old new IdsExhausted delivers none fault = fault
 
--- why none were delivered
-pub delivers_fault : (sum : List ℕ → ℕ) (P : ℕ) (pages : List ℕ) (old new : Life) (e : Error) → DeliversPages P pages old new (Err e) → PagesFault sum P pages old new e
-delivers_fault sum P pages old new ReadFailed fault = fault
-delivers_fault sum P pages old new WriteFailed fault = fault
-delivers_fault sum P pages old new ResizeFailed fault = fault
-delivers_fault sum P pages old new SyncFailed fault = fault
-delivers_fault sum P pages old new InvalidChecksum fault = absurd fault
-delivers_fault sum P pages old new BlobInsufficientLength fault = fault
-delivers_fault sum P pages old new OffsetOverflow fault = fault
-delivers_fault sum P pages old new OutOfMemory fault = fault
-delivers_fault sum P pages old new IdsExhausted fault = fault
-
 -- ---- the same under other names
 
 pub delivers_same : (P : ℕ) (pages pages_there readable readable_there : List ℕ) (out out_there : List (ℕ × List ℕ)) → pages_there ≡ pages → readable_there ≡ readable → out_there ≡ out → Delivers (page_ranges P pages) readable out

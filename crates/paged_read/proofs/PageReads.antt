@@ -31,18 +31,6 @@ pub first_or_later : (page p : ℕ) (pages : List ℕ) → Contains (page ∷ pa
 first_or_later page p pages (zero, within, is) = inl (sym is)
 first_or_later page p pages (suc k, within, is) = inr (k, omega (arith, within), is)
 
--- why the read of a page answers an error
-pub page_faults : (sum : List ℕ → ℕ) (P page : ℕ) (old new : Life) (e : Error) → ReadsPage sum P page old new (Err e) → PagesFault sum P (page ∷ []) old new e
-page_faults sum P page old new ReadFailed cause = cause
-page_faults sum P page old new WriteFailed cause = cause
-page_faults sum P page old new ResizeFailed cause = cause
-page_faults sum P page old new SyncFailed cause = cause
-page_faults sum P page old new InvalidChecksum cause = (page, has_first page [], cause.0, cause.1)
-page_faults sum P page old new BlobInsufficientLength cause = cause
-page_faults sum P page old new OffsetOverflow cause = cause
-page_faults sum P page old new OutOfMemory cause = cause
-page_faults sum P page old new IdsExhausted cause = cause
-
 -- a full page is
 pub page_full : (sum : List ℕ → ℕ) (P page : ℕ) (bytes readable : List ℕ) → bytes ≡ page_at P page readable → value_len sum P bytes ≡ P → ArePagesFull sum P (page ∷ []) readable
 page_full sum P page bytes readable is full = λ p has.
