@@ -16,6 +16,7 @@ use Rattle.writer_state.specs.WriterState.{WriterState}
 use Rattle.writer_state.specs.Sound.{IsSound}
 use Rattle.cache.specs.CacheState.{CacheState}
 use Rattle.paged_read.specs.Tail.{Tail}
+use Rattle.paged_read.specs.Failures.{none_failed_start}
 use Rattle.paged_read.specs.Ranges.{missing, is_served, missed_from, page_ranges, ReadsMany, AsksOnce, AsksTogether, Misses}
 use Rattle.paged_read.proofs.RangedLists.{refused_not}
 use Rattle.paged.specs.Caches.{tail_of}
@@ -203,7 +204,7 @@ pub no_room_says : (sum : List ℕ → ℕ) (w : WriterState) (cache : CacheStat
 no_room_says sum w cache ranges life e size result same small is not_err goes =
     let ends : EndWithin (size_of w) ranges = subst (λ (n : ℕ). EndWithin n ranges) same (none_refused size ranges result not_err goes) in
     subst (λ (x : Error). ReadRangesSays sum w cache ranges life life (Fault x)) (sym is)
-    (says_by sum w cache ranges life life (Fault OutOfMemory) (omega (arith, same, small)) (ends, tt) (λ other. cc other) (asks_none (page_ranges w.page_size (missing cache (tail_of w) ranges)) life) (looked_start life))
+    (says_by sum w cache ranges life life (Fault OutOfMemory) (omega (arith, same, small)) (ends, none_failed_start life.present) (λ other. cc other) (asks_none (page_ranges w.page_size (missing cache (tail_of w) ranges)) life) (looked_start life))
 
 -- bytes were read
 pub served_says : (sum : List ℕ → ℕ) (w : WriterState) (cache : CacheState) (ranges : List (ℕ × ℕ)) (buf : List ℕ) (old new : Life) (count : ℕ) (bytes : Vec ℕ Global) → size_of w < 2 ^ 64 → bytes.items ≡ buf → ReadsMany sum (tail_of w) cache ranges buf old new (Ok count) → AsksOnce cache (tail_of w) ranges old new

@@ -18,6 +18,7 @@ use Rattle.writer_state.proofs.StartedLaws.{alike_would}
 use Rattle.paged.proofs.Flushes.{size_is_length, begins}
 use Rattle.cache.specs.CacheState.{CacheState}
 use Rattle.paged_read.specs.Tail.{Tail, size_of as size_of_tail}
+use Rattle.paged_read.specs.Failures.{none_failed_start}
 use Rattle.paged_read.specs.Ranges.{Reads}
 use Rattle.paged.specs.Caches.{tail_of}
 use Rattle.paged.specs.Reads.{size_of}
@@ -113,7 +114,7 @@ room_refused sum t cache offset len size life BlobInsufficientLength is small (w
   looked = looked_start life;
 }
 room_refused sum t cache offset len size life OutOfMemory is small within = record {
-  reads = tt;
+  reads = none_failed_start life.present;
   full = λ other. cc other;
   overflow = λ over. absurd (omega (arith, over, within, small));
   end = λ below over. absurd (omega (arith, over, within, is));
@@ -130,7 +131,7 @@ room_refused sum t cache offset len size life IdsExhausted is small none = absur
 pub read_says : (sum : List ℕ → ℕ) (t : Tail) (cache : CacheState) (offset len size : ℕ) (old new : Life) (buf : List ℕ) (bytes : Vec ℕ Global) → size ≡ size_of_tail t → size < 2 ^ 64 → bytes.items ≡ buf
     → Reads {A = Unit {0}} sum t cache (offset, len) (λ u. buf) old new (Ok tt) → Looked old new → ReadSays sum t cache offset len old new (Bytes bytes)
 read_says sum t cache offset len size old new buf bytes is small same reads looked = record {
-  reads = (bytes.items ∷ [], sym (append-nil bytes.items), (reads.0, append-nil bytes.items ∙ same ∙ reads.1, reads.2));
+  reads = (bytes.items ∷ [], sym (append-nil bytes.items), (reads.0, append-nil bytes.items ∙ same ∙ reads.1, reads.2, reads.3));
   full = λ other. cc other;
   overflow = λ passes. absurd (omega (arith, passes, reads.0, is, small));
   end = λ within passes. absurd (omega (arith, passes, reads.0));
